@@ -1,0 +1,4 @@
+mod DecimalText
+mod Parts
+mod Joined
+mod Spellings

@@ -1,0 +1,106 @@
+-- What a text says is what the grammar has it spell.
+use Rattle.std.proofs.Common.{◌≡◌, ◌⊎◌, ℕ, Bool, true, false, cond, List, [], ◌∷◌, length, drop, map, Some, None, Option, Result, Ok, Err, refl, sym, ap, subst, ◌∙◌, inl, inr}
+use Rattle.std.specs.Prelude.{codes, nat_eq}
+use Rattle.std.specs.Fmt.{decimal}
+use Rattle.std.specs.Option.{option_and_then}
+use Rattle.std.specs.List.{join_with_byte, starts_with}
+use Rattle.std.proofs.lemmas.Bool.{and_parts, and_from, le-leb, leb-true, cond-true}
+use Rattle.std.proofs.lemmas.Bool.Decides.{Decides-eqb}
+use Rattle.std.proofs.lemmas.Option.{cond_some, same_Some, option_and_then_some}
+use Rattle.std.proofs.lemmas.Slice.Eq.{starts_is}
+use Rattle.wq_clock.specs.Limits.{max_name_length}
+use Rattle.wq_clock.specs.ClockSpec.{ClockSpec, clock_id, old_clock_id, named_cursor, IsWithinLimits, numbers_of, id_from_numbers, id_of, cursor_of, clock_spec_of}
+use Rattle.wq_clock.specs.Spelling.{IsSpelling}
+use Rattle.wq_clock.specs.Spec.{value_of, said_by}
+use Rattle.wq_clock.specs.declared.reading.BadClock.{BadClock}
+use Rattle.wq_clock.specs.declared.reading.Spec.{Spec}
+use Rattle.std.specs.Result.{IfOk}
+use Rattle.wq_clock.specs.Laws.{TextsSayWhatTheySpell, PrintedIdsReadBack, SameTextSameId}
+use Rattle.wq_clock.proofs.Joined.{AllInRange, slice_split-join, numbers_of-map, text_from_numbers}
+
+-- what numbers with colons between them say behind `c:`
+id_of-join : (first : ℕ) (ns : List ℕ) → AllInRange (first ∷ ns)
+    → id_of (join_with_byte 58 (map decimal (first ∷ ns))) ≡ id_from_numbers (first ∷ ns)
+id_of-join first ns h =
+    ap (option_and_then id_from_numbers) (ap numbers_of (slice_split-join first ns h) ∙ numbers_of-map (first ∷ ns) h)
+
+-- a spelling says what it spells
+says : (text : List ℕ) (spec : ClockSpec) → IsSpelling spec text → clock_spec_of text ≡ Some spec
+says text (clock_id instance tick) h =
+    ap clock_spec_of h.2
+    ∙ id_of-join instance.start (instance.pid ∷ instance.root ∷ tick ∷ [])
+    (h.0.start, (h.0.pid, (h.0.root, (h.1, tt))))
+says text old_clock_id (pid, tick, p, t, e) =
+    ap clock_spec_of e ∙ id_of-join pid (tick ∷ []) (p, (t, tt))
+says text (named_cursor name) h =
+    ap clock_spec_of h.2
+    ∙ cond-true _ _ _ (and_from _ _ (le-leb 1 (length name) h.0) (le-leb (length name) max_name_length h.1))
+
+-- a clock id of these numbers, behind `c:`
+spells_id : (rest ns : List ℕ) (spec : ClockSpec) → AllInRange ns
+    → rest ≡ join_with_byte 58 (map decimal ns) → id_from_numbers ns ≡ Some spec
+    → IsSpelling spec (99 ∷ 58 ∷ rest)
+spells_id rest [] spec h e is = cc
+spells_id rest (a ∷ []) spec h e is = cc
+spells_id rest (a ∷ b ∷ []) spec h e is =
+    subst (λ s. IsSpelling s (99 ∷ 58 ∷ rest)) (same_Some _ _ is) (a, b, h.0, h.1.0, ap (λ r. 99 ∷ 58 ∷ r) e)
+spells_id rest (a ∷ b ∷ c ∷ []) spec h e is = cc
+spells_id rest (a ∷ b ∷ c ∷ d ∷ []) spec h e is =
+    subst (λ s. IsSpelling s (99 ∷ 58 ∷ rest)) (same_Some _ _ is)
+    (record { start = h.0; pid = h.1.0; root = h.1.1.0 }, h.1.1.1.0, ap (λ r. 99 ∷ 58 ∷ r) e)
+spells_id rest (a ∷ b ∷ c ∷ d ∷ f ∷ ns) spec h e is = cc
+
+-- a cursor, behind `n:`
+spells_cursor : (name : List ℕ) (spec : ClockSpec) → cursor_of name ≡ Some spec
+    → IsSpelling spec (110 ∷ 58 ∷ name)
+spells_cursor name spec is =
+    let passes = cond_some _ _ _ is in
+    let parts = and_parts _ _ passes.0 in
+    subst (λ s. IsSpelling s (110 ∷ 58 ∷ name)) passes.1 (leb-true _ _ parts.0, leb-true _ _ parts.1, refl)
+
+-- of two tests in turn one has passed where there is an answer
+first_that_passes : {A : Type 0} (b d : Bool) (x y : Option A) (z : A) → cond b x (cond d y None) ≡ Some z
+    → ((b ≡ true) × (x ≡ Some z)) ⊎ ((d ≡ true) × (y ≡ Some z))
+first_that_passes true d x y z e = inl (refl, e)
+first_that_passes false true x y z e = inr (refl, e)
+first_that_passes false false x y z e = cc
+
+-- what a text says, it spells
+spells : (text : List ℕ) (spec : ClockSpec) → clock_spec_of text ≡ Some spec → IsSpelling spec text
+spells text spec e = elim (first_that_passes (starts_with nat_eq text (codes "c:")) (starts_with nat_eq text (codes "n:"))
+    (id_of (drop 2 text)) (cursor_of (drop 2 text)) spec e) [
+      | inl h ↦
+          let whole = (starts_is Decides-eqb text (codes "c:") _ refl).0 h.0 in
+          subst (IsSpelling spec) (sym whole) (option_and_then_some id_from_numbers _ spec h.1 (λ ns some is.
+          let numbers = text_from_numbers (drop 2 text) ns some in
+          spells_id (drop 2 text) ns spec numbers.0 numbers.1 is))
+      | inr h ↦
+          let whole = (starts_is Decides-eqb text (codes "n:") _ refl).0 h.0 in
+          subst (IsSpelling spec) (sym whole) (spells_cursor (drop 2 text) spec h.1)
+    ]
+
+-- so it is within the limits
+pub is_within_limits : (text : List ℕ) (r : Result Spec BadClock) → said_by r ≡ clock_spec_of text
+    → IfOk r (λ spec. IsWithinLimits (value_of spec))
+is_within_limits text (Err e) is = tt
+is_within_limits text (Ok spec) is = of_spelling (value_of spec) (spells text (value_of spec) (sym is))
+  where
+    of_spelling : (said : ClockSpec) → IsSpelling said text → IsWithinLimits said
+    of_spelling (clock_id instance tick) h = (h.0, h.1)
+    of_spelling old_clock_id h = tt
+    of_spelling (named_cursor name) h = (h.0, h.1)
+
+-- both together
+pub says_what_it_spells : TextsSayWhatTheySpell
+says_what_it_spells text spec = (spells text spec, says text spec)
+
+-- the text of every clock id is read as that id
+pub reads_back : PrintedIdsReadBack
+reads_back instance tick within h = says _ (clock_id instance tick) (within, h, refl)
+
+-- so no two have one text
+pub same_text : SameTextSameId
+same_text instance other tick other_tick within within' h h' e =
+    let one : Some (clock_id instance tick) ≡ Some (clock_id other other_tick) =
+    sym (reads_back instance tick within h) ∙ ap clock_spec_of e ∙ reads_back other other_tick within' h' in
+    (cc, cc)

@@ -1,0 +1,64 @@
+-- What a text says as a clock spec: a clock id, an old clock id or a named cursor, or nothing.
+-- From Watchman's documentation of clockspecs; the limits are this server's own.
+use Rattle.std.specs.Prelude.{ℕ, ◌≤◌, List, [], ◌∷◌, Option, Some, None, ◌&&◌, ◌==◌, nat_le, nat_eq, length, drop, codes, if◌then◌else◌}
+use Rattle.std.specs.Option.{option_and_then}
+use Rattle.std.specs.List.{slice_split, starts_with}
+use Rattle.std.specs.Str.{bytes_eq}
+use Rattle.std.specs.Str.Parse.{digits_value}
+use Rattle.std.specs.Fmt.{decimal}
+use Rattle.wq_clock.specs.Limits.{max_number, max_name_length}
+use Rattle.wq_clock.specs.Instance.{InstanceNumbers, IsInRange}
+
+-- a clock spec that is a text
+pub data ClockSpec : Type 0 where
+  clock_id : (instance : InstanceNumbers) (tick : ℕ) → ClockSpec
+  old_clock_id : ClockSpec
+  named_cursor : (name : List ℕ) → ClockSpec
+
+-- its numbers and its name are within the limits
+abbrev pub IsWithinLimits : ClockSpec → Type 0
+IsWithinLimits (clock_id instance tick) = IsInRange instance × (tick ≤ max_number)
+IsWithinLimits old_clock_id = Unit {0}
+IsWithinLimits (named_cursor name) = (1 ≤ length name) × (length name ≤ max_name_length)
+
+-- the parts of a text between its colons
+abbrev pub parts_of : List ℕ → List (List ℕ)
+parts_of text = slice_split (λ byte. byte == 58) text
+
+-- the number of at most 2^62 whose decimal text this is
+unfoldable pub number_of : List ℕ → Option ℕ
+number_of text = let number = digits_value 10 text in
+    if nat_le number max_number && bytes_eq text (decimal number) then Some number else None
+
+-- a number before others, unless it or they are none
+abbrev pub with_first : Option ℕ → Option (List ℕ) → Option (List ℕ)
+with_first None numbers = None
+with_first (Some first) None = None
+with_first (Some first) (Some numbers) = Some (first ∷ numbers)
+
+-- the numbers of all parts in their order, unless some part is no number
+abbrev pub numbers_of : List (List ℕ) → Option (List ℕ)
+numbers_of [] = Some []
+numbers_of (part ∷ parts) = with_first (number_of part) (numbers_of parts)
+
+-- four numbers are a clock id, two are an old one
+abbrev pub id_from_numbers : List ℕ → Option ClockSpec
+id_from_numbers (start ∷ pid ∷ root ∷ tick ∷ []) =
+    Some (clock_id (record { start = start; pid = pid; root = root }) tick)
+id_from_numbers (first ∷ second ∷ []) = Some old_clock_id
+id_from_numbers _ = None
+
+-- what the text behind `c:` says: the id whose numbers stand between its colons
+abbrev pub id_of : List ℕ → Option ClockSpec
+id_of text = option_and_then id_from_numbers (numbers_of (parts_of text))
+
+-- what the text behind `n:` says: a cursor's name of 1 to 255 bytes
+abbrev pub cursor_of : List ℕ → Option ClockSpec
+cursor_of name =
+    if nat_le 1 (length name) && nat_le (length name) max_name_length then Some (named_cursor name) else None
+
+-- what a text says as a clock spec
+abbrev pub clock_spec_of : List ℕ → Option ClockSpec
+clock_spec_of text =
+    if starts_with nat_eq text (codes "c:") then id_of (drop 2 text)
+    else (if starts_with nat_eq text (codes "n:") then cursor_of (drop 2 text) else None)

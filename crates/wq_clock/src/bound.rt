@@ -1,0 +1,55 @@
+//! Bounds: after which point an observation counts, as a clock spec says it.
+ghost use Rattle.std.specs.Prelude.{◌≡◌, pos, ◌≤ℤ◌};
+ghost use Rattle.std.specs.Option.{SomeIff};
+ghost use Rattle.wq_clock.specs.Bound.{bound_of};
+ghost use Rattle.wq_clock.specs.Instance.{instance_numbers};
+ghost use Rattle.wq_clock.specs.Spec.{value_of};
+
+use crate::instance::{Instance, MAX_NUMBER};
+use crate::reading::Spec;
+
+/// The point after which observations are new to a client, as Watchman's documentation of
+/// clockspecs has it.
+#[derive(Clone, Copy, Debug, PartialEq, Eq)]
+pub enum Bound {
+    /// The client knows nothing: everything that exists is new.
+    Fresh,
+    /// Observations of later ticks of this instance are new.
+    Tick(u64),
+    /// Observations of later seconds of the Unix epoch are new.
+    Second(i64),
+}
+
+impl Bound {
+    /// The bound of a clock spec that is a whole number: a second of the Unix epoch, from 0 to
+    /// 2^62.
+    pub fn second(seconds: i64) -> Option<Bound>
+        ensures { SomeIff result ((pos 0 ≤ℤ seconds) × (seconds ≤ℤ pos MAX_NUMBER))
+            (Bound.Second seconds) }
+    {
+        let second = u64::try_from(seconds).ok()?;
+        if second <= MAX_NUMBER {
+            Some(Bound::Second(seconds))
+        } else {
+            None
+        }
+    }
+}
+
+/// The bound that a read clock spec sets at `instance`.
+///
+/// An id of this instance is its tick, also where the view has not come so far. An id of another
+/// instance, and an old id, are fresh. `None` is for a cursor, whose tick the server keeps under
+/// its name.
+///
+/// At start 7, process 9 and root 1, `c:7:9:1:99` is `Bound::Tick(99)`, and `c:7:8:1:1` is
+/// `Bound::Fresh`.
+pub fn resolve(spec: &Spec<'_>, instance: &Instance) -> Option<Bound>
+    ensures { result ≡ bound_of (value_of spec.now) (instance_numbers instance.now) }
+{
+    match spec {
+        Spec::Id(other, tick) if other == instance => Some(Bound::Tick(*tick)),
+        Spec::Id(..) | Spec::OldId => Some(Bound::Fresh),
+        Spec::Cursor(_) => None,
+    }
+}

@@ -1,0 +1,37 @@
+//! Instances: which run of the server, and which root, a clock id belongs to.
+ghost use Rattle.std.specs.Prelude.{◌≡◌, ◌≤◌};
+ghost use Rattle.wq_clock.specs.Limits.{max_number};
+
+/// The greatest number that a clock id may hold, 2^62.
+pub const MAX_NUMBER: u64 = 1 << 62;
+
+/// One run of the server that watches one root. Ticks of two instances have nothing to do with each
+/// other.
+///
+/// Each number is at most [`MAX_NUMBER`].
+#[derive(Clone, Copy, Debug, PartialEq, Eq)]
+pub struct Instance {
+    /// The second of the Unix epoch at which the server started.
+    pub start: u64,
+    /// The server's process.
+    pub pid: u64,
+    /// The number of the root in this run, which no later watch of the same path has again.
+    pub root: u64,
+    ghost start_in_range: { start ≤ max_number },
+    ghost pid_in_range: { pid ≤ max_number },
+    ghost root_in_range: { root ≤ max_number },
+}
+
+impl Instance {
+    ghost use Rattle.wq_clock.specs.Instance.{instance_numbers};
+
+    /// The instance of these numbers.
+    pub const fn new(start: u64, pid: u64, root: u64) -> Instance
+        requires start { start ≤ MAX_NUMBER }
+        requires pid { pid ≤ MAX_NUMBER }
+        requires root { root ≤ MAX_NUMBER }
+        ensures { instance_numbers result ≡ record { start = start; pid = pid; root = root } }
+    {
+        Instance { start, pid, root }
+    }
+}

@@ -1,0 +1,20 @@
+//! The texts by which clients name moments: Watchman's clock specs.
+//!
+//! A moment is named by a clock id of the server, by a named cursor or by a second. This crate
+//! prints and
+//! reads these texts and says what bound each sets. It keeps no cursors and knows no view.
+#![tactic(auto)]
+
+mod bound;
+mod clock_text;
+mod instance;
+mod laws;
+mod reading;
+#[cfg(test)]
+mod tests;
+
+pub use bound::{Bound, resolve};
+pub use clock_text::{ClockText, MAX_CLOCK_TEXT, print};
+pub use instance::{Instance, MAX_NUMBER};
+pub use laws::{printed_ids_read_back, same_text_same_id, texts_say_what_they_spell};
+pub use reading::{BadClock, MAX_CURSOR_NAME, Spec, parse};

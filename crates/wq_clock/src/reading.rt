@@ -1,0 +1,116 @@
+//! Reading clock specs from texts, without memory.
+ghost use Rattle.std.specs.Prelude.{◌≡◌, ◌≤◌, Some, None, IfSome, IfNone, IfOk, OnErr, All};
+ghost use Rattle.wq_clock.specs.ClockSpec.{IsWithinLimits, parts_of, number_of, numbers_of, id_from_numbers, id_of, cursor_of, clock_spec_of};
+ghost use Rattle.wq_clock.specs.Spec.{said_by, value_of};
+
+use crate::instance::{Instance, MAX_NUMBER};
+use arrayvec::ArrayVec;
+use itoa::Buffer;
+use thiserror::Error;
+
+/// The most bytes of a cursor's name.
+pub const MAX_CURSOR_NAME: usize = 255;
+
+/// How many numbers a clock id has.
+const ID_NUMBERS: usize = 4;
+
+/// A clock spec that was given as a text.
+#[derive(Clone, Copy, Debug, PartialEq, Eq)]
+pub enum Spec<'a> {
+    /// A clock id, `c:<start>:<pid>:<root>:<tick>`: an instance and a tick of it, at most 2^62.
+    Id(Instance, u64),
+    /// A clock id of Watchman's older form, `c:<pid>:<tick>`, which names no moment of this server.
+    OldId,
+    /// A named cursor, `n:<name>`: the name, of 1 to 255 bytes.
+    Cursor(&'a str),
+}
+
+/// The text is no clock spec.
+#[derive(Clone, Copy, Debug, PartialEq, Eq, Error)]
+#[error("bad clockspec")]
+pub struct BadClock;
+
+/// Reads a clock spec, of the forms in Watchman's documentation of clockspecs.
+///
+/// Numbers are decimal, without sign and leading zeros, and at most 2^62. A cursor's name is any 1
+/// to 255 bytes.
+/// So `c:7:9:1:42` is a clock id, `c:9:42` an old one and `n:build` a cursor; `c:7:9:1:042` is
+/// refused.
+pub fn parse(text: &str) -> Result<Spec<'_>, BadClock>
+    ensures read { IfOk result (λ spec. clock_spec_of text.now ≡ Some (value_of spec)) }
+    ensures refused { OnErr result (clock_spec_of text.now ≡ None) }
+    ensures within_limits { IfOk result (λ spec. IsWithinLimits (value_of spec)) }
+{
+    if let Some(numbers) = text.strip_prefix("c:") {
+        id(numbers)
+    } else if let Some(name) = text.strip_prefix("n:") {
+        cursor(name)
+    } else {
+        Err(BadClock)
+    }
+}
+
+/// The clock id whose numbers stand between the colons of `text`.
+fn id(text: &str) -> Result<Spec<'_>, BadClock>
+    ensures { said_by result ≡ id_of text.now }
+{
+    let Some(numbers) = numbers(text) else {
+        return Err(BadClock);
+    };
+    id_from(numbers.as_slice())
+}
+
+/// The numbers between the colons of `text`, if there are at most four.
+fn numbers(text: &str) -> Option<ArrayVec<u64, ID_NUMBERS>>
+    ensures found { IfSome result (λ found. numbers_of (parts_of text.now) ≡ Some found.items) }
+    ensures in_range { IfSome result (λ found. All (λ n. n ≤ MAX_NUMBER) found.items) }
+    ensures refused { IfNone result (id_of text.now ≡ None) }
+{
+    let mut numbers = ArrayVec::new();
+    for part in text.split(':') {
+        if numbers.is_full() {
+            return None;
+        }
+        numbers.push(number(part)?);
+    }
+    Some(numbers)
+}
+
+/// The clock id of these numbers.
+fn id_from<'a>(numbers: &[u64]) -> Result<Spec<'a>, BadClock>
+    requires { All (λ n. n ≤ MAX_NUMBER) numbers.now }
+    ensures { said_by result ≡ id_from_numbers numbers.now }
+{
+    match *numbers {
+        [start, pid, root, tick] => Ok(Spec::Id(Instance::new(start, pid, root), tick)),
+        [_, _] => Ok(Spec::OldId),
+        _ => Err(BadClock),
+    }
+}
+
+/// The cursor of this name.
+fn cursor(name: &str) -> Result<Spec<'_>, BadClock>
+    ensures { said_by result ≡ cursor_of name.now }
+{
+    if 1 <= name.len() && name.len() <= MAX_CURSOR_NAME {
+        Ok(Spec::Cursor(name))
+    } else {
+        Err(BadClock)
+    }
+}
+
+/// The number of at most 2^62 whose decimal text this is.
+fn number(text: &str) -> Option<u64>
+    ensures value { result ≡ number_of text.now }
+    ensures in_range { IfSome result (λ n. n ≤ MAX_NUMBER) }
+{
+    let number: u64 = text.parse().ok()?;
+    if number > MAX_NUMBER {
+        return None;
+    }
+    if Buffer::new().format(number) == text {
+        Some(number)
+    } else {
+        None
+    }
+}

@@ -1,0 +1,128 @@
+-- The first fault of rows: the lawful rows before it, and whether a name stands twice among them.
+use Rattle.std.proofs.Common.{◌≡◌, ℕ, ℤ, nat_lt, suc, ◌+◌, ◌<◌, ◌≤◌, Bool, true, false, cond, not, ◌||◌, ◌&&◌, List, [], ◌∷◌, ◌++◌, map, length, take, drop, get_or, bytes_eq, Option, Some, None, IfSome, IsTrue, ◌↔◌, slice_get, if◌then◌else◌, sym, refl, ap, subst, ◌∙◌, arith}
+use mathlib.Core.Bool.{false≢true}
+use Rattle.std.specs.Cmp.{eq_by_cmp_equiv}
+use Rattle.std.specs.Cmp.Lexicographic.{texts_ties}
+use Rattle.std.specs.List.{list_any, list_all, IsDistinct, AllByRecursion}
+use Rattle.std.proofs.Math.Seq.{drop-cons}
+use Rattle.std.proofs.lemmas.Bool.Decides.{nat_tests}
+use Rattle.std.proofs.lemmas.List.{take-append-drop, append-nil}
+use Rattle.std.proofs.lemmas.Option.{slice_get_read}
+use Rattle.wq_view.specs.declared.listing.PassFault.{PassFault}
+use Rattle.wq_view.specs.declared.listing.PassFault.TheVariants.{BadName, NameTwice, OutOfRange}
+use Rattle.wq_view.specs.Name.{is_valid_name}
+use Rattle.wq_view.specs.Row.{Row, sight_of, is_in_range, is_lawful_row, is_count}
+use Rattle.wq_view.specs.Listing.{name_cmp, names_of, row_fault, listing_fault}
+use Rattle.wq_view.specs.declared.limits.TheConstants.{MAX_ROWS}
+use Rattle.wq_view.proofs.NameOrder.{names_total, both_true}
+
+-- a name of the list is among the names before, or stands twice in it
+clash : List (List ℕ) → List (List ℕ) → Bool
+clash before [] = false
+clash before (x ∷ xs) = list_any (bytes_eq x) before || clash (x ∷ before) xs
+
+either_false : (a b : Bool) → (a || b) ≡ false → (a ≡ false) × (b ≡ false)
+either_false true b e = absurd (false≢true (sym e))
+either_false false b e = (refl, e)
+
+pub same_name_flips : (a b : List ℕ) → bytes_eq a b ≡ bytes_eq b a
+same_name_flips a b = texts_ties a b ∙ (eq_by_cmp_equiv names_total).symm a b ∙ sym (texts_ties b a)
+
+-- each name of the list is none of those before
+IsNew : List (List ℕ) → List (List ℕ) → Type 0
+IsNew before xs = AllByRecursion (λ x. list_any (bytes_eq x) before ≡ false) xs
+
+new_with : (x : List ℕ) (before xs : List (List ℕ)) → AllByRecursion (λ y. bytes_eq x y ≡ false) xs → IsNew before xs → IsNew (x ∷ before) xs
+unfolding IsNew
+new_with x before [] apart new = tt
+new_with x before (y ∷ ys) apart new = (rw (same_name_flips y x, apart.0) new.0, new_with x before ys apart.1 new.1)
+
+new_without : (x : List ℕ) (before xs : List (List ℕ)) → IsNew (x ∷ before) xs → AllByRecursion (λ y. bytes_eq x y ≡ false) xs × IsNew before xs
+unfolding IsNew
+new_without x before [] new = (tt, tt)
+new_without x before (y ∷ ys) new =
+    let head = either_false _ _ new.0 in
+    let rest = new_without x before ys new.1 in
+    ((same_name_flips x y ∙ head.0, rest.0), (head.1, rest.1))
+
+no_clash : (before xs : List (List ℕ)) → IsDistinct bytes_eq xs → IsNew before xs → clash before xs ≡ false
+unfolding clash IsNew IsDistinct
+no_clash before [] distinct new = refl
+no_clash before (x ∷ xs) distinct new = rw new.0 (no_clash (x ∷ before) xs distinct.1 (new_with x before xs distinct.0 new.1))
+
+distinct_without_clash : (before xs : List (List ℕ)) → clash before xs ≡ false → IsDistinct bytes_eq xs × IsNew before xs
+unfolding clash IsNew IsDistinct
+distinct_without_clash before [] e = (tt, tt)
+distinct_without_clash before (x ∷ xs) e =
+    let parts = either_false _ _ e in
+    let rest = distinct_without_clash (x ∷ before) xs parts.1 in
+    let apart = new_without x before xs rest.1 in
+    ((apart.0, rest.0), (parts.0, apart.1))
+
+all_new : (xs : List (List ℕ)) → IsNew [] xs
+unfolding IsNew
+all_new [] = tt
+all_new (x ∷ xs) = (refl, all_new xs)
+
+-- a test for distinct names is one for a clash
+clash_is : (r : Bool) (xs : List (List ℕ)) → IsTrue r ↔ IsDistinct bytes_eq xs → clash [] xs ≡ not r
+clash_is true xs tells = no_clash [] xs (tells.0 refl) (all_new xs)
+clash_is false xs tells = elim (clash [] xs) as (λ b. clash [] xs ≡ b → b ≡ true) [
+  | true ↦ λ e. refl
+  | false ↦ λ e. absurd (false≢true (tells.1 (distinct_without_clash [] xs e).0))
+] refl
+
+-- past lawful rows, the first fault is a clash among them or what the rest has
+past_lawful : (before : List (List ℕ)) (front rest : List Row) (last : Option PassFault) → list_all is_lawful_row front ≡ true → ((b : List (List ℕ)) → row_fault b rest ≡ last) → row_fault before (front ++ rest) ≡ if clash before (names_of front) then Some NameTwice else last
+unfolding clash
+past_lawful before [] rest last lawful is = is before
+past_lawful before (row ∷ rows) rest last lawful is =
+    let parts = both_true (is_lawful_row row) (list_all is_lawful_row rows) lawful in
+    let own = both_true (is_valid_name row.name) (is_in_range (sight_of row)) parts.0 in
+    rw (own.0, own.1) (elim (list_any (bytes_eq row.name) before) as (λ b. cond b (Some NameTwice) (row_fault (row.name ∷ before) (rows ++ rest)) ≡ cond (b || clash (row.name ∷ before) (names_of rows)) (Some NameTwice) last) [
+      | true ↦ refl
+      | false ↦ past_lawful (row.name ∷ before) rows rest last parts.1 is
+    ])
+
+turned : {A : Type 0} (b : Bool) (x y : A) → cond (not b) y x ≡ cond b x y
+turned true x y = refl
+turned false x y = refl
+
+chosen : (b : Bool) (fault : PassFault) → cond (not b) (Some NameTwice) (Some fault) ≡ Some (cond b fault NameTwice)
+chosen true fault = refl
+chosen false fault = refl
+
+-- the fault of a row by itself
+abbrev own_fault : Row → PassFault
+own_fault row = if is_valid_name row.name then OutOfRange else BadName
+
+own_fault_is : (before : List (List ℕ)) (row : Row) (rows : List Row) → is_lawful_row row ≡ false → row_fault before (row ∷ rows) ≡ Some (own_fault row)
+own_fault_is before row rows unlawful = elim (is_valid_name row.name) as (λ b. (b && is_in_range (sight_of row)) ≡ false → (if not b then Some BadName else if not (is_in_range (sight_of row)) then Some OutOfRange else if list_any (bytes_eq row.name) before then Some NameTwice else row_fault (row.name ∷ before) rows) ≡ Some (if b then OutOfRange else BadName)) [
+  | true ↦ λ e. rw e refl
+  | false ↦ λ e. refl
+] unlawful
+
+-- of lawful rows: a name that stands twice, or nothing
+pub fault_of_lawful : (rows : List Row) (r : Bool) → list_all is_lawful_row rows ≡ true → IsTrue r ↔ IsDistinct bytes_eq (names_of rows) → row_fault [] rows ≡ if r then None else Some NameTwice
+fault_of_lawful rows r lawful tells =
+    ap (row_fault []) (sym (append-nil rows)) ∙ past_lawful [] rows [] None lawful (λ b. refl)
+    ∙ rw (clash_is r (names_of rows) tells) (turned r None (Some NameTwice))
+
+-- of rows with an unlawful one behind lawful ones: a name that stands twice before it, or its own fault
+pub fault_at_unlawful : (rows : List Row) (at : ℕ) (row : Row) (r : Bool) → list_all is_lawful_row (take at rows) ≡ true → at < length rows → row ≡ get_or rows at row → IfSome (slice_get rows at) (λ row. is_lawful_row row ≡ false) → IsTrue r ↔ IsDistinct bytes_eq (names_of (take at rows)) → row_fault [] rows ≡ Some (if r then (if is_valid_name row.name then OutOfRange else BadName) else NameTwice)
+fault_at_unlawful rows at row r lawful bound here unlawful tells =
+    let there : slice_get rows at ≡ Some row = slice_get_read rows (length rows) at row refl bound here in
+    let cut : drop at rows ≡ row ∷ drop (suc at) rows = drop-cons rows at row bound ∙ ap (λ r. r ∷ drop (suc at) rows) (sym here) in
+    ap (row_fault []) (sym (take-append-drop at rows) ∙ ap (λ rest. take at rows ++ rest) cut)
+    ∙ past_lawful [] (take at rows) (row ∷ drop (suc at) rows) (Some (own_fault row)) lawful (λ before. own_fault_is before row (drop (suc at) rows) (rw there at unlawful))
+    ∙ rw (clash_is r (names_of (take at rows)) tells) (chosen r (own_fault row))
+
+-- past the tests of the whole, a listing's fault is that of its rows
+pub fault_of_rows : (rows : List Row) (second : ℤ) → nat_lt MAX_ROWS (length rows) ≡ false → is_count second ≡ true → listing_fault rows second ≡ row_fault [] rows
+fault_of_rows rows second short in_range = rw (short, in_range) refl
+
+-- the fault of lawful rows of which r says whether their names are distinct
+pub fault_when_lawful : (rows : List Row) (second : ℤ) (r : Bool) → length rows ≤ MAX_ROWS → is_count second ≡ true → list_all is_lawful_row rows ≡ true → IsTrue r ↔ IsDistinct bytes_eq (names_of rows) → listing_fault rows second ≡ if r then None else Some NameTwice
+fault_when_lawful rows second r short in_range lawful tells =
+    let short_test : nat_lt MAX_ROWS (length rows) ≡ false = grind (arith, nat_tests) in
+    fault_of_rows rows second short_test in_range ∙ fault_of_lawful rows r lawful tells

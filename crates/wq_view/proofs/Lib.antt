@@ -1,0 +1,11 @@
+mod NameOrder
+mod Sorting
+mod Faults
+mod Listings
+mod LeftOver
+mod Absorbed
+mod Sights
+mod Histories
+mod Showing
+mod ViewSteps
+mod Lookups

@@ -1,0 +1,59 @@
+-- The byte order of names, and what rises in it.
+use Rattle.std.proofs.Common.{◌≡◌, ℕ, Bool, true, false, ◌&&◌, List, [], ◌∷◌, map, bytes_eq, sym, refl, ap, subst, ◌∙◌}
+use Rattle.std.proofs.Math.Dec.{T}
+use mathlib.Core.Bool.{false≢true}
+use Rattle.std.specs.declared.cmp.Ordering.{Ordering}
+use Rattle.std.specs.declared.cmp.Ordering.TheVariants.{Less, Equal, Greater}
+use Rattle.std.specs.Ordering.{nat_cmp, is_lt, eq_by_cmp}
+use Rattle.std.specs.Cmp.{IsTotalOrder}
+use Rattle.std.specs.Cmp.Lexicographic.{nat_list_cmp_total, texts_ties}
+use Rattle.std.specs.FinMap.{IsAntisymmetric, nat_cmp-IsAntisymmetric, slice_cmp-IsAntisymmetric, is_sorted}
+use Rattle.std.specs.FinMap.Entries.{below_all}
+use Rattle.std.specs.List.{AllByRecursion}
+use Rattle.std.specs.List.Sorted.{IsStrictlySortedBy}
+use Rattle.std.proofs.lemmas.Slice.Eq.{bytes_eq-Decides}
+use Rattle.wq_view.specs.Listing.{name_cmp}
+
+pub names_total : IsTotalOrder name_cmp
+names_total = nat_list_cmp_total
+
+pub names_exact : IsAntisymmetric name_cmp
+names_exact = slice_cmp-IsAntisymmetric nat_cmp-IsAntisymmetric
+
+-- names that tie are one
+pub same_name : (a b : List ℕ) → bytes_eq a b ≡ true → a ≡ b
+same_name a b e = (bytes_eq-Decides a b).0 e
+
+pub less_from_lt : (o : Ordering) → is_lt o ≡ true → o ≡ Less
+less_from_lt Less e = refl
+less_from_lt Equal e = absurd (false≢true e)
+less_from_lt Greater e = absurd (false≢true e)
+
+pub both_true : (a b : Bool) → (a && b) ≡ true → (a ≡ true) × (b ≡ true)
+both_true true b e = (refl, e)
+both_true false b e = absurd (false≢true e)
+
+-- what a list of entries with names says of those names
+module _ {A X : Type 0} (f : A → List ℕ × X) where
+  below_from_rising : (x : List ℕ) (xs : List A) → AllByRecursion (λ y. name_cmp x y ≡ Less) (map (λ a. (f a).0) xs) → below_all name_cmp x (map f xs) ≡ true
+  below_from_rising x [] all = refl
+  below_from_rising x (a ∷ xs) all = rw all.0 (below_from_rising x xs all.1)
+
+  rising_from_below : (x : List ℕ) (xs : List A) → below_all name_cmp x (map f xs) ≡ true → AllByRecursion (λ y. name_cmp x y ≡ Less) (map (λ a. (f a).0) xs)
+  rising_from_below x [] e = tt
+  rising_from_below x (a ∷ xs) e =
+      let parts = both_true _ _ e in
+      (less_from_lt _ parts.0, rising_from_below x xs parts.1)
+
+  -- names that rise are those of sorted entries
+  pub sorted_from_rising : (xs : List A) → IsStrictlySortedBy name_cmp (map (λ a. (f a).0) xs) → is_sorted name_cmp (map f xs) ≡ true
+  unfolding IsStrictlySortedBy
+  sorted_from_rising [] rise = refl
+  sorted_from_rising (a ∷ xs) rise = rw (below_from_rising (f a).0 xs rise.0) (sorted_from_rising xs rise.1)
+
+  pub rising_from_sorted : (xs : List A) → is_sorted name_cmp (map f xs) ≡ true → IsStrictlySortedBy name_cmp (map (λ a. (f a).0) xs)
+  unfolding IsStrictlySortedBy
+  rising_from_sorted [] e = tt
+  rising_from_sorted (a ∷ xs) e =
+      let parts = both_true _ _ e in
+      (rising_from_below (f a).0 xs parts.0, rising_from_sorted xs parts.1)

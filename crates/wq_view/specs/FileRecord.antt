@@ -1,0 +1,78 @@
+-- The record that a view keeps of one file: what was last seen of it, whether it exists,
+-- and when it was created and last observed to change, as ticks (numbers of passes) and as seconds of the Unix epoch.
+use Rattle.std.specs.Prelude.{ℕ, ℤ, pos, ◌≤◌, Bool, false, true, ◌&&◌, IsTrue, nat_le, if◌then◌else◌, List, map, Option, Some, None, refl}
+use Rattle.std.specs.Coded.{Coded, code_by, coded×, coded_ℕ, coded_ℤ, coded_bool, coded_list}
+use Rattle.std.specs.FinMap.{find}
+use Rattle.wq_view.specs.contracts.kinds.Kind.{the_row}
+use Rattle.wq_view.specs.declared.kinds.Kind.{Kind}
+use Rattle.wq_view.specs.declared.kinds.Kind.TheVariants.{Unknown}
+use Rattle.wq_view.specs.declared.limits.TheConstants.{MAX_TICK}
+use Rattle.wq_view.specs.Name.{is_valid_name}
+use Rattle.wq_view.specs.Row.{Sight, is_count, is_in_range, same_sight}
+use Rattle.wq_view.specs.Listing.{name_cmp}
+
+pub record FileRecord : Type 0 where
+  pub name : List ℕ
+  pub kind : Kind
+  pub size : ℤ
+  pub mtime_ms : ℤ
+  -- whether the last pass saw it
+  pub exists : Bool
+  -- the pass that saw it come, and the last pass that saw a change of it
+  pub ctick : ℕ
+  pub otick : ℕ
+  -- the seconds of those passes
+  pub csec : ℤ
+  pub osec : ℤ
+
+-- a record as the tuple of its parts
+abbrev pub record_code : Coded FileRecord
+record_code =
+    code_by (List ℕ × (Kind × (ℤ × (ℤ × (Bool × (ℕ × (ℕ × (ℤ × ℤ))))))))
+    (coded× (coded_list coded_ℕ) (coded× the_row.coded (coded× coded_ℤ (coded× coded_ℤ (coded× coded_bool (coded× coded_ℕ (coded× coded_ℕ (coded× coded_ℤ coded_ℤ))))))))
+    (λ r. (r.name, (r.kind, (r.size, (r.mtime_ms, (r.exists, (r.ctick, (r.otick, (r.csec, r.osec)))))))))
+    (λ p. record { name = p.0; kind = p.1.0; size = p.1.1.0; mtime_ms = p.1.1.1.0; exists = p.1.1.1.1.0; ctick = p.1.1.1.1.1.0; otick = p.1.1.1.1.1.1.0; csec = p.1.1.1.1.1.1.1.0; osec = p.1.1.1.1.1.1.1.1 })
+    (λ _. refl)
+
+-- what was last seen of the file
+abbrev pub last_sight : FileRecord → Sight
+last_sight r = record { kind = r.kind; size = r.size; mtime_ms = r.mtime_ms }
+
+-- a valid name, numbers in range, and ticks of at most 2^62
+pub record IsLawful (r : FileRecord) : Type 0 where
+  pub name : IsTrue (is_valid_name r.name)
+  pub sight : IsTrue (is_in_range (last_sight r))
+  pub ctick : r.ctick ≤ MAX_TICK
+  pub otick : r.otick ≤ MAX_TICK
+  pub csec : IsTrue (is_count r.csec)
+  pub osec : IsTrue (is_count r.osec)
+
+-- the record of a name that no pass has seen yet
+abbrev pub unseen : List ℕ → FileRecord
+unseen name = record { name = name; kind = Unknown; size = pos 0; mtime_ms = pos 0; exists = false; ctick = 0; otick = 0; csec = pos 0; osec = pos 0 }
+
+-- the record after a pass that saw the file otherwise than it was
+abbrev pub changed : FileRecord → Sight → ℕ → ℤ → FileRecord
+changed r s tick second = record r { kind = s.kind; size = s.size; mtime_ms = s.mtime_ms; otick = tick; osec = second }
+
+-- the record after a pass that saw the file come
+abbrev pub come : FileRecord → Sight → ℕ → ℤ → FileRecord
+come r s tick second = changed (record r { exists = true; ctick = tick; csec = second }) s tick second
+
+-- the record after a pass that saw the file go
+abbrev pub gone : FileRecord → ℕ → ℤ → FileRecord
+gone r tick second = record r { exists = false; otick = tick; osec = second }
+
+-- the record after a pass that saw this of the file, or nothing
+abbrev pub observed : FileRecord → Option Sight → ℕ → ℤ → FileRecord
+observed r None tick second = if r.exists then gone r tick second else r
+observed r (Some s) tick second =
+    if r.exists then (if same_sight (last_sight r) s then r else changed r s tick second) else come r s tick second
+
+-- records as entries by their names
+abbrev pub keyed : List FileRecord → List (List ℕ × FileRecord)
+keyed = map (λ r. (r.name, r))
+
+-- the record of a name, if there is one
+abbrev pub record_named : List ℕ → List FileRecord → Option FileRecord
+record_named name records = find name_cmp name (keyed records)

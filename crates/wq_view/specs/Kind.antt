@@ -1,0 +1,17 @@
+-- The letters that stand for kinds of files, as in Watchman's documentation of the field `type`.
+use Rattle.std.specs.Prelude.{ℕ, Option, Some, None}
+use Rattle.std.specs.Str.{byte}
+use Rattle.wq_view.specs.declared.kinds.Kind.{Kind}
+use Rattle.wq_view.specs.declared.kinds.Kind.TheVariants.{File, Dir, Link, Block, Char, Fifo, Socket, Door, Unknown}
+
+-- the ASCII letter of a kind
+abbrev pub letter_of : Kind → ℕ
+letter_of File = byte "f"
+letter_of Dir = byte "d"
+letter_of Link = byte "l"
+letter_of Block = byte "b"
+letter_of Char = byte "c"
+letter_of Fifo = byte "p"
+letter_of Socket = byte "s"
+letter_of Door = byte "D"
+letter_of Unknown = byte "?"

@@ -1,0 +1,9 @@
+pub mod Kind
+pub mod Name
+pub mod Row
+pub mod Listing
+pub mod FileRecord
+pub mod Record
+pub mod History
+pub mod View
+pub mod Merge

@@ -1,0 +1,30 @@
+-- The names of files: paths relative to a root, as bytes, with their parts between slashes.
+-- What a basename and a suffix are is said in Watchman's documentation of the expression terms.
+use Rattle.std.specs.Prelude.{ℕ, Bool, ◌==◌, nat_le, not, ◌&&◌, if◌then◌else◌, List, [], length, bytes_eq, codes}
+use Rattle.std.specs.Str.{byte, is_utf8}
+use Rattle.std.specs.List.{list_any, list_all, slice_split, after_last}
+use Rattle.wq_view.specs.declared.names.TheConstants.{MAX_NAME}
+
+abbrev pub is_slash : ℕ → Bool
+is_slash b = b == byte "/"
+
+abbrev pub is_dot : ℕ → Bool
+is_dot b = b == byte "."
+
+-- a part between slashes that names something: not empty, not `.` and not `..`
+abbrev pub is_plain_part : List ℕ → Bool
+is_plain_part part = not (bytes_eq part []) && not (bytes_eq part (codes ".")) && not (bytes_eq part (codes ".."))
+
+-- a name is UTF-8 of 1 to 4,096 bytes without byte 0, each of whose parts is plain
+unfoldable pub is_valid_name : List ℕ → Bool
+is_valid_name bytes =
+    nat_le 1 (length bytes) && nat_le (length bytes) MAX_NAME && not (list_any (λ b. b == 0) bytes)
+    && list_all is_plain_part (slice_split is_slash bytes) && is_utf8 bytes
+
+-- what follows the last slash
+abbrev pub basename_of : List ℕ → List ℕ
+basename_of name = after_last is_slash name
+
+-- what follows the last dot of the basename, or nothing where it has no dot
+abbrev pub suffix_of : List ℕ → List ℕ
+suffix_of name = if list_any is_dot (basename_of name) then after_last is_dot (basename_of name) else []

@@ -1,0 +1,55 @@
+//! What kinds of files there are, and the letters that stand for them in listings and replies.
+ghost use Rattle.std.specs.Prelude.{◌≡◌, MatchOption, ◌≢◌, ℕ};
+ghost use Rattle.wq_view.specs.Kind.{letter_of};
+
+/// What a file is, by the kinds of POSIX and one that only Solaris has.
+#[derive(Clone, Copy, Debug, PartialEq, Eq)]
+pub enum Kind {
+    File,
+    Dir,
+    Link,
+    Block,
+    Char,
+    Fifo,
+    Socket,
+    Door,
+    /// Anything else.
+    Unknown,
+}
+
+impl Kind {
+    /// The letter of the kind, as in Watchman's field `type`: `f d l b c p s D`, and `?` for what is none of these.
+    pub fn letter(self) -> u8
+        ensures { result ≡ letter_of self }
+    {
+        match self {
+            Kind::File => b'f',
+            Kind::Dir => b'd',
+            Kind::Link => b'l',
+            Kind::Block => b'b',
+            Kind::Char => b'c',
+            Kind::Fifo => b'p',
+            Kind::Socket => b's',
+            Kind::Door => b'D',
+            Kind::Unknown => b'?',
+        }
+    }
+
+    /// The kind that has this letter.
+    pub fn from_letter(letter: u8) -> Option<Kind>
+        ensures { MatchOption result ((kind : Kind) → letter_of kind ≢ letter) (λ kind. letter_of kind ≡ letter) }
+    {
+        match letter {
+            b'f' => Some(Kind::File),
+            b'd' => Some(Kind::Dir),
+            b'l' => Some(Kind::Link),
+            b'b' => Some(Kind::Block),
+            b'c' => Some(Kind::Char),
+            b'p' => Some(Kind::Fifo),
+            b's' => Some(Kind::Socket),
+            b'D' => Some(Kind::Door),
+            b'?' => Some(Kind::Unknown),
+            _ => None,
+        }
+    }
+}

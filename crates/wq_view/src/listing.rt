@@ -1,0 +1,195 @@
+//! Listings of a tree: rows as a walker saw them, and the pass that rows without a fault make.
+//! Nothing here reads a directory.
+ghost use Rattle.std.specs.Prelude.{◌≡◌, ◌<◌, ◌↔◌, false, Some, None, MatchResult, IfSome, IfNone, List, [], length, ◌≤◌, IfOk, map, take, bytes_eq, slice_get, IsTrue, IsPermutation};
+ghost use Rattle.std.specs.FinMap.{entries, is_sorted};
+ghost use Rattle.std.specs.List.{list_all, IsDistinct};
+ghost use Rattle.wq_view.specs.Row.{entry_of, is_lawful_row, is_count, is_time};
+ghost use Rattle.wq_view.specs.Listing.{name_cmp, names_of, listing_of, listing_fault, row_fault};
+
+use crate::kinds::Kind;
+use crate::limits::{MAX_NUMBER, MAX_ROWS};
+use crate::names::is_valid_name;
+use std::marker::Model;
+use std::sync::ArcSlice;
+use thiserror::Error;
+
+/// One row of a listing, as a walker saw it: nothing of it is tested yet.
+#[derive(Drop)]
+pub struct Seen {
+    /// The path below the root. A pass and a view share these bytes.
+    pub name: ArcSlice<u8>,
+    pub kind: Kind,
+    /// In bytes.
+    pub size: i64,
+    /// The time of the last change, in milliseconds of the Unix epoch.
+    pub mtime_ms: i64,
+}
+
+impl Model for Seen {
+    ghost use Rattle.std.specs.Arc.{arc_slice_items};
+    ghost use Rattle.wq_view.specs.Row.{Row};
+
+    ghost Value = { Row };
+
+    ghost view = { λ s. record { name = arc_slice_items s.name; kind = s.kind; size = s.size; mtime_ms = s.mtime_ms } };
+}
+
+/// Why rows make no pass.
+#[derive(Clone, Copy, Debug, PartialEq, Eq, Drop, Error)]
+pub enum PassFault {
+    /// A name that is not valid.
+    #[error("a name is not valid")]
+    BadName,
+    /// A name that an earlier row has.
+    #[error("a name stands twice")]
+    NameTwice,
+    /// More than 1,000,000 rows.
+    #[error("too many rows")]
+    TooManyRows,
+    /// A size or a second that is not 0 to 2^62, or a time that is not -2^62 to 2^62.
+    #[error("a number is out of range")]
+    OutOfRange,
+    /// For callers that make rows and a pass in one step: making a pass of rows takes none.
+    #[error("no memory")]
+    NoMemory,
+}
+
+/// What one pass over a tree saw: of each name one row, and the second at which the pass was made.
+#[derive(Drop)]
+pub struct Pass {
+    rows: Vec<Seen>,
+    second: i64,
+}
+
+impl Model for Pass {
+    ghost use Rattle.std.specs.Prelude.{map};
+    ghost use Rattle.std.specs.FinMap.{from_sorted};
+    ghost use Rattle.wq_view.specs.Row.{entry_of};
+    ghost use Rattle.wq_view.specs.Listing.{name_cmp, Listing, listing_code, IsPass};
+
+    ghost Value = { Listing };
+
+    ghost coded = { listing_code };
+
+    ghost view = { λ p. record { sights = from_sorted (map entry_of p.rows.items); second = p.second } };
+
+    ghost invariant = { λ p. IsPass p.rows.items p.second };
+}
+
+impl Pass {
+    /// The pass that these rows make, in any order, seen at this second of the Unix epoch.
+    ///
+    /// The first fault refuses them: too many rows, then the second, and then row by row a name that is
+    /// not valid, a number out of range, a name that an earlier row has. It takes no memory.
+    pub fn new(mut rows: Vec<Seen>, second: i64) -> Result<Pass, PassFault>
+        ensures fault { MatchResult result (λ _. listing_fault rows.items second ≡ None) (λ fault. listing_fault rows.items second ≡ Some fault) }
+        ensures pass { IfOk result (λ pass. pass ≡ listing_of rows.items second) }
+    {
+        if rows.len() > MAX_ROWS {
+            return Err(PassFault::TooManyRows);
+        }
+        if !is_count(second) {
+            return Err(PassFault::OutOfRange);
+        }
+        if let Some(at) = first_unlawful(&rows) {
+            return Err(first_fault(&mut rows, at));
+        }
+        if !sort_by_name(&mut rows) {
+            return Err(PassFault::NameTwice);
+        }
+        Ok(Pass { rows, second })
+    }
+
+    /// The rows in the byte order of their names.
+    pub(crate) fn rows(&self) -> &[Seen]
+        ensures entries { entries self.now.sights ≡ map entry_of result.now }
+        ensures rise { IsTrue (is_sorted name_cmp (map entry_of result.now)) }
+        ensures lawful { IsTrue (list_all is_lawful_row result.now) }
+        ensures count { length result.now ≤ MAX_ROWS }
+    {
+        &self.rows
+    }
+
+    /// When the pass was made, in seconds of the Unix epoch.
+    pub fn second(&self) -> i64
+        ensures value { result ≡ self.now.second }
+        ensures range { IsTrue (is_count result) }
+    {
+        self.second
+    }
+}
+
+impl Seen {
+    /// Whether the row is without a fault of its own.
+    fn is_lawful(&self) -> bool
+        ensures { result ≡ is_lawful_row self.now }
+    {
+        is_valid_name(&self.name) && is_count(self.size) && is_time(self.mtime_ms)
+    }
+}
+
+/// The place of the first row that has a fault of its own.
+fn first_unlawful(rows: &[Seen]) -> Option<usize>
+    ensures none { IfNone result (IsTrue (list_all is_lawful_row rows.now)) }
+    ensures bound { IfSome result (λ at. at < length rows.now) }
+    ensures before { IfSome result (λ at. IsTrue (list_all is_lawful_row (take at rows.now))) }
+    ensures here { IfSome result (λ at. IfSome (slice_get rows.now at) (λ row. is_lawful_row row ≡ false)) }
+{
+    for (at, row) in rows.iter().enumerate() {
+        if !row.is_lawful() {
+            return Some(at);
+        }
+    }
+    None
+}
+
+/// The first fault of rows of which the one at this place is the first that is not lawful.
+fn first_fault(rows: &mut [Seen], at: usize) -> PassFault
+    requires before { IsTrue (list_all is_lawful_row (take at rows.old)) }
+    requires bound { at < length rows.old }
+    requires here { IfSome (slice_get rows.old at) (λ row. is_lawful_row row ≡ false) }
+    ensures { row_fault [] rows.old ≡ Some result }
+{
+    let row = &rows[at];
+    let has_bad_name = !is_valid_name(&row.name);
+    if !sort_by_name(&mut rows[..at]) {
+        PassFault::NameTwice
+    } else if has_bad_name {
+        PassFault::BadName
+    } else {
+        PassFault::OutOfRange
+    }
+}
+
+/// Brings rows into the byte order of their names, and says whether no name stands twice.
+fn sort_by_name(rows: &mut [Seen]) -> bool
+    ensures same { IsPermutation rows.old rows.new }
+    ensures distinct { IsTrue result ↔ IsDistinct bytes_eq (names_of rows.old) }
+    ensures rise { IsTrue result → IsTrue (is_sorted name_cmp (map entry_of rows.new)) }
+{
+    if !names_rise(rows) {
+        rows.sort_unstable_by(|a, b| a.name.cmp(&b.name));
+    }
+    names_rise(rows)
+}
+
+/// Whether each name is below the next.
+fn names_rise(rows: &[Seen]) -> bool
+    ensures { result ≡ is_sorted name_cmp (map entry_of rows.now) }
+{
+    rows.is_sorted_by(|a, b| a.name.cmp(&b.name).is_lt())
+}
+
+/// Whether a size or a second is from 0 to 2^62.
+fn is_count(value: i64) -> bool
+    ensures { result ≡ is_count value }
+{
+    0 <= value && value <= MAX_NUMBER
+}
+
+/// Whether a time is from -2^62 to 2^62.
+fn is_time(value: i64) -> bool
+    ensures { result ≡ is_time value }
+{
+    -MAX_NUMBER <= value && value <= MAX_NUMBER
+}

@@ -1,0 +1,108 @@
+//! The names of files: paths relative to a root, shared between listings and views so that none of them
+//! copies a text. What a basename or a suffix is stands here; what a name matches does not.
+ghost use Rattle.std.specs.Prelude.{◌≡◌, ◌==◌, true, false, IfOk, IsTrue, MatchOption};
+ghost use Rattle.std.specs.Arc.{arc_slice_items};
+ghost use Rattle.std.specs.List.{after_last, list_all, list_any, slice_split};
+ghost use Rattle.std.specs.Str.{is_utf8};
+ghost use Rattle.wq_view.specs.Name.{is_plain_part, is_slash, is_valid_name};
+
+use memchr::memrchr;
+use std::alloc::AllocError;
+use std::marker::Model;
+use std::sync::ArcSlice;
+
+/// How many bytes a name may have.
+pub const MAX_NAME: usize = 4096;
+
+/// A valid name over shared bytes: a copy of it costs a pointer.
+#[derive(Drop)]
+pub struct Name {
+    bytes: ArcSlice<u8>,
+}
+
+impl Model for Name {
+    ghost use Rattle.std.specs.Prelude.{ℕ, List, IsTrue};
+    ghost use Rattle.std.specs.Arc.{arc_slice_items};
+    ghost use Rattle.wq_view.specs.Name.{is_valid_name};
+
+    ghost Value = { List ℕ };
+
+    ghost view = { λ n. arc_slice_items n.bytes };
+
+    ghost invariant = { λ n. IsTrue (is_valid_name (arc_slice_items n.bytes)) };
+}
+
+impl Name {
+    /// The name over these bytes, which it shares.
+    pub(crate) fn share(bytes: &ArcSlice<u8>) -> Result<Name, AllocError>
+        requires { IsTrue (is_valid_name (arc_slice_items bytes.now)) }
+        ensures { IfOk result (λ name. name ≡ arc_slice_items bytes.now) }
+    {
+        Ok(Name {
+            bytes: bytes.clone()?,
+        })
+    }
+
+    /// Another owner of the same bytes.
+    pub fn copy(&self) -> Result<Name, AllocError>
+        ensures { IfOk result (λ name. name ≡ self.now) }
+    {
+        Name::share(&self.bytes)
+    }
+
+    pub fn as_str(&self) -> &str
+        ensures { result.now ≡ self.now }
+    {
+        // A valid name is UTF-8, which is proved here and so not tested again.
+        unsafe { str::from_utf8_unchecked(self.as_bytes()) }
+    }
+
+    pub fn as_bytes(&self) -> &[u8]
+        ensures value { result.now ≡ self.now }
+        ensures valid { IsTrue (is_valid_name self.now) }
+    {
+        self.bytes.as_slice()
+    }
+}
+
+/// Whether bytes are a name: UTF-8 of 1 to 4,096 bytes without byte 0, whose parts between slashes are
+/// not empty, `.` or `..`. So a name neither begins nor ends with a slash.
+#[tactic(auto, unfolding(crate::specs::Name::is_valid_name))]
+pub fn is_valid_name(bytes: &[u8]) -> bool
+    ensures { result ≡ is_valid_name bytes.now }
+{
+    let has_fitting_length = 1 <= bytes.len() && bytes.len() <= MAX_NAME;
+    has_fitting_length && !bytes.contains(&0) && has_plain_parts(bytes) && is_utf8(bytes)
+}
+
+/// Whether each part between slashes is plain.
+fn has_plain_parts(bytes: &[u8]) -> bool
+    ensures { result ≡ list_all is_plain_part (slice_split is_slash bytes.now) }
+{
+    bytes.split(|b| *b == b'/').all(is_plain_part)
+}
+
+/// Whether a part between slashes names something: it is not empty, not `.` and not `..`.
+fn is_plain_part(part: &[u8]) -> bool
+    ensures { result ≡ is_plain_part part.now }
+{
+    !part.is_empty() && part != b".".as_slice() && part != b"..".as_slice()
+}
+
+fn is_utf8(bytes: &[u8]) -> bool
+    ensures { result ≡ is_utf8 bytes.now }
+{
+    str::from_utf8(bytes).is_ok()
+}
+
+/// What follows the last such byte, if there is one.
+pub(crate) fn after_last(byte: u8, bytes: &[u8]) -> Option<&[u8]>
+    ensures { MatchOption result
+        ((list_any (λ b. b == byte) bytes.now ≡ false) × (after_last (λ b. b == byte) bytes.now ≡ bytes.now))
+        (λ rest. (list_any (λ b. b == byte) bytes.now ≡ true) × (rest.now ≡ after_last (λ b. b == byte) bytes.now)) }
+{
+    let Some(at) = memrchr(byte, bytes) else {
+        return None;
+    };
+    Some(bytes.split_at(at + 1).1)
+}
