@@ -1,0 +1,3 @@
+pub mod Term
+pub mod Head
+pub mod Reading

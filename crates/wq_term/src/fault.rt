@@ -1,0 +1,44 @@
+//! Why a JSON value is no expression.
+
+use std::alloc::{AllocError, AllocFailed};
+use thiserror::Error;
+
+/// The first fault of a JSON value as an expression: depth first, from left to right; of one term its depth
+/// first, then the others in this order, then those of its terms.
+#[derive(Clone, Copy, Debug, PartialEq, Eq, Drop, Error)]
+pub enum TermFault {
+    /// A text that names no term.
+    #[error("unknown term")]
+    UnknownTerm,
+    /// Too many arguments, or arguments or a term of another shape.
+    #[error("wrong term arguments")]
+    WrongArguments,
+    /// More than 64 terms inside one another.
+    #[error("expression too deep")]
+    TooDeep,
+    /// A growth was refused.
+    #[error("no memory")]
+    NoMemory,
+}
+
+impl From<AllocError> for TermFault {
+    ghost use Rattle.std.specs.Prelude.{◌≡◌};
+    ghost use Rattle.wq_term.specs.declared.fault.TermFault.TheVariants.{NoMemory};
+
+    ghost from_gives = { λ _ fault. fault ≡ NoMemory };
+
+    fn from(_error: AllocError) -> TermFault {
+        TermFault::NoMemory
+    }
+}
+
+impl<T: Drop> From<AllocFailed<T>> for TermFault {
+    ghost use Rattle.std.specs.Prelude.{◌≡◌};
+    ghost use Rattle.wq_term.specs.declared.fault.TermFault.TheVariants.{NoMemory};
+
+    ghost from_gives = { λ _ fault. fault ≡ NoMemory };
+
+    fn from(_error: AllocFailed<T>) -> TermFault {
+        TermFault::NoMemory
+    }
+}

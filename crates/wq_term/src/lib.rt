@@ -1,0 +1,14 @@
+//! The expressions of queries: what a JSON value says as an expression, and which records match it.
+//! Which records are asked, and by which program, is not said here.
+#![tactic(auto)]
+
+mod expr;
+mod fault;
+mod head;
+mod meaning;
+mod reading;
+
+pub use expr::Expr;
+pub use fault::TermFault;
+pub use meaning::holds;
+pub use reading::{MAX_DEPTH, read_expr};
