@@ -1,0 +1,32 @@
+-- What is asked, from what each key says.
+use Rattle.std.proofs.Common.{◌≡◌, ℕ, Bool, true, false, ◌==◌, List, [], ◌∷◌, length, codes, if◌then◌else◌, Option, Some, None, option_and_then, Result, Ok, Err, Vec, refl, sym, ap, ◌∙◌, arith}
+use mathlib.Core.Bool.{false≢true}
+use Rattle.std.specs.declared.alloc.Global.{Global}
+use Rattle.serde_json.specs.Data.{Data, Items, no_items, item}
+use Rattle.serde_json.specs.Find.{get, as_array, as_str}
+use Rattle.serde_json.specs.View.{view, items_view}
+use Rattle.serde_json.specs.declared.value.Value.{Value}
+use Rattle.wq_clock.specs.Instance.{InstanceNumbers}
+use Rattle.wq_term.specs.Term.{Term}
+use Rattle.wq_query.specs.declared.fault.QueryFault.{QueryFault}
+use Rattle.wq_query.specs.declared.fault.QueryFault.TheVariants.{LeftOutKey, Expression, UnknownField, WrongValue, NoMemory}
+use Rattle.wq_query.specs.declared.field.Field.{Field}
+use Rattle.wq_query.specs.Asked.{Asked, asks, has_left_out_key, expression_of, fields_in, fields_of, flag_of, is_whole, not_empty, cons_both}
+use Rattle.wq_query.specs.Field.{field_named}
+use Rattle.wq_query.specs.Keys.{GivesFields}
+
+pub asks_at : (instance : InstanceNumbers) (d : Data) (t : Term) (fields : List Field) (flag whole : Bool) → has_left_out_key d ≡ false → expression_of instance (get (codes "expression") d) ≡ Ok t → fields_of (get (codes "fields") d) ≡ Some fields → flag_of (get (codes "empty_on_fresh_instance") d) ≡ Some flag → is_whole (get (codes "sync_timeout") d) ≡ whole → asks instance d ≡ if whole then Ok (record { expression = t; fields = fields; empty_on_fresh_instance = flag }) else Err WrongValue
+asks_at instance d t fields flag whole none expression named said number = rw (none, expression, named, said, number) refl
+
+-- names that are some give no empty list
+some_names : (d : Data) (ds : Items) → not_empty (fields_in (item d ds)) ≡ fields_in (item d ds)
+some_names d ds = at (option_and_then field_named (as_str d)) (fields_in ds)
+  where
+    at : (a : Option Field) (b : Option (List Field)) → not_empty (cons_both a b) ≡ cons_both a b
+    at None b = refl
+    at (Some f) None = refl
+    at (Some f) (Some fs) = refl
+
+pub fields_found : (d : Data) (values : List Value) (answer : Result (Vec Field Global) QueryFault) → (length values == 0) ≡ false → Some (items_view values) ≡ as_array d → GivesFields answer (fields_in (items_view values)) → GivesFields answer (fields_of (Some d))
+fields_found d [] answer e is given = absurd (false≢true (sym e))
+fields_found d (v ∷ values) answer e is given = rw (← is, some_names (view v) (items_view values)) given

@@ -1,0 +1,60 @@
+-- No reply has a float, so it has one text.
+use Rattle.std.proofs.Common.{◌≡◌, ℕ, Bool, true, false, ◌||◌, List, [], ◌∷◌, map, codes, ℤ, pos, negsuc, refl, sym, ap, ◌∙◌}
+use Rattle.std.specs.Ordering.{nat_cmp, match_ordering}
+use Rattle.std.specs.Cmp.Lexicographic.{slice_cmp}
+use Rattle.std.specs.declared.cmp.Ordering.{Ordering}
+use Rattle.std.specs.declared.cmp.Ordering.TheVariants.{Less, Equal, Greater}
+use Rattle.std.proofs.lemmas.Bool.{or_parts}
+use Rattle.serde_json.specs.Data.{Data, Members, no_members, member, number, put as with_member}
+use Rattle.serde_json.specs.Find.{of_integer}
+use Rattle.serde_json.specs.View.{items_of}
+use Rattle.serde_json.specs.Written.{has_float, items_have_float, members_have_float}
+use Rattle.wq_clock.specs.Instance.{InstanceNumbers}
+use Rattle.wq_clock.specs.declared.bound.Bound.{Bound}
+use Rattle.wq_view.specs.FileRecord.{FileRecord}
+use Rattle.wq_view.specs.View.{FileView}
+use Rattle.wq_query.specs.declared.field.Field.{Field}
+use Rattle.wq_query.specs.declared.field.Field.TheVariants.{Name, Exists, New, Size, Kind}
+use Rattle.wq_query.specs.Field.{field_name}
+use Rattle.wq_query.specs.Asked.{Asked}
+use Rattle.wq_query.specs.Listed.{listed}
+use Rattle.wq_query.specs.Reply.{field_data, members_with, file_data, reply_of}
+
+integer : (n : ℤ) → has_float (number (of_integer n)) ≡ false
+integer (pos n) = refl
+integer (negsuc n) = refl
+
+field : (bound : Bound) (r : FileRecord) (f : Field) → has_float (field_data bound r f) ≡ false
+field bound r Name = refl
+field bound r Exists = refl
+field bound r New = refl
+field bound r Size = integer r.size
+field bound r Kind = refl
+
+both : (a b : Bool) → a ≡ false → b ≡ false → (a || b) ≡ false
+both a b ha hb = rw (ha, hb) refl
+
+put : (k : List ℕ) (d : Data) (ms : Members) → has_float d ≡ false → members_have_float ms ≡ false → members_have_float (with_member k d ms) ≡ false
+put k d no_members h hs = both (has_float d) false h refl
+put k d (member l e ms) h hs = ordered (slice_cmp nat_cmp k l) (or_parts (has_float e) _ hs).0 (put k d ms h (or_parts (has_float e) _ hs).1)
+  where
+    ordered : (order : Ordering) → has_float e ≡ false → members_have_float (with_member k d ms) ≡ false → members_have_float (match_ordering order (member k d (member l e ms)) (member l d ms) (member l e (with_member k d ms))) ≡ false
+    ordered Less he later = both (has_float d) _ h hs
+    ordered Equal he later = both (has_float d) _ h (or_parts (has_float e) _ hs).1
+    ordered Greater he later = both (has_float e) _ he later
+
+members : (bound : Bound) (r : FileRecord) (ms : Members) (fields : List Field) → members_have_float ms ≡ false → members_have_float (members_with bound r ms fields) ≡ false
+members bound r ms [] h = h
+members bound r ms (f ∷ fields) h = members bound r (with_member (field_name f) (field_data bound r f) ms) fields (put (field_name f) (field_data bound r f) ms (field bound r f) h)
+
+file : (fields : List Field) (bound : Bound) (r : FileRecord) → has_float (file_data fields bound r) ≡ false
+file [] bound r = refl
+file (f ∷ []) bound r = field bound r f
+file (f ∷ g ∷ fields) bound r = members bound r no_members (f ∷ g ∷ fields) refl
+
+files : (fields : List Field) (bound : Bound) (rs : List FileRecord) → items_have_float (items_of (map (file_data fields bound) rs)) ≡ false
+files fields bound [] = refl
+files fields bound (r ∷ rs) = both (has_float (file_data fields bound r)) _ (file fields bound r) (files fields bound rs)
+
+pub reply : (query : Asked) (bound : Bound) (instance : InstanceNumbers) (view : FileView) → has_float (reply_of query bound instance view) ≡ false
+reply query bound instance view = both (items_have_float (items_of (map (file_data query.fields bound) (listed query bound view.records)))) false (files query.fields bound (listed query bound view.records)) refl

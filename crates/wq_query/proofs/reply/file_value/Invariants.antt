@@ -1,0 +1,9 @@
+-- the members so far, and the fields that are left
+use Rattle.std.proofs.Common.{◌≡◌, drop}
+use Rattle.serde_json.specs.Data.{no_members}
+use Rattle.serde_json.specs.View.{members_view}
+use Rattle.wq_query.specs.Reply.{members_with}
+use Rattle.wq_query.proofs.reply.file_value.Given as goal
+
+abbrev pub invariant-loop-field : goal.invariant-loop-field
+invariant-loop-field l = members_with l.bound l.file (members_view l.members.entries) (drop l.field-index l.fields) ≡ members_with l.bound l.file no_members l.fields

@@ -1,0 +1,6 @@
+pub mod Field
+pub mod Asked
+pub mod Listed
+pub mod Reply
+pub mod Query
+pub mod Keys

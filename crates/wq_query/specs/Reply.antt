@@ -1,0 +1,42 @@
+-- The reply to a query, as data. Its text is the compact text of that data (RFC 8259), keys in byte order.
+use Rattle.std.specs.Prelude.{ℕ, List, [], ◌∷◌, map, codes}
+use Rattle.serde_json.specs.Data.{Data, boolean, number, string, array, object, Members, no_members, member, put as with_member}
+use Rattle.serde_json.specs.Find.{of_integer}
+use Rattle.serde_json.specs.View.{items_of}
+use Rattle.wq_clock.specs.Instance.{InstanceNumbers}
+use Rattle.wq_clock.specs.ClockText.{clock_text}
+use Rattle.wq_clock.specs.declared.bound.Bound.{Bound}
+use Rattle.wq_view.specs.Kind.{letter_of}
+use Rattle.wq_view.specs.FileRecord.{FileRecord}
+use Rattle.wq_view.specs.View.{FileView}
+use Rattle.wq_query.specs.declared.field.Field.{Field}
+use Rattle.wq_query.specs.declared.field.Field.TheVariants.{Name, Exists, New, Size, Kind}
+use Rattle.wq_query.specs.Field.{field_name}
+use Rattle.wq_query.specs.Asked.{Asked}
+use Rattle.wq_query.specs.Listed.{is_fresh, is_new, listed}
+
+-- what a field says of a file
+abbrev pub field_data : Bound → FileRecord → Field → Data
+field_data bound r Name = string r.name
+field_data bound r Exists = boolean r.exists
+field_data bound r New = boolean (is_new bound r)
+field_data bound r Size = number (of_integer r.size)
+field_data bound r Kind = string (letter_of r.kind ∷ [])
+
+-- the members of some fields
+abbrev pub members_with : Bound → FileRecord → Members → List Field → Members
+members_with bound r ms [] = ms
+members_with bound r ms (field ∷ fields) = members_with bound r (with_member (field_name field) (field_data bound r field) ms) fields
+
+-- what is told of a file: the bare value of one field, or an object of several
+abbrev pub file_data : List Field → Bound → FileRecord → Data
+file_data (field ∷ []) bound r = field_data bound r field
+file_data fields bound r = object (members_with bound r no_members fields)
+
+-- the reply to a query with a bound, at a view
+abbrev pub reply_of : Asked → Bound → InstanceNumbers → FileView → Data
+reply_of query bound instance view =
+    object (member (codes "clock") (string (clock_text instance view.tick))
+    (member (codes "files") (array (items_of (map (file_data query.fields bound) (listed query bound view.records))))
+    (member (codes "is_fresh_instance") (boolean (is_fresh bound))
+    (member (codes "version") (string (codes "wq-1")) no_members))))

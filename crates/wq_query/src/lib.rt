@@ -1,0 +1,15 @@
+//! Queries over one view: what a JSON object asks, which files it lists, and the reply.
+//! Which root is asked, and whether it is crawled first, is not said here.
+#![tactic(auto)]
+
+mod fault;
+mod field;
+mod listing;
+mod query;
+mod reading;
+mod reply;
+
+pub use fault::QueryFault;
+pub use field::Field;
+pub use query::{Plan, Query};
+pub use reply::{answer, answer_bytes};

@@ -1,0 +1,74 @@
+//! A query, and the plan of answering it with a bound.
+ghost use Rattle.std.specs.Prelude.{◌≡◌};
+ghost use Rattle.serde_json.specs.View.{view};
+ghost use Rattle.wq_clock.specs.Instance.{instance_numbers};
+ghost use Rattle.wq_clock.specs.declared.bound.Bound.TheVariants.{Fresh};
+ghost use Rattle.wq_term.specs.Term.{term_of};
+ghost use Rattle.wq_query.specs.Asked.{asks};
+ghost use Rattle.wq_query.specs.Query.{asked_of, Gives};
+
+use crate::fault::QueryFault;
+use crate::field::Field;
+use crate::reading;
+use serde_json::Value;
+use std::alloc::Global;
+use wq_clock::{Bound, Instance};
+use wq_term::Expr;
+
+/// What a client asks of a view: which files, what of each, and what where nothing is known to it.
+#[derive(Drop)]
+pub struct Query {
+    pub(crate) expr: Expr,
+    pub(crate) fields: Vec<Field>,
+    pub(crate) empty_on_fresh_instance: bool,
+}
+
+/// A query with the bound from which its files are candidates.
+#[derive(Drop)]
+pub struct Plan {
+    pub(crate) query: Query,
+    pub(crate) bound: Bound,
+}
+
+impl Query {
+    /// What a JSON object asks, at this instance of the server. The first fault refuses it: see [`QueryFault`].
+    ///
+    /// Keys that are not known are ignored, and so are `dedup_results`, `defer` and `drop`. The value of
+    /// `sync_timeout` is tested here, and used by who crawls.
+    pub fn read(alloc: Global, value: &Value, instance: &Instance) -> Result<Query, QueryFault>
+        ensures { Gives result (asks (instance_numbers instance.now) (view value.now)) }
+    {
+        if reading::has_left_out_key(value) {
+            return Err(QueryFault::LeftOutKey);
+        }
+        let expr = reading::expression(alloc, value.get("expression"), instance)?;
+        let fields = reading::fields(alloc, value.get("fields"))?;
+        let Some(empty_on_fresh_instance) = reading::flag(value.get("empty_on_fresh_instance"))
+        else {
+            return Err(QueryFault::WrongValue);
+        };
+        if !reading::is_whole(value.get("sync_timeout")) {
+            return Err(QueryFault::WrongValue);
+        }
+        Ok(Query {
+            expr,
+            fields,
+            empty_on_fresh_instance,
+        })
+    }
+
+    /// Which files the query asks for.
+    pub fn expr(&self) -> &Expr
+        ensures { term_of result.now ≡ (asked_of self.now).expression }
+    {
+        &self.expr
+    }
+
+    /// The plan of answering the query with this bound.
+    pub fn plan_plain(self, bound: Bound) -> Plan
+        ensures query { asked_of result.query ≡ asked_of self }
+        ensures bound { result.bound ≡ bound }
+    {
+        Plan { query: self, bound }
+    }
+}

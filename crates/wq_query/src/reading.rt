@@ -1,0 +1,139 @@
+//! Reading the keys of a query from a JSON object, one function for each.
+ghost use Rattle.std.specs.Prelude.{◌≡◌, map, option_and_then, option_map};
+ghost use Rattle.serde_json.specs.Find.{as_str};
+ghost use Rattle.serde_json.specs.View.{view, items_view};
+ghost use Rattle.wq_clock.specs.Instance.{instance_numbers};
+ghost use Rattle.wq_query.specs.Asked.{has_key_of, has_left_out_key, is_plain_case, expression_of, fields_in, fields_of, flag_of, is_whole};
+ghost use Rattle.wq_query.specs.Field.{field_named};
+ghost use Rattle.wq_query.specs.Keys.{GivesExpression, GivesFields};
+
+use crate::fault::QueryFault;
+use crate::field::Field;
+use serde_json::Value;
+use std::alloc::Global;
+use wq_clock::Instance;
+use wq_term::{Expr, TermFault, read_expr};
+
+/// The keys that would change the answer and are left out, or not built yet.
+const LEFT_OUT_KEYS: [&str; 9] = [
+    "relative_root",
+    "settle_period",
+    "settle_timeout",
+    "glob",
+    "glob_includedotfiles",
+    "program",
+    "since",
+    "suffix",
+    "path",
+];
+
+/// The greatest whole number that a key takes, either side of 0.
+const MAX_WHOLE: i64 = 1 << 62;
+
+/// Whether the query has a key that would change the answer and is left out.
+pub(crate) fn has_left_out_key(query: &Value) -> bool
+    ensures { result ≡ has_left_out_key (view query.now) }
+{
+    has_key_of(query, &LEFT_OUT_KEYS) || !is_plain_case(query.get("case_sensitive"))
+}
+
+/// Whether the query has one of these keys.
+fn has_key_of(query: &Value, keys: &[&str]) -> bool
+    ensures { result ≡ has_key_of (map (λ key. key.now) keys.now) (view query.now) }
+{
+    for key in keys {
+        if query.get(*key).is_some() {
+            return true;
+        }
+    }
+    false
+}
+
+/// The expression: every file where there is none.
+pub(crate) fn expression(
+    alloc: Global,
+    value: Option<&Value>,
+    instance: &Instance,
+) -> Result<Expr, QueryFault>
+    ensures { GivesExpression result (expression_of (instance_numbers instance.now) (option_map (λ v. view v.now) value.entry)) }
+{
+    let Some(value) = value else {
+        return Ok(Expr::True);
+    };
+    match read_expr(alloc, value, instance) {
+        Ok(expr) => Ok(expr),
+        Err(TermFault::NoMemory) => Err(QueryFault::NoMemory),
+        Err(fault) => Err(QueryFault::Expression(fault)),
+    }
+}
+
+/// Whether a key that is there is true or false, and which; false where it is not there.
+pub(crate) fn flag(value: Option<&Value>) -> Option<bool>
+    ensures { result ≡ flag_of (option_map (λ v. view v.now) value.entry) }
+{
+    match value {
+        None => Some(false),
+        Some(value) => value.as_bool(),
+    }
+}
+
+/// Whether a key that is there is a whole number from -2^62 to 2^62.
+pub(crate) fn is_whole(value: Option<&Value>) -> bool
+    ensures { result ≡ is_whole (option_map (λ v. view v.now) value.entry) }
+{
+    match value {
+        None => true,
+        Some(value) => match value.as_i64() {
+            Some(number) => -MAX_WHOLE <= number && number <= MAX_WHOLE,
+            None => false,
+        },
+    }
+}
+
+/// Whether `case_sensitive` is not there or true.
+fn is_plain_case(value: Option<&Value>) -> bool
+    ensures { result ≡ is_plain_case (option_map (λ v. view v.now) value.entry) }
+{
+    match value {
+        None => true,
+        Some(value) => value.as_bool() == Some(true),
+    }
+}
+
+/// The fields: a list of names that is not empty, or the default ones.
+pub(crate) fn fields(alloc: Global, value: Option<&Value>) -> Result<Vec<Field>, QueryFault>
+    ensures { GivesFields result (fields_of (option_map (λ v. view v.now) value.entry)) }
+{
+    let Some(value) = value else {
+        let default = [Field::Name, Field::Exists, Field::New, Field::Size];
+        return Ok(Vec::from_slice(alloc, &default)?);
+    };
+    let Some(names) = value.as_array() else {
+        return Err(QueryFault::UnknownField);
+    };
+    if names.is_empty() {
+        return Err(QueryFault::UnknownField);
+    }
+    fields_in(alloc, names)
+}
+
+/// The fields that a list of texts names.
+fn fields_in(alloc: Global, names: &[Value]) -> Result<Vec<Field>, QueryFault>
+    ensures { GivesFields result (fields_in (items_view names.now)) }
+{
+    let mut fields = Vec::with_capacity(alloc, names.len())?;
+    for name in names {
+        match field_in(name) {
+            Some(field) => fields.push(field)?,
+            None => return Err(QueryFault::UnknownField),
+        }
+    }
+    Ok(fields)
+}
+
+/// The field that a text names.
+fn field_in(name: &Value) -> Option<Field>
+    ensures { result ≡ option_and_then field_named (as_str (view name.now)) }
+{
+    name.as_str().and_then(Field::named)
+}

@@ -1,0 +1,112 @@
+//! The reply to a query, as a JSON value and as its text.
+ghost use Rattle.std.specs.Prelude.{◌≡◌, [], ◌∷◌, map, IfOk};
+ghost use Rattle.serde_json.specs.Data.{string};
+ghost use Rattle.serde_json.specs.View.{view as data_of};
+ghost use Rattle.serde_json.specs.Written.{compact_text};
+ghost use Rattle.wq_clock.specs.Instance.{instance_numbers};
+ghost use Rattle.wq_view.specs.Kind.{letter_of};
+ghost use Rattle.wq_query.specs.Listed.{listed};
+ghost use Rattle.wq_query.specs.Reply.{field_data, file_data, reply_of};
+ghost use Rattle.wq_query.specs.Query.{asked_of};
+
+use crate::field::Field;
+use crate::listing::{is_fresh, is_listed, is_new};
+use crate::query::Plan;
+use serde_json::{Map, Value, json};
+use std::alloc::{AllocError, Global};
+use wq_clock::{Bound, Instance, print};
+use wq_view::{Kind, Record, View};
+
+/// The reply to a query at a view: its clock, the listed files in the view's order, and whether the bound is fresh.
+pub fn answer(
+    alloc: Global,
+    plan: &Plan,
+    instance: &Instance,
+    view: &View,
+) -> Result<Value, AllocError>
+    ensures { IfOk result (λ v. data_of v ≡ reply_of (asked_of plan.now.query) plan.now.bound (instance_numbers instance.now) view.now) }
+{
+    let files = Value::Array(files(alloc, plan, view)?);
+    let clock = print(instance, view.tick());
+    json!(in alloc; {
+        "clock": clock.as_str(),
+        "files": files,
+        "is_fresh_instance": is_fresh(plan.bound),
+        "version": "wq-1",
+    })
+}
+
+/// The text of the reply: compact JSON, with its keys in byte order and without a newline.
+pub fn answer_bytes(
+    alloc: Global,
+    plan: &Plan,
+    instance: &Instance,
+    view: &View,
+) -> Result<Vec<u8>, AllocError>
+    ensures { IfOk result (λ text. text.items ≡ compact_text (reply_of (asked_of plan.now.query) plan.now.bound (instance_numbers instance.now) view.now)) }
+{
+    answer(alloc, plan, instance, view)?.to_vec(alloc)
+}
+
+/// What the plan tells of each file that it lists.
+fn files(alloc: Global, plan: &Plan, view: &View) -> Result<Vec<Value>, AllocError>
+    ensures { IfOk result (λ files. map data_of files.items ≡ map (file_data plan.now.query.fields.items plan.now.bound) (listed (asked_of plan.now.query) plan.now.bound view.now.records)) }
+{
+    let mut files = Vec::new(alloc);
+    if is_fresh(plan.bound) && plan.query.empty_on_fresh_instance {
+        return Ok(files);
+    }
+    for file in view.records() {
+        if is_listed(plan, file) {
+            files.push(file_value(alloc, &plan.query.fields, plan.bound, file)?)?;
+        }
+    }
+    Ok(files)
+}
+
+/// What is told of a file: the bare value of one field, or an object of several.
+fn file_value(
+    alloc: Global,
+    fields: &[Field],
+    bound: Bound,
+    file: &Record,
+) -> Result<Value, AllocError>
+    ensures { IfOk result (λ v. data_of v ≡ file_data fields.now bound file.now) }
+{
+    if let [field] = fields {
+        return field_value(alloc, *field, bound, file);
+    }
+    let mut members = Map::new(alloc);
+    for field in fields {
+        let value = field_value(alloc, *field, bound, file)?;
+        serde_json::put(&mut members, alloc, field.name(), value)?;
+    }
+    Ok(Value::Object(members))
+}
+
+/// What a field says of a file.
+fn field_value(
+    alloc: Global,
+    field: Field,
+    bound: Bound,
+    file: &Record,
+) -> Result<Value, AllocError>
+    ensures { IfOk result (λ v. data_of v ≡ field_data bound file.now field) }
+{
+    match field {
+        Field::Name => Value::try_from_str(alloc, file.name.as_str()),
+        Field::Exists => Ok(Value::Bool(file.exists)),
+        Field::New => Ok(Value::Bool(is_new(bound, file))),
+        Field::Size => Ok(Value::from(file.size)),
+        Field::Kind => letter_value(alloc, file.kind),
+    }
+}
+
+/// The letter of a kind.
+fn letter_value(alloc: Global, kind: Kind) -> Result<Value, AllocError>
+    ensures { IfOk result (λ v. data_of v ≡ string (letter_of kind ∷ [])) }
+{
+    let mut text = String::new(alloc);
+    text.push(char::from(kind.letter()))?;
+    Ok(Value::String(text))
+}
