@@ -1,16 +1,16 @@
 -- The records after a pass, name by name: each has seen what the pass saw of its name.
-use Rattle.std.proofs.Common.{◌≡◌, ℕ, ℤ, Bool, true, false, cond, if◌then◌else◌, List, [], ◌∷◌, map, bytes_eq, Option, Some, None, sym, refl, ap, subst, ◌∙◌}
+use Rattle.std.proofs.Common.{◌≡◌, ℕ, ℤ, true, false, cond, if◌then◌else◌, List, [], ◌∷◌, map, Option, Some, None, sym, refl, ap, subst, ◌∙◌}
 use mathlib.Core.Bool.{false≢true}
 use Rattle.std.specs.declared.cmp.Ordering.{Ordering}
 use Rattle.std.specs.declared.cmp.Ordering.TheVariants.{Less, Equal, Greater}
 use Rattle.std.specs.Ordering.{is_eq, is_lt, eq_by_cmp, ordering_reverse}
 use Rattle.std.specs.Cmp.Lexicographic.{texts_ties}
 use Rattle.std.specs.FinMap.{find, is_sorted}
-use Rattle.std.specs.FinMap.Entries.{by_order, below_all}
+use Rattle.std.specs.FinMap.Entries.{below_all}
 use Rattle.wq_view.specs.Row.{Row, Sight, same_sight, sight_of, entry_of}
 use Rattle.wq_view.specs.Listing.{name_cmp}
 use Rattle.wq_view.specs.FileRecord.{FileRecord, last_sight, unseen, changed, come, gone, observed, keyed, record_named}
-use Rattle.wq_view.specs.Merge.{with_names, observed_all, absorbed as absorbed_at}
+use Rattle.wq_view.specs.Merge.{absorbed as absorbed_at}
 use Rattle.wq_view.proofs.NameOrder.{names_total, names_exact, both_true, less_from_lt}
 use Rattle.wq_view.proofs.Listings.{tie_is_same, name_ties_itself}
 

@@ -1,5 +1,5 @@
 -- The first fault of rows: the lawful rows before it, and whether a name stands twice among them.
-use Rattle.std.proofs.Common.{◌≡◌, ℕ, ℤ, nat_lt, suc, ◌+◌, ◌<◌, ◌≤◌, Bool, true, false, cond, not, ◌||◌, ◌&&◌, List, [], ◌∷◌, ◌++◌, map, length, take, drop, get_or, bytes_eq, Option, Some, None, IfSome, IsTrue, ◌↔◌, slice_get, if◌then◌else◌, sym, refl, ap, subst, ◌∙◌, arith}
+use Rattle.std.proofs.Common.{◌≡◌, ℕ, ℤ, nat_lt, suc, ◌<◌, ◌≤◌, Bool, true, false, cond, not, ◌||◌, ◌&&◌, List, [], ◌∷◌, ◌++◌, length, take, drop, get_or, bytes_eq, Option, Some, None, IfSome, IsTrue, ◌↔◌, slice_get, if◌then◌else◌, sym, refl, ap, ◌∙◌, arith}
 use mathlib.Core.Bool.{false≢true}
 use Rattle.std.specs.Cmp.{eq_by_cmp_equiv}
 use Rattle.std.specs.Cmp.Lexicographic.{texts_ties}
@@ -12,8 +12,8 @@ use Rattle.wq_view.specs.declared.listing.PassFault.{PassFault}
 use Rattle.wq_view.specs.declared.listing.PassFault.TheVariants.{BadName, NameTwice, OutOfRange}
 use Rattle.wq_view.specs.Name.{is_valid_name}
 use Rattle.wq_view.specs.Row.{Row, sight_of, is_in_range, is_lawful_row, is_count}
-use Rattle.wq_view.specs.Listing.{name_cmp, names_of, row_fault, listing_fault}
-use Rattle.wq_view.specs.declared.limits.TheConstants.{MAX_ROWS}
+use Rattle.wq_view.specs.Listing.{names_of, row_fault, listing_fault}
+use Rattle.wq_view.specs.Limits.{max_rows}
 use Rattle.wq_view.proofs.NameOrder.{names_total, both_true}
 
 -- a name of the list is among the names before, or stands twice in it
@@ -118,11 +118,11 @@ fault_at_unlawful rows at row r lawful bound here unlawful tells =
     ∙ rw (clash_is r (names_of (take at rows)) tells) (chosen r (own_fault row))
 
 -- past the tests of the whole, a listing's fault is that of its rows
-pub fault_of_rows : (rows : List Row) (second : ℤ) → nat_lt MAX_ROWS (length rows) ≡ false → is_count second ≡ true → listing_fault rows second ≡ row_fault [] rows
+pub fault_of_rows : (rows : List Row) (second : ℤ) → nat_lt max_rows (length rows) ≡ false → is_count second ≡ true → listing_fault rows second ≡ row_fault [] rows
 fault_of_rows rows second short in_range = rw (short, in_range) refl
 
 -- the fault of lawful rows of which r says whether their names are distinct
-pub fault_when_lawful : (rows : List Row) (second : ℤ) (r : Bool) → length rows ≤ MAX_ROWS → is_count second ≡ true → list_all is_lawful_row rows ≡ true → IsTrue r ↔ IsDistinct bytes_eq (names_of rows) → listing_fault rows second ≡ if r then None else Some NameTwice
+pub fault_when_lawful : (rows : List Row) (second : ℤ) (r : Bool) → length rows ≤ max_rows → is_count second ≡ true → list_all is_lawful_row rows ≡ true → IsTrue r ↔ IsDistinct bytes_eq (names_of rows) → listing_fault rows second ≡ if r then None else Some NameTwice
 fault_when_lawful rows second r short in_range lawful tells =
-    let short_test : nat_lt MAX_ROWS (length rows) ≡ false = grind (arith, nat_tests) in
+    let short_test : nat_lt max_rows (length rows) ≡ false = grind (arith, nat_tests) in
     fault_of_rows rows second short_test in_range ∙ fault_of_lawful rows r lawful tells

@@ -1,11 +1,10 @@
 -- What one more pass makes of the record that a history gives a name.
-use Rattle.std.proofs.Common.{◌≡◌, ℕ, zero, suc, ℤ, ◌+◌, ◌<◌, ◌≤◌, Bool, true, false, not, ◌&&◌, cond, if◌then◌else◌, List, [], ◌∷◌, ◌++◌, length, slice_get, Option, Some, None, is_some, is_none, sym, refl, ap, subst, ◌∙◌, arith, length-append}
-use mathlib.Core.Bool.{false≢true}
+use Rattle.std.proofs.Common.{◌≡◌, ℕ, zero, suc, ℤ, ◌<◌, ◌≤◌, Bool, true, false, cond, if◌then◌else◌, List, [], ◌∷◌, ◌++◌, length, slice_get, Option, Some, None, is_some, sym, refl, ap, ◌∙◌, arith, length-append}
 use Rattle.std.specs.FinMap.{get, get-empty}
 use Rattle.wq_view.specs.Row.{Sight, same_sight}
 use Rattle.wq_view.specs.Listing.{Listing, name_cmp}
-use Rattle.wq_view.specs.FileRecord.{FileRecord, last_sight, observed, unseen}
-use Rattle.wq_view.specs.History.{History, sighting, second_of, same_sighting, greatest, is_seen, has_come, has_changed, record_from, record_of, last_sights}
+use Rattle.wq_view.specs.FileRecord.{FileRecord, last_sight}
+use Rattle.wq_view.specs.History.{History, sighting, second_of, greatest, is_seen, has_come, has_changed, record_from, record_of, last_sights}
 use Rattle.wq_view.proofs.Absorbed.{after_pass}
 use Rattle.wq_view.proofs.Sights.{one_sight, same_sight-itself}
 

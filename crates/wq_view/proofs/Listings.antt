@@ -1,5 +1,5 @@
 -- The map of rows does not depend on their order.
-use Rattle.std.proofs.Common.{◌≡◌, ℕ, ℤ, zero, suc, ◌<◌, ◌≤◌, Bool, true, false, cond, List, [], ◌∷◌, map, length, get_or, bytes_eq, Option, Some, None, IsPermutation, Contains, sym, refl, ap, subst, ◌∙◌, arith}
+use Rattle.std.proofs.Common.{◌≡◌, ℕ, ℤ, zero, suc, ◌≤◌, true, false, cond, List, [], ◌∷◌, map, length, bytes_eq, Option, Some, None, IsPermutation, Contains, sym, refl, ap, subst, ◌∙◌, arith}
 use Rattle.std.proofs.Math.Dec.{T}
 use Rattle.std.specs.Ordering.{eq_by_cmp, is_eq}
 use Rattle.std.specs.Cmp.{tied_itself}
@@ -12,7 +12,7 @@ use Rattle.std.proofs.lemmas.Map.Keys.{IsDistinct-IsPermutation}
 use Rattle.std.proofs.lemmas.Option.{same_Some}
 use Rattle.wq_view.specs.Row.{Row, Sight, sight_of, entry_of, is_lawful_row, is_count}
 use Rattle.wq_view.specs.Listing.{name_cmp, names_of, IsPass}
-use Rattle.wq_view.specs.declared.limits.TheConstants.{MAX_ROWS}
+use Rattle.wq_view.specs.Limits.{max_rows}
 use Rattle.wq_view.proofs.NameOrder.{names_total, names_exact, same_name}
 use Rattle.wq_view.proofs.Faults.{same_name_flips}
 
@@ -72,7 +72,7 @@ lawful_moved : (old new : List Row) → IsPermutation old new → list_all is_la
 lawful_moved old new moved lawful = list_all-from_AllPass is_lawful_row new (All-permutation (λ row. is_lawful_row row ≡ true) old new moved (AllPass-from_list_all is_lawful_row old lawful))
 
 -- lawful rows in order are those of a pass
-pub is_pass : (old new : List Row) (second : ℤ) → IsPermutation old new → length old ≤ MAX_ROWS → list_all is_lawful_row old ≡ true → is_count second ≡ true → is_sorted name_cmp (map entry_of new) ≡ true → IsPass new second
+pub is_pass : (old new : List Row) (second : ℤ) → IsPermutation old new → length old ≤ max_rows → list_all is_lawful_row old ≡ true → is_count second ≡ true → is_sorted name_cmp (map entry_of new) ≡ true → IsPass new second
 is_pass old new second moved short lawful in_range sorted = record {
   rise = sorted;
   lawful = lawful_moved old new moved lawful;

@@ -1,5 +1,5 @@
 -- What sorting rows by name, and looking at neighbours, says of their names.
-use Rattle.std.proofs.Common.{◌≡◌, ℕ, ◌+◌, ◌<◌, Bool, true, false, List, [], ◌∷◌, map, length, get_or, bytes_eq, pos, MatchBool, IsTrue, ◌⊎◌, ◌↔◌, sym, refl, ap, subst, ◌∙◌, inl, inr, arith}
+use Rattle.std.proofs.Common.{◌≡◌, ℕ, ◌+◌, ◌<◌, Bool, true, false, List, [], map, length, get_or, bytes_eq, pos, IsTrue, ◌⊎◌, ◌↔◌, sym, refl, ap, subst, ◌∙◌, inl, inr, arith}
 use mathlib.Core.Bool.{false≢true}
 use Rattle.std.specs.declared.cmp.Ordering.{Ordering}
 use Rattle.std.specs.declared.cmp.Ordering.TheVariants.{Less, Equal, Greater}
@@ -7,7 +7,7 @@ use Rattle.std.specs.Ordering.{is_lt, is_eq, eq_by_cmp, ordering_reverse}
 use Rattle.std.specs.Cmp.{eq_by_cmp_equiv}
 use Rattle.std.specs.Cmp.Lexicographic.{texts_ties}
 use Rattle.std.specs.FinMap.{is_sorted}
-use Rattle.std.specs.List.{IsDistinct, AllByRecursion, IsAllAdjacentAnswer}
+use Rattle.std.specs.List.{IsDistinct, IsAllAdjacentAnswer}
 use Rattle.std.specs.List.Sorted.{IsStrictlySortedBy, IsSortedBy, IsPermutation}
 use Rattle.std.proofs.lemmas.List.{get_or-map, length-map}
 use Rattle.std.proofs.lemmas.List.Sorted.{IsPermutation-map, IsPermutation-sym}
@@ -15,7 +15,7 @@ use Rattle.std.proofs.lemmas.Map.Keys.{IsDistinct-from_sorted, IsDistinct-IsPerm
 use Rattle.wq_view.specs.declared.kinds.Kind.TheVariants.{Unknown}
 use Rattle.wq_view.specs.Row.{Row, entry_of}
 use Rattle.wq_view.specs.Listing.{name_cmp, names_of}
-use Rattle.wq_view.proofs.NameOrder.{names_total, names_exact, same_name, less_from_lt, sorted_from_rising, rising_from_sorted}
+use Rattle.wq_view.proofs.NameOrder.{names_total, less_from_lt, sorted_from_rising, rising_from_sorted}
 
 -- a row past the end
 nobody : Row

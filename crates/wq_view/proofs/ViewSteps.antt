@@ -1,9 +1,9 @@
 -- One pass more, and the view of the history with it.
-use Rattle.std.proofs.Common.{◌≡◌, ℕ, suc, ◌+◌, true, List, [], ◌∷◌, ◌++◌, map, length, Option, IsTrue, ◌↔◌, sym, refl, ap, subst, ◌∙◌, arith, length-append}
+use Rattle.std.proofs.Common.{◌≡◌, ℕ, suc, ◌+◌, true, List, [], ◌∷◌, ◌++◌, map, length, IsTrue, ◌↔◌, sym, refl, ap, subst, ◌∙◌, arith, length-append}
 use Rattle.std.proofs.Math.Dec.{T}
 use Rattle.std.specs.FinMap.{find, entries, get, get-entries, is_sorted, same_map}
 use Rattle.std.specs.FinMap.Entries.{same_entries}
-use Rattle.wq_view.specs.Row.{Row, Sight, entry_of}
+use Rattle.wq_view.specs.Row.{Row, entry_of}
 use Rattle.wq_view.specs.Listing.{Listing, name_cmp}
 use Rattle.wq_view.specs.FileRecord.{FileRecord, keyed, record_named}
 use Rattle.wq_view.specs.History.{History, record_of, last_sights}

@@ -1,12 +1,12 @@
 -- The record that a view keeps of one file: what was last seen of it, whether it exists,
 -- and when it was created and last observed to change, as ticks (numbers of passes) and as seconds of the Unix epoch.
-use Rattle.std.specs.Prelude.{ℕ, ℤ, pos, ◌≤◌, Bool, false, true, ◌&&◌, IsTrue, nat_le, if◌then◌else◌, List, map, Option, Some, None, refl}
+use Rattle.std.specs.Prelude.{ℕ, ℤ, pos, ◌≤◌, Bool, false, true, IsTrue, if◌then◌else◌, List, map, Option, Some, None, refl}
 use Rattle.std.specs.Coded.{Coded, code_by, coded×, coded_ℕ, coded_ℤ, coded_bool, coded_list}
 use Rattle.std.specs.FinMap.{find}
 use Rattle.wq_view.specs.contracts.kinds.Kind.{the_row}
 use Rattle.wq_view.specs.declared.kinds.Kind.{Kind}
 use Rattle.wq_view.specs.declared.kinds.Kind.TheVariants.{Unknown}
-use Rattle.wq_view.specs.declared.limits.TheConstants.{MAX_TICK}
+use Rattle.wq_view.specs.Limits.{max_tick}
 use Rattle.wq_view.specs.Name.{is_valid_name}
 use Rattle.wq_view.specs.Row.{Sight, is_count, is_in_range, same_sight}
 use Rattle.wq_view.specs.Listing.{name_cmp}
@@ -42,8 +42,8 @@ last_sight r = record { kind = r.kind; size = r.size; mtime_ms = r.mtime_ms }
 pub record IsLawful (r : FileRecord) : Type 0 where
   pub name : IsTrue (is_valid_name r.name)
   pub sight : IsTrue (is_in_range (last_sight r))
-  pub ctick : r.ctick ≤ MAX_TICK
-  pub otick : r.otick ≤ MAX_TICK
+  pub ctick : r.ctick ≤ max_tick
+  pub otick : r.otick ≤ max_tick
   pub csec : IsTrue (is_count r.csec)
   pub osec : IsTrue (is_count r.osec)
 

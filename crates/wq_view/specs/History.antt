@@ -1,5 +1,5 @@
--- A history is the list of the passes over one root, the first pass first. What each pass saw of a name,
--- and the record of a name that follows from them, each name by itself.
+-- A history is the list of the passes over one root, the first pass first; nothing here asks that neighbours differ.
+-- What each pass saw of a name, and the record of a name that follows from them, each name by itself.
 use Rattle.std.specs.Prelude.{ℕ, zero, suc, ℤ, pos, Bool, true, false, not, ◌&&◌, is_some, is_none, if◌then◌else◌, List, [], ◌∷◌, length, slice_get, Option, Some, None, option_map, option_and_then}
 use Rattle.std.specs.Option.{option_map_or}
 use Rattle.std.specs.FinMap.{FinMap, empty, get}

@@ -1,5 +1,5 @@
 -- The letters that stand for kinds of files, as in Watchman's documentation of the field `type`.
-use Rattle.std.specs.Prelude.{ℕ, Option, Some, None}
+use Rattle.std.specs.Prelude.{ℕ}
 use Rattle.std.specs.Str.{byte}
 use Rattle.wq_view.specs.declared.kinds.Kind.{Kind}
 use Rattle.wq_view.specs.declared.kinds.Kind.TheVariants.{File, Dir, Link, Block, Char, Fifo, Socket, Door, Unknown}

@@ -1,6 +1,6 @@
 -- What one pass over a tree of files saw: a finite map from names to sights, and when.
 -- A pass is made from a list of rows, whose first fault refuses it.
-use Rattle.std.specs.Prelude.{◌≡◌, ℕ, ℤ, ◌≤◌, Bool, IsTrue, nat_lt, not, if◌then◌else◌, List, [], ◌∷◌, length, map, bytes_eq, refl, Option, Some, None, Result, Ok, Err}
+use Rattle.std.specs.Prelude.{ℕ, ℤ, ◌≤◌, IsTrue, nat_lt, not, if◌then◌else◌, List, [], ◌∷◌, length, map, bytes_eq, refl, Option, Some, None}
 use Rattle.std.specs.Coded.{Coded, code_by, coded×, coded_ℕ, coded_ℤ, coded_list}
 use Rattle.std.specs.List.{list_any, list_all}
 use Rattle.std.specs.declared.cmp.Ordering.{Ordering}
@@ -9,7 +9,7 @@ use Rattle.std.specs.Cmp.Lexicographic.{slice_cmp}
 use Rattle.std.specs.FinMap.{FinMap, code, from_entries, is_sorted}
 use Rattle.wq_view.specs.declared.listing.PassFault.{PassFault}
 use Rattle.wq_view.specs.declared.listing.PassFault.TheVariants.{BadName, NameTwice, TooManyRows, OutOfRange}
-use Rattle.wq_view.specs.declared.limits.TheConstants.{MAX_ROWS}
+use Rattle.wq_view.specs.Limits.{max_rows}
 use Rattle.wq_view.specs.Name.{is_valid_name}
 use Rattle.wq_view.specs.Row.{Row, Sight, sight_code, sight_of, entry_of, is_count, is_in_range, is_lawful_row}
 
@@ -42,7 +42,7 @@ row_fault before (row ∷ rows) =
 -- the first fault of a listing: of its length, of its second, and then of its rows
 abbrev pub listing_fault : List Row → ℤ → Option PassFault
 listing_fault rows second =
-    if nat_lt MAX_ROWS (length rows) then Some TooManyRows
+    if nat_lt max_rows (length rows) then Some TooManyRows
     else if not (is_count second) then Some OutOfRange
     else row_fault [] rows
 
@@ -54,5 +54,5 @@ names_of = map (λ row. row.name)
 pub record IsPass (rows : List Row) (at : ℤ) : Type 0 where
   pub rise : IsTrue (is_sorted name_cmp (map entry_of rows))
   pub lawful : IsTrue (list_all is_lawful_row rows)
-  pub count : length rows ≤ MAX_ROWS
+  pub count : length rows ≤ max_rows
   pub second : IsTrue (is_count at)

@@ -1,6 +1,6 @@
 -- How a view takes in a pass: records and rows in the order of their names, side by side.
 -- What the result means is said by the view of a history alone.
-use Rattle.std.specs.Prelude.{ℕ, ℤ, Bool, true, false, ◌&&◌, if◌then◌else◌, List, [], ◌∷◌, map, bytes_eq, Option, Some, None}
+use Rattle.std.specs.Prelude.{ℕ, ℤ, Bool, true, false, ◌&&◌, if◌then◌else◌, List, [], ◌∷◌, map, bytes_eq, Some, None}
 use Rattle.std.specs.FinMap.Entries.{by_order}
 use Rattle.wq_view.specs.Row.{Row, sight_of, same_sight}
 use Rattle.wq_view.specs.Listing.{name_cmp}

@@ -3,7 +3,7 @@
 use Rattle.std.specs.Prelude.{ℕ, Bool, ◌==◌, nat_le, not, ◌&&◌, if◌then◌else◌, List, [], length, bytes_eq, codes}
 use Rattle.std.specs.Str.{byte, is_utf8}
 use Rattle.std.specs.List.{list_any, list_all, slice_split, after_last}
-use Rattle.wq_view.specs.declared.names.TheConstants.{MAX_NAME}
+use Rattle.wq_view.specs.Limits.{max_name_length}
 
 abbrev pub is_slash : ℕ → Bool
 is_slash b = b == byte "/"
@@ -18,7 +18,7 @@ is_plain_part part = not (bytes_eq part []) && not (bytes_eq part (codes ".")) &
 -- a name is UTF-8 of 1 to 4,096 bytes without byte 0, each of whose parts is plain
 unfoldable pub is_valid_name : List ℕ → Bool
 is_valid_name bytes =
-    nat_le 1 (length bytes) && nat_le (length bytes) MAX_NAME && not (list_any (λ b. b == 0) bytes)
+    nat_le 1 (length bytes) && nat_le (length bytes) max_name_length && not (list_any (λ b. b == 0) bytes)
     && list_all is_plain_part (slice_split is_slash bytes) && is_utf8 bytes
 
 -- what follows the last slash

@@ -5,7 +5,7 @@ use Rattle.std.specs.Coded.{Coded, code_by, coded×, coded_ℤ}
 use Rattle.std.specs.Ordering.{int_eq}
 use Rattle.wq_view.specs.contracts.kinds.Kind.{the_row}
 use Rattle.wq_view.specs.declared.kinds.Kind.{Kind}
-use Rattle.wq_view.specs.declared.limits.TheConstants.{MAX_NUMBER}
+use Rattle.wq_view.specs.Limits.{max_number}
 use Rattle.wq_view.specs.Kind.{letter_of}
 use Rattle.wq_view.specs.Name.{is_valid_name}
 
@@ -38,11 +38,11 @@ same_sight a b = (letter_of a.kind == letter_of b.kind) && int_eq a.size b.size 
 
 -- a size in bytes, or a second of the Unix epoch: from 0 to 2^62
 abbrev pub is_count : ℤ → Bool
-is_count z = int_le (pos 0) z && int_le z MAX_NUMBER
+is_count z = int_le (pos 0) z && int_le z (pos max_number)
 
 -- a time in milliseconds of the Unix epoch: from -2^62 to 2^62
 abbrev pub is_time : ℤ → Bool
-is_time z = int_le (neg_ℤ MAX_NUMBER) z && int_le z MAX_NUMBER
+is_time z = int_le (neg_ℤ (pos max_number)) z && int_le z (pos max_number)
 
 -- a sight whose numbers are in range
 abbrev pub is_in_range : Sight → Bool

@@ -1,6 +1,15 @@
 //! The view of a tree of files that is listed again and again: for each file, what was last seen of it,
 //! whether it exists, and at which pass it came and last changed. It keeps no contents, walks no
 //! directory and knows no clock: listings and their seconds are handed in.
+//!
+//! ```text
+//! let row = Seen { name: ArcSlice::from_slice(alloc, b"src/a.c")?, kind: Kind::File, size: 5, mtime_ms: 1000 };
+//! let pass = Pass::new(vec![in alloc; row]?, 10)?;
+//! let mut view = View::new(alloc);
+//! view.absorb(&pass)?;    // true: the tick is 1 now
+//! view.absorb(&pass)?;    // false: nothing changed
+//! view.find("src/a.c");   // Some(0), whose `ctick` and `otick` are 1 and whose `csec` and `osec` are 10
+//! ```
 #![tactic(auto)]
 
 mod kinds;
@@ -10,6 +19,8 @@ mod listing;
 mod merging;
 mod names;
 mod records;
+#[cfg(test)]
+mod tests;
 mod views;
 
 pub use kinds::Kind;

@@ -50,6 +50,7 @@ impl Name {
         Name::share(&self.bytes)
     }
 
+    /// The name as text, which a valid name is.
     pub fn as_str(&self) -> &str
         ensures { result.now ≡ self.now }
     {
@@ -57,6 +58,7 @@ impl Name {
         unsafe { str::from_utf8_unchecked(self.as_bytes()) }
     }
 
+    /// The bytes of the name, 1 to 4,096 of them.
     pub fn as_bytes(&self) -> &[u8]
         ensures value { result.now ≡ self.now }
         ensures valid { IsTrue (is_valid_name self.now) }

@@ -118,9 +118,7 @@ impl Record {
     pub(crate) fn has_sight_of(&self, row: &Seen) -> bool
         ensures { result ≡ same_sight (last_sight self.now) (sight_of row.now) }
     {
-        self.kind.letter() == row.kind.letter()
-            && self.size == row.size
-            && self.mtime_ms == row.mtime_ms
+        self.kind == row.kind && self.size == row.size && self.mtime_ms == row.mtime_ms
     }
 
     /// Takes in what a pass saw of the file.

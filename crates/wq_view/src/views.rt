@@ -3,6 +3,7 @@
 ghost use Rattle.std.specs.Prelude.{◌≡◌, ◌≢◌, ◌+◌, ◌≤◌, ◌<◌, ◌↔◌, List, [], ◌∷◌, ◌++◌, Ok, Err, Some, None, true, false, length, IfOk, OnOk, OnErr, IfErr, MatchOption, IsTrue, slice_get};
 ghost use Rattle.wq_view.specs.FileRecord.{record_named};
 ghost use Rattle.wq_view.specs.History.{History, last_sights};
+ghost use Rattle.wq_view.specs.Limits.{max_records, max_tick};
 ghost use Rattle.wq_view.specs.View.{IsViewOf, NamesRise};
 
 use crate::limits::{MAX_RECORDS, MAX_TICK};
@@ -44,7 +45,7 @@ pub struct View {
 
 impl Model for View {
     ghost use Rattle.std.specs.Prelude.{◌≤◌, vec_len};
-    ghost use Rattle.wq_view.specs.declared.limits.TheConstants.{MAX_RECORDS, MAX_TICK};
+    ghost use Rattle.wq_view.specs.Limits.{max_records, max_tick};
     ghost use Rattle.wq_view.specs.View.{FileView, view_code, NamesRise};
 
     ghost Value = { FileView };
@@ -53,7 +54,7 @@ impl Model for View {
 
     ghost view = { λ v. record { tick = v.tick; records = v.records.items } };
 
-    ghost invariant = { λ v. (v.tick ≤ MAX_TICK) × (vec_len v.records ≤ MAX_RECORDS) × NamesRise v.records.items };
+    ghost invariant = { λ v. (v.tick ≤ max_tick) × (vec_len v.records ≤ max_records) × NamesRise v.records.items };
 }
 
 impl View {
@@ -75,7 +76,7 @@ impl View {
         // For every history of which this is the view:
         ensures moved { (history : History) → IsViewOf history self.old → result ≡ Ok true → IsViewOf (history ++ pass.now ∷ []) self.new }
         ensures still { (history : History) → IsViewOf history self.old → ((result ≡ Ok false) ↔ (last_sights history ≡ pass.now.sights)) }
-        ensures spent { (history : History) → IsViewOf history self.old → ((result ≡ Err ViewFault.TicksSpent) ↔ ((self.old.tick ≡ MAX_TICK) × (last_sights history ≢ pass.now.sights))) }
+        ensures spent { (history : History) → IsViewOf history self.old → ((result ≡ Err ViewFault.TicksSpent) ↔ ((self.old.tick ≡ max_tick) × (last_sights history ≢ pass.now.sights))) }
 
         ensures kept { result ≢ Ok true → self.new ≡ self.old }
     {
@@ -98,7 +99,7 @@ impl View {
 
     /// Takes in a pass that saw something else than the one before it.
     fn take_in(&mut self, pass: &Pass) -> Result<(), AllocError>
-        requires { self.old.tick < MAX_TICK }
+        requires { self.old.tick < max_tick }
         ensures ok { (history : History) → IsViewOf history self.old → OnOk result (IsViewOf (history ++ pass.now ∷ []) self.new) }
         ensures err { OnErr result (self.new ≡ self.old) }
     {
@@ -112,7 +113,7 @@ impl View {
     /// The number of the last pass that moved it, at most 2^62; 0 before any.
     pub fn tick(&self) -> u64
         ensures value { result ≡ self.now.tick }
-        ensures bound { result ≤ MAX_TICK }
+        ensures bound { result ≤ max_tick }
     {
         self.tick
     }
@@ -120,11 +121,12 @@ impl View {
     /// How many records there are, those of deleted files too.
     pub fn len(&self) -> usize
         ensures value { result ≡ length self.now.records }
-        ensures bound { result ≤ MAX_RECORDS }
+        ensures bound { result ≤ max_records }
     {
         self.records.len()
     }
 
+    /// Whether there are no records: no pass saw a file.
     pub fn is_empty(&self) -> bool
         ensures { IsTrue result ↔ (self.now.records ≡ []) }
     {
@@ -143,7 +145,7 @@ impl View {
     pub fn records(&self) -> &[Record]
         ensures value { result.now ≡ self.now.records }
         ensures rise { NamesRise result.now }
-        ensures bound { length result.now ≤ MAX_RECORDS }
+        ensures bound { length result.now ≤ max_records }
     {
         &self.records
     }

@@ -1,6 +1,5 @@
 -- The rows before are lawful, and this one is not.
-use Rattle.std.proofs.Common.{◌≡◌, Bool, true, false, cond, Option, Some, refl, ap, sym, ◌∙◌}
-use Rattle.wq_view.specs.declared.listing.PassFault.TheVariants.{BadName, NameTwice, OutOfRange}
+use Rattle.std.proofs.Common.{◌≡◌, true, false, refl, ap, sym, ◌∙◌}
 use Rattle.wq_view.specs.Name.{is_valid_name}
 use Rattle.wq_view.specs.Row.{Row}
 use Rattle.wq_view.proofs.Faults.{fault_at_unlawful}

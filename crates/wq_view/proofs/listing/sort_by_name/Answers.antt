@@ -1,11 +1,9 @@
 -- The closure compares names, so a sort leaves no row above the next.
-use Rattle.std.proofs.Common.{rules, ◌≡◌, sym, inl, inr, ◌∙◌, IsPermutation, ◌⊎◌, true, map, subst}
+use Rattle.std.proofs.Common.{rules, sym, inl, inr, ◌∙◌}
 use Rattle.std.proofs.lemmas.Cmp.{nat_list_cmp_total}
 use Rattle.std.proofs.lemmas.List.Sorted.{answers_always, ranks_by, IsPermutation-refl}
-use Rattle.std.specs.FinMap.{is_sorted}
 use Rattle.std.specs.List.Sorted.{IsSortedBy}
-use Rattle.wq_view.specs.Row.{Row, entry_of}
-use Rattle.wq_view.specs.Listing.{name_cmp}
+use Rattle.wq_view.specs.Row.{Row}
 use Rattle.wq_view.proofs.Sorting.{is_below, sorted_tells}
 use Rattle.wq_view.proofs.listing.sort_by_name.Goals as goal
 use Rattle.wq_view.proofs.listing.sort_by_name.Goals.{then-not-names_rise, else-not-names_rise}

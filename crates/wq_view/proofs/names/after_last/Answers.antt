@@ -1,9 +1,8 @@
 -- The last place of the byte is where the suffix without it begins.
-use Rattle.std.proofs.Common.{◌≡◌, ℕ, zero, suc, ◌+◌, ◌-◌, ◌<◌, ◌≤◌, Bool, true, false, not, ◌||◌, eqb, ◌==◌, List, [], ◌∷◌, length, drop, get_or, refl, sym, ap, ◌∙◌, arith}
-use mathlib.Core.Bool.{false≢true}
+use Rattle.std.proofs.Common.{◌≡◌, ℕ, zero, suc, ◌+◌, ◌-◌, ◌<◌, ◌≤◌, Bool, true, false, not, ◌||◌, ◌==◌, List, [], ◌∷◌, length, drop, get_or, refl, sym, ap, ◌∙◌, arith}
 use Rattle.std.specs.List.{after_last, list_any, suffix_len}
 use Rattle.std.proofs.lemmas.List.Sums.{suffix_len_is}
-use Rattle.memchr.specs.Find.{IsLastByte, NoneAfter, Nowhere, Passes, is_byte}
+use Rattle.memchr.specs.Find.{NoneAfter, Nowhere, Passes}
 use Rattle.wq_view.proofs.names.after_last.Goals as goal
 
 from_not_true : (b : Bool) → (b ≡ true → ⊥) → b ≡ false

@@ -1,5 +1,5 @@
 -- The rows are lawful here, and sorted: what is left is whether a name stands twice.
-use Rattle.std.proofs.Common.{◌≡◌, ℕ, ℤ, ◌≤◌, Bool, true, false, nat_lt, List, ◌++◌, length, take, drop, map, Option, Some, None, IsTrue, refl, sym, ap, ◌∙◌, arith, w64, IsPermutation, Vec}
+use Rattle.std.proofs.Common.{◌≡◌, ℤ, ◌≤◌, Bool, true, false, List, length, sym, ap, ◌∙◌, arith, w64, IsPermutation, Vec}
 use mir.Val.{to_z, of_z, SFits}
 use Rattle.std.proofs.lemmas.Int.{to_z-of_z}
 use Rattle.std.specs.List.{list_all}
@@ -8,8 +8,7 @@ use Rattle.std.proofs.lemmas.List.{with_items_is}
 use Rattle.std.proofs.lemmas.List.Sorted.{length_permutation}
 use Rattle.std.specs.declared.alloc.Global.{Global}
 use Rattle.wq_view.specs.declared.listing.Seen.{Seen}
-use Rattle.wq_view.specs.Row.{Row, entry_of, is_lawful_row, is_count}
-use Rattle.wq_view.specs.Listing.{name_cmp, names_of, listing_of, listing_fault, row_fault, Listing, IsPass}
+use Rattle.wq_view.specs.Row.{Row, is_lawful_row, is_count}
 use Rattle.wq_view.specs.declared.limits.TheConstants.{MAX_ROWS}
 use Rattle.wq_view.proofs.Faults.{fault_when_lawful}
 use Rattle.wq_view.proofs.Listings.{sorted_listing, is_pass}

@@ -1,9 +1,7 @@
 -- The closure compares a record's name with the one sought.
-use Rattle.std.proofs.Common.{◌≡◌, sym, ap, subst, rules}
+use Rattle.std.proofs.Common.{rules}
 use Rattle.std.proofs.lemmas.Fn.{always_returns_same}
 use Rattle.wq_view.specs.Listing.{name_cmp}
-use Rattle.wq_view.specs.FileRecord.{FileRecord}
-use Rattle.wq_view.specs.View.{FileView}
 use Rattle.wq_view.proofs.Lookups.{searched}
 use Rattle.wq_view.proofs.views.View.find.Goals as goal
 

@@ -1,8 +1,5 @@
 -- The rows of the pass are its entries, in order.
-use Rattle.std.proofs.Common.{◌≡◌, true, ◌↔◌, map, sym, ap, subst, ◌∙◌}
-use Rattle.std.specs.FinMap.{entries, is_sorted}
-use Rattle.wq_view.specs.Row.{entry_of}
-use Rattle.wq_view.specs.Listing.{name_cmp}
+use Rattle.std.proofs.Common.{sym, ap, subst, ◌∙◌}
 use Rattle.wq_view.specs.Merge.{shows}
 use Rattle.wq_view.specs.View.{FileView, IsViewOf}
 use Rattle.wq_view.proofs.ViewSteps.{shows_last}

@@ -1,17 +1,16 @@
 -- The records after the walks are those of the history with the pass.
-use Rattle.std.proofs.Common.{◌≡◌, ℕ, ℤ, w64, ◌+◌, ◌≤◌, List, [], ◌∷◌, ◌++◌, length, map, Vec, sym, ap, subst, ◌∙◌, arith}
+use Rattle.std.proofs.Common.{◌≡◌, ℕ, ℤ, w64, ◌+◌, ◌≤◌, List, [], ◌∷◌, ◌++◌, length, Vec, sym, ap, subst, ◌∙◌, arith}
 use mir.Val.{to_z, of_z, SFits}
 use Rattle.std.proofs.lemmas.Int.{to_z-of_z}
 use Rattle.std.specs.Vec.{with_items}
 use Rattle.std.proofs.lemmas.List.{with_items_is}
 use Rattle.std.specs.declared.alloc.Global.{Global}
 use Rattle.wq_view.specs.declared.records.Record.{Record}
-use Rattle.wq_view.specs.declared.limits.TheConstants.{MAX_TICK}
+use Rattle.wq_view.specs.Limits.{max_tick}
 use Rattle.wq_view.specs.Row.{Row}
 use Rattle.wq_view.specs.FileRecord.{FileRecord}
-use Rattle.wq_view.specs.History.{History}
 use Rattle.wq_view.specs.Merge.{absorbed, with_names, observed_all}
-use Rattle.wq_view.specs.View.{FileView, IsViewOf, NamesRise}
+use Rattle.wq_view.specs.View.{FileView, IsViewOf}
 use Rattle.wq_view.proofs.Absorbed.{absorbed_ordered}
 use Rattle.wq_view.proofs.LeftOver.{length-observed_all}
 use Rattle.wq_view.proofs.ViewSteps.{view_of_more}
@@ -29,7 +28,7 @@ pub invariant_of-self-2 : goal.invariant_of-self-2
 invariant_of-self-2 c =
     let fits : SFits w64 c.second.result = record { sfits = c.second.type_inv } in
     let items = written c.add_names.new.records c.observe_all.new.records c.self.inside.records.items c.rows-rows.result.now (c.self.inside.tick + 1) c.second.result c.args.pass.now.second c.in_ok-add_names.ensures.ok (c.observe_all.ensures ∙ ap (λ rs. observed_all (c.self.inside.tick + 1) (to_z w64 (of_z w64 c.second.result)) rs c.rows-rows.result.now) c.deref_mut.ensures.value) fits c.second.ensures.value in
-    let below : c.self.inside.tick + 1 ≤ MAX_TICK = omega (arith, c.requires, ap (λ (v : FileView). v.tick) c.self.view_is) in
+    let below : c.self.inside.tick + 1 ≤ max_tick = omega (arith, c.requires, ap (λ (v : FileView). v.tick) c.self.view_is) in
     (below, c.add_names.ensures.bound, rw items (absorbed_ordered (c.self.inside.tick + 1) c.args.pass.now.second c.self.inside.records.items c.rows-rows.result.now c.self.invariant.2 c.rows-rows.ensures.rise))
 
 pub returns-clause-ok : goal.returns-clause-ok

@@ -1,0 +1,23 @@
+-- The limits of names, listings and views, which are this server's own.
+-- Watchman's documentation names none of them.
+use Rattle.std.specs.Prelude.{ℕ, ◌^◌}
+
+-- the most bytes of a name
+abbrev pub max_name_length : ℕ
+max_name_length = 4096
+
+-- the most rows of a listing
+abbrev pub max_rows : ℕ
+max_rows = 1000000
+
+-- the greatest size and second, and the greatest time either side of 0
+abbrev pub max_number : ℕ
+max_number = 2 ^ 62
+
+-- the last tick of a view
+abbrev pub max_tick : ℕ
+max_tick = 2 ^ 62
+
+-- the most records of a view, so that a position fits 32 bits
+abbrev pub max_records : ℕ
+max_records = 4294967295
