@@ -1,0 +1,131 @@
+-- The test says yes exactly where the text can be cut into parts.
+use Rattle.std.proofs.Common.{◌≡◌, Bool, true, ◌&&◌, ◌||◌, ◌⊎◌, IsTrue, List, [], ◌∷◌, ◌++◌, refl, sym, ap, subst, inl, inr}
+use Rattle.std.specs.List.{list_all}
+use Rattle.std.proofs.lemmas.Bool.{and_parts, and_from, or_cases, or_left, or_right, false≢true}
+use Rattle.wq_glob.specs.Bytes.{is_slash}
+use Rattle.wq_glob.specs.Atoms.{Atom, Literal, One, OneOf, Star, Dirs, Rest, Nothing}
+use Rattle.wq_glob.specs.Marks.{Mark}
+use Rattle.wq_glob.specs.Fits.{IsOne, IsEach, EndsInSlash, Takes, Cuts}
+use Rattle.wq_glob.specs.FitsTest.{Reach, Single, Many, Folders, reach, admits, folders, many, single, part_of, fits_by}
+use Rattle.wq_glob.specs.declared.options.Flags.{Flags}
+
+-- a part of this reach, each of whose bytes passes the test
+abbrev PartOf : Reach → (Mark → Bool) → List Mark → Type 0
+PartOf Single test part = IsOne test part
+PartOf Many test part = IsEach test part
+PartOf Folders test part = (part ≡ []) ⊎ (IsEach test part × EndsInSlash part)
+
+-- some front of the text is such a part, and what follows it fits
+abbrev Splits : Reach → (Mark → Bool) → (List Mark → Bool) → List Mark → Type 0
+Splits r test fit text = (part : List Mark) × (after : List Mark) × (text ≡ part ++ after) × PartOf r test part × IsTrue (fit after)
+
+longer : (test : Mark → Bool) (fit : List Mark → Bool) (x : Mark) (xs : List Mark) → test x ≡ true → Splits Many test fit xs → Splits Many test fit (x ∷ xs)
+longer test fit x xs passes s = (x ∷ s.0, s.1, ap (λ ys. x ∷ ys) s.2, and_from _ _ passes s.3, s.4)
+
+many_splits : (test : Mark → Bool) (fit : List Mark → Bool) (text : List Mark) → many test fit text ≡ true → Splits Many test fit text
+many_splits test fit [] h = ([], [], refl, refl, h)
+many_splits test fit (x ∷ xs) h =
+    elim (or_cases (fit (x ∷ xs)) (test x && many test fit xs) h) [
+      | inl here ↦ ([], x ∷ xs, refl, refl, here)
+      | inr there ↦
+          let parts = and_parts (test x) (many test fit xs) there in
+          longer test fit x xs parts.0 (many_splits test fit xs parts.1)
+    ]
+
+-- a part that is not empty and ends in a slash
+abbrev SplitsAtSlash : (Mark → Bool) → (List Mark → Bool) → List Mark → Type 0
+SplitsAtSlash test fit text =
+    (part : List Mark) × (after : List Mark) × (text ≡ part ++ after) × (IsEach test part × EndsInSlash part) × IsTrue (fit after)
+
+deeper : (test : Mark → Bool) (fit : List Mark → Bool) (x : Mark) (xs : List Mark) → test x ≡ true → SplitsAtSlash test fit xs → SplitsAtSlash test fit (x ∷ xs)
+deeper test fit x xs passes s = (
+  x ∷ s.0,
+  s.1,
+  ap (λ ys. x ∷ ys) s.2,
+  (and_from _ _ passes s.3.0, (x ∷ s.3.1.0, s.3.1.1, ap (λ ys. x ∷ ys) s.3.1.2, s.3.1.3)),
+  s.4,
+)
+
+folders_split : (test : Mark → Bool) (fit : List Mark → Bool) (text : List Mark) → folders test fit text ≡ true → SplitsAtSlash test fit text
+folders_split test fit [] h = absurd (false≢true h)
+folders_split test fit (x ∷ xs) h =
+    let parts = and_parts (test x) (folders test fit xs || (is_slash x.byte && fit xs)) h in
+    elim (or_cases (folders test fit xs) (is_slash x.byte && fit xs) parts.1) [
+      | inl deep ↦ deeper test fit x xs parts.0 (folders_split test fit xs deep)
+      | inr here ↦
+          let at = and_parts (is_slash x.byte) (fit xs) here in
+          (x ∷ [], xs, refl, (and_from _ _ parts.0 refl, ([], x, refl, at.0)), at.1)
+    ]
+
+-- what the test finds is a cut
+splits : (r : Reach) (test : Mark → Bool) (fit : List Mark → Bool) (text : List Mark) → part_of r test fit text ≡ true → Splits r test fit text
+splits Single test fit [] h = absurd (false≢true h)
+splits Single test fit (x ∷ xs) h =
+    let parts = and_parts (test x) (fit xs) h in (x ∷ [], xs, refl, (x, refl, parts.0), parts.1)
+splits Many test fit text h = many_splits test fit text h
+splits Folders test fit text h =
+    elim (or_cases (fit text) (folders test fit text) h) [
+      | inl none ↦ ([], text, refl, inl refl, none)
+      | inr some ↦ let s = folders_split test fit text some in (s.0, s.1, s.2, inr s.3, s.4)
+    ]
+
+many_from : (test : Mark → Bool) (fit : List Mark → Bool) (part after : List Mark) → IsEach test part → fit after ≡ true → many test fit (part ++ after) ≡ true
+many_from test fit [] [] each h = h
+many_from test fit [] (x ∷ xs) each h = or_left _ _ h
+many_from test fit (x ∷ part) after each h =
+    let parts = and_parts (test x) (list_all test part) each in
+    or_right _ _ (and_from _ _ parts.0 (many_from test fit part after parts.1 h))
+
+folders_from : (test : Mark → Bool) (fit : List Mark → Bool) (body : List Mark) (x : Mark) (after : List Mark) → IsEach test (body ++ x ∷ []) → is_slash x.byte ≡ true → fit after ≡ true → folders test fit ((body ++ x ∷ []) ++ after) ≡ true
+folders_from test fit [] x after each ends h =
+    let parts = and_parts (test x) true each in
+    and_from _ _ parts.0 (or_right _ _ (and_from _ _ ends h))
+folders_from test fit (y ∷ body) x after each ends h =
+    let parts = and_parts (test y) (list_all test (body ++ x ∷ [])) each in
+    and_from _ _ parts.0 (or_left _ _ (folders_from test fit body x after parts.1 ends h))
+
+-- a cut is found by the test
+found : (r : Reach) (test : Mark → Bool) (fit : List Mark → Bool) (part after : List Mark) → PartOf r test part → fit after ≡ true → part_of r test fit (part ++ after) ≡ true
+found Single test fit part after (x, is, passes) h =
+    subst (λ (p : List Mark). single test fit (p ++ after) ≡ true) (sym is) (and_from _ _ passes h)
+found Many test fit part after each h = many_from test fit part after each h
+found Folders test fit part after (inl none) h =
+    subst (λ (p : List Mark). part_of Folders test fit (p ++ after) ≡ true) (sym none) (or_left _ _ h)
+found Folders test fit part after (inr (each, (body, x, is, ends))) h =
+    or_right _ _
+    (subst (λ (p : List Mark). folders test fit (p ++ after) ≡ true) (sym is)
+    (folders_from test fit body x after (subst (IsEach test) is each) ends h))
+
+-- what an atom takes is a part of its reach, of the bytes that it admits
+taken : (f : Flags) (a : Atom) (part : List Mark) → Takes f a part → PartOf (reach a) (admits f a) part
+taken f (Literal b) part t = t
+taken f One part t = t
+taken f (OneOf c) part t = t
+taken f Star part t = t
+taken f Dirs part t = t
+taken f Rest part t = t
+taken f Nothing part t = absurd t
+
+takes : (f : Flags) (a : Atom) (part : List Mark) → PartOf (reach a) (admits f a) part → Takes f a part
+takes f (Literal b) part t = t
+takes f One part t = t
+takes f (OneOf c) part t = t
+takes f Star part t = t
+takes f Dirs part t = t
+takes f Rest part t = t
+takes f Nothing part (x, is, passes) = absurd (false≢true passes)
+
+-- where the test says yes, the text can be cut
+pub cuts_from_test : (f : Flags) (atoms : List Atom) (text : List Mark) → fits_by reach (admits f) atoms text ≡ true → Cuts f atoms text
+cuts_from_test f [] [] h = refl
+cuts_from_test f [] (x ∷ xs) h = absurd (false≢true h)
+cuts_from_test f (a ∷ later) text h =
+    let s = splits (reach a) (admits f a) (fits_by reach (admits f) later) text h in
+    (s.0, s.1, s.2, takes f a s.0 s.3, cuts_from_test f later s.1 s.4)
+
+-- where the text can be cut, the test says yes
+pub test_from_cuts : (f : Flags) (atoms : List Atom) (text : List Mark) → Cuts f atoms text → fits_by reach (admits f) atoms text ≡ true
+test_from_cuts f [] text h = subst (λ (t : List Mark). fits_by reach (admits f) [] t ≡ true) (sym h) refl
+test_from_cuts f (a ∷ later) text (part, after, is, t, cut) =
+    subst (λ (t : List Mark). fits_by reach (admits f) (a ∷ later) t ≡ true) (sym is)
+    (found (reach a) (admits f a) (fits_by reach (admits f) later) part after (taken f a part t) (test_from_cuts f later after cut))

@@ -1,0 +1,14 @@
+pub mod FitsLaws
+pub mod ByteSetLemmas
+pub mod RowLemmas
+pub mod MarkLemmas
+pub mod SweepLemmas
+pub mod EndLemmas
+pub mod RunLemmas
+pub mod FrontLemmas
+pub mod ItemLemmas
+pub mod SetLemmas
+pub mod StepLemmas
+pub mod AtomLemmas
+pub mod GlobLemmas
+pub mod BackLemmas

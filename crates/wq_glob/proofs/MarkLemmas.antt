@@ -1,0 +1,45 @@
+-- The marks of a text, place by place.
+use Rattle.std.proofs.Common.{◌≡◌, ℕ, zero, suc, ◌+◌, ◌-◌, ◌<◌, Bool, true, false, not, ◌&&◌, ◌||◌, ◌==◌, List, [], ◌∷◌, length, drop, get_or, refl, sym, ◌∙◌, ap, arith, add-one, sub-one}
+use Rattle.std.proofs.lemmas.Bool.{ne_eqb}
+use Rattle.wq_glob.specs.Bytes.{is_slash, is_dot}
+use Rattle.wq_glob.specs.Marks.{marks, marks_from}
+use Rattle.wq_glob.specs.Cells.{marks_at, mark_at}
+use Rattle.wq_glob.specs.declared.options.Flags.{Flags}
+
+-- whether a place of a text is at the front of a name
+front_at : Bool → List ℕ → ℕ → Bool
+front_at front text zero = front
+front_at front [] (suc at) = false
+front_at front (b ∷ bs) (suc at) = front_at (is_slash b) bs at
+
+front_behind : (front : Bool) (text : List ℕ) (at : ℕ) → suc at < length text → front_at front text (suc at) ≡ is_slash (get_or text at 0)
+unfolding front_at
+front_behind front [] at h = absurd (omega arith)
+front_behind front (b ∷ bs) zero h = refl
+front_behind front (b ∷ bs) (suc at) h = front_behind (is_slash b) bs at (omega arith)
+
+drop_marks : (dotfiles front : Bool) (text : List ℕ) (at : ℕ) → at < length text →
+    drop at (marks_from dotfiles front text)
+    ≡ record { byte = get_or text at 0; hidden = not dotfiles && front_at front text at && is_dot (get_or text at 0) } ∷ drop (suc at) (marks_from dotfiles front text)
+unfolding front_at
+drop_marks dotfiles front [] at h = absurd (omega arith)
+drop_marks dotfiles front (b ∷ bs) zero h = refl
+drop_marks dotfiles front (b ∷ bs) (suc at) h = drop_marks dotfiles (is_slash b) bs at (omega arith)
+
+front_is : (text : List ℕ) (at : ℕ) → at < length text → front_at true text at ≡ (at == 0 || is_slash (get_or text (at - 1) 0))
+unfolding front_at
+front_is text zero h = refl
+front_is text (suc at) h =
+    let later : suc at ≡ 0 → ⊥ = omega arith in
+    rw (ne_eqb (suc at) 0 later, sub-one) (front_behind true text at h)
+
+-- the mark at a place, and the marks behind it
+pub marks_step : (f : Flags) (text : List ℕ) (at : ℕ) → at < length text → marks_at f text at ≡ mark_at f text at ∷ marks_at f text (at + 1)
+marks_step f text at h =
+    drop_marks f.dotfiles true text at h
+    ∙ ap (λ (b : Bool). record { byte = get_or text at 0; hidden = not f.dotfiles && b && is_dot (get_or text at 0) } ∷ drop (suc at) (marks f.dotfiles text)) (front_is text at h)
+    ∙ ap (λ (n : ℕ). mark_at f text at ∷ drop n (marks f.dotfiles text)) (sym (add-one at))
+
+pub length-marks_from : (dotfiles front : Bool) (text : List ℕ) → length (marks_from dotfiles front text) ≡ length text
+length-marks_from dotfiles front [] = refl
+length-marks_from dotfiles front (b ∷ bs) = ap suc (length-marks_from dotfiles (is_slash b) bs)

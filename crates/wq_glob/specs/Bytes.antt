@@ -1,0 +1,52 @@
+-- The bytes that mean something in a pattern or a path, and ASCII letters without their case.
+-- After wildmatch, the pattern language of git's `.gitignore` and of Watchman's expression term `match`.
+use Rattle.std.specs.Prelude.{ℕ, ◌+◌, ◌-◌, Bool, ◌==◌, nat_le, ◌&&◌, if◌then◌else◌}
+use Rattle.std.specs.Str.{byte}
+
+abbrev pub is_slash : ℕ → Bool
+is_slash b = b == byte "/"
+
+abbrev pub is_dot : ℕ → Bool
+is_dot b = b == byte "."
+
+abbrev pub is_star : ℕ → Bool
+is_star b = b == byte "*"
+
+-- the `]` that ends a class
+abbrev pub is_close : ℕ → Bool
+is_close b = b == byte "]"
+
+abbrev pub is_open : ℕ → Bool
+is_open b = b == byte "["
+
+abbrev pub is_colon : ℕ → Bool
+is_colon b = b == byte ":"
+
+abbrev pub is_dash : ℕ → Bool
+is_dash b = b == byte "-"
+
+-- the backslash, which makes the next byte a literal
+abbrev pub is_escape : ℕ → Bool
+is_escape b = b == byte "\\"
+
+-- a byte from `low` to `high`, both included
+abbrev pub is_between : ℕ → ℕ → ℕ → Bool
+is_between low high b = nat_le low b && nat_le b high
+
+abbrev pub is_upper : ℕ → Bool
+is_upper b = is_between 65 90 b
+
+abbrev pub is_lower : ℕ → Bool
+is_lower b = is_between 97 122 b
+
+-- A to Z as a to z, every other byte as it is
+unfoldable pub lower_of : ℕ → ℕ
+lower_of b = if is_upper b then b + 32 else b
+
+-- a to z as A to Z, every other byte as it is
+unfoldable pub upper_of : ℕ → ℕ
+upper_of b = if is_lower b then b - 32 else b
+
+-- a byte as it is compared: without its case where `fold` says so
+abbrev pub folded : Bool → ℕ → ℕ
+folded fold b = if fold then lower_of b else b

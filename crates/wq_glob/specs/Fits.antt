@@ -1,0 +1,44 @@
+-- What it means that a pattern fits a text: the text can be cut into parts, one for each atom in order, each allowed
+-- to its atom. After git's wildmatch, in this project's profile; no order of search is in it.
+use Rattle.std.specs.Prelude.{◌≡◌, Bool, not, ◌==◌, ◌&&◌, IsTrue, ◌⊎◌, List, [], ◌∷◌, ◌++◌}
+use Rattle.std.specs.List.{list_all}
+use Rattle.wq_glob.specs.Bytes.{is_slash, folded}
+use Rattle.wq_glob.specs.Class.{in_class}
+use Rattle.wq_glob.specs.Atoms.{Atom, Literal, One, OneOf, Star, Dirs, Rest, Nothing}
+use Rattle.wq_glob.specs.Marks.{Mark}
+use Rattle.wq_glob.specs.declared.options.Flags.{Flags}
+
+-- no hidden dot: what may stand in the part of an atom that is no literal
+abbrev pub is_shown : Mark → Bool
+is_shown x = not x.hidden
+
+-- what `?`, a class and `*` may take: no hidden dot, and with `wholename` no slash
+abbrev pub is_wild : Flags → Mark → Bool
+is_wild f x = is_shown x && not (f.wholename && is_slash x.byte)
+
+-- the part is one byte, which passes the test
+abbrev pub IsOne : (Mark → Bool) → List Mark → Type 0
+IsOne test part = (x : Mark) × (part ≡ x ∷ []) × IsTrue (test x)
+
+-- each byte of the part passes the test
+abbrev pub IsEach : (Mark → Bool) → List Mark → Type 0
+IsEach test part = IsTrue (list_all test part)
+
+-- the part ends in a slash
+abbrev pub EndsInSlash : List Mark → Type 0
+EndsInSlash part = (body : List Mark) × (x : Mark) × (part ≡ body ++ x ∷ []) × IsTrue (is_slash x.byte)
+
+-- the part is allowed to the atom
+abbrev pub Takes : Flags → Atom → List Mark → Type 0
+Takes f (Literal b) part = IsOne (λ x. folded f.fold x.byte == folded f.fold b) part
+Takes f One part = IsOne (is_wild f) part
+Takes f (OneOf c) part = IsOne (λ x. is_wild f x && in_class f.fold c x.byte) part
+Takes f Star part = IsEach (is_wild f) part
+Takes f Dirs part = (part ≡ []) ⊎ (IsEach is_shown part × EndsInSlash part)
+Takes f Rest part = IsEach is_shown part
+Takes f Nothing part = ⊥
+
+-- the text can be cut into parts, one for each atom in order, each allowed to its atom
+abbrev pub Cuts : Flags → List Atom → List Mark → Type 0
+Cuts f [] text = text ≡ []
+Cuts f (a ∷ later) text = (part : List Mark) × (after : List Mark) × (text ≡ part ++ after) × Takes f a part × Cuts f later after

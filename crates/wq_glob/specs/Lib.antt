@@ -1,0 +1,12 @@
+pub mod Bytes
+pub mod Class
+pub mod Reading
+pub mod Atoms
+pub mod Marks
+pub mod Fits
+pub mod FitsTest
+pub mod Glob
+pub mod ByteSet
+pub mod Steps
+pub mod Cells
+pub mod Members

@@ -1,0 +1,31 @@
+//! Wildmatch: patterns for paths, as of git's `.gitignore` and Watchman's expression term `match`, with an exact
+//! meaning and a bounded cost.
+//!
+//! ```text
+//! *.c                  any name that ends in .c, but for a hidden one
+//! src/**/test_*.[ch]   with wholename: such files below src, however deep
+//! [![:digit:]]?        two bytes, of which the first is no digit
+//! ```
+//!
+//! A [`Pattern`] is read once from its text and its [`Flags`] and then tried on texts. What it fits is defined by cuts
+//! of the text (`specs/Fits.antt`), and how a text is read by `specs/Reading.antt` and `specs/Atoms.antt`. This crate
+//! knows no files: a caller hands in a basename or a whole name.
+#![tactic(auto)]
+
+mod byte_sets;
+mod bytes;
+mod classes;
+mod limits;
+mod matching;
+mod options;
+mod patterns;
+mod reading;
+mod rows;
+mod steps;
+#[cfg(test)]
+mod tests;
+
+pub use limits::{MAX_PATTERN, MAX_TEXT};
+pub use matching::Hit;
+pub use options::Flags;
+pub use patterns::{Pattern, PatternFault};
