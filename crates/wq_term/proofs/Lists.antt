@@ -1,15 +1,16 @@
 -- Reading a list of terms from the front: what is read, and what is left.
-use Rattle.std.proofs.Common.{◌≡◌, ◌≢◌, ◌==◌, false, map, ℕ, suc, ◌+◌, ◌<◌, List, [], ◌∷◌, ◌++◌, length, drop, get_or, slice_get, Option, Some, None, option_map, Result, Ok, Err, refl, sym, ap, ◌∙◌, arith, add-one}
+use Rattle.std.proofs.Common.{◌≡◌, ◌≢◌, ◌==◌, false, map, ℕ, suc, ◌+◌, ◌<◌, List, [], ◌∷◌, ◌++◌, length, drop, get_or, None, Result, Ok, Err, refl, sym, ap, ◌∙◌, add-one}
 use mathlib.Core.Bool.{false≢true}
 use Rattle.std.proofs.Math.Seq.{drop-cons}
 use Rattle.serde_json.specs.Data.{Data, Items, item}
 use Rattle.serde_json.specs.View.{view, items_view}
 use Rattle.serde_json.specs.declared.value.Value.{Value}
-use Rattle.wq_term.specs.declared.fault.TermFault.TheVariants.{UnknownTerm, WrongArguments, TooDeep, NoMemory}
+use Rattle.wq_term.specs.declared.fault.TermFault.TheVariants.{UnknownTerm, WrongArguments, TooDeep, BadClockSpec, CursorInTerm, NoMemory}
 use Rattle.wq_term.specs.declared.fault.TermFault.{TermFault}
-use Rattle.wq_term.specs.Term.{Term, Terms, no_terms, term, term_of, terms_of}
+use Rattle.wq_term.specs.Term.{Term, Terms, no_terms, term_of, terms_of}
 use Rattle.wq_term.specs.declared.expr.Expr.{Expr}
-use Rattle.wq_term.specs.Reading.{Answer, Gives, GivesAll, follow, only_of, read_all, read_plain}
+use Rattle.wq_term.specs.Arguments.{only_of, one_or_two_of, comparison_of}
+use Rattle.wq_term.specs.Reading.{Answer, GivesAs, follow, read_all, read_plain}
 
 -- the answer of a list whose first terms are read
 abbrev pub prefixed : List Term → Result Terms TermFault → Result Terms TermFault
@@ -42,16 +43,25 @@ read_fault read ts d ds fault all is so_far = sym so_far ∙ ap (λ r. prefixed 
 pub items_from : (values : List Value) (i : ℕ) (v : Value) → i < length values → v ≡ get_or values i v → items_view (drop i values) ≡ item (view v) (items_view (drop (i + 1) values))
 items_from values i v h is = ap items_view (drop-cons values i v h) ∙ ap (λ (x : Value). item (view x) (items_view (drop (suc i) values))) (sym is) ∙ ap (λ n. item (view v) (items_view (drop n values))) (sym (add-one i))
 
--- an argument alone
-pub only_first : (values : List Value) → length values ≡ 1 → option_map view (slice_get values 0) ≡ only_of (items_view values)
-only_first [] e = absurd (omega arith)
-only_first (v ∷ []) e = refl
-only_first (v ∷ w ∷ values) e = absurd (omega arith)
-
+-- no argument alone
 pub only_none : (values : List Value) → length values ≢ 1 → only_of (items_view values) ≡ None
 only_none [] e = refl
 only_none (v ∷ []) e = absurd (e refl)
 only_none (v ∷ w ∷ values) e = refl
+
+-- neither one argument nor two
+pub one_or_two_none : (values : List Value) → length values ≢ 1 → length values ≢ 2 → one_or_two_of (items_view values) ≡ None
+one_or_two_none [] e f = refl
+one_or_two_none (v ∷ []) e f = absurd (e refl)
+one_or_two_none (v ∷ w ∷ []) e f = absurd (f refl)
+one_or_two_none (v ∷ w ∷ x ∷ values) e f = refl
+
+-- not two arguments
+pub comparison_none : (values : List Value) → length values ≢ 2 → comparison_of (items_view values) ≡ None
+comparison_none [] f = refl
+comparison_none (v ∷ []) f = refl
+comparison_none (v ∷ w ∷ []) f = absurd (f refl)
+comparison_none (v ∷ w ∷ x ∷ values) f = refl
 
 -- arguments where there are to be none
 pub plain_some : (t : Term) (values : List Value) → (length values == 0) ≡ false → read_plain t (items_view values) ≡ Err WrongArguments
@@ -64,8 +74,10 @@ terms-push [] e = refl
 terms-push (x ∷ es) e = ap (λ ts. term_of x ∷ ts) (terms-push es e)
 
 -- what a refusal inside says of the whole
-pub all_refused : (fault : TermFault) (answer : Answer) (all : Result Terms TermFault) → Gives (Err fault) answer → (answer ≡ Err fault → all ≡ Err fault) → GivesAll (Err fault) all
-all_refused UnknownTerm answer all inside next = next inside
-all_refused WrongArguments answer all inside next = next inside
-all_refused TooDeep answer all inside next = next inside
-all_refused NoMemory answer all inside next = tt
+pub all_refused : {A B C D : Type 0} (see : A → B) (see_all : C → D) (fault : TermFault) (answer : Result B TermFault) (all : Result D TermFault) → GivesAs see (Err fault) answer → (answer ≡ Err fault → all ≡ Err fault) → GivesAs see_all (Err fault) all
+all_refused see see_all UnknownTerm answer all inside next = next inside
+all_refused see see_all WrongArguments answer all inside next = next inside
+all_refused see see_all TooDeep answer all inside next = next inside
+all_refused see see_all BadClockSpec answer all inside next = next inside
+all_refused see see_all CursorInTerm answer all inside next = next inside
+all_refused see see_all NoMemory answer all inside next = tt

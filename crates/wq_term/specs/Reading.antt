@@ -1,67 +1,84 @@
 -- What a JSON value says as an expression, or its first fault: depth first, from left to right.
 -- The forms of the terms are those of Watchman's documentation of file queries.
-use Rattle.std.specs.Prelude.{◌≡◌, ℕ, zero, suc, List, bytes_eq, codes, if◌then◌else◌, Option, Some, None, Result, Ok, Err, option_map, option_and_then, ok_or, map, Vec}
+use Rattle.std.specs.Prelude.{◌≡◌, ℕ, zero, suc, List, Option, Some, None, Result, Ok, Err, option_map, option_and_then, ok_or, map, Vec}
 use Rattle.std.specs.declared.alloc.Global.{Global}
-use Rattle.serde_json.specs.Data.{Data, null, boolean, number, string, array, object, Items, no_items, item}
+use Rattle.std.specs.Option.{option_zip}
+use Rattle.serde_json.specs.Data.{Data, Items, no_items, item}
 use Rattle.serde_json.specs.Find.{as_str}
 use Rattle.wq_clock.specs.Instance.{InstanceNumbers}
-use Rattle.wq_view.specs.declared.kinds.Kind.{Kind}
-use Rattle.wq_view.specs.declared.kinds.Kind.TheVariants.{File, Dir, Link, Block, Char, Fifo, Socket, Door}
 use Rattle.wq_term.specs.declared.expr.Expr.{Expr}
+use Rattle.wq_term.specs.declared.expr.Case.{Case}
+use Rattle.wq_term.specs.declared.expr.Case.TheVariants.{Exact, Folded}
+use Rattle.wq_term.specs.declared.expr.Since.TheVariants.{Observed, Created, Modified}
 use Rattle.wq_term.specs.declared.fault.TermFault.{TermFault}
-use Rattle.wq_term.specs.declared.fault.TermFault.TheVariants.{UnknownTerm, WrongArguments, TooDeep, NoMemory}
+use Rattle.wq_term.specs.declared.fault.TermFault.TheVariants.{UnknownTerm, WrongArguments, TooDeep, BadClockSpec, NoMemory}
 use Rattle.wq_term.specs.declared.head.Head.{Head}
-use Rattle.wq_term.specs.declared.head.Head.TheVariants.{True, False, Exists, KindIs, Not, AllOf, AnyOf}
+use Rattle.wq_term.specs.declared.head.Head.TheVariants.{True, False, Exists, Empty, KindIs, Name, Iname, Suffix, Size, Since, Dirname, Idirname, Not, AllOf, AnyOf}
+use Rattle.wq_term.specs.declared.reading.words.Field.{Field}
+use Rattle.wq_term.specs.declared.reading.words.Field.TheVariants.{Oclock, Cclock, Mtime}
 use Rattle.wq_term.specs.Head.{head_named}
-use Rattle.wq_term.specs.Term.{Term, always, never, exists, kind_is, negation, all_of, any_of, Terms, no_terms, term, term_of, terms_of}
+use Rattle.wq_term.specs.Words.{kind_named}
+use Rattle.wq_term.specs.Arguments.{parts_of, only_of, one_or_two_of, text_of, texts_of, scope_of, comparison_of, depth_of, field_of, second_of, bound_in}
+use Rattle.wq_term.specs.Texts.{without_end_slashes}
+use Rattle.wq_term.specs.Term.{Term, always, never, exists, empty, kind_is, name_is, suffix_is, size_is, since, below, negation, all_of, any_of, Terms, no_terms, term, term_of, terms_of, texts_in}
 
 -- what reading an expression answers: its term, or its first fault
 abbrev pub Answer : Type 0
 Answer = Result Term TermFault
 
--- the head of a term and its arguments: an array headed by a text, or the bare text for no arguments
-abbrev pub parts_of : Data → Option (List ℕ × Items)
-parts_of null = None
-parts_of (boolean b) = None
-parts_of (number n) = None
-parts_of (string head) = Some (head, no_items)
-parts_of (array no_items) = None
-parts_of (array (item (string head) arguments)) = Some (head, arguments)
-parts_of (array (item other arguments)) = None
-parts_of (object ms) = None
+-- the term with this inside, unless that is a fault
+abbrev pub wrap : {A : Type 0} → (A → Term) → Result A TermFault → Answer
+wrap f (Ok inside) = Ok (f inside)
+wrap f (Err fault) = Err fault
 
--- the kind that the term `type` asks for by this letter
-unfoldable pub kind_named : List ℕ → Option Kind
-kind_named letter =
-    if bytes_eq letter (codes "b") then Some Block
-    else if bytes_eq letter (codes "c") then Some Char
-    else if bytes_eq letter (codes "d") then Some Dir
-    else if bytes_eq letter (codes "f") then Some File
-    else if bytes_eq letter (codes "p") then Some Fifo
-    else if bytes_eq letter (codes "l") then Some Link
-    else if bytes_eq letter (codes "s") then Some Socket
-    else if bytes_eq letter (codes "D") then Some Door
-    else None
+-- the term that arguments say, or that they are wrong
+abbrev pub or_wrong : Option Term → Answer
+or_wrong says = ok_or says WrongArguments
 
 -- a term that has no arguments
 abbrev pub read_plain : Term → Items → Answer
 read_plain t no_items = Ok t
 read_plain t (item d ds) = Err WrongArguments
 
--- the argument, where it is the only one
-abbrev pub only_of : Items → Option Data
-only_of no_items = None
-only_of (item d no_items) = Some d
-only_of (item d (item e ds)) = None
-
--- the arguments of `type`: one letter
+-- `type` of one letter
 abbrev pub read_kind : Items → Answer
-read_kind arguments = ok_or (option_map kind_is (option_and_then kind_named (option_and_then as_str (only_of arguments)))) WrongArguments
+read_kind arguments = or_wrong (option_map kind_is (option_and_then kind_named (option_and_then as_str (only_of arguments))))
 
--- the term with this answer inside, unless it is a fault
-abbrev pub wrap : {A : Type 0} → (A → Term) → Result A TermFault → Answer
-wrap f (Ok inside) = Ok (f inside)
-wrap f (Err fault) = Err fault
+-- `name` and `iname` of a text or texts, and a scope
+abbrev pub read_name : Case → Items → Answer
+read_name case arguments = or_wrong (option_and_then (λ p. option_map (λ q. name_is case q.0 q.1) (option_zip (scope_of p.1) (texts_of p.0))) (one_or_two_of arguments))
+
+-- `suffix` of a text or texts
+abbrev pub read_suffix : Items → Answer
+read_suffix arguments = or_wrong (option_map suffix_is (option_and_then texts_of (only_of arguments)))
+
+-- `size` of a relation and a number
+abbrev pub read_size : Items → Answer
+read_size arguments = or_wrong (option_map (λ c. size_is c.0 c.1) (comparison_of arguments))
+
+-- `dirname` and `idirname` of a text, whose slashes at the end are dropped, and a depth
+abbrev pub read_dirname : Case → Items → Answer
+read_dirname case arguments = or_wrong (option_and_then (λ p. option_map (λ q. below case (without_end_slashes q.1) q.0) (option_zip (depth_of p.1) (text_of p.0))) (one_or_two_of arguments))
+
+-- what `since` says by this field: `mtime` takes a second alone, and the others any clock spec
+abbrev pub since_by : InstanceNumbers → Data → Field → Answer
+since_by instance spec Oclock = wrap (λ bound. since (Observed bound)) (bound_in instance spec)
+since_by instance spec Cclock = wrap (λ bound. since (Created bound)) (bound_in instance spec)
+since_by instance spec Mtime = ok_or (option_map (λ second. since (Modified second)) (second_of spec)) BadClockSpec
+
+-- the same of a clock spec and a field that need not be right: they stand before what the clock spec says
+abbrev pub since_from : InstanceNumbers → Option (Data × Field) → Answer
+since_from instance None = Err WrongArguments
+since_from instance (Some p) = since_by instance p.0 p.1
+
+-- `since` of a clock spec, and a field
+abbrev pub read_since : InstanceNumbers → Items → Answer
+read_since instance arguments = since_from instance (option_and_then (λ p. option_map (λ field. (p.0, field)) (field_of p.1)) (one_or_two_of arguments))
+
+-- `not` of one term
+abbrev pub read_negation : (Data → Answer) → Option Data → Answer
+read_negation read None = Err WrongArguments
+read_negation read (Some d) = wrap negation (read d)
 
 -- the first answer before others, unless one is a fault
 abbrev pub follow : Answer → Result Terms TermFault → Result Terms TermFault
@@ -74,42 +91,53 @@ abbrev pub read_all : (Data → Answer) → Items → Result Terms TermFault
 read_all read no_items = Ok no_terms
 read_all read (item d ds) = follow (read d) (read_all read ds)
 
--- the arguments of `not`: one term
-abbrev pub read_negation : (Data → Answer) → Option Data → Answer
-read_negation read None = Err WrongArguments
-read_negation read (Some d) = wrap negation (read d)
+-- a term with this head and these arguments at this instance, the terms inside read in this way
+abbrev pub read_named : InstanceNumbers → (Data → Answer) → Head → Items → Answer
+read_named instance read True arguments = read_plain always arguments
+read_named instance read False arguments = read_plain never arguments
+read_named instance read Exists arguments = read_plain exists arguments
+read_named instance read Empty arguments = read_plain empty arguments
+read_named instance read KindIs arguments = read_kind arguments
+read_named instance read Name arguments = read_name Exact arguments
+read_named instance read Iname arguments = read_name Folded arguments
+read_named instance read Suffix arguments = read_suffix arguments
+read_named instance read Size arguments = read_size arguments
+read_named instance read Since arguments = read_since instance arguments
+read_named instance read Dirname arguments = read_dirname Exact arguments
+read_named instance read Idirname arguments = read_dirname Folded arguments
+read_named instance read Not arguments = read_negation read (only_of arguments)
+read_named instance read AllOf arguments = wrap all_of (read_all read arguments)
+read_named instance read AnyOf arguments = wrap any_of (read_all read arguments)
 
--- a term with this head and these arguments, the terms inside read in this way
-abbrev pub read_named : (Data → Answer) → Head → Items → Answer
-read_named read True arguments = read_plain always arguments
-read_named read False arguments = read_plain never arguments
-read_named read Exists arguments = read_plain exists arguments
-read_named read KindIs arguments = read_kind arguments
-read_named read Not arguments = read_negation read (only_of arguments)
-read_named read AllOf arguments = wrap all_of (read_all read arguments)
-read_named read AnyOf arguments = wrap any_of (read_all read arguments)
+-- the same of a head that need name no term
+abbrev pub read_headed : InstanceNumbers → (Data → Answer) → Option Head → Items → Answer
+read_headed instance read None arguments = Err UnknownTerm
+read_headed instance read (Some head) arguments = read_named instance read head arguments
 
-abbrev pub read_headed : (Data → Answer) → Option Head → Items → Answer
-read_headed read None arguments = Err UnknownTerm
-read_headed read (Some head) arguments = read_named read head arguments
-
-abbrev pub read_parts : (Data → Answer) → Option (List ℕ × Items) → Answer
-read_parts read None = Err WrongArguments
-read_parts read (Some parts) = read_headed read (head_named parts.0) parts.1
+-- the same of a head and arguments, which a value of another shape lacks
+abbrev pub read_parts : InstanceNumbers → (Data → Answer) → Option (List ℕ × Items) → Answer
+read_parts instance read None = Err WrongArguments
+read_parts instance read (Some parts) = read_headed instance read (head_named parts.0) parts.1
 
 -- what a value says as an expression that may be this many terms deep, at this instance of the server
 unfoldable pub reads_as : InstanceNumbers → ℕ → Data → Answer
 reads_as instance zero d = Err TooDeep
-reads_as instance (suc levels) d = read_parts (reads_as instance levels) (parts_of d)
+reads_as instance (suc levels) d = read_parts instance (reads_as instance levels) (parts_of d)
 
--- the result of the code is that answer, or the memory ran out
+-- the result of the code, seen in this way, is that answer, or the memory ran out
+abbrev pub GivesAs : {A B : Type 0} → (A → B) → Result A TermFault → Result B TermFault → Type 0
+GivesAs see (Ok a) answer = answer ≡ Ok (see a)
+GivesAs see (Err NoMemory) answer = Unit {0}
+GivesAs see (Err fault) answer = answer ≡ Err fault
+
+-- the same of an expression
 abbrev pub Gives : Result Expr TermFault → Answer → Type 0
-Gives (Ok e) answer = answer ≡ Ok (term_of e)
-Gives (Err NoMemory) answer = Unit {0}
-Gives (Err fault) answer = answer ≡ Err fault
+Gives = GivesAs term_of
 
--- the same of a list of terms
+-- the same of a list of expressions
 abbrev pub GivesAll : Result (Vec Expr Global) TermFault → Result Terms TermFault → Type 0
-GivesAll (Ok es) answer = answer ≡ Ok (terms_of (map term_of es.items))
-GivesAll (Err NoMemory) answer = Unit {0}
-GivesAll (Err fault) answer = answer ≡ Err fault
+GivesAll = GivesAs (λ es. terms_of (map term_of es.items))
+
+-- the same of texts, which are wrong arguments where there are none
+abbrev pub GivesTexts : Result (Vec (Vec ℕ Global) Global) TermFault → Option (List (List ℕ)) → Type 0
+GivesTexts result texts = GivesAs (λ ts. texts_in ts.items) result (ok_or texts WrongArguments)

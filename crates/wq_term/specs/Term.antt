@@ -1,11 +1,21 @@
 -- What an expression means: whether a record matches it, by cases on its term.
 -- The terms are those of Watchman's documentation of file queries.
-use Rattle.std.specs.Prelude.{ℕ, Bool, true, false, not, ◌&&◌, ◌||◌, ◌==◌, List, [], ◌∷◌}
+use Rattle.std.specs.Prelude.{ℕ, ℤ, pos, Bool, true, false, not, ◌&&◌, ◌||◌, ◌==◌, List, [], ◌∷◌, map, Vec}
+use Rattle.std.specs.Ordering.{int_eq}
+use Rattle.std.specs.declared.alloc.Global.{Global}
 use Rattle.wq_view.specs.declared.kinds.Kind.{Kind}
+use Rattle.wq_view.specs.declared.kinds.Kind.TheVariants.{File, Dir}
 use Rattle.wq_view.specs.Kind.{letter_of}
 use Rattle.wq_view.specs.FileRecord.{FileRecord}
+use Rattle.wq_term.specs.declared.expr.Case.{Case}
+use Rattle.wq_term.specs.declared.expr.Scope.{Scope}
+use Rattle.wq_term.specs.declared.expr.Relation.{Relation}
+use Rattle.wq_term.specs.declared.expr.Since.{Since}
+use Rattle.wq_term.specs.declared.expr.Depth.{Depth}
 use Rattle.wq_term.specs.declared.expr.Expr.{Expr, fold-Expr}
 use Rattle.wq_term.specs.declared.expr.Expr.TheOpen.{Expr-F}
+use Rattle.wq_term.specs.Numbers.{compares, is_since}
+use Rattle.wq_term.specs.Texts.{is_named, has_suffix, is_below}
 
 -- an expression without where it lies in memory
 mutual
@@ -13,7 +23,13 @@ mutual
     always : Term
     never : Term
     exists : Term
+    empty : Term
     kind_is : Kind → Term
+    name_is : Case → Scope → List (List ℕ) → Term
+    suffix_is : List (List ℕ) → Term
+    size_is : Relation → ℤ → Term
+    since : Since → Term
+    below : Case → List ℕ → Depth → Term
     negation : Term → Term
     all_of : Terms → Term
     any_of : Terms → Term
@@ -22,13 +38,23 @@ mutual
     no_terms : Terms
     term : Term → Terms → Terms
 
+-- whether a record is of this kind
+abbrev pub has_kind : Kind → FileRecord → Bool
+has_kind kind r = letter_of kind == letter_of r.kind
+
 abbrev mutual
   -- whether a record matches
   pub means : Term → FileRecord → Bool
   means always r = true
   means never r = false
   means exists r = r.exists
-  means (kind_is kind) r = letter_of kind == letter_of r.kind
+  means empty r = r.exists && (has_kind File r || has_kind Dir r) && int_eq r.size (pos 0)
+  means (kind_is kind) r = has_kind kind r
+  means (name_is case scope texts) r = is_named case scope texts r.name
+  means (suffix_is texts) r = has_suffix texts r.name
+  means (size_is relation n) r = r.exists && compares relation r.size n
+  means (since bound) r = is_since bound r
+  means (below case dir depth) r = is_below case dir depth r.name
   means (negation t) r = not (means t r)
   means (all_of ts) r = every ts r
   means (any_of ts) r = some ts r
@@ -43,16 +69,27 @@ abbrev mutual
   some no_terms r = false
   some (term t ts) r = means t r || some ts r
 
+-- a list of terms as an expression holds it
 abbrev pub terms_of : List Term → Terms
 terms_of [] = no_terms
 terms_of (t ∷ ts) = term t (terms_of ts)
+
+-- the bytes of texts
+abbrev pub texts_in : List (Vec ℕ Global) → List (List ℕ)
+texts_in = map (λ text. text.items)
 
 -- one level of an expression, with those inside already seen as terms
 abbrev pub term_step : Expr-F Term → Term
 term_step Expr-F.True = always
 term_step Expr-F.False = never
 term_step Expr-F.Exists = exists
+term_step Expr-F.Empty = empty
 term_step (Expr-F.KindIs kind) = kind_is kind
+term_step (Expr-F.Name case scope texts) = name_is case scope (texts_in texts.items)
+term_step (Expr-F.Suffix texts) = suffix_is (texts_in texts.items)
+term_step (Expr-F.Size relation n) = size_is relation n
+term_step (Expr-F.Since bound) = since bound
+term_step (Expr-F.Dirname case dir depth) = below case dir.items depth
 term_step (Expr-F.Not t) = negation t.value
 term_step (Expr-F.AllOf ts) = all_of (terms_of ts.items)
 term_step (Expr-F.AnyOf ts) = any_of (terms_of ts.items)

@@ -1,5 +1,6 @@
-//! The expressions, one variant for each term.
+//! The expressions, one variant for each term. Terms that differ in letter case alone are one variant.
 
+use wq_clock::Bound;
 use wq_view::Kind;
 
 /// An expression over the record of a file, as in Watchman's documentation of file queries.
@@ -11,12 +12,82 @@ pub enum Expr {
     False,
     /// `exists`: the files that the last pass saw.
     Exists,
+    /// `empty`: the regular files and directories that exist and have size 0.
+    Empty,
     /// `type`: the files of this kind, deleted ones by their last kind.
     KindIs(Kind),
+    /// `name` and `iname`: the files of which this part of the name is one of the texts. A text may be empty,
+    /// and so may the list.
+    Name {
+        case: Case,
+        scope: Scope,
+        texts: Vec<Vec<u8>>,
+    },
+    /// `suffix`: the files whose suffix is one of the texts, with A to Z as a to z. An empty text matches nothing.
+    Suffix(Vec<Vec<u8>>),
+    /// `size`: the files that exist, and whose size in bytes stands in this relation to the number.
+    Size(Relation, i64),
+    /// `since`: the files of which something happened strictly after a point.
+    Since(Since),
+    /// `dirname` and `idirname`: the files strictly below a directory, which is written without slashes at
+    /// its end. Below the empty one lies every file.
+    Dirname {
+        case: Case,
+        dir: Vec<u8>,
+        depth: Depth,
+    },
     /// `not`: the records that the term does not match.
     Not(Box<Expr>),
     /// `allof`: the records that every term matches; all of them where there is no term.
     AllOf(Vec<Expr>),
     /// `anyof`: the records that some term matches; none where there is no term.
     AnyOf(Vec<Expr>),
+}
+
+/// How texts are compared.
+#[derive(Clone, Copy)]
+pub enum Case {
+    /// Byte by byte.
+    Exact,
+    /// With A to Z as a to z, and each other byte as it is.
+    Folded,
+}
+
+/// Which part of a name is compared.
+#[derive(Clone, Copy)]
+pub enum Scope {
+    /// What follows the last slash.
+    Basename,
+    Wholename,
+}
+
+/// How a number of a file stands to a number that is asked for.
+#[derive(Clone, Copy)]
+pub enum Relation {
+    Eq,
+    Ne,
+    Gt,
+    Ge,
+    Lt,
+    Le,
+}
+
+/// What happened to a file, and strictly after which point.
+#[derive(Clone, Copy)]
+pub enum Since {
+    /// `oclock`: a pass saw a change of the file, its deletion too.
+    Observed(Bound),
+    /// `cclock`: a pass saw the file come.
+    Created(Bound),
+    /// `mtime`: the file was modified, in whole seconds of the Unix epoch, rounded down.
+    Modified(i64),
+}
+
+/// How deep below a directory a file lies: the number of slashes in what follows the directory and its slash.
+#[derive(Clone, Copy)]
+pub enum Depth {
+    /// However deep.
+    Any,
+    /// So deep, in this relation.
+    Is(Relation, i64),
 }

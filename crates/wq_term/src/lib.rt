@@ -7,8 +7,10 @@ mod fault;
 mod head;
 mod meaning;
 mod reading;
+#[cfg(test)]
+mod tests;
 
-pub use expr::Expr;
+pub use expr::{Case, Depth, Expr, Relation, Scope, Since};
 pub use fault::TermFault;
 pub use meaning::holds;
-pub use reading::{MAX_DEPTH, read_expr};
+pub use reading::{MAX_DEPTH, MAX_NUMBER, MAX_TEXT, read_expr};

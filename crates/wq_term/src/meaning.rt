@@ -1,11 +1,14 @@
-//! Whether a record matches an expression, straight from what the expression means.
-ghost use Rattle.std.specs.Prelude.{◌≡◌, map};
-ghost use Rattle.wq_term.specs.Term.{means, every, some, term_of, terms_of};
+//! Whether a record matches an expression, straight from what the expression means. It takes no memory.
+ghost use Rattle.std.specs.Prelude.{◌≡◌, ◌||◌, ◌&&◌, map};
+ghost use Rattle.wq_term.specs.Term.{means, every, some, has_kind, empty, term_of, terms_of};
+
+mod numbers;
+mod texts;
 
 use crate::expr::Expr;
-use wq_view::Record;
+use wq_view::{Kind, Record};
 
-/// Whether the record matches the expression. It takes no memory.
+/// Whether the record matches the expression.
 #[cycle(holds)]
 pub fn holds(expr: &Expr, file: &Record) -> bool
     ensures { result ≡ means (term_of expr.now) file.now }
@@ -14,7 +17,13 @@ pub fn holds(expr: &Expr, file: &Record) -> bool
         Expr::True => true,
         Expr::False => false,
         Expr::Exists => file.exists,
-        Expr::KindIs(kind) => kind.letter() == file.kind.letter(),
+        Expr::Empty => is_empty(file),
+        Expr::KindIs(kind) => has_kind(*kind, file),
+        Expr::Name { case, scope, texts } => texts::is_named(*case, *scope, texts, file),
+        Expr::Suffix(texts) => texts::has_suffix(texts, file),
+        Expr::Size(relation, n) => file.exists && relation.holds(file.size, *n),
+        Expr::Since(since) => since.holds(file),
+        Expr::Dirname { case, dir, depth } => texts::is_below(*case, dir, *depth, file),
         Expr::Not(term) => !holds(term, file),
         Expr::AllOf(terms) => all_hold(terms, file),
         Expr::AnyOf(terms) => any_holds(terms, file),
@@ -45,4 +54,18 @@ fn any_holds(terms: &[Expr], file: &Record) -> bool
         }
     }
     false
+}
+
+/// Whether the file exists, and is a regular file or a directory of size 0.
+fn is_empty(file: &Record) -> bool
+    ensures { result ≡ means empty file.now }
+{
+    file.exists && (has_kind(Kind::File, file) || has_kind(Kind::Dir, file)) && file.size == 0
+}
+
+/// Whether the file is of this kind.
+fn has_kind(kind: Kind, file: &Record) -> bool
+    ensures { result ≡ has_kind kind file.now }
+{
+    kind.letter() == file.kind.letter()
 }

@@ -1,17 +1,26 @@
-//! Reading an expression from a JSON value. What the terms mean is not said here.
-ghost use Rattle.std.specs.Prelude.{◌≡◌, map, option_map, MatchResult, IfOk, IfErr};
+//! Reading an expression from a JSON value: the terms, their heads and how they nest. What the arguments of
+//! one term say is read in the modules below; what a term means is not said here.
+ghost use Rattle.std.specs.Prelude.{◌≡◌};
 ghost use Rattle.serde_json.specs.View.{view, items_view};
 ghost use Rattle.wq_clock.specs.Instance.{instance_numbers};
-ghost use Rattle.wq_term.specs.Reading.{Gives, GivesAll, only_of, parts_of, kind_named, read_plain, read_kind, read_negation, read_all, read_named, reads_as};
+ghost use Rattle.wq_term.specs.Arguments.{only_of};
+ghost use Rattle.wq_term.specs.Limits.{max_depth};
+ghost use Rattle.wq_term.specs.Reading.{Gives, GivesAll, read_plain, read_negation, read_all, read_named, reads_as};
 ghost use Rattle.wq_term.specs.Term.{term_of};
 
-use crate::expr::Expr;
+mod arguments;
+mod names;
+mod numbers;
+mod words;
+
+use crate::expr::{Case, Expr};
 use crate::fault::TermFault;
 use crate::head::Head;
+use arguments::{only, parts};
+pub use arguments::{MAX_NUMBER, MAX_TEXT};
 use serde_json::Value;
 use std::alloc::Global;
 use wq_clock::Instance;
-use wq_view::Kind;
 
 /// How many terms may stand inside one another, the outermost counted.
 pub const MAX_DEPTH: u32 = 64;
@@ -21,7 +30,7 @@ pub const MAX_DEPTH: u32 = 64;
 /// A term is an array headed by its name, with its arguments behind it; the bare name stands for an array
 /// of it alone. The first fault refuses the value: see [`TermFault`].
 pub fn read_expr(alloc: Global, value: &Value, instance: &Instance) -> Result<Expr, TermFault>
-    ensures { Gives result (reads_as (instance_numbers instance.now) MAX_DEPTH (view value.now)) }
+    ensures { Gives result (reads_as (instance_numbers instance.now) max_depth (view value.now)) }
 {
     read_term(alloc, value, instance, MAX_DEPTH)
 }
@@ -58,13 +67,21 @@ fn read_named(
     instance: &Instance,
     levels: u32,
 ) -> Result<Expr, TermFault>
-    ensures { Gives result (read_named (reads_as (instance_numbers instance.now) levels) head (items_view arguments.now)) }
+    ensures { Gives result (read_named (instance_numbers instance.now) (reads_as (instance_numbers instance.now) levels) head (items_view arguments.now)) }
 {
     match head {
-        Head::True => plain(Expr::True, arguments),
-        Head::False => plain(Expr::False, arguments),
-        Head::Exists => plain(Expr::Exists, arguments),
-        Head::KindIs => read_kind(arguments),
+        Head::True => read_plain(Expr::True, arguments),
+        Head::False => read_plain(Expr::False, arguments),
+        Head::Exists => read_plain(Expr::Exists, arguments),
+        Head::Empty => read_plain(Expr::Empty, arguments),
+        Head::KindIs => names::read_kind(arguments),
+        Head::Name => names::read_name(alloc, Case::Exact, arguments),
+        Head::Iname => names::read_name(alloc, Case::Folded, arguments),
+        Head::Suffix => names::read_suffix(alloc, arguments),
+        Head::Size => numbers::read_size(arguments),
+        Head::Since => numbers::read_since(arguments, instance),
+        Head::Dirname => names::read_dirname(alloc, Case::Exact, arguments),
+        Head::Idirname => names::read_dirname(alloc, Case::Folded, arguments),
         Head::Not => read_negation(alloc, arguments, instance, levels),
         Head::AllOf => Ok(Expr::AllOf(read_all(alloc, arguments, instance, levels)?)),
         Head::AnyOf => Ok(Expr::AnyOf(read_all(alloc, arguments, instance, levels)?)),
@@ -105,66 +122,14 @@ fn read_all(
     Ok(terms)
 }
 
-/// The head of a term and its arguments.
-fn parts(value: &Value) -> Option<(&str, &[Value])>
-    ensures { option_map (λ p. (p.0.now, items_view p.1.now)) result ≡ parts_of (view value.now) }
-{
-    match value {
-        Value::String(head) => Some((head.as_str(), &[])),
-        Value::Array(items) => match items.split_first() {
-            Some((Value::String(head), arguments)) => Some((head.as_str(), arguments)),
-            _ => None,
-        },
-        _ => None,
-    }
-}
-
-/// The argument, where it is the only one.
-fn only(arguments: &[Value]) -> Option<&Value>
-    ensures { option_map (λ v. view v.now) result ≡ only_of (items_view arguments.now) }
-{
-    if arguments.len() == 1 {
-        arguments.first()
-    } else {
-        None
-    }
-}
-
 /// A term that has no arguments.
-fn plain(term: Expr, arguments: &[Value]) -> Result<Expr, TermFault>
+#[tactic(auto, using(crate::proofs::Lists::plain_some))]
+fn read_plain(term: Expr, arguments: &[Value]) -> Result<Expr, TermFault>
     ensures { Gives result (read_plain (term_of term) (items_view arguments.now)) }
 {
     if arguments.is_empty() {
         Ok(term)
     } else {
         Err(TermFault::WrongArguments)
-    }
-}
-
-/// `type` of one letter.
-fn read_kind(arguments: &[Value]) -> Result<Expr, TermFault>
-    ensures { Gives result (read_kind (items_view arguments.now)) }
-{
-    match only(arguments).and_then(Value::as_str).and_then(kind_named) {
-        Some(kind) => Ok(Expr::KindIs(kind)),
-        None => Err(TermFault::WrongArguments),
-    }
-}
-
-/// The kind that `type` asks for by this letter.
-#[tactic(auto, unfolding(crate::specs::Reading::kind_named))]
-fn kind_named(letter: &str) -> Option<Kind>
-    ensures { result ≡ kind_named letter.now }
-{
-    match letter {
-        "b" => Some(Kind::Block),
-        "c" => Some(Kind::Char),
-        "d" => Some(Kind::Dir),
-        "f" => Some(Kind::File),
-        "p" => Some(Kind::Fifo),
-        "l" => Some(Kind::Link),
-        "s" => Some(Kind::Socket),
-        "D" => Some(Kind::Door),
-        _ => None,
     }
 }

@@ -1,12 +1,14 @@
 -- The loop over the terms of a list: each of them is read, or has the first fault.
-use Rattle.std.proofs.Common.{◌≡◌, ◌+◌, ◌++◌, ◌∷◌, [], length, map, drop, sym, ap, ◌∙◌, arith}
+use Rattle.std.proofs.Common.{◌≡◌, ◌+◌, [], map, drop, Vec, sym, ap, ◌∙◌}
 use Rattle.std.proofs.Math.ListN.{drop_of_length-le}
 use Rattle.std.proofs.lemmas.Result.{err_from_is_err_and}
-use Rattle.serde_json.specs.Data.{Data, item}
+use Rattle.serde_json.specs.Data.{item}
 use Rattle.serde_json.specs.View.{view, items_view}
 use Rattle.wq_clock.specs.Instance.{instance_numbers}
-use Rattle.wq_term.specs.Term.{term_of}
-use Rattle.wq_term.specs.Reading.{Answer, read_all, reads_as}
+use Rattle.std.specs.declared.alloc.Global.{Global}
+use Rattle.wq_term.specs.declared.expr.Expr.{Expr}
+use Rattle.wq_term.specs.Term.{term_of, terms_of}
+use Rattle.wq_term.specs.Reading.{read_all, reads_as}
 use Rattle.wq_term.proofs.Lists.{prefixed, prefixed-end, read_more, read_fault, items_from, terms-push, all_refused}
 use Rattle.wq_term.proofs.reading.+read.Goals as goal
 
@@ -37,4 +39,4 @@ read_all-returns-in_err-read_term t c =
     let here = items_from c.args.arguments.now c.loop-argument.argument-index c.argument-item.result c.loop-argument-test.true c.argument-item.is in
     let so_far : prefixed terms (read_all read (item (view c.argument-item.result) left)) ≡ all = ap (λ ds. prefixed terms (read_all read ds)) (sym here) ∙ c.loop-argument.invariant in
     let p = err_from_is_err_and c.from_residual.result c.from_residual.ensures.1 in
-    rw (p.1, p.2) (all_refused c.in_err-read_term.field-0.0 (read (view c.argument-item.result)) all c.in_err-read_term.ensures (λ is. read_fault read terms (view c.argument-item.result) left c.in_err-read_term.field-0.0 all is so_far))
+    rw (p.1, p.2) (all_refused term_of (λ (es : Vec Expr Global). terms_of (map term_of es.items)) c.in_err-read_term.field-0.0 (read (view c.argument-item.result)) all c.in_err-read_term.ensures (λ is. read_fault read terms (view c.argument-item.result) left c.in_err-read_term.field-0.0 all is so_far))

@@ -1,0 +1,58 @@
+-- Texts that are compared byte by byte, and lists of texts that are read from the front.
+use Rattle.std.proofs.Common.{◌≡◌, ◌≤◌, ℕ, ◌++◌, IsTrue, List, [], ◌∷◌, length, Vec, Option, Some, None, ok_or, Ok, Err, refl, sym, ap, ◌∙◌, arith}
+use Rattle.std.proofs.lemmas.Bool.{and_parts}
+use Rattle.std.proofs.lemmas.Bool.Decides.{nat_tests}
+use Rattle.std.specs.declared.alloc.Global.{Global}
+use Rattle.serde_json.specs.Data.{Data, Items, item}
+use Rattle.wq_view.specs.declared.names.TheConstants.{MAX_NAME}
+use Rattle.wq_view.specs.Name.{is_valid_name}
+use Rattle.wq_term.specs.declared.fault.TermFault.{TermFault}
+use Rattle.wq_term.specs.Arguments.{text_of, with_first, all_texts_of}
+use Rattle.wq_term.specs.Term.{texts_in}
+
+-- a valid name has at most 4,096 bytes
+pub name_is_short : (name : List ℕ) → IsTrue (is_valid_name name) → length name ≤ MAX_NAME
+unfolding is_valid_name
+name_is_short name h = grind (arith, nat_tests, and_parts)
+
+-- texts that are read before the rest of a list
+abbrev pub texts_before : List (List ℕ) → Option (List (List ℕ)) → Option (List (List ℕ))
+texts_before [] rest = rest
+texts_before (t ∷ ts) rest = with_first (Some t) (texts_before ts rest)
+
+pub texts_before-push : (ts : List (List ℕ)) (t : List ℕ) (rest : Option (List (List ℕ))) → texts_before (ts ++ t ∷ []) rest ≡ texts_before ts (with_first (Some t) rest)
+texts_before-push [] t rest = refl
+texts_before-push (u ∷ ts) t rest = ap (with_first (Some u)) (texts_before-push ts t rest)
+
+-- at the end the texts are those read
+pub texts_before-end : (ts : List (List ℕ)) → texts_before ts (Some []) ≡ Some ts
+texts_before-end [] = refl
+texts_before-end (t ∷ ts) = ap (with_first (Some t)) (texts_before-end ts)
+
+-- what is no text makes the list none
+pub texts_before-none : (ts : List (List ℕ)) → texts_before ts None ≡ None
+texts_before-none [] = refl
+texts_before-none (t ∷ ts) = ap (with_first (Some t)) (texts_before-none ts)
+
+-- what is right where it is there
+pub was_some : {A E : Type 0} (o : Option A) (fault : E) (x : A) → ok_or o fault ≡ Ok x → o ≡ Some x
+was_some None fault x e = cc
+was_some (Some y) fault x e = cc
+
+-- one more text is read
+pub text_more : (ts : List (List ℕ)) (d : Data) (ds : Items) (t : List ℕ) (all : Option (List (List ℕ))) → text_of d ≡ Some t → texts_before ts (all_texts_of (item d ds)) ≡ all → texts_before (ts ++ t ∷ []) (all_texts_of ds) ≡ all
+text_more ts d ds t all is so_far = texts_before-push ts t (all_texts_of ds) ∙ ap (λ o. texts_before ts (with_first o (all_texts_of ds))) (sym is) ∙ so_far
+
+-- one more item is no text
+pub text_none : (ts : List (List ℕ)) (d : Data) (ds : Items) (all : Option (List (List ℕ))) → text_of d ≡ None → texts_before ts (all_texts_of (item d ds)) ≡ all → all ≡ None
+text_none ts d ds all is so_far = sym so_far ∙ ap (λ o. texts_before ts (with_first o (all_texts_of ds))) is ∙ texts_before-none ts
+
+-- the texts of vectors, with one more
+pub texts_in-push : (vs : List (Vec ℕ Global)) (v : Vec ℕ Global) → texts_in (vs ++ v ∷ []) ≡ texts_in vs ++ v.items ∷ []
+texts_in-push [] v = refl
+texts_in-push (u ∷ vs) v = ap (λ ts. u.items ∷ ts) (texts_in-push vs v)
+
+-- a part that is none makes the whole none, with one fault
+pub none_fault : {A B : Type 0} (one : Option A) (all : Option B) (wrong fault : TermFault) → ok_or one wrong ≡ Err fault → (one ≡ None → all ≡ None) → ok_or all wrong ≡ Err fault
+none_fault None all wrong fault is next = ap (λ o. ok_or o wrong) (next refl) ∙ let e : wrong ≡ fault = cc in ap Err e
+none_fault (Some x) all wrong fault is next = cc

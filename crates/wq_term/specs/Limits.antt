@@ -1,0 +1,15 @@
+-- The limits of expressions, which are this server's own.
+-- Watchman's documentation of file queries names none.
+use Rattle.std.specs.Prelude.{ℕ, ℤ, pos, ◌^◌}
+
+-- how many terms may stand inside one another, the outermost counted
+abbrev pub max_depth : ℕ
+max_depth = 64
+
+-- the most bytes of a text in `name`, `suffix` and `dirname`
+abbrev pub max_text_length : ℕ
+max_text_length = 4096
+
+-- the greatest whole number, either side of 0
+abbrev pub max_number : ℤ
+max_number = pos (2 ^ 62)
