@@ -1,17 +1,17 @@
 -- What is asked, from what each key says.
-use Rattle.std.proofs.Common.{◌≡◌, ℕ, Bool, true, false, ◌==◌, List, [], ◌∷◌, length, codes, if◌then◌else◌, Option, Some, None, option_and_then, Result, Ok, Err, Vec, refl, sym, ap, ◌∙◌, arith}
+use Rattle.std.proofs.Common.{◌≡◌, Bool, false, ◌==◌, List, [], ◌∷◌, length, codes, if◌then◌else◌, Option, Some, None, option_and_then, Result, Ok, Err, Vec, refl, sym}
 use mathlib.Core.Bool.{false≢true}
 use Rattle.std.specs.declared.alloc.Global.{Global}
-use Rattle.serde_json.specs.Data.{Data, Items, no_items, item}
+use Rattle.serde_json.specs.Data.{Data, Items, item}
 use Rattle.serde_json.specs.Find.{get, as_array, as_str}
 use Rattle.serde_json.specs.View.{view, items_view}
 use Rattle.serde_json.specs.declared.value.Value.{Value}
 use Rattle.wq_clock.specs.Instance.{InstanceNumbers}
 use Rattle.wq_term.specs.Term.{Term}
 use Rattle.wq_query.specs.declared.fault.QueryFault.{QueryFault}
-use Rattle.wq_query.specs.declared.fault.QueryFault.TheVariants.{LeftOutKey, Expression, UnknownField, WrongValue, NoMemory}
+use Rattle.wq_query.specs.declared.fault.QueryFault.TheVariants.{WrongValue}
 use Rattle.wq_query.specs.declared.field.Field.{Field}
-use Rattle.wq_query.specs.Asked.{Asked, asks, has_left_out_key, expression_of, fields_in, fields_of, flag_of, is_whole, not_empty, cons_both}
+use Rattle.wq_query.specs.Asked.{asks, has_left_out_key, expression_of, fields_in, fields_of, flag_of, is_whole, not_empty, cons_both}
 use Rattle.wq_query.specs.Field.{field_named}
 use Rattle.wq_query.specs.Keys.{GivesFields}
 

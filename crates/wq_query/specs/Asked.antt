@@ -1,12 +1,12 @@
 -- What a JSON object asks as a query, or its first fault.
 -- The keys are those of Watchman's documentation of file queries.
-use Rattle.std.specs.Prelude.{◌≡◌, ℕ, ℤ, pos, neg_ℤ, ◌^◌, Bool, true, false, not, ◌&&◌, ◌||◌, int_le, List, [], ◌∷◌, codes, if◌then◌else◌, Option, Some, None, is_some, option_and_then, Result, Ok, Err}
+use Rattle.std.specs.Prelude.{ℕ, ℤ, pos, neg_ℤ, ◌^◌, Bool, true, false, not, ◌&&◌, ◌||◌, int_le, List, [], ◌∷◌, codes, if◌then◌else◌, Option, Some, None, is_some, option_and_then, Result, Ok, Err}
 use Rattle.std.specs.List.{list_any}
-use Rattle.serde_json.specs.Data.{Data, null, boolean, number, string, array, object, Items, no_items, item}
+use Rattle.serde_json.specs.Data.{Data, Items, no_items, item}
 use Rattle.serde_json.specs.Find.{get, as_array, as_bool, as_str, as_number, as_i64}
 use Rattle.wq_clock.specs.Instance.{InstanceNumbers}
 use Rattle.wq_term.specs.declared.fault.TermFault.{TermFault}
-use Rattle.wq_term.specs.declared.reading.TheConstants.{MAX_DEPTH}
+use Rattle.wq_term.specs.Limits.{max_depth}
 use Rattle.wq_term.specs.Term.{Term, always}
 use Rattle.wq_term.specs.Reading.{reads_as}
 use Rattle.wq_query.specs.declared.fault.QueryFault.{QueryFault}
@@ -61,7 +61,7 @@ has_left_out_key d = has_key_of left_out_keys d || not (is_plain_case (get (code
 -- the expression: every file where there is none
 abbrev pub expression_of : InstanceNumbers → Option Data → Result Term TermFault
 expression_of instance None = Ok always
-expression_of instance (Some d) = reads_as instance MAX_DEPTH d
+expression_of instance (Some d) = reads_as instance max_depth d
 
 -- the names of fields in a list of texts
 abbrev pub fields_in : Items → Option (List Field)

@@ -1,5 +1,5 @@
 -- Which files a query lists: one filter over the records of the view, in their order.
-use Rattle.std.specs.Prelude.{ℕ, ℤ, Bool, true, false, not, ◌&&◌, ◌||◌, nat_lt, int_le, int_lt, if◌then◌else◌, List, [], filter}
+use Rattle.std.specs.Prelude.{Bool, true, false, not, ◌&&◌, ◌||◌, nat_lt, int_le, int_lt, if◌then◌else◌, List, [], filter}
 use Rattle.wq_clock.specs.declared.bound.Bound.{Bound}
 use Rattle.wq_clock.specs.declared.bound.Bound.TheVariants.{Fresh, Tick, Second}
 use Rattle.wq_view.specs.FileRecord.{FileRecord}

@@ -1,5 +1,5 @@
 -- The reply to a query, as data. Its text is the compact text of that data (RFC 8259), keys in byte order.
-use Rattle.std.specs.Prelude.{ℕ, List, [], ◌∷◌, map, codes}
+use Rattle.std.specs.Prelude.{List, [], ◌∷◌, map, codes}
 use Rattle.serde_json.specs.Data.{Data, boolean, number, string, array, object, Members, no_members, member, put as with_member}
 use Rattle.serde_json.specs.Find.{of_integer}
 use Rattle.serde_json.specs.View.{items_of}

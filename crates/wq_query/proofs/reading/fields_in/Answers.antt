@@ -1,5 +1,5 @@
 -- Each name is a field's, or the first that is none refuses the list.
-use Rattle.std.proofs.Common.{◌≡◌, ◌+◌, [], length, drop, sym, ap, ◌∙◌}
+use Rattle.std.proofs.Common.{◌≡◌, ◌+◌, [], drop, sym, ap, ◌∙◌}
 use Rattle.std.proofs.Math.ListN.{drop_of_length-le}
 use Rattle.serde_json.specs.View.{items_view}
 use Rattle.wq_query.specs.Asked.{fields_in}
