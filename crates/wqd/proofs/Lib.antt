@@ -1,0 +1,6 @@
+mod Values
+mod Numbers
+mod Words
+mod NewLines
+mod Steps
+mod Playing

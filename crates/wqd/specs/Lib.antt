@@ -1,0 +1,11 @@
+pub mod Limits
+pub mod Refusal
+pub mod Command
+pub mod Gives
+pub mod Number
+pub mod ScriptLine
+pub mod LineData
+pub mod Lines
+pub mod Stage
+pub mod Replay
+pub mod StageData

@@ -1,0 +1,12 @@
+-- The lines of a script: each ends at a newline, which the last line need not have.
+use Rattle.std.specs.Prelude.{ℕ, ◌==◌, List, [], ◌∷◌, if◌then◌else◌}
+
+-- a byte before the first line, which it makes where there is none
+abbrev pub put_first : ℕ → List (List ℕ) → List (List ℕ)
+put_first byte [] = (byte ∷ []) ∷ []
+put_first byte (line ∷ lines) = (byte ∷ line) ∷ lines
+
+-- the lines of some bytes, without their newlines
+abbrev pub lines_of : List ℕ → List (List ℕ)
+lines_of [] = []
+lines_of (byte ∷ bytes) = if byte == 10 then [] ∷ lines_of bytes else put_first byte (lines_of bytes)

@@ -1,0 +1,5 @@
+//! Scripts and what they write, devices that fail, and the command line.
+
+mod answers;
+mod devices;
+mod scripts;
