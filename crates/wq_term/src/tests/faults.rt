@@ -122,6 +122,20 @@ fn refuses_wrong_texts(rt: HostRuntime) -> Result<(), Fail> {
         r#"["suffix",7]"#,
         r#"["suffix",["c",7]]"#,
         r#"["suffix","c","c"]"#,
+    ];
+    for text in table {
+        assert_eq!(rt;
+            fault_of(rt.alloc(), text)?,
+            Some(WrongArguments),
+            "at {text}"
+        );
+    }
+    Ok(())
+}
+
+#[test]
+fn refuses_wrong_directories_and_depths(rt: HostRuntime) -> Result<(), Fail> {
+    let table = [
         r#""dirname""#,
         r#"["dirname"]"#,
         r#"["idirname"]"#,
