@@ -16,7 +16,8 @@ pub enum Bound {
     Fresh,
     /// Observations of later ticks of this instance are new.
     Tick(u64),
-    /// Observations of later seconds of the Unix epoch are new.
+    /// A second of the Unix epoch. What changed in it or later is told, since it may have passes that the
+    /// client has not seen; what came in a later one is new.
     Second(i64),
 }
 

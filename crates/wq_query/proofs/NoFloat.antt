@@ -14,7 +14,8 @@ use Rattle.wq_clock.specs.declared.bound.Bound.{Bound}
 use Rattle.wq_view.specs.FileRecord.{FileRecord}
 use Rattle.wq_view.specs.View.{FileView}
 use Rattle.wq_query.specs.declared.field.Field.{Field}
-use Rattle.wq_query.specs.declared.field.Field.TheVariants.{Name, Exists, New, Size, Kind}
+use Rattle.wq_query.specs.declared.field.Field.TheVariants.{Name, Exists, New, Size, Kind, Cclock, Oclock, Mtime, MtimeMs}
+use Rattle.wq_term.specs.Numbers.{seconds_of}
 use Rattle.wq_query.specs.Field.{field_name}
 use Rattle.wq_query.specs.Asked.{Asked}
 use Rattle.wq_query.specs.Listed.{listed}
@@ -24,12 +25,16 @@ integer : (n : ℤ) → has_float (number (of_integer n)) ≡ false
 integer (pos n) = refl
 integer (negsuc n) = refl
 
-field : (bound : Bound) (r : FileRecord) (f : Field) → has_float (field_data bound r f) ≡ false
-field bound r Name = refl
-field bound r Exists = refl
-field bound r New = refl
-field bound r Size = integer r.size
-field bound r Kind = refl
+field : (instance : InstanceNumbers) (bound : Bound) (r : FileRecord) (f : Field) → has_float (field_data instance bound r f) ≡ false
+field instance bound r Name = refl
+field instance bound r Exists = refl
+field instance bound r New = refl
+field instance bound r Size = integer r.size
+field instance bound r Kind = refl
+field instance bound r Cclock = refl
+field instance bound r Oclock = refl
+field instance bound r Mtime = integer (seconds_of r.mtime_ms)
+field instance bound r MtimeMs = integer r.mtime_ms
 
 both : (a b : Bool) → a ≡ false → b ≡ false → (a || b) ≡ false
 both a b ha hb = rw (ha, hb) refl
@@ -43,18 +48,18 @@ put k d (member l e ms) h hs = ordered (slice_cmp nat_cmp k l) (or_parts (has_fl
     ordered Equal he later = both (has_float d) _ h (or_parts (has_float e) _ hs).1
     ordered Greater he later = both (has_float e) _ he later
 
-members : (bound : Bound) (r : FileRecord) (ms : Members) (fields : List Field) → members_have_float ms ≡ false → members_have_float (members_with bound r ms fields) ≡ false
-members bound r ms [] h = h
-members bound r ms (f ∷ fields) h = members bound r (with_member (field_name f) (field_data bound r f) ms) fields (put (field_name f) (field_data bound r f) ms (field bound r f) h)
+members : (instance : InstanceNumbers) (bound : Bound) (r : FileRecord) (ms : Members) (fields : List Field) → members_have_float ms ≡ false → members_have_float (members_with instance bound r ms fields) ≡ false
+members instance bound r ms [] h = h
+members instance bound r ms (f ∷ fields) h = members instance bound r (with_member (field_name f) (field_data instance bound r f) ms) fields (put (field_name f) (field_data instance bound r f) ms (field instance bound r f) h)
 
-file : (fields : List Field) (bound : Bound) (r : FileRecord) → has_float (file_data fields bound r) ≡ false
-file [] bound r = refl
-file (f ∷ []) bound r = field bound r f
-file (f ∷ g ∷ fields) bound r = members bound r no_members (f ∷ g ∷ fields) refl
+file : (fields : List Field) (instance : InstanceNumbers) (bound : Bound) (r : FileRecord) → has_float (file_data fields instance bound r) ≡ false
+file [] instance bound r = refl
+file (f ∷ []) instance bound r = field instance bound r f
+file (f ∷ g ∷ fields) instance bound r = members instance bound r no_members (f ∷ g ∷ fields) refl
 
-files : (fields : List Field) (bound : Bound) (rs : List FileRecord) → items_have_float (items_of (map (file_data fields bound) rs)) ≡ false
-files fields bound [] = refl
-files fields bound (r ∷ rs) = both (has_float (file_data fields bound r)) _ (file fields bound r) (files fields bound rs)
+files : (fields : List Field) (instance : InstanceNumbers) (bound : Bound) (rs : List FileRecord) → items_have_float (items_of (map (file_data fields instance bound) rs)) ≡ false
+files fields instance bound [] = refl
+files fields instance bound (r ∷ rs) = both (has_float (file_data fields instance bound r)) _ (file fields instance bound r) (files fields instance bound rs)
 
 pub reply : (query : Asked) (bound : Bound) (instance : InstanceNumbers) (view : FileView) → has_float (reply_of query bound instance view) ≡ false
-reply query bound instance view = both (items_have_float (items_of (map (file_data query.fields bound) (listed query bound view.records)))) false (files query.fields bound (listed query bound view.records)) refl
+reply query bound instance view = both (items_have_float (items_of (map (file_data query.fields instance bound) (listed query bound view.records)))) false (files query.fields instance bound (listed query bound view.records)) refl

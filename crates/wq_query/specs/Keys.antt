@@ -5,7 +5,7 @@ use Rattle.wq_term.specs.declared.expr.Expr.{Expr}
 use Rattle.wq_term.specs.declared.fault.TermFault.{TermFault}
 use Rattle.wq_term.specs.Term.{Term, term_of}
 use Rattle.wq_query.specs.declared.fault.QueryFault.{QueryFault}
-use Rattle.wq_query.specs.declared.fault.QueryFault.TheVariants.{Expression, UnknownField, NoMemory, LeftOutKey, WrongValue}
+use Rattle.wq_query.specs.declared.fault.QueryFault.TheVariants.{Expression, UnknownField, NoMemory, LeftOutKey, BadClockSpec, WrongValue}
 use Rattle.wq_query.specs.declared.field.Field.{Field}
 
 -- an expression, or its fault
@@ -15,6 +15,7 @@ GivesExpression (Err (Expression fault)) answer = answer ≡ Err fault
 GivesExpression (Err NoMemory) answer = Unit {0}
 GivesExpression (Err LeftOutKey) answer = ⊥
 GivesExpression (Err UnknownField) answer = ⊥
+GivesExpression (Err BadClockSpec) answer = ⊥
 GivesExpression (Err WrongValue) answer = ⊥
 
 -- a list of fields, or that it is none
@@ -24,4 +25,5 @@ GivesFields (Err UnknownField) answer = answer ≡ None
 GivesFields (Err NoMemory) answer = Unit {0}
 GivesFields (Err (Expression fault)) answer = ⊥
 GivesFields (Err LeftOutKey) answer = ⊥
+GivesFields (Err BadClockSpec) answer = ⊥
 GivesFields (Err WrongValue) answer = ⊥

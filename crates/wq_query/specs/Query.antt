@@ -8,7 +8,7 @@ use Rattle.wq_query.specs.Asked.{Asked}
 
 -- what a query asks
 abbrev pub asked_of : Query → Asked
-asked_of q = record { expression = term_of q.expr; fields = q.fields.items; empty_on_fresh_instance = q.empty_on_fresh_instance }
+asked_of q = record { expression = term_of q.expr; fields = q.fields.items; bound = q.bound; empty_on_fresh_instance = q.empty_on_fresh_instance }
 
 -- the result of the code is this answer, or the memory ran out
 abbrev pub Gives : Result Query QueryFault → Result Asked QueryFault → Type 0

@@ -16,6 +16,9 @@ pub enum QueryFault {
     /// `fields` is no list of texts, is empty, or names an unknown field.
     #[error("unknown field")]
     UnknownField,
+    /// The value of `since` is no clock spec, or names a cursor: cursors are not kept yet.
+    #[error("bad clockspec")]
+    BadClockSpec,
     /// A wrong value of another key.
     #[error("wrong query value")]
     WrongValue,

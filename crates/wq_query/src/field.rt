@@ -15,6 +15,14 @@ pub enum Field {
     Size,
     /// `type`: the letter of the kind.
     Kind,
+    /// `cclock`: the clock id of the pass that saw the file come.
+    Cclock,
+    /// `oclock`: the clock id of the last pass that saw a change of the file, its deletion too.
+    Oclock,
+    /// `mtime`: the time of modification in whole seconds of the Unix epoch, rounded down.
+    Mtime,
+    /// `mtime_ms`: the time of modification in milliseconds of the Unix epoch.
+    MtimeMs,
 }
 
 impl Field {
@@ -28,6 +36,10 @@ impl Field {
             Field::New => "new",
             Field::Size => "size",
             Field::Kind => "type",
+            Field::Cclock => "cclock",
+            Field::Oclock => "oclock",
+            Field::Mtime => "mtime",
+            Field::MtimeMs => "mtime_ms",
         }
     }
 
@@ -42,6 +54,10 @@ impl Field {
             "new" => Some(Field::New),
             "size" => Some(Field::Size),
             "type" => Some(Field::Kind),
+            "cclock" => Some(Field::Cclock),
+            "oclock" => Some(Field::Oclock),
+            "mtime" => Some(Field::Mtime),
+            "mtime_ms" => Some(Field::MtimeMs),
             _ => None,
         }
     }

@@ -20,6 +20,7 @@ use wq_term::Expr;
 pub struct Query {
     pub(crate) expr: Expr,
     pub(crate) fields: Vec<Field>,
+    pub(crate) bound: Bound,
     pub(crate) empty_on_fresh_instance: bool,
 }
 
@@ -34,7 +35,7 @@ impl Query {
     /// What a JSON object asks, at this instance of the server. The first fault refuses it: see [`QueryFault`].
     ///
     /// Keys that are not known are ignored, and so are `dedup_results`, `defer` and `drop`. The value of
-    /// `sync_timeout` is tested here, and used by who crawls.
+    /// `sync_timeout` is tested here, and used by who crawls. A value that is no object has no keys.
     pub fn read(alloc: Global, value: &Value, instance: &Instance) -> Result<Query, QueryFault>
         ensures { Gives result (asks (instance_numbers instance.now) (view value.now)) }
     {
@@ -43,6 +44,9 @@ impl Query {
         }
         let expr = reading::expression(alloc, value.get("expression"), instance)?;
         let fields = reading::fields(alloc, value.get("fields"))?;
+        let Some(bound) = reading::since(value.get("since"), instance) else {
+            return Err(QueryFault::BadClockSpec);
+        };
         let Some(empty_on_fresh_instance) = reading::flag(value.get("empty_on_fresh_instance"))
         else {
             return Err(QueryFault::WrongValue);
@@ -53,6 +57,7 @@ impl Query {
         Ok(Query {
             expr,
             fields,
+            bound,
             empty_on_fresh_instance,
         })
     }
@@ -64,7 +69,14 @@ impl Query {
         &self.expr
     }
 
-    /// The plan of answering the query with this bound.
+    /// The bound that the query sets: fresh where it has no `since`.
+    pub fn bound(&self) -> Bound
+        ensures { result ≡ (asked_of self.now).bound }
+    {
+        self.bound
+    }
+
+    /// The plan of answering the query with this bound, whichever the query sets.
     pub fn plan_plain(self, bound: Bound) -> Plan
         ensures query { asked_of result.query ≡ asked_of self }
         ensures bound { result.bound ≡ bound }

@@ -3,7 +3,7 @@ ghost use Rattle.std.specs.Prelude.{◌≡◌, map, option_and_then, option_map}
 ghost use Rattle.serde_json.specs.Find.{as_str};
 ghost use Rattle.serde_json.specs.View.{view, items_view};
 ghost use Rattle.wq_clock.specs.Instance.{instance_numbers};
-ghost use Rattle.wq_query.specs.Asked.{has_key_of, has_left_out_key, is_plain_case, expression_of, fields_in, fields_of, flag_of, is_whole};
+ghost use Rattle.wq_query.specs.Asked.{has_key_of, has_left_out_key, is_plain_case, expression_of, fields_in, fields_of, since_of, flag_of, is_whole};
 ghost use Rattle.wq_query.specs.Field.{field_named};
 ghost use Rattle.wq_query.specs.Keys.{GivesExpression, GivesFields};
 
@@ -11,18 +11,17 @@ use crate::fault::QueryFault;
 use crate::field::Field;
 use serde_json::Value;
 use std::alloc::Global;
-use wq_clock::Instance;
-use wq_term::{Expr, TermFault, read_expr};
+use wq_clock::{Bound, Instance};
+use wq_term::{Expr, TermFault, read_bound, read_expr};
 
 /// The keys that would change the answer and are left out, or not built yet.
-const LEFT_OUT_KEYS: [&str; 9] = [
+const LEFT_OUT_KEYS: [&str; 8] = [
     "relative_root",
     "settle_period",
     "settle_timeout",
     "glob",
     "glob_includedotfiles",
     "program",
-    "since",
     "suffix",
     "path",
 ];
@@ -64,6 +63,16 @@ pub(crate) fn expression(
         Ok(expr) => Ok(expr),
         Err(TermFault::NoMemory) => Err(QueryFault::NoMemory),
         Err(fault) => Err(QueryFault::Expression(fault)),
+    }
+}
+
+/// The bound that `since` sets: fresh where it is not there, and none where it is no clock spec or a cursor.
+pub(crate) fn since(value: Option<&Value>, instance: &Instance) -> Option<Bound>
+    ensures { result ≡ since_of (instance_numbers instance.now) (option_map (λ v. view v.now) value.entry) }
+{
+    match value {
+        None => Some(Bound::Fresh),
+        Some(value) => read_bound(value, instance).ok(),
     }
 }
 

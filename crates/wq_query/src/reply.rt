@@ -1,8 +1,9 @@
 //! The reply to a query, as a JSON value and as its text.
-ghost use Rattle.std.specs.Prelude.{◌≡◌, [], ◌∷◌, map, IfOk};
+ghost use Rattle.std.specs.Prelude.{◌≡◌, ◌≤◌, [], ◌∷◌, map, IfOk};
 ghost use Rattle.serde_json.specs.Data.{string};
 ghost use Rattle.serde_json.specs.View.{view as data_of};
 ghost use Rattle.serde_json.specs.Written.{compact_text};
+ghost use Rattle.wq_clock.specs.ClockText.{clock_text};
 ghost use Rattle.wq_clock.specs.Instance.{instance_numbers};
 ghost use Rattle.wq_view.specs.Kind.{letter_of};
 ghost use Rattle.wq_query.specs.Listed.{listed};
@@ -14,8 +15,11 @@ use crate::listing::{is_fresh, is_listed, is_new};
 use crate::query::Plan;
 use serde_json::{Map, Value, json};
 use std::alloc::{AllocError, Global};
-use wq_clock::{Bound, Instance, print};
+use wq_clock::{Bound, Instance, MAX_NUMBER, print};
 use wq_view::{Kind, Record, View};
+
+/// How many milliseconds a second has.
+const SECOND: i64 = 1000;
 
 /// The reply to a query at a view: its clock, the listed files in the view's order, and whether the bound is fresh.
 pub fn answer(
@@ -26,7 +30,7 @@ pub fn answer(
 ) -> Result<Value, AllocError>
     ensures { IfOk result (λ v. data_of v ≡ reply_of (asked_of plan.now.query) plan.now.bound (instance_numbers instance.now) view.now) }
 {
-    let files = Value::Array(files(alloc, plan, view)?);
+    let files = Value::Array(files(alloc, plan, instance, view)?);
     let clock = print(instance, view.tick());
     json!(in alloc; {
         "clock": clock.as_str(),
@@ -49,8 +53,13 @@ pub fn answer_bytes(
 }
 
 /// What the plan tells of each file that it lists.
-fn files(alloc: Global, plan: &Plan, view: &View) -> Result<Vec<Value>, AllocError>
-    ensures { IfOk result (λ files. map data_of files.items ≡ map (file_data plan.now.query.fields.items plan.now.bound) (listed (asked_of plan.now.query) plan.now.bound view.now.records)) }
+fn files(
+    alloc: Global,
+    plan: &Plan,
+    instance: &Instance,
+    view: &View,
+) -> Result<Vec<Value>, AllocError>
+    ensures { IfOk result (λ files. map data_of files.items ≡ map (file_data plan.now.query.fields.items (instance_numbers instance.now) plan.now.bound) (listed (asked_of plan.now.query) plan.now.bound view.now.records)) }
 {
     let mut files = Vec::new(alloc);
     if is_fresh(plan.bound) && plan.query.empty_on_fresh_instance {
@@ -58,7 +67,8 @@ fn files(alloc: Global, plan: &Plan, view: &View) -> Result<Vec<Value>, AllocErr
     }
     for file in view.records() {
         if is_listed(plan, file) {
-            files.push(file_value(alloc, &plan.query.fields, plan.bound, file)?)?;
+            let told = file_value(alloc, &plan.query.fields, instance, plan.bound, file)?;
+            files.push(told)?;
         }
     }
     Ok(files)
@@ -68,17 +78,18 @@ fn files(alloc: Global, plan: &Plan, view: &View) -> Result<Vec<Value>, AllocErr
 fn file_value(
     alloc: Global,
     fields: &[Field],
+    instance: &Instance,
     bound: Bound,
     file: &Record,
 ) -> Result<Value, AllocError>
-    ensures { IfOk result (λ v. data_of v ≡ file_data fields.now bound file.now) }
+    ensures { IfOk result (λ v. data_of v ≡ file_data fields.now (instance_numbers instance.now) bound file.now) }
 {
     if let [field] = fields {
-        return field_value(alloc, *field, bound, file);
+        return field_value(alloc, *field, instance, bound, file);
     }
     let mut members = Map::new(alloc);
     for field in fields {
-        let value = field_value(alloc, *field, bound, file)?;
+        let value = field_value(alloc, *field, instance, bound, file)?;
         serde_json::put(&mut members, alloc, field.name(), value)?;
     }
     Ok(Value::Object(members))
@@ -88,10 +99,11 @@ fn file_value(
 fn field_value(
     alloc: Global,
     field: Field,
+    instance: &Instance,
     bound: Bound,
     file: &Record,
 ) -> Result<Value, AllocError>
-    ensures { IfOk result (λ v. data_of v ≡ field_data bound file.now field) }
+    ensures { IfOk result (λ v. data_of v ≡ field_data (instance_numbers instance.now) bound file.now field) }
 {
     match field {
         Field::Name => Value::try_from_str(alloc, file.name.as_str()),
@@ -99,7 +111,19 @@ fn field_value(
         Field::New => Ok(Value::Bool(is_new(bound, file))),
         Field::Size => Ok(Value::from(file.size)),
         Field::Kind => letter_value(alloc, file.kind),
+        Field::Cclock => clock_value(alloc, instance, file.ctick),
+        Field::Oclock => clock_value(alloc, instance, file.otick),
+        Field::Mtime => Ok(Value::from(file.mtime_ms.div_euclid(SECOND))),
+        Field::MtimeMs => Ok(Value::from(file.mtime_ms)),
     }
+}
+
+/// The clock id of a tick of an instance.
+fn clock_value(alloc: Global, instance: &Instance, tick: u64) -> Result<Value, AllocError>
+    requires { tick ≤ MAX_NUMBER }
+    ensures { IfOk result (λ v. data_of v ≡ string (clock_text (instance_numbers instance.now) tick)) }
+{
+    Value::try_from_str(alloc, print(instance, tick).as_str())
 }
 
 /// The letter of a kind.

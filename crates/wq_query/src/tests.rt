@@ -4,4 +4,5 @@ mod bounds;
 mod faults;
 mod memory;
 mod replies;
+mod since;
 mod trees;

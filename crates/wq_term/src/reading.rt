@@ -18,6 +18,7 @@ use crate::fault::TermFault;
 use crate::head::Head;
 use arguments::{only, parts};
 pub use arguments::{MAX_NUMBER, MAX_TEXT};
+pub use numbers::read_bound;
 use serde_json::Value;
 use std::alloc::Global;
 use wq_clock::Instance;

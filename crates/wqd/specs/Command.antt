@@ -6,7 +6,6 @@ use Rattle.std.specs.Str.{is_utf8}
 use Rattle.serde_json.specs.Data.{Data, string, array, object, Items, no_items, item, no_members, member}
 use Rattle.serde_json.specs.Read.{read as read_text}
 use Rattle.wq_clock.specs.Instance.{InstanceNumbers}
-use Rattle.wq_clock.specs.declared.bound.Bound.TheVariants.{Fresh}
 use Rattle.wq_view.specs.View.{FileView}
 use Rattle.wq_query.specs.Asked.{Asked, asks}
 use Rattle.wq_query.specs.Reply.{reply_of}
@@ -27,7 +26,7 @@ command_of _ = None
 
 -- what is answered to a query that was read
 abbrev pub answer_asked : InstanceNumbers → FileView → Result Asked QueryFault → Result Data Refusal
-answer_asked instance view (Ok query) = Ok (reply_of query Fresh instance view)
+answer_asked instance view (Ok query) = Ok (reply_of query query.bound instance view)
 answer_asked instance view (Err fault) = Err (Query fault)
 
 -- the argument, where there is just one

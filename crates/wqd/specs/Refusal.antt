@@ -1,9 +1,9 @@
 -- The texts by which commands are refused, each with its number. They are this server's own.
 use Rattle.std.specs.Prelude.{ℕ, List, codes}
 use Rattle.wq_term.specs.declared.fault.TermFault.{TermFault}
-use Rattle.wq_term.specs.declared.fault.TermFault.TheVariants.{UnknownTerm, WrongArguments as WrongTermArguments, TooDeep, BadClockSpec, CursorInTerm, NoMemory as NoTermMemory}
+use Rattle.wq_term.specs.declared.fault.TermFault.TheVariants.{UnknownTerm, WrongArguments as WrongTermArguments, TooDeep, BadClockSpec as BadTermClockSpec, CursorInTerm, NoMemory as NoTermMemory}
 use Rattle.wq_query.specs.declared.fault.QueryFault.{QueryFault}
-use Rattle.wq_query.specs.declared.fault.QueryFault.TheVariants.{LeftOutKey, Expression, UnknownField, WrongValue, NoMemory as NoQueryMemory}
+use Rattle.wq_query.specs.declared.fault.QueryFault.TheVariants.{LeftOutKey, Expression, UnknownField, BadClockSpec, WrongValue, NoMemory as NoQueryMemory}
 use Rattle.wqd.specs.declared.refusal.Refusal.{Refusal}
 use Rattle.wqd.specs.declared.refusal.Refusal.TheVariants.{LineTooLong, NotJson, NotACommand, UnknownCommand, WrongArguments, Bser, NotWatched, Query, NoMemory}
 
@@ -12,7 +12,7 @@ abbrev pub term_text : TermFault → List ℕ
 term_text UnknownTerm = codes "E24: unknown term"
 term_text WrongTermArguments = codes "E25: wrong term arguments"
 term_text TooDeep = codes "E26: expression too deep"
-term_text BadClockSpec = codes "E23: bad clockspec"
+term_text BadTermClockSpec = codes "E23: bad clockspec"
 term_text CursorInTerm = codes "E27: cursor in a term"
 term_text NoTermMemory = codes "E60: no memory"
 
@@ -21,6 +21,7 @@ abbrev pub query_text : QueryFault → List ℕ
 query_text LeftOutKey = codes "E20: query key is left out"
 query_text (Expression fault) = term_text fault
 query_text UnknownField = codes "E21: unknown field"
+query_text BadClockSpec = codes "E23: bad clockspec"
 query_text WrongValue = codes "E37: wrong query value"
 query_text NoQueryMemory = codes "E60: no memory"
 

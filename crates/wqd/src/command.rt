@@ -9,7 +9,7 @@ ghost use Rattle.wqd.specs.Gives.{Gives, GivesValue};
 use crate::refusal::Refusal;
 use serde_json::{Value, json};
 use std::alloc::{AllocError, Global};
-use wq_clock::{Bound, Instance};
+use wq_clock::Instance;
 use wq_query::{Query, QueryFault, answer_bytes};
 use wq_view::View;
 
@@ -111,7 +111,8 @@ fn answer_query(
     }
     match Query::read(alloc, query, instance) {
         Ok(query) => {
-            let plan = query.plan_plain(Bound::Fresh);
+            let bound = query.bound();
+            let plan = query.plan_plain(bound);
             Ok(answer_bytes(alloc, &plan, instance, view)?)
         }
         Err(QueryFault::NoMemory) => Err(Refusal::NoMemory),

@@ -48,6 +48,8 @@ impl Refusal {
     }
 }
 
+const BAD_CLOCK_SPEC: &str = "E23: bad clockspec";
+
 const NO_MEMORY: &str = "E60: no memory";
 
 fn query_text(fault: QueryFault) -> &'static str
@@ -57,6 +59,7 @@ fn query_text(fault: QueryFault) -> &'static str
         QueryFault::LeftOutKey => "E20: query key is left out",
         QueryFault::Expression(fault) => term_text(fault),
         QueryFault::UnknownField => "E21: unknown field",
+        QueryFault::BadClockSpec => BAD_CLOCK_SPEC,
         QueryFault::WrongValue => "E37: wrong query value",
         QueryFault::NoMemory => NO_MEMORY,
     }
@@ -69,7 +72,7 @@ fn term_text(fault: TermFault) -> &'static str
         TermFault::UnknownTerm => "E24: unknown term",
         TermFault::WrongArguments => "E25: wrong term arguments",
         TermFault::TooDeep => "E26: expression too deep",
-        TermFault::BadClockSpec => "E23: bad clockspec",
+        TermFault::BadClockSpec => BAD_CLOCK_SPEC,
         TermFault::CursorInTerm => "E27: cursor in a term",
         TermFault::NoMemory => NO_MEMORY,
     }

@@ -1,6 +1,6 @@
 //! Which objects are no queries, and which of several faults is told.
 
-use crate::QueryFault::{self, Expression, LeftOutKey, UnknownField, WrongValue};
+use crate::QueryFault::{self, BadClockSpec, Expression, LeftOutKey, UnknownField, WrongValue};
 use crate::tests::trees::fault_of;
 use std::alloc::Global;
 use std::process::Abort;
@@ -28,7 +28,6 @@ fn refuses_keys_that_are_left_out(rt: HostRuntime) -> Result<(), Fail> {
         "glob",
         "glob_includedotfiles",
         "program",
-        "since",
         "suffix",
         "path",
         "case_sensitive",
@@ -138,17 +137,50 @@ fn refuses_wrong_fields(rt: HostRuntime) -> Result<(), Fail> {
         r#"["ctime"]"#,
         r#"["symlink_target"]"#,
         r#"["content.sha1hex"]"#,
-        // Fields that are not told yet.
-        r#"["cclock"]"#,
-        r#"["oclock"]"#,
-        r#"["mtime"]"#,
-        r#"["mtime_ms"]"#,
+        r#"["mtime_us"]"#,
+        r#"["otime"]"#,
     ];
     for fields in table {
         let query = format!(in rt.alloc(); r#"{{"fields":{fields}}}"#)?;
         assert_eq!(rt;
             fault_of(rt.alloc(), query.as_str())?,
             Some(UnknownField),
+            "at {query}"
+        );
+    }
+    Ok(())
+}
+
+#[test]
+fn refuses_wrong_clock_specs(rt: HostRuntime) -> Result<(), Fail> {
+    let table = [
+        "null",
+        "true",
+        "[]",
+        "{}",
+        "-1",
+        "-0",
+        "1.5",
+        "1e3",
+        "4611686018427387905",
+        "18446744073709551616",
+        r#""""#,
+        r#""100""#,
+        r#""c:7:9:1:01""#,
+        r#""c:7:9:1""#,
+        r#""c:7:9:1:1:1""#,
+        r#""c:7:9:1:4611686018427387905""#,
+        r#""C:7:9:1:1""#,
+        r#"" c:7:9:1:1""#,
+        // Cursors are not kept yet.
+        r#""n:k""#,
+        r#""n:""#,
+    ];
+    for since in table {
+        let query = format!(in rt.alloc(); r#"{{"since":{since}}}"#)?;
+        assert_eq!(rt;
+            fault_of(rt.alloc(), query.as_str())?,
+            Some(BadClockSpec),
             "at {query}"
         );
     }
@@ -194,7 +226,7 @@ fn tells_the_first_fault(rt: HostRuntime) -> Result<(), Fail> {
         rt.alloc(),
         &[
             (
-                r#"{"sync_timeout":"0","fields":[],"expression":["frob"],"since":1}"#,
+                r#"{"sync_timeout":"0","since":[],"fields":[],"expression":["frob"],"path":[]}"#,
                 Some(LeftOutKey),
             ),
             (
@@ -202,7 +234,7 @@ fn tells_the_first_fault(rt: HostRuntime) -> Result<(), Fail> {
                 Some(LeftOutKey),
             ),
             (
-                r#"{"sync_timeout":"0","empty_on_fresh_instance":1,"fields":[],"expression":["frob"]}"#,
+                r#"{"sync_timeout":"0","empty_on_fresh_instance":1,"since":[],"fields":[],"expression":["frob"]}"#,
                 Some(Expression(UnknownTerm)),
             ),
             (
@@ -210,9 +242,18 @@ fn tells_the_first_fault(rt: HostRuntime) -> Result<(), Fail> {
                 Some(Expression(WrongArguments)),
             ),
             (
-                r#"{"sync_timeout":"0","empty_on_fresh_instance":1,"fields":["frob"]}"#,
+                r#"{"sync_timeout":"0","empty_on_fresh_instance":1,"since":[],"fields":["frob"]}"#,
                 Some(UnknownField),
             ),
+            (
+                r#"{"sync_timeout":"0","empty_on_fresh_instance":1,"since":[]}"#,
+                Some(BadClockSpec),
+            ),
+            (
+                r#"{"empty_on_fresh_instance":1,"since":-1}"#,
+                Some(BadClockSpec),
+            ),
+            (r#"{"sync_timeout":"0","since":0}"#, Some(WrongValue)),
             (
                 r#"{"empty_on_fresh_instance":1,"fields":[]}"#,
                 Some(UnknownField),
@@ -231,6 +272,7 @@ fn says_its_faults_in_words(rt: HostRuntime) -> Result<(), Fail> {
         (Expression(UnknownTerm), "unknown term"),
         (Expression(TooDeep), "expression too deep"),
         (UnknownField, "unknown field"),
+        (BadClockSpec, "bad clockspec"),
         (WrongValue, "wrong query value"),
         (QueryFault::NoMemory, "no memory"),
     ];

@@ -183,6 +183,10 @@ fn names_each_field(rt: HostRuntime) {
         ("new", Field::New),
         ("size", Field::Size),
         ("type", Field::Kind),
+        ("cclock", Field::Cclock),
+        ("oclock", Field::Oclock),
+        ("mtime", Field::Mtime),
+        ("mtime_ms", Field::MtimeMs),
     ];
     for (name, field) in table {
         assert_eq!(rt; field.name(), name);

@@ -58,8 +58,11 @@ fn read_field(argument: Option<&Value>) -> Option<Field>
     }
 }
 
-/// The bound of a clock spec, a text or a second.
-fn read_bound(value: &Value, instance: &Instance) -> Result<Bound, TermFault>
+/// The bound of a clock spec in JSON at this instance of the server: that of a text, or a second of the Unix
+/// epoch from 0 to 2^62.
+///
+/// A value of another shape is [`TermFault::BadClockSpec`], and a named cursor [`TermFault::CursorInTerm`].
+pub fn read_bound(value: &Value, instance: &Instance) -> Result<Bound, TermFault>
     ensures { result ≡ bound_in (instance_numbers instance.now) (view value.now) }
 {
     match value {
