@@ -71,6 +71,7 @@ fn term_text(fault: TermFault) -> &'static str
         TermFault::TooDeep => "E26: expression too deep",
         TermFault::BadClockSpec => "E23: bad clockspec",
         TermFault::CursorInTerm => "E27: cursor in a term",
+        TermFault::PatternTooLong => "E28: pattern too long",
         TermFault::NoMemory => NO_MEMORY,
     }
 }
