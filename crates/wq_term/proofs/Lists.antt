@@ -5,11 +5,12 @@ use Rattle.std.proofs.Math.Seq.{drop-cons}
 use Rattle.serde_json.specs.Data.{Data, Items, item}
 use Rattle.serde_json.specs.View.{view, items_view}
 use Rattle.serde_json.specs.declared.value.Value.{Value}
-use Rattle.wq_term.specs.declared.fault.TermFault.TheVariants.{UnknownTerm, WrongArguments, TooDeep, BadClockSpec, CursorInTerm, NoMemory}
+use Rattle.wq_term.specs.declared.fault.TermFault.TheVariants.{UnknownTerm, WrongArguments, TooDeep, BadClockSpec, CursorInTerm, PatternTooLong, NoMemory}
 use Rattle.wq_term.specs.declared.fault.TermFault.{TermFault}
 use Rattle.wq_term.specs.Term.{Term, Terms, no_terms, term_of, terms_of}
 use Rattle.wq_term.specs.declared.expr.Expr.{Expr}
 use Rattle.wq_term.specs.Arguments.{only_of, one_or_two_of, comparison_of}
+use Rattle.wq_term.specs.PatternArguments.{one_to_three_of}
 use Rattle.wq_term.specs.Reading.{Answer, GivesAs, follow, read_all, read_plain}
 
 -- the answer of a list whose first terms are read
@@ -56,6 +57,14 @@ one_or_two_none (v ∷ []) e f = absurd (e refl)
 one_or_two_none (v ∷ w ∷ []) e f = absurd (f refl)
 one_or_two_none (v ∷ w ∷ x ∷ values) e f = refl
 
+-- neither one argument nor two nor three
+pub one_to_three_none : (values : List Value) → length values ≢ 1 → length values ≢ 2 → length values ≢ 3 → one_to_three_of (items_view values) ≡ None
+one_to_three_none [] e f g = refl
+one_to_three_none (v ∷ []) e f g = absurd (e refl)
+one_to_three_none (v ∷ w ∷ []) e f g = absurd (f refl)
+one_to_three_none (v ∷ w ∷ x ∷ []) e f g = absurd (g refl)
+one_to_three_none (v ∷ w ∷ x ∷ y ∷ values) e f g = refl
+
 -- not two arguments
 pub comparison_none : (values : List Value) → length values ≢ 2 → comparison_of (items_view values) ≡ None
 comparison_none [] f = refl
@@ -80,4 +89,5 @@ all_refused see see_all WrongArguments answer all inside next = next inside
 all_refused see see_all TooDeep answer all inside next = next inside
 all_refused see see_all BadClockSpec answer all inside next = next inside
 all_refused see see_all CursorInTerm answer all inside next = next inside
+all_refused see see_all PatternTooLong answer all inside next = next inside
 all_refused see see_all NoMemory answer all inside next = tt

@@ -1,11 +1,15 @@
 -- Texts that are compared byte by byte, and lists of texts that are read from the front.
-use Rattle.std.proofs.Common.{◌≡◌, ◌≤◌, ℕ, ◌++◌, IsTrue, List, [], ◌∷◌, length, Vec, Option, Some, None, ok_or, Ok, Err, refl, sym, ap, ◌∙◌, arith}
+use Rattle.std.proofs.Common.{◌≡◌, ◌≤◌, ℕ, ◌-◌, ◌++◌, not, IsTrue, List, [], ◌∷◌, length, Vec, Option, Some, None, ok_or, Ok, Err, refl, sym, ap, ◌∙◌, arith, length-drop}
+use Rattle.std.specs.List.{suffix_len}
 use Rattle.std.proofs.lemmas.Bool.{and_parts}
 use Rattle.std.proofs.lemmas.Bool.Decides.{nat_tests}
 use Rattle.std.specs.declared.alloc.Global.{Global}
 use Rattle.serde_json.specs.Data.{Data, Items, item}
 use Rattle.wq_view.specs.declared.names.TheConstants.{MAX_NAME}
-use Rattle.wq_view.specs.Name.{is_valid_name}
+use Rattle.wq_view.specs.Name.{is_valid_name, is_slash}
+use Rattle.wq_term.specs.declared.expr.Scope.{Scope}
+use Rattle.wq_term.specs.declared.expr.Scope.TheVariants.{Basename, Wholename}
+use Rattle.wq_term.specs.Texts.{part_of}
 use Rattle.wq_term.specs.declared.fault.TermFault.{TermFault}
 use Rattle.wq_term.specs.Arguments.{text_of, with_first, all_texts_of}
 use Rattle.wq_term.specs.Term.{texts_in}
@@ -14,6 +18,14 @@ use Rattle.wq_term.specs.Term.{texts_in}
 pub name_is_short : (name : List ℕ) → IsTrue (is_valid_name name) → length name ≤ MAX_NAME
 unfolding is_valid_name
 name_is_short name h = grind (arith, nat_tests, and_parts)
+
+-- and so has each part of it that a scope asks for
+pub part_is_short : (scope : Scope) (name : List ℕ) → IsTrue (is_valid_name name) → length (part_of scope name) ≤ MAX_NAME
+part_is_short Wholename name h = name_is_short name h
+part_is_short Basename name h =
+    let short = name_is_short name h in
+    let rest = length-drop (length name - suffix_len (λ b. not (is_slash b)) name) name in
+    omega (arith, short, rest)
 
 -- texts that are read before the rest of a list
 abbrev pub texts_before : List (List ℕ) → Option (List (List ℕ)) → Option (List (List ℕ))

@@ -1,7 +1,7 @@
 -- The names of terms, as they head an expression in JSON (Watchman's documentation of file queries).
 use Rattle.std.specs.Prelude.{ℕ, List, bytes_eq, codes, if◌then◌else◌, Option, Some, None}
 use Rattle.wq_term.specs.declared.head.Head.{Head}
-use Rattle.wq_term.specs.declared.head.Head.TheVariants.{True, False, Exists, Empty, KindIs, Name, Iname, Suffix, Size, Since, Dirname, Idirname, Not, AllOf, AnyOf}
+use Rattle.wq_term.specs.declared.head.Head.TheVariants.{True, False, Exists, Empty, KindIs, Name, Iname, Match, Imatch, Suffix, Size, Since, Dirname, Idirname, Not, AllOf, AnyOf}
 
 -- the term that a text names
 unfoldable pub head_named : List ℕ → Option Head
@@ -13,6 +13,8 @@ head_named text =
     else if bytes_eq text (codes "type") then Some KindIs
     else if bytes_eq text (codes "name") then Some Name
     else if bytes_eq text (codes "iname") then Some Iname
+    else if bytes_eq text (codes "match") then Some Match
+    else if bytes_eq text (codes "imatch") then Some Imatch
     else if bytes_eq text (codes "suffix") then Some Suffix
     else if bytes_eq text (codes "size") then Some Size
     else if bytes_eq text (codes "since") then Some Since

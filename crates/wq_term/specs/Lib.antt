@@ -1,8 +1,10 @@
 pub mod Limits
 pub mod Numbers
 pub mod Texts
+pub mod Patterns
 pub mod Term
 pub mod Head
 pub mod Words
 pub mod Arguments
+pub mod PatternArguments
 pub mod Reading

@@ -1,6 +1,6 @@
 -- What a JSON value says as an expression, or its first fault: depth first, from left to right.
 -- The forms of the terms are those of Watchman's documentation of file queries.
-use Rattle.std.specs.Prelude.{◌≡◌, ℕ, zero, suc, List, Option, Some, None, Result, Ok, Err, option_map, option_and_then, ok_or, map, Vec}
+use Rattle.std.specs.Prelude.{◌≡◌, ℕ, zero, suc, nat_le, if◌then◌else◌, List, length, Option, Some, None, Result, Ok, Err, option_map, option_and_then, ok_or, map, Vec}
 use Rattle.std.specs.declared.alloc.Global.{Global}
 use Rattle.std.specs.Option.{option_zip}
 use Rattle.serde_json.specs.Data.{Data, Items, no_items, item}
@@ -11,16 +11,19 @@ use Rattle.wq_term.specs.declared.expr.Case.{Case}
 use Rattle.wq_term.specs.declared.expr.Case.TheVariants.{Exact, Folded}
 use Rattle.wq_term.specs.declared.expr.Since.TheVariants.{Observed, Created, Modified}
 use Rattle.wq_term.specs.declared.fault.TermFault.{TermFault}
-use Rattle.wq_term.specs.declared.fault.TermFault.TheVariants.{UnknownTerm, WrongArguments, TooDeep, BadClockSpec, NoMemory}
+use Rattle.wq_term.specs.declared.fault.TermFault.TheVariants.{UnknownTerm, WrongArguments, TooDeep, BadClockSpec, PatternTooLong, NoMemory}
 use Rattle.wq_term.specs.declared.head.Head.{Head}
-use Rattle.wq_term.specs.declared.head.Head.TheVariants.{True, False, Exists, Empty, KindIs, Name, Iname, Suffix, Size, Since, Dirname, Idirname, Not, AllOf, AnyOf}
+use Rattle.wq_term.specs.declared.head.Head.TheVariants.{True, False, Exists, Empty, KindIs, Name, Iname, Match, Imatch, Suffix, Size, Since, Dirname, Idirname, Not, AllOf, AnyOf}
 use Rattle.wq_term.specs.declared.reading.words.Field.{Field}
 use Rattle.wq_term.specs.declared.reading.words.Field.TheVariants.{Oclock, Cclock, Mtime}
+use Rattle.wq_glob.specs.Glob.{Glob}
+use Rattle.wq_term.specs.Limits.{max_pattern_length}
 use Rattle.wq_term.specs.Head.{head_named}
 use Rattle.wq_term.specs.Words.{kind_named}
 use Rattle.wq_term.specs.Arguments.{parts_of, only_of, one_or_two_of, text_of, texts_of, scope_of, comparison_of, depth_of, field_of, second_of, bound_in}
+use Rattle.wq_term.specs.PatternArguments.{glob_of}
 use Rattle.wq_term.specs.Texts.{without_end_slashes}
-use Rattle.wq_term.specs.Term.{Term, always, never, exists, empty, kind_is, name_is, suffix_is, size_is, since, below, negation, all_of, any_of, Terms, no_terms, term, term_of, terms_of, texts_in}
+use Rattle.wq_term.specs.Term.{Term, always, never, exists, empty, kind_is, name_is, matches, suffix_is, size_is, since, below, negation, all_of, any_of, Terms, no_terms, term, term_of, terms_of, texts_in}
 
 -- what reading an expression answers: its term, or its first fault
 abbrev pub Answer : Type 0
@@ -47,6 +50,15 @@ read_kind arguments = or_wrong (option_map kind_is (option_and_then kind_named (
 -- `name` and `iname` of a text or texts, and a scope
 abbrev pub read_name : Case → Items → Answer
 read_name case arguments = or_wrong (option_and_then (λ p. option_map (λ q. name_is case q.0 q.1) (option_zip (scope_of p.1) (texts_of p.0))) (one_or_two_of arguments))
+
+-- the term of a pattern, if that has at most 255 bytes; no pattern is wrong arguments, which stands first
+abbrev pub match_from : Option Glob → Answer
+match_from None = Err WrongArguments
+match_from (Some glob) = if nat_le (length glob.text) max_pattern_length then Ok (matches glob) else Err PatternTooLong
+
+-- `match` and `imatch` of a pattern, a scope and flags
+abbrev pub read_match : Case → Items → Answer
+read_match case arguments = match_from (glob_of case arguments)
 
 -- `suffix` of a text or texts
 abbrev pub read_suffix : Items → Answer
@@ -100,6 +112,8 @@ read_named instance read Empty arguments = read_plain empty arguments
 read_named instance read KindIs arguments = read_kind arguments
 read_named instance read Name arguments = read_name Exact arguments
 read_named instance read Iname arguments = read_name Folded arguments
+read_named instance read Match arguments = read_match Exact arguments
+read_named instance read Imatch arguments = read_match Folded arguments
 read_named instance read Suffix arguments = read_suffix arguments
 read_named instance read Size arguments = read_size arguments
 read_named instance read Since arguments = read_since instance arguments

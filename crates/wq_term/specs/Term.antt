@@ -7,6 +7,7 @@ use Rattle.wq_view.specs.declared.kinds.Kind.{Kind}
 use Rattle.wq_view.specs.declared.kinds.Kind.TheVariants.{File, Dir}
 use Rattle.wq_view.specs.Kind.{letter_of}
 use Rattle.wq_view.specs.FileRecord.{FileRecord}
+use Rattle.wq_glob.specs.Glob.{Glob}
 use Rattle.wq_term.specs.declared.expr.Case.{Case}
 use Rattle.wq_term.specs.declared.expr.Scope.{Scope}
 use Rattle.wq_term.specs.declared.expr.Relation.{Relation}
@@ -16,6 +17,7 @@ use Rattle.wq_term.specs.declared.expr.Expr.{Expr, fold-Expr}
 use Rattle.wq_term.specs.declared.expr.Expr.TheOpen.{Expr-F}
 use Rattle.wq_term.specs.Numbers.{compares, is_since}
 use Rattle.wq_term.specs.Texts.{is_named, has_suffix, is_below}
+use Rattle.wq_term.specs.Patterns.{name_fits}
 
 -- an expression without where it lies in memory
 mutual
@@ -26,6 +28,7 @@ mutual
     empty : Term
     kind_is : Kind → Term
     name_is : Case → Scope → List (List ℕ) → Term
+    matches : Glob → Term
     suffix_is : List (List ℕ) → Term
     size_is : Relation → ℤ → Term
     since : Since → Term
@@ -51,6 +54,7 @@ abbrev mutual
   means empty r = r.exists && (has_kind File r || has_kind Dir r) && int_eq r.size (pos 0)
   means (kind_is kind) r = has_kind kind r
   means (name_is case scope texts) r = is_named case scope texts r.name
+  means (matches glob) r = name_fits glob r.name
   means (suffix_is texts) r = has_suffix texts r.name
   means (size_is relation n) r = r.exists && compares relation r.size n
   means (since bound) r = is_since bound r
@@ -86,6 +90,7 @@ term_step Expr-F.Exists = exists
 term_step Expr-F.Empty = empty
 term_step (Expr-F.KindIs kind) = kind_is kind
 term_step (Expr-F.Name case scope texts) = name_is case scope (texts_in texts.items)
+term_step (Expr-F.Match pattern) = matches pattern
 term_step (Expr-F.Suffix texts) = suffix_is (texts_in texts.items)
 term_step (Expr-F.Size relation n) = size_is relation n
 term_step (Expr-F.Since bound) = since bound

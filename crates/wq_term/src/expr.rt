@@ -1,6 +1,7 @@
 //! The expressions, one variant for each term. Terms that differ in letter case alone are one variant.
 
 use wq_clock::Bound;
+use wq_glob::Pattern;
 use wq_view::Kind;
 
 /// An expression over the record of a file, as in Watchman's documentation of file queries.
@@ -23,6 +24,9 @@ pub enum Expr {
         scope: Scope,
         texts: Vec<Vec<u8>>,
     },
+    /// `match` and `imatch`: the files whose name fits the pattern, the whole name where the pattern has the flag
+    /// `wholename`, and else what follows the last slash.
+    Match(Pattern),
     /// `suffix`: the files whose suffix is one of the texts, with A to Z as a to z. An empty text matches nothing.
     Suffix(Vec<Vec<u8>>),
     /// `size`: the files that exist, and whose size in bytes stands in this relation to the number.

@@ -22,6 +22,9 @@ pub enum TermFault {
     /// In `since`, a clock spec that names a cursor.
     #[error("cursor in a term")]
     CursorInTerm,
+    /// In `match` and `imatch`, a pattern of more than 255 bytes.
+    #[error("pattern too long")]
+    PatternTooLong,
     /// A growth was refused.
     #[error("no memory")]
     NoMemory,

@@ -3,6 +3,7 @@ ghost use Rattle.std.specs.Prelude.{◌≡◌, ◌||◌, ◌&&◌, map};
 ghost use Rattle.wq_term.specs.Term.{means, every, some, has_kind, empty, term_of, terms_of};
 
 mod numbers;
+mod patterns;
 mod texts;
 
 use crate::expr::Expr;
@@ -20,6 +21,7 @@ pub fn holds(expr: &Expr, file: &Record) -> bool
         Expr::Empty => is_empty(file),
         Expr::KindIs(kind) => has_kind(*kind, file),
         Expr::Name { case, scope, texts } => texts::is_named(*case, *scope, texts, file),
+        Expr::Match(pattern) => patterns::name_fits(pattern, file),
         Expr::Suffix(texts) => texts::has_suffix(texts, file),
         Expr::Size(relation, n) => file.exists && relation.holds(file.size, *n),
         Expr::Since(since) => since.holds(file),

@@ -11,6 +11,7 @@ ghost use Rattle.wq_term.specs.Term.{term_of};
 mod arguments;
 mod names;
 mod numbers;
+mod patterns;
 mod words;
 
 use crate::expr::{Case, Expr};
@@ -78,6 +79,8 @@ fn read_named(
         Head::KindIs => names::read_kind(arguments),
         Head::Name => names::read_name(alloc, Case::Exact, arguments),
         Head::Iname => names::read_name(alloc, Case::Folded, arguments),
+        Head::Match => patterns::read_match(alloc, Case::Exact, arguments),
+        Head::Imatch => patterns::read_match(alloc, Case::Folded, arguments),
         Head::Suffix => names::read_suffix(alloc, arguments),
         Head::Size => numbers::read_size(arguments),
         Head::Since => numbers::read_since(arguments, instance),

@@ -6,5 +6,6 @@ mod limits;
 mod memory;
 mod names;
 mod numbers;
+mod patterns;
 mod terms;
 mod trees;

@@ -1,7 +1,7 @@
 -- The texts by which commands are refused, each with its number. They are this server's own.
 use Rattle.std.specs.Prelude.{ℕ, List, codes}
 use Rattle.wq_term.specs.declared.fault.TermFault.{TermFault}
-use Rattle.wq_term.specs.declared.fault.TermFault.TheVariants.{UnknownTerm, WrongArguments as WrongTermArguments, TooDeep, BadClockSpec as BadTermClockSpec, CursorInTerm, NoMemory as NoTermMemory}
+use Rattle.wq_term.specs.declared.fault.TermFault.TheVariants.{UnknownTerm, WrongArguments as WrongTermArguments, TooDeep, BadClockSpec as BadTermClockSpec, CursorInTerm, PatternTooLong, NoMemory as NoTermMemory}
 use Rattle.wq_query.specs.declared.fault.QueryFault.{QueryFault}
 use Rattle.wq_query.specs.declared.fault.QueryFault.TheVariants.{LeftOutKey, Expression, UnknownField, BadClockSpec, WrongValue, NoMemory as NoQueryMemory}
 use Rattle.wqd.specs.declared.refusal.Refusal.{Refusal}
@@ -14,6 +14,7 @@ term_text WrongTermArguments = codes "E25: wrong term arguments"
 term_text TooDeep = codes "E26: expression too deep"
 term_text BadTermClockSpec = codes "E23: bad clockspec"
 term_text CursorInTerm = codes "E27: cursor in a term"
+term_text PatternTooLong = codes "E28: pattern too long"
 term_text NoTermMemory = codes "E60: no memory"
 
 -- why a query is refused

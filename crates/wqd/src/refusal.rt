@@ -74,6 +74,7 @@ fn term_text(fault: TermFault) -> &'static str
         TermFault::TooDeep => "E26: expression too deep",
         TermFault::BadClockSpec => BAD_CLOCK_SPEC,
         TermFault::CursorInTerm => "E27: cursor in a term",
+        TermFault::PatternTooLong => "E28: pattern too long",
         TermFault::NoMemory => NO_MEMORY,
     }
 }

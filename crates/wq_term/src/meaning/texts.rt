@@ -46,8 +46,9 @@ pub(super) fn is_below(case: Case, dir: &[u8], depth: Depth, file: &Record) -> b
 }
 
 /// The part of the file's name that the scope asks for.
-fn part_of(scope: Scope, file: &Record) -> &[u8]
-    ensures { result.now ≡ part_of scope file.now.name }
+pub(super) fn part_of(scope: Scope, file: &Record) -> &[u8]
+    ensures value { result.now ≡ part_of scope file.now.name }
+    ensures short { length result.now ≤ MAX_NAME }
 {
     match scope {
         Scope::Basename => file.basename(),

@@ -1,13 +1,13 @@
 //! What one argument of a term, or a few of them, say. Which term has which arguments is not said here.
 ghost use Rattle.std.specs.Prelude.{◌≡◌, ok_or, option_map};
 ghost use Rattle.serde_json.specs.View.{view, items_view};
-ghost use Rattle.wq_term.specs.Arguments.{parts_of, only_of, one_or_two_of, text_of, all_texts_of, texts_of, whole_number_of, second_of, comparison_of};
+ghost use Rattle.wq_term.specs.Arguments.{parts_of, only_of, one_or_two_of, text_of, all_texts_of, texts_of, whole_number_of, second_of, scope_of, comparison_of};
 ghost use Rattle.wq_term.specs.Reading.{GivesAs, GivesTexts};
 ghost use Rattle.wq_term.specs.declared.fault.TermFault.TheVariants.{WrongArguments};
 
-use crate::expr::Relation;
+use crate::expr::{Relation, Scope};
 use crate::fault::TermFault;
-use crate::reading::words::relation_named;
+use crate::reading::words::{relation_named, scope_named};
 use serde_json::Value;
 use std::alloc::Global;
 use wq_clock::Bound;
@@ -119,6 +119,16 @@ pub(super) fn second(value: &Value) -> Option<i64>
         Some(second)
     } else {
         None
+    }
+}
+
+/// A scope, the basename where none is given.
+pub(super) fn read_scope(argument: Option<&Value>) -> Option<Scope>
+    ensures { result ≡ scope_of (option_map (λ v. view v.now) argument.entry) }
+{
+    match argument {
+        None => Some(Scope::Basename),
+        Some(value) => value.as_str().and_then(scope_named),
     }
 }
 

@@ -1,14 +1,16 @@
 //! Reading the terms over the kind and the name of a file: `type`, `name`, `suffix` and `dirname`.
 ghost use Rattle.std.specs.Prelude.{◌≡◌, option_map};
 ghost use Rattle.serde_json.specs.View.{view, items_view};
-ghost use Rattle.wq_term.specs.Arguments.{scope_of, depth_of};
+ghost use Rattle.wq_term.specs.Arguments.{depth_of};
 ghost use Rattle.wq_term.specs.Reading.{Gives, read_kind, read_name, read_suffix, read_dirname};
 ghost use Rattle.wq_term.specs.Texts.{without_end_slashes};
 
-use crate::expr::{Case, Depth, Expr, Scope};
+use crate::expr::{Case, Depth, Expr};
 use crate::fault::TermFault;
-use crate::reading::arguments::{comparison, one_or_two, only, parts, read_texts, text};
-use crate::reading::words::{kind_named, scope_named};
+use crate::reading::arguments::{
+    comparison, one_or_two, only, parts, read_scope, read_texts, text,
+};
+use crate::reading::words::kind_named;
 use serde_json::Value;
 use std::alloc::Global;
 
@@ -62,16 +64,6 @@ pub(super) fn read_dirname(
     };
     let dir = Vec::from_slice(alloc, without_end_slashes(dir))?;
     Ok(Expr::Dirname { case, dir, depth })
-}
-
-/// A scope, the basename where none is given.
-fn read_scope(argument: Option<&Value>) -> Option<Scope>
-    ensures { result ≡ scope_of (option_map (λ v. view v.now) argument.entry) }
-{
-    match argument {
-        None => Some(Scope::Basename),
-        Some(value) => value.as_str().and_then(scope_named),
-    }
 }
 
 /// A depth, `["depth", relation, number]`, and any where none is given.

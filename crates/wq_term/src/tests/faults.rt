@@ -1,6 +1,8 @@
 //! Which values are no expressions, and which of several faults is told.
 
-use crate::TermFault::{self, BadClockSpec, CursorInTerm, TooDeep, UnknownTerm, WrongArguments};
+use crate::TermFault::{
+    self, BadClockSpec, CursorInTerm, PatternTooLong, TooDeep, UnknownTerm, WrongArguments,
+};
 use crate::tests::trees::fault_of;
 use std::test::Fail;
 
@@ -22,8 +24,8 @@ fn refuses_heads_that_name_no_term(rt: HostRuntime) -> Result<(), Fail> {
         r#"["anyOf"]"#,
         r#"["pcre","x"]"#,
         r#"["ipcre","x"]"#,
-        r#"["match","*.c"]"#,
-        r#"["imatch","*.c"]"#,
+        r#"["Match","*.c"]"#,
+        r#"["matches","*.c"]"#,
     ];
     for text in table {
         assert_eq!(rt; fault_of(rt.alloc(), text)?, Some(UnknownTerm), "at {text}");
@@ -261,6 +263,7 @@ fn says_what_is_wrong(rt: HostRuntime) -> Result<(), Fail> {
         (TooDeep, "expression too deep"),
         (BadClockSpec, "bad clockspec"),
         (CursorInTerm, "cursor in a term"),
+        (PatternTooLong, "pattern too long"),
         (TermFault::NoMemory, "no memory"),
     ];
     for (fault, text) in table {

@@ -16,7 +16,7 @@ fn refuses_for_memory_alone(rt: HostRuntime) -> Result<(), Fail> {
         ),
         (r#"["anyof",["not","exists"],["frob"]]"#, Some(UnknownTerm)),
         (
-            r#"["allof",["name",["a","b"]],["suffix","c"],["dirname","d/"],["since",7]]"#,
+            r#"["allof",["name",["a","b"]],["suffix","c"],["match","*[a-z]"],["dirname","d/"],["since",7]]"#,
             None,
         ),
     ];

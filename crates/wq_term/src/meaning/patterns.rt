@@ -1,0 +1,29 @@
+//! Whether the name of a file fits a pattern.
+ghost use Rattle.std.specs.Prelude.{◌≡◌, ◌≤◌, length};
+ghost use Rattle.wq_term.specs.Patterns.{name_fits, scope_with};
+ghost use Rattle.wq_term.specs.Texts.{part_of};
+
+use crate::expr::Scope;
+use crate::meaning::texts::part_of;
+use wq_glob::{Flags, Pattern};
+use wq_view::Record;
+
+/// Whether the part of the file's name that the pattern is for fits it.
+pub(super) fn name_fits(pattern: &Pattern, file: &Record) -> bool
+    ensures { result ≡ name_fits pattern.now file.now.name }
+{
+    pattern
+        .matches(part_of(scope_with(pattern.flags()), file))
+        .yes
+}
+
+/// The part of a name that a pattern with these flags is for.
+fn scope_with(flags: Flags) -> Scope
+    ensures { result ≡ scope_with flags }
+{
+    if flags.wholename {
+        Scope::Wholename
+    } else {
+        Scope::Basename
+    }
+}
