@@ -19,6 +19,9 @@ const CHANGED: &str = "pass 100\nf 1 1000 a\nend\npass 101\nf 2 1000 a\nf 1 1000
 const FOLDERS: &str =
     "pass 1\nd 0 0 foo/bar\nf 1 0 foo/bar/x\nf 1 0 foo/bar/y/x\nf 1 0 foo/barx/z\nend\n";
 
+/// Files that begin with a dot, and files in folders that do.
+const HIDDEN: &str = "pass 1\nf 1 0 .a.c\nf 1 0 .x/a.c\nf 1 0 a.c\nf 1 0 x/a.c\nend\n";
+
 /// Names with and without a suffix, and a time before 1970.
 const SUFFIXES: &str = "pass 1\nf 1 0 .php\nf 1 0 a.PHP\nf 1 -1 php\nend\n";
 
@@ -290,5 +293,42 @@ fn compares_times_by_whole_seconds(rt: HostRuntime) -> Result<(), Fail> {
                 "E25: wrong term arguments",
             ),
         ],
+    )
+}
+
+#[test]
+fn finds_names_that_fit_a_pattern(rt: HostRuntime) -> Result<(), Fail> {
+    check_matches(
+        &rt,
+        rt.alloc(),
+        HIDDEN,
+        &[
+            (r#"["match","*.c"]"#, r#"[".x/a.c","a.c","x/a.c"]"#),
+            (
+                r#"["match","*.c","basename",{"includedotfiles":true}]"#,
+                r#"[".a.c",".x/a.c","a.c","x/a.c"]"#,
+            ),
+            (r#"["match","**/a.c","wholename"]"#, r#"["a.c","x/a.c"]"#),
+            (r#"["match","*.C"]"#, "[]"),
+            (r#"["imatch","*.C"]"#, r#"[".x/a.c","a.c","x/a.c"]"#),
+        ],
+    )
+}
+
+#[test]
+fn refuses_patterns_over_255_bytes(rt: HostRuntime) -> Result<(), Fail> {
+    let mut pattern = String::new(rt.alloc());
+    for _ in 0..127 {
+        pattern.push_str("*a")?;
+    }
+    pattern.push('*')?;
+    let longest = format!(in rt.alloc(); r#"["match","{pattern}"]"#)?;
+    check_matches(&rt, rt.alloc(), HIDDEN, &[(longest.as_str(), "[]")])?;
+    let longer = format!(in rt.alloc(); r#"{{"expression":["match","{pattern}*"]}}"#)?;
+    check_refusals(
+        &rt,
+        rt.alloc(),
+        HIDDEN,
+        &[(longer.as_str(), "E28: pattern too long")],
     )
 }
