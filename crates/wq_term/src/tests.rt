@@ -7,5 +7,6 @@ mod memory;
 mod names;
 mod numbers;
 mod patterns;
+mod reference;
 mod terms;
 mod trees;

@@ -12,9 +12,8 @@ use wq_view::Record;
 pub(super) fn name_fits(pattern: &Pattern, file: &Record) -> bool
     ensures { result ≡ name_fits pattern.now file.now.name }
 {
-    pattern
-        .matches(part_of(scope_with(pattern.flags()), file))
-        .yes
+    let part = part_of(scope_with(pattern.flags()), file);
+    pattern.matches(part).yes
 }
 
 /// The part of a name that a pattern with these flags is for.
