@@ -2,5 +2,6 @@ mod Values
 mod Numbers
 mod Words
 mod NewLines
+mod Parts
 mod Steps
 mod Playing

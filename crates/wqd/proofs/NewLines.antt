@@ -1,10 +1,8 @@
 -- The first line of some bytes, and those behind it.
 use Rattle.std.proofs.Common.{◌≡◌, ℕ, suc, ◌+◌, ◌-◌, ◌<◌, Bool, true, false, ◌&&◌, ◌==◌, nat_lt, if◌then◌else◌, List, [], ◌∷◌, ◌++◌, length, take, slice_index, Option, Some, None, IfSome, refl, sym, ap, ◌∙◌, arith}
 use Rattle.std.proofs.lemmas.Bool.{lt-ltb}
-use Rattle.std.proofs.lemmas.List.{length-append}
-use Rattle.std.specs.Io.BufRead.{take_through, drop_through, strip_last, ends_with_byte, DropsThrough}
+use Rattle.std.specs.Io.BufRead.{take_through, drop_through, strip_last, ends_with_byte}
 use Rattle.wqd.specs.Lines.{lines_of, put_first}
-use Rattle.wqd.specs.StageData.{TakesLine}
 
 -- the first line of some bytes
 abbrev pub first_line : List ℕ → List ℕ
@@ -70,23 +68,3 @@ strip_through (b ∷ []) = last (b == 10) refl
     last true is = strip_one b ∙ rw is refl
     last false is = strip_one b ∙ rw is refl
 strip_through (b ∷ c ∷ bs) = strip_if b (take_through 10 (c ∷ bs)) (first_line (c ∷ bs)) (b == 10) refl (strip_more b c bs (strip_through (c ∷ bs)))
-
-through_some : (b : ℕ) (bs : List ℕ) → 0 < length (take_through 10 (b ∷ bs))
-through_some b bs = at (b == 10)
-  where
-    at : (newline : Bool) → 0 < length (if newline then b ∷ [] else b ∷ take_through 10 bs)
-    at true = omega arith
-    at false = omega arith
-
--- what a reader gave through a newline takes its first line
-pub line_taken : (known rest : Option (List ℕ)) (taken : ℕ) (before buffer line : List ℕ) → before ≡ [] → IfSome known (λ bytes. buffer ≡ before ++ take_through 10 bytes) → DropsThrough known rest 10 → length buffer ≡ length before + taken → line ≡ strip_last 10 buffer → IfSome known (λ bytes. TakesLine bytes (nat_lt 0 taken) line rest)
-line_taken None rest taken before buffer line empty is left count stripped = tt
-line_taken (Some []) rest taken before buffer line empty is left count stripped =
-    let none : taken ≡ 0 = omega (arith, count, ap length is, ap length empty, length-append before []) in
-    rw none refl
-line_taken (Some (b ∷ bs)) rest taken before buffer line empty is left count stripped =
-    let through : buffer ≡ take_through 10 (b ∷ bs) = is ∙ ap (λ front. front ++ take_through 10 (b ∷ bs)) empty in
-    let long = through_some b bs in
-    let some : nat_lt 0 taken ≡ true = lt-ltb _ _ (omega (arith, count, ap length through, ap length empty, long)) in
-    let first : line ≡ first_line (b ∷ bs) = stripped ∙ ap (strip_last 10) through ∙ strip_through (b ∷ bs) in
-    rw some (drop_through 10 (b ∷ bs), left, lines_first b bs ∙ ap (λ l. l ∷ lines_of (drop_through 10 (b ∷ bs))) (sym first))

@@ -9,3 +9,4 @@ pub mod Lines
 pub mod Stage
 pub mod Replay
 pub mod StageData
+pub mod Taken

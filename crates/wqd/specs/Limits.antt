@@ -1,4 +1,4 @@
--- The limits of lines and scripts, in bytes without newlines. They are this server's own.
+-- The limits of lines and scripts in bytes, of lines without their newlines. They are this server's own.
 use Rattle.std.specs.Prelude.{ℕ}
 
 -- a client's line
@@ -8,3 +8,7 @@ max_line = 1048576
 -- a line of a script
 abbrev pub max_script_line : ℕ
 max_script_line = 1048640
+
+-- a script, its newlines counted
+abbrev pub max_script : ℕ
+max_script = 1073741824

@@ -1,5 +1,5 @@
 -- What the replay of a script writes.
-use Rattle.std.specs.Prelude.{◌≡◌, ◌⊎◌, ℕ, ◌+◌, ℤ, List, [], ◌∷◌, ◌++◌, length, nat_lt, if◌then◌else◌, codes, Option, Some, None, Result, Ok, Err}
+use Rattle.std.specs.Prelude.{◌≡◌, ◌≤◌, ◌⊎◌, ℕ, ◌+◌, ℤ, List, [], ◌∷◌, ◌++◌, length, nat_lt, if◌then◌else◌, codes, Option, Some, None, Result, Ok, Err}
 use Rattle.std.specs.Fmt.{signed_decimal}
 use Rattle.std.specs.Io.KnownBytes.{Appends}
 use Rattle.serde_json.specs.Written.{compact_text}
@@ -13,7 +13,7 @@ use Rattle.wqd.specs.Stage.{Stage, Turn, goes_on, passes, answers, strange, turn
 use Rattle.wqd.specs.declared.refusal.Refusal.TheVariants.{NoMemory}
 use Rattle.wqd.specs.declared.replay.ReplayFault.{ReplayFault}
 use Rattle.wqd.specs.declared.replay.ReplayFault.TheVariants.{Line, Read, Write, Memory}
-use Rattle.wqd.specs.Limits.{max_script_line}
+use Rattle.wqd.specs.Limits.{max_script, max_script_line}
 
 -- the instance that answers scripts
 abbrev pub replay_instance : InstanceNumbers
@@ -53,10 +53,10 @@ abbrev pub Plays : ℕ → Stage → List (List ℕ) → List ℕ → Option ℕ
 Plays n stage [] written fault = (written ≡ []) × (fault ≡ None)
 Plays n stage (line ∷ lines) written fault = PlaysTurn n stage (turn_of stage line) (λ next. Plays (n + 1) next lines) written fault
 
--- how a replay of a script ends: well, all its lines replayed; or with the number of the first line that has another
+-- how a replay of a script ends: well, the script within its limit and all its lines replayed; or with the number of the first line that has another
 -- shape, the lines before it replayed. Of the faults of the reader, of the writer and of memory nothing is said.
 abbrev pub Ends : List ℕ → Option (List ℕ) → Option (List ℕ) → Result (Unit {0}) ReplayFault → Type 0
-Ends script before after (Ok _) = (written : List ℕ) × Appends before after written × Plays 1 start (lines_of script) written None
+Ends script before after (Ok _) = (length script ≤ max_script) × (written : List ℕ) × Appends before after written × Plays 1 start (lines_of script) written None
 Ends script before after (Err (Line n)) = (written : List ℕ) × Appends before after written × Plays 1 start (lines_of script) written (Some n)
 Ends script before after (Err Read) = Unit {0}
 Ends script before after (Err Write) = Unit {0}

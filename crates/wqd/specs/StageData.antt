@@ -3,7 +3,6 @@ use Rattle.std.specs.Prelude.{◌≡◌, ℕ, Bool, true, false, List, [], ◌�
 use Rattle.wq_view.specs.History.{History}
 use Rattle.wq_view.specs.Listing.{Listing, listing_of, listing_fault}
 use Rattle.wq_view.specs.View.{FileView, IsViewOf}
-use Rattle.wqd.specs.Lines.{lines_of}
 use Rattle.wqd.specs.Replay.{IsSent}
 use Rattle.wqd.specs.Stage.{Draft, Stage, Turn, goes_on, passes, answers, strange, Passed}
 use Rattle.wqd.specs.declared.replay.ReplayFault.{ReplayFault}
@@ -35,11 +34,6 @@ PassesOver history draft true view =
     (listing_fault draft.rows draft.second ≡ None)
     × ((next : History) × Passed history (listing_of draft.rows draft.second) next × IsViewOf next view)
 PassesOver history draft false view = IsTrue (is_some (listing_fault draft.rows draft.second))
-
--- the first of the lines that some bytes have left, if any, and the bytes behind it
-abbrev pub TakesLine : List ℕ → Bool → List ℕ → Option (List ℕ) → Type 0
-TakesLine bytes false line rest = lines_of bytes ≡ []
-TakesLine bytes true line rest = (left : List ℕ) × (rest ≡ Some left) × (lines_of bytes ≡ line ∷ lines_of left)
 
 -- a fault of a device or of memory, which names no line
 abbrev pub NamesNoLine : ReplayFault → Type 0

@@ -7,6 +7,7 @@ mod refusal;
 mod replay;
 mod script;
 mod stage;
+mod taking;
 #[cfg(test)]
 mod tests;
 

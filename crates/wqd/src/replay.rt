@@ -1,6 +1,5 @@
 //! The replay of a script: passes over one root, and lines of clients that are answered between them.
-ghost use Rattle.std.specs.Prelude.{◌≡◌, List, [], ℕ, None, Some, IfErr, IfOk, IfSome, OnOk, nat_lt};
-ghost use Rattle.std.specs.Io.BufRead.{strip_last};
+ghost use Rattle.std.specs.Prelude.{◌≡◌, List, [], ℕ, None, Some, IfErr, IfOk, IfSome, OnOk};
 ghost use Rattle.std.specs.Io.KnownBytes.{Appends};
 ghost use Rattle.wq_clock.specs.Instance.{instance_numbers};
 ghost use Rattle.wq_view.specs.History.{History};
@@ -8,14 +7,15 @@ ghost use Rattle.wq_view.specs.View.{IsViewOf};
 ghost use Rattle.wqd.specs.LineData.{line_data};
 ghost use Rattle.wqd.specs.Replay.{Ends, IsSent, replay_instance, sent_line, start, turn_of};
 ghost use Rattle.wqd.specs.Stage.{Stage as StageData, turn_outside, turn_inside};
-ghost use Rattle.wqd.specs.StageData.{Does, IsAt, NamesNoLine, PassesOver, TakesLine, draft_of};
+ghost use Rattle.wqd.specs.StageData.{Does, IsAt, NamesNoLine, PassesOver, draft_of};
 
 use crate::command::reply;
 use crate::script::{Line, RowLine, read_line};
 use crate::stage::{Draft, Stage};
+use crate::taking::next_line;
 use itoa::Buffer;
 use std::alloc::{AllocError, AllocFailed, Global};
-use std::io::{BufRead, ErrorKind, Write};
+use std::io::{BufRead, Write};
 use std::sync::ArcSlice;
 use thiserror::Error;
 use wq_clock::Instance;
@@ -97,7 +97,7 @@ fn play<R: BufRead, W: Write>(
         if taken == 0 {
             return Ok(());
         }
-        size = size.saturating_add(taken);
+        size += taken;
         if size > MAX_SCRIPT {
             return Err(ReplayFault::Read);
         }
@@ -106,30 +106,6 @@ fn play<R: BufRead, W: Write>(
         }
     }
     Err(ReplayFault::Read)
-}
-
-/// Takes the next line of a script, without its newline, and says how many bytes were taken: none at the end.
-fn next_line<R: BufRead>(reader: &mut R, line: &mut Vec<u8>) -> Result<usize, ReplayFault>
-    ensures done { IfOk result (λ taken. IfSome (R.remaining reader.old) (λ bytes. TakesLine bytes (nat_lt 0 taken) line.new.items (R.remaining reader.new))) }
-    ensures fault { IfErr result NamesNoLine }
-{
-    line.clear();
-    let taken = match reader.read_until(b'\n', line) {
-        Ok(taken) => taken,
-        Err(error) if error.kind() == ErrorKind::OutOfMemory => return Err(ReplayFault::Memory),
-        Err(_) => return Err(ReplayFault::Read),
-    };
-    strip_newline(line);
-    Ok(taken)
-}
-
-/// Drops the newline at the end of a line, if there is one.
-fn strip_newline(line: &mut Vec<u8>)
-    ensures { line.new.items ≡ strip_last 10 line.old.items }
-{
-    if line.last() == Some(&b'\n') {
-        line.pop();
-    }
 }
 
 /// Writes the reply to a client's line, after the client's number and a space.

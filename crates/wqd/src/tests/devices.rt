@@ -1,6 +1,7 @@
 //! Readers and writers that fail at each of their calls.
 
-use crate::replay::{ReplayFault, replay};
+use crate::replay::{MAX_SCRIPT_LINE, ReplayFault, replay};
+use std::alloc::Global;
 use std::io::{self, BufRead, ErrorKind, Read, Write};
 use std::test::Fail;
 
@@ -16,6 +17,7 @@ struct Broken<'a> {
     left: &'a [u8],
     calls: usize,
     fails_at: usize,
+    fault: ErrorKind,
 }
 
 impl Read for Broken<'_> {
@@ -28,7 +30,7 @@ impl BufRead for Broken<'_> {
     fn fill_buf(&mut self) -> io::Result<&[u8]> {
         self.calls = self.calls.saturating_add(1);
         if self.calls == self.fails_at {
-            return Err(io::Error::from(ErrorKind::BrokenPipe));
+            return Err(io::Error::from(self.fault));
         }
         Ok(&self.left[..self.left.len().min(4)])
     }
@@ -63,14 +65,16 @@ impl Write for Full {
 /// The replay of the script with a reader and a writer that fail at these calls: how it ends, what is written,
 /// and how often each was called.
 fn play(
-    alloc: std::alloc::Global,
+    alloc: Global,
     read_fails: usize,
+    fault: ErrorKind,
     write_fails: usize,
 ) -> (Result<(), ReplayFault>, Vec<u8>, usize, usize) {
     let mut reader = Broken {
         left: SCRIPT,
         calls: 0,
         fails_at: read_fails,
+        fault,
     };
     let mut writer = Full {
         kept: Vec::new(alloc),
@@ -83,11 +87,11 @@ fn play(
 
 #[test]
 fn tells_a_reader_that_fails_at_any_call(rt: HostRuntime) -> Result<(), Fail> {
-    let (ended, written, calls, _) = play(rt.alloc(), 0, 0);
+    let (ended, written, calls, _) = play(rt.alloc(), 0, ErrorKind::BrokenPipe, 0);
     assert_eq!(rt; ended, Ok(()));
     assert_eq!(rt; written.as_slice(), WRITTEN);
     for call in 1..=calls {
-        let (ended, written, _, _) = play(rt.alloc(), call, 0);
+        let (ended, written, _, _) = play(rt.alloc(), call, ErrorKind::BrokenPipe, 0);
         assert_eq!(rt; ended, Err(ReplayFault::Read), "at call {call}");
         assert!(rt; WRITTEN.starts_with(&written), "at call {call}");
     }
@@ -96,11 +100,56 @@ fn tells_a_reader_that_fails_at_any_call(rt: HostRuntime) -> Result<(), Fail> {
 
 #[test]
 fn tells_a_writer_that_fails_at_any_call(rt: HostRuntime) -> Result<(), Fail> {
-    let (_, _, _, calls) = play(rt.alloc(), 0, 0);
+    let (_, _, _, calls) = play(rt.alloc(), 0, ErrorKind::BrokenPipe, 0);
     for call in 1..=calls {
-        let (ended, written, _, _) = play(rt.alloc(), 0, call);
+        let (ended, written, _, _) = play(rt.alloc(), 0, ErrorKind::BrokenPipe, call);
         assert_eq!(rt; ended, Err(ReplayFault::Write), "at call {call}");
         assert!(rt; WRITTEN.starts_with(&written), "at call {call}");
     }
+    Ok(())
+}
+
+/// A read that a signal interrupts is tried again.
+#[test]
+fn reads_on_where_a_read_is_interrupted(rt: HostRuntime) -> Result<(), Fail> {
+    let (_, _, calls, _) = play(rt.alloc(), 0, ErrorKind::Interrupted, 0);
+    for call in 1..=calls {
+        let (ended, written, _, _) = play(rt.alloc(), call, ErrorKind::Interrupted, 0);
+        assert_eq!(rt; ended, Ok(()), "at call {call}");
+        assert_eq!(rt; written.as_slice(), WRITTEN, "at call {call}");
+    }
+    Ok(())
+}
+
+/// Gives one byte over and over, and counts how many of it are taken.
+#[derive(Drop)]
+struct Endless {
+    taken: usize,
+}
+
+impl Read for Endless {
+    fn read(&mut self, _buf: &mut [u8]) -> io::Result<usize> {
+        Err(io::Error::from(ErrorKind::Unsupported))
+    }
+}
+
+impl BufRead for Endless {
+    fn fill_buf(&mut self) -> io::Result<&[u8]> {
+        Ok(b"xxxxxxx")
+    }
+
+    fn consume(&mut self, amount: usize) {
+        self.taken = self.taken.saturating_add(amount);
+    }
+}
+
+/// Of a line without an end no more is taken than shows that it is too long.
+#[test]
+fn ends_at_a_line_without_an_end(rt: HostRuntime) -> Result<(), Fail> {
+    let mut reader = Endless { taken: 0 };
+    let mut writer = Vec::new(rt.alloc());
+    let ended = replay(rt.alloc(), &mut reader, &mut writer);
+    assert_eq!(rt; ended, Err(ReplayFault::Line(1)));
+    assert_eq!(rt; reader.taken, MAX_SCRIPT_LINE + 1);
     Ok(())
 }
