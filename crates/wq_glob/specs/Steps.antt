@@ -7,7 +7,7 @@ use Rattle.wq_glob.specs.Marks.{Mark}
 use Rattle.wq_glob.specs.Fits.{is_shown, is_wild}
 use Rattle.wq_glob.specs.FitsTest.{Reach, Single, Many, Folders, reach, admits}
 use Rattle.wq_glob.specs.declared.options.Flags.{Flags}
-use Rattle.wq_glob.specs.declared.limits.TheConstants.{MAX_PATTERN}
+use Rattle.wq_glob.specs.Limits.{max_pattern_length}
 use Rattle.wq_glob.specs.declared.rows.Seen.{Seen}
 use Rattle.wq_glob.specs.declared.steps.Step.{Step}
 use Rattle.wq_glob.specs.declared.steps.Step.TheVariants.{Byte, AnyByte, Set, Stars, Below, Tail, Never}
@@ -54,5 +54,5 @@ AllStand f _ _ = ⊥
 
 -- the steps of a pattern: its text is not too long, and they stand for its atoms
 pub record IsCompiled (text : List ℕ) (f : Flags) (steps : List Step) : Type 0 where
-  pub short : length text ≤ MAX_PATTERN
+  pub short : length text ≤ max_pattern_length
   pub stands : AllStand f steps (atoms_from (length text) f true text)

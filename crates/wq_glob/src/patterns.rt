@@ -2,8 +2,9 @@
 //! in `matching`; which paths are tried, and whether by their last part or whole, is for others to say.
 ghost use Rattle.std.specs.Prelude.{◌≡◌, ◌<◌, ◌≤◌, ◌↔◌, ◌+◌, ◌*◌, IfOk, IsTrue, length, IsErrOf};
 ghost use Rattle.wq_glob.specs.Glob.{atoms_of, fits, Fits};
+ghost use Rattle.wq_glob.specs.Limits.{max_pattern_length, max_text_length};
 
-use crate::limits::{MAX_PATTERN, MAX_TEXT};
+use crate::limits::MAX_PATTERN;
 use crate::matching::{Hit, hit_of};
 use crate::options::Flags;
 use crate::reading::read_steps;
@@ -96,7 +97,7 @@ impl Pattern {
     /// [`PatternFault::TooLong`] exactly where the text is longer, [`PatternFault::NoMemory`] where a growth was refused.
     pub fn parse(alloc: Global, text: &[u8], flags: Flags) -> Result<Pattern, PatternFault>
         ensures read { IfOk result (λ pattern. pattern ≡ record { text = text.now; flags = flags }) }
-        ensures long { IsErrOf result PatternFault.TooLong ↔ (MAX_PATTERN < length text.now) }
+        ensures long { IsErrOf result PatternFault.TooLong ↔ (max_pattern_length < length text.now) }
     {
         if text.len() > MAX_PATTERN {
             return Err(PatternFault::TooLong);
@@ -109,7 +110,7 @@ impl Pattern {
     /// The text that the pattern was read from.
     pub fn text(&self) -> &[u8]
         ensures value { result.now ≡ self.now.text }
-        ensures short { length result.now ≤ MAX_PATTERN }
+        ensures short { length result.now ≤ max_pattern_length }
     {
         self.text.as_slice()
     }
@@ -124,12 +125,12 @@ impl Pattern {
     /// How many atoms the pattern has: literals, `?`, classes, `*`, `**/` and a last `**` count one each.
     pub fn atoms(&self) -> usize
         ensures count { result ≡ length (atoms_of self.now) }
-        ensures few { result ≤ MAX_PATTERN }
+        ensures few { result ≤ max_pattern_length }
     {
         self.steps.len()
     }
 
-    /// Whether the pattern fits a text of at most [`MAX_TEXT`] bytes, and at what cost.
+    /// Whether the pattern fits a text of at most [`MAX_TEXT`](crate::limits::MAX_TEXT) bytes, and at what cost.
     ///
     /// It fits where the text can be cut into parts, one for each atom in order, each allowed to its atom. With m atoms
     /// and a text of t bytes at most (m + 1)(t + 1) cells are looked at, whatever the pattern; it takes no memory.
@@ -138,7 +139,7 @@ impl Pattern {
     /// src/**/*.c   with wholename fits src/a.c and src/x/y/a.c, and not src/.x/a.c
     /// ```
     pub fn matches(&self, text: &[u8]) -> Hit
-        requires { length text.now ≤ MAX_TEXT }
+        requires { length text.now ≤ max_text_length }
 
         ensures test { result.yes ≡ fits self.now text.now }
         ensures cuts { IsTrue result.yes ↔ Fits self.now text.now }

@@ -10,10 +10,6 @@ max_depth = 64
 abbrev pub max_text_length : ℕ
 max_text_length = 4096
 
--- the most bytes of a pattern in `match`
-abbrev pub max_pattern_length : ℕ
-max_pattern_length = 255
-
 -- the greatest whole number, either side of 0
 abbrev pub max_number : ℤ
 max_number = pos (2 ^ 62)

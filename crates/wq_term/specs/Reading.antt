@@ -17,7 +17,7 @@ use Rattle.wq_term.specs.declared.head.Head.TheVariants.{True, False, Exists, Em
 use Rattle.wq_term.specs.declared.reading.words.Field.{Field}
 use Rattle.wq_term.specs.declared.reading.words.Field.TheVariants.{Oclock, Cclock, Mtime}
 use Rattle.wq_glob.specs.Glob.{Glob}
-use Rattle.wq_term.specs.Limits.{max_pattern_length}
+use Rattle.wq_glob.specs.Limits.{max_pattern_length}
 use Rattle.wq_term.specs.Head.{head_named}
 use Rattle.wq_term.specs.Words.{kind_named}
 use Rattle.wq_term.specs.Arguments.{parts_of, only_of, one_or_two_of, text_of, texts_of, scope_of, comparison_of, depth_of, field_of, second_of, bound_in}
