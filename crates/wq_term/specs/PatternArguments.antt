@@ -29,6 +29,7 @@ abbrev pub are_flags : Members → Bool
 are_flags no_members = true
 are_flags (member key d ms) = is_flag key d && are_flags ms
 
+-- true is said
 abbrev pub is_true : Option Bool → Bool
 is_true None = false
 is_true (Some b) = b
@@ -53,6 +54,7 @@ abbrev pub flags_of : Flags → Option Data → Option Flags
 flags_of flags None = Some flags
 flags_of flags (Some d) = option_and_then (λ ms. if are_flags ms then Some (set_flags flags d) else None) (as_object d)
 
+-- a pattern of this text with these flags
 abbrev pub glob : List ℕ → Flags → Glob
 glob text flags = record { text = text; flags = flags }
 
