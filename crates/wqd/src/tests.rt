@@ -1,5 +1,6 @@
 //! Scripts and what they write, devices that fail, and the command line.
 
 mod answers;
+mod clock;
 mod devices;
 mod scripts;
