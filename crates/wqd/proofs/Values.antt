@@ -1,13 +1,15 @@
 -- What a text says as a JSON value, and lists of one.
-use Rattle.std.proofs.Common.{◌≡◌, ℕ, Bool, true, false, List, [], ◌∷◌, length, Option, Some, None, refl, if◌then◌else◌, ◌==◌, ◌-◌, nat_eq, take, drop, codes, ap, ◌∙◌, arith}
+use Rattle.std.proofs.Common.{◌≡◌, ℕ, suc, Bool, true, false, List, [], ◌∷◌, length, Option, Some, None, refl, if◌then◌else◌, ◌==◌, ◌-◌, nat_eq, take, drop, codes, ap, ◌∙◌, arith}
+use Rattle.std.proofs.lemmas.Bool.{ne_eqb}
 use Rattle.std.proofs.lemmas.List.{take_all, length-drop}
 use Rattle.std.specs.List.{list_all, starts_with}
 use Rattle.std.specs.Str.{IsUtf8, is_utf8}
 use Rattle.std.proofs.lemmas.Str.{IsUtf8-from_is_utf8, is_utf8-from_IsUtf8}
-use Rattle.serde_json.specs.Data.{Data}
+use Rattle.serde_json.specs.Data.{Data, Members, object}
 use Rattle.serde_json.specs.Read.{read as read_text}
-use Rattle.serde_json.specs.View.{items_view}
+use Rattle.serde_json.specs.View.{items_view, view}
 use Rattle.serde_json.specs.declared.value.Value.{Value}
+use Rattle.wqd.specs.Clock.{are_options}
 use Rattle.wqd.specs.Command.{value_of, only_of, is_root}
 
 pub value_read : (line : List ℕ) (d : Data) → IsUtf8 line → read_text line ≡ Some d → value_of line ≡ Some d
@@ -33,3 +35,8 @@ root_then text slashes begins is = rw begins is
 -- the bytes from a place on
 pub from_place : (bytes text : List ℕ) (i : ℕ) → bytes ≡ text → take (length bytes - i) (drop i bytes) ≡ drop i text
 from_place bytes text i same = take_all (length bytes - i) (drop i bytes) (omega (arith, length-drop i bytes)) ∙ ap (drop i) same
+
+-- behind an object nothing may stand
+pub one_object : (options : Value) (rest values : List Value) (ms : Members) (empty : Bool) → values ≡ options ∷ rest → view options ≡ object ms → empty ≡ (length rest == 0) → empty ≡ are_options (items_view values)
+one_object options [] values ms empty is said none = none ∙ rw (is, said) refl
+one_object options (v ∷ vs) values ms empty is said none = none ∙ rw (is, said) (ne_eqb (suc (length vs)) 0 (λ h. omega (arith, h)))

@@ -1,5 +1,5 @@
 -- What a client's line is answered with, at a view of the one root that is watched.
--- Commands and replies are those of Watchman's documentation of `query`; the refusals are this server's own.
+-- Commands and replies are those of Watchman's documentation of `query` and `clock`; the refusals are this server's own.
 use Rattle.std.specs.Prelude.{◌≡◌, ℕ, Bool, ◌&&◌, ◌==◌, nat_eq, nat_lt, if◌then◌else◌, List, [], ◌∷◌, length, drop, codes, bytes_eq, Option, Some, None, option_map, Result, Ok, Err}
 use Rattle.std.specs.List.{list_all, starts_with}
 use Rattle.std.specs.Str.{is_utf8}
@@ -10,6 +10,7 @@ use Rattle.wq_view.specs.View.{FileView}
 use Rattle.wq_query.specs.Asked.{Asked, asks}
 use Rattle.wq_query.specs.Reply.{reply_of}
 use Rattle.wq_query.specs.declared.fault.QueryFault.{QueryFault}
+use Rattle.wqd.specs.Clock.{clock_data, clock_root}
 use Rattle.wqd.specs.Limits.{max_line}
 use Rattle.wqd.specs.declared.refusal.Refusal.{Refusal}
 use Rattle.wqd.specs.declared.refusal.Refusal.TheVariants.{LineTooLong, NotJson, NotACommand, UnknownCommand, WrongArguments, Bser, NotWatched, Query}
@@ -50,11 +51,18 @@ answer_query instance view None = Err WrongArguments
 answer_query instance view (Some (root, query)) =
     if is_root root then answer_asked instance view (asks instance query) else Err NotWatched
 
+-- what is answered to `clock` of a root
+abbrev pub answer_clock : InstanceNumbers → FileView → Option (List ℕ) → Result Data Refusal
+answer_clock instance view None = Err WrongArguments
+answer_clock instance view (Some root) = if is_root root then Ok (clock_data instance view) else Err NotWatched
+
 -- what is answered to a command
 abbrev pub answer_command : InstanceNumbers → FileView → Option (List ℕ × Items) → Result Data Refusal
 answer_command instance view None = Err NotACommand
 answer_command instance view (Some (name, arguments)) =
-    if bytes_eq name (codes "query") then answer_query instance view (query_of (two_of arguments)) else Err UnknownCommand
+    if bytes_eq name (codes "query") then answer_query instance view (query_of (two_of arguments))
+    else if bytes_eq name (codes "clock") then answer_clock instance view (clock_root arguments)
+    else Err UnknownCommand
 
 -- what is answered to the value of a line
 abbrev pub answer_value : InstanceNumbers → FileView → Option Data → Result Data Refusal

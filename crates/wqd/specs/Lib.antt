@@ -1,5 +1,6 @@
 pub mod Limits
 pub mod Refusal
+pub mod Clock
 pub mod Command
 pub mod Gives
 pub mod Number

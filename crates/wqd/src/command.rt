@@ -6,6 +6,7 @@ ghost use Rattle.wq_clock.specs.Instance.{instance_numbers};
 ghost use Rattle.wqd.specs.Command.{answer_line, answer_value, answer_command, answer_query, command_of, error_data, is_binary, is_root, only_of, query_of, reply_to, two_of, value_of};
 ghost use Rattle.wqd.specs.Gives.{Gives, GivesValue};
 
+use crate::clock::answer_clock;
 use crate::refusal::Refusal;
 use serde_json::{Value, json};
 use std::alloc::{AllocError, Global};
@@ -57,10 +58,11 @@ fn answer_line(
     let Some((name, arguments)) = command(&value) else {
         return Err(Refusal::NotACommand);
     };
-    if name != "query" {
-        return Err(Refusal::UnknownCommand);
+    match name {
+        "query" => answer_query(alloc, instance, view, arguments),
+        "clock" => answer_clock(alloc, instance, view, arguments),
+        _ => Err(Refusal::UnknownCommand),
     }
-    answer_query(alloc, instance, view, arguments)
 }
 
 /// The line begins with byte 0.
@@ -150,7 +152,7 @@ fn only(arguments: &[Value]) -> Option<&Value>
 }
 
 /// The text is the root's, slashes at its end aside.
-fn is_root(text: &str) -> bool
+pub(crate) fn is_root(text: &str) -> bool
     ensures { result ≡ is_root text.now }
 {
     let bytes = text.as_bytes();

@@ -1,6 +1,7 @@
 //! The file watch server's program: what it answers to a client's line, the replay of scripts, and the command line.
 #![tactic(auto)]
 
+mod clock;
 mod command;
 mod command_line;
 mod refusal;

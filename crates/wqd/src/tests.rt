@@ -2,5 +2,6 @@
 
 mod answers;
 mod changes;
+mod clock;
 mod devices;
 mod scripts;
