@@ -1,12 +1,12 @@
 -- Which texts are numbers of a script.
-use Rattle.std.proofs.Common.{◌≡◌, ℕ, suc, ℤ, pos, negsuc, neg_ℤ, ◌<◌, ◌^◌, Bool, true, false, ◌&&◌, List, ◌∷◌, length, Option, Some, None, Result, Ok, Err, FitsSigned, w64, refl, sym, ap, subst, ◌∙◌, arith}
-use Rattle.std.specs.Fmt.{decimal, signed_decimal}
+use Rattle.std.proofs.Common.{◌≡◌, ℕ, ℤ, pos, negsuc, ◌^◌, Bool, true, false, ◌&&◌, List, Some, None, Ok, Err, FitsSigned, w64, refl, sym, subst}
+use Rattle.std.specs.Fmt.{signed_decimal}
 use Rattle.std.specs.Str.{IsUtf8, bytes_eq}
-use Rattle.std.specs.Str.Parse.{IsNumeral, digits_value, signed_digits_value, without_leading_sign, ParsesSigned}
+use Rattle.std.specs.Str.Parse.{signed_digits_value, ParsesSigned}
 use Rattle.std.proofs.lemmas.Bool.{and_parts, and_from, lt-ltb, ltb-true, cond-true, cond-false, false_from_ne_true}
 use Rattle.std.proofs.lemmas.Slice.Eq.{bytes_eq-Decides}
 use Rattle.std.proofs.lemmas.Str.{IsUtf8-from_ascii}
-use Rattle.std.proofs.lemmas.Fmt.{decimal_is_IsNumeral, parse-signed_decimal}
+use Rattle.std.proofs.lemmas.Fmt.{parse-signed_decimal}
 use Rattle.itoa.proofs.Decimal.{IsAscii-signed_decimal}
 use Rattle.wqd.specs.Number.{is_i64, number_of}
 

@@ -1,5 +1,5 @@
 -- What a text says as a JSON value, and lists of one.
-use Rattle.std.proofs.Common.{◌≡◌, ℕ, suc, Bool, true, false, List, [], ◌∷◌, length, Option, Some, None, refl, if◌then◌else◌, ◌==◌, ◌-◌, nat_eq, take, drop, codes, ap, ◌∙◌, arith}
+use Rattle.std.proofs.Common.{◌≡◌, ℕ, suc, Bool, true, false, List, [], ◌∷◌, length, Some, None, refl, if◌then◌else◌, ◌==◌, ◌-◌, nat_eq, take, drop, codes, ap, ◌∙◌, arith}
 use Rattle.std.proofs.lemmas.Bool.{ne_eqb}
 use Rattle.std.proofs.lemmas.List.{take_all, length-drop}
 use Rattle.std.specs.List.{list_all, starts_with}

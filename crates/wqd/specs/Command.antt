@@ -1,6 +1,6 @@
 -- What a client's line is answered with, at a view of the one root that is watched.
 -- Commands and replies are those of Watchman's documentation of `query` and `clock`; the refusals are this server's own.
-use Rattle.std.specs.Prelude.{◌≡◌, ℕ, Bool, ◌&&◌, ◌==◌, nat_eq, nat_lt, if◌then◌else◌, List, [], ◌∷◌, length, drop, codes, bytes_eq, Option, Some, None, option_map, Result, Ok, Err}
+use Rattle.std.specs.Prelude.{ℕ, Bool, ◌&&◌, ◌==◌, nat_eq, nat_lt, if◌then◌else◌, List, [], ◌∷◌, length, drop, codes, bytes_eq, Option, Some, None, option_map, Result, Ok, Err}
 use Rattle.std.specs.List.{list_all, starts_with}
 use Rattle.std.specs.Str.{is_utf8}
 use Rattle.serde_json.specs.Data.{Data, string, array, object, Items, no_items, item, no_members, member}

@@ -1,5 +1,5 @@
 -- What a line of a script says. Words are separated by a single space; a name and a client's line are the rest of their line.
-use Rattle.std.specs.Prelude.{ℕ, ℤ, pos, Bool, ◌&&◌, ◌==◌, int_le, nat_lt, List, [], ◌∷◌, length, codes, bytes_eq, if◌then◌else◌, Option, Some, None, option_map, option_and_then}
+use Rattle.std.specs.Prelude.{ℕ, ℤ, pos, Bool, ◌&&◌, ◌==◌, int_le, List, [], ◌∷◌, codes, bytes_eq, if◌then◌else◌, Option, Some, None, option_map, option_and_then}
 use Rattle.wq_view.specs.Kind.{letter_of}
 use Rattle.wq_view.specs.Row.{Row}
 use Rattle.wq_view.specs.declared.kinds.Kind.{Kind}

@@ -1,7 +1,7 @@
 -- What the code's `Stage` stands for, and what a step of a replay does.
-use Rattle.std.specs.Prelude.{◌≡◌, ℕ, Bool, true, false, List, [], ◌∷◌, Option, Some, None, option_map, is_some, IsTrue}
+use Rattle.std.specs.Prelude.{◌≡◌, ℕ, Bool, true, false, List, [], None, option_map, is_some, IsTrue}
 use Rattle.wq_view.specs.History.{History}
-use Rattle.wq_view.specs.Listing.{Listing, listing_of, listing_fault}
+use Rattle.wq_view.specs.Listing.{listing_of, listing_fault}
 use Rattle.wq_view.specs.View.{FileView, IsViewOf}
 use Rattle.wqd.specs.Replay.{IsSent}
 use Rattle.wqd.specs.Stage.{Draft, Stage, Turn, goes_on, passes, answers, strange, Passed}

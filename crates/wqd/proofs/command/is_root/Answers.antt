@@ -1,9 +1,8 @@
 -- The closure tests each byte behind the root.
-use Rattle.std.proofs.Common.{rules, ◌==◌, drop, ap, ◌∙◌, sym}
+use Rattle.std.proofs.Common.{rules, ◌==◌, drop, ◌∙◌}
 use borrow.Author.Tests.{tests}
 use Rattle.std.proofs.lemmas.Iterator.{YieldsList-from_slice}
 use Rattle.std.proofs.lemmas.Iterator.Search.{all_from_yields_List}
-use Rattle.std.specs.List.{list_all}
 use Rattle.wqd.proofs.Values.{root_then, from_place}
 use Rattle.wqd.proofs.command.is_root.Goals as goal
 

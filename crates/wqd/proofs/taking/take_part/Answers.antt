@@ -1,5 +1,5 @@
 -- What the reader showed is taken as far as it is kept.
-use Rattle.std.proofs.Common.{◌≡◌, ◌-◌, length, take, sym, ap, subst, ◌∙◌, rules, length-take-le}
+use Rattle.std.proofs.Common.{◌≡◌, ◌-◌, length, sym, ap, subst, ◌∙◌, rules, length-take-le}
 use Rattle.std.specs.Io.BufRead.{FillKeeps}
 use Rattle.std.proofs.BufReadLemmas.{Consumes_shown}
 use Rattle.wqd.specs.Taken.{is_last, kept, max_kept}
