@@ -4,4 +4,6 @@ mod answers;
 mod changes;
 mod clock;
 mod devices;
+mod generated;
+mod plain;
 mod scripts;
