@@ -1,0 +1,7 @@
+-- What was taken of the line, and that more of it may come.
+use Rattle.std.proofs.Common.{◌≤◌, false, [], length, IfSome}
+use Rattle.wq_replay.specs.Taken.{TakesPart, max_kept}
+use Rattle.wq_replay.proofs.taking.take_line.Given as goal
+
+abbrev pub invariant-loop : goal.invariant-loop
+invariant-loop g l = (length l.line.items ≤ max_kept) × IfSome (g.R.Read.remaining l.fn.reader) (λ bytes. TakesPart bytes [] false l.line.items (g.R.Read.remaining l.reader))

@@ -1,0 +1,10 @@
+-- What a `Line` of the code stands for.
+use Rattle.wq_replay.specs.ScriptLine.{ScriptLine, pass, row, end, ask}
+use Rattle.wq_replay.specs.declared.script.Line.{Line}
+use Rattle.wq_replay.specs.declared.script.Line.TheVariants.{Pass, Row, End, Ask}
+
+abbrev pub line_data : Line → ScriptLine
+line_data (Pass second) = pass second
+line_data (Row r) = row (record { name = r.name.now; kind = r.kind; size = r.size; mtime_ms = r.mtime_ms })
+line_data End = end
+line_data (Ask client line) = ask client line.now

@@ -1,0 +1,132 @@
+//! The lines of a script, each as what it says. What they do is not said here.
+ghost use Rattle.std.specs.Prelude.{◌≡◌, option_map};
+ghost use Rattle.wq_replay.specs.Number.{number_of};
+ghost use Rattle.wq_replay.specs.ScriptLine.{ask_of, first_word, kind_of, line_of, number_then, row_of};
+ghost use Rattle.wq_replay.specs.LineData.{line_data};
+
+use itoa::Buffer;
+use memchr::memchr;
+use wq_view::Kind;
+
+/// What a line of a script says.
+#[derive(Clone, Copy, Debug)]
+pub(crate) enum Line<'a> {
+    /// A listing begins, seen at this second of the Unix epoch.
+    Pass(i64),
+    /// A row of the listing.
+    Row(RowLine<'a>),
+    /// The listing ends, and is passed over.
+    End,
+    /// A client sends a line.
+    Ask(i64, &'a [u8]),
+}
+
+/// A row of a listing: nothing of it is tested yet.
+#[derive(Clone, Copy, Debug)]
+pub(crate) struct RowLine<'a> {
+    pub(crate) kind: Kind,
+    /// In bytes.
+    pub(crate) size: i64,
+    /// In milliseconds of the Unix epoch.
+    pub(crate) mtime_ms: i64,
+    pub(crate) name: &'a [u8],
+}
+
+/// The words that head lines.
+const PASS: &[u8] = b"pass";
+
+const ASK: &[u8] = b"ask";
+
+const END: &[u8] = b"end";
+
+/// The greatest number of a client.
+const MAX_CLIENT: i64 = 32;
+
+/// What a line says, unless it has another shape.
+pub(crate) fn read_line(text: &[u8]) -> Option<Line<'_>>
+    ensures { option_map line_data result ≡ line_of text.now }
+{
+    if text == END {
+        return Some(Line::End);
+    }
+    let (word, rest) = first_word(text)?;
+    if word == PASS {
+        Some(Line::Pass(number(rest)?))
+    } else if word == ASK {
+        ask(rest)
+    } else {
+        row(kind(word)?, rest)
+    }
+}
+
+/// A client's line: the number of the client, and the line.
+fn ask(text: &[u8]) -> Option<Line<'_>>
+    ensures { option_map line_data result ≡ ask_of text.now }
+{
+    let (client, line) = number_then(text)?;
+    if 1 <= client && client <= MAX_CLIENT {
+        Some(Line::Ask(client, line))
+    } else {
+        None
+    }
+}
+
+/// A row of a kind: its size, its time of change and its name.
+fn row(kind: Kind, text: &[u8]) -> Option<Line<'_>>
+    ensures { option_map line_data result ≡ row_of kind text.now }
+{
+    let (size, text) = number_then(text)?;
+    let (mtime_ms, name) = number_then(text)?;
+    Some(Line::Row(RowLine {
+        kind,
+        size,
+        mtime_ms,
+        name,
+    }))
+}
+
+/// The word before the first space, and what follows that space.
+fn first_word(text: &[u8]) -> Option<(&[u8], &[u8])>
+    ensures { option_map (λ w. (w.0.now, w.1.now)) result ≡ first_word text.now }
+{
+    let Some(at) = memchr(b' ', text) else {
+        return None;
+    };
+    Some((&text[..at], &text[at + 1..]))
+}
+
+/// The number of 64 bits whose decimal text this is.
+fn number(text: &[u8]) -> Option<i64>
+    ensures { result ≡ number_of text.now }
+{
+    let Ok(text) = str::from_utf8(text) else {
+        return None;
+    };
+    let Ok(number) = text.parse::<i64>() else {
+        return None;
+    };
+    if Buffer::new().format(number) == text {
+        Some(number)
+    } else {
+        None
+    }
+}
+
+/// A number, and what follows the space behind it.
+fn number_then(text: &[u8]) -> Option<(i64, &[u8])>
+    ensures { option_map (λ n. (n.0, n.1.now)) result ≡ number_then text.now }
+{
+    let (word, rest) = first_word(text)?;
+    Some((number(word)?, rest))
+}
+
+/// The kind that a word names by its letter.
+fn kind(word: &[u8]) -> Option<Kind>
+    ensures { result ≡ kind_of word.now }
+{
+    let (letter, rest) = word.split_first()?;
+    if !rest.is_empty() {
+        return None;
+    }
+    Kind::from_letter(*letter)
+}

@@ -1,0 +1,97 @@
+//! Takes the lines of a script from a reader. Of a line over the limit only a front is kept, so that no line needs
+//! more memory. What a line says is not looked at here.
+ghost use Rattle.std.specs.Prelude.{◌≡◌, ◌≤◌, true, [], length, IfErr, IfOk, IfSome, OnOk};
+ghost use Rattle.std.specs.Io.BufRead.{strip_last};
+ghost use Rattle.wq_replay.specs.StageData.{NamesNoLine};
+ghost use Rattle.wq_replay.specs.Taken.{TakesLine, TakesPart, is_last, kept, max_kept};
+
+use crate::replay::{MAX_SCRIPT_LINE, ReplayFault};
+use memchr::memchr;
+use std::io::{BufRead, Error, ErrorKind};
+
+/// How many bytes of a line are kept, its newline counted. One byte over the limit shows that a line is too long.
+const MAX_KEPT: usize = MAX_SCRIPT_LINE + 1;
+
+/// Takes the next line of a script, without its newline, and says how many bytes were taken: none at the end.
+///
+/// Of a line over the limit a front is taken that is over the limit too.
+pub(crate) fn next_line<R: BufRead>(
+    reader: &mut R,
+    line: &mut Vec<u8>,
+) -> Result<usize, ReplayFault>
+    ensures done { IfOk result (λ taken. IfSome (R.remaining reader.old) (λ bytes. TakesLine bytes taken line.new.items (R.remaining reader.new))) }
+    ensures few { IfOk result (λ taken. taken ≤ max_kept) }
+    ensures kept { length line.new.items ≤ max_kept }
+    ensures fault { IfErr result NamesNoLine }
+{
+    line.clear();
+    take_line(reader, line)?;
+    let taken = line.len();
+    strip_newline(line);
+    Ok(taken)
+}
+
+/// Takes the next line with its newline, as much of it as is kept.
+fn take_line<R: BufRead>(reader: &mut R, line: &mut Vec<u8>) -> Result<(), ReplayFault>
+    requires { line.old.items ≡ [] }
+    ensures done { OnOk result (IfSome (R.remaining reader.old) (λ bytes. TakesPart bytes [] true line.new.items (R.remaining reader.new))) }
+    ensures kept { length line.new.items ≤ max_kept }
+    ensures fault { IfErr result NamesNoLine }
+{
+    for _ in 0..u64::MAX {
+        if take_part(reader, line)? {
+            return Ok(());
+        }
+    }
+    Err(ReplayFault::Read)
+}
+
+/// Takes what the reader shows of a line, and says whether that was its last part.
+fn take_part<R: BufRead>(reader: &mut R, line: &mut Vec<u8>) -> Result<bool, ReplayFault>
+    requires { length line.old.items ≤ max_kept }
+    ensures done { IfOk result (λ last. IfSome (R.remaining reader.old) (λ bytes. TakesPart bytes line.old.items last line.new.items (R.remaining reader.new))) }
+    ensures kept { length line.new.items ≤ max_kept }
+    ensures fault { IfErr result NamesNoLine }
+{
+    let shown = match reader.fill_buf() {
+        Ok(shown) => shown,
+        Err(error) if error.kind() == ErrorKind::Interrupted => return Ok(false),
+        Err(error) => return Err(read_fault(&error)),
+    };
+    let (count, is_last) = part(shown, MAX_KEPT - line.len());
+    line.extend_from_slice(&shown[..count])?;
+    reader.consume(count);
+    Ok(is_last)
+}
+
+/// How many of the bytes that are shown are taken for the line, and whether nothing is taken after them.
+fn part(shown: &[u8], room: usize) -> (usize, bool)
+    ensures count { result.0 ≡ length (kept room shown.now) }
+    ensures last { result.1 ≡ is_last room shown.now }
+{
+    let front = &shown[..room.min(shown.len())];
+    match memchr(b'\n', front) {
+        Some(at) => (at + 1, true),
+        None => (front.len(), front.len() == room || shown.is_empty()),
+    }
+}
+
+/// Why a script cannot be read.
+fn read_fault(error: &Error) -> ReplayFault
+    ensures { NamesNoLine result }
+{
+    if error.kind() == ErrorKind::OutOfMemory {
+        ReplayFault::Memory
+    } else {
+        ReplayFault::Read
+    }
+}
+
+/// Drops the newline at the end of a line, if there is one.
+fn strip_newline(line: &mut Vec<u8>)
+    ensures { line.new.items ≡ strip_last 10 line.old.items }
+{
+    if line.last() == Some(&b'\n') {
+        line.pop();
+    }
+}
