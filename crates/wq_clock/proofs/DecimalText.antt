@@ -7,7 +7,7 @@ use Rattle.std.proofs.lemmas.Bool.{and_parts, and_from, le-leb, leb-true, cond-t
 use Rattle.std.proofs.lemmas.Option.{cond_some}
 use Rattle.std.proofs.lemmas.Slice.Eq.{bytes_eq-Decides}
 use Rattle.std.proofs.lemmas.Fmt.{decimal_is_IsNumeral, parse-decimal, length-decimal-le}
-use Rattle.wq_clock.specs.Limits.{max_number}
+use Rattle.wq_clock.specs.Limit.{max_number}
 use Rattle.wq_clock.specs.ClockSpec.{number_of}
 
 -- a number of a clock id fits 64 bits

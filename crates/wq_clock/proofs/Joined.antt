@@ -9,7 +9,7 @@ use Rattle.std.proofs.lemmas.Fmt.{decimal_is_IsNumeral}
 use Rattle.std.proofs.lemmas.Str.Parse.{digit_at}
 use Rattle.std.proofs.lemmas.Bool.{ne_eqb}
 use Rattle.std.proofs.lemmas.Option.{same_Some}
-use Rattle.wq_clock.specs.Limits.{max_number}
+use Rattle.wq_clock.specs.Limit.{max_number}
 use Rattle.wq_clock.specs.ClockSpec.{number_of, with_first, numbers_of}
 use Rattle.wq_clock.proofs.DecimalText.{small, number_of-decimal, decimal_of}
 

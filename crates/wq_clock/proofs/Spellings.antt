@@ -8,14 +8,14 @@ use Rattle.std.proofs.lemmas.Bool.{and_parts, and_from, le-leb, leb-true, cond-t
 use Rattle.std.proofs.lemmas.Bool.Decides.{Decides-eqb}
 use Rattle.std.proofs.lemmas.Option.{cond_some, same_Some, option_and_then_some}
 use Rattle.std.proofs.lemmas.Slice.Eq.{starts_is}
-use Rattle.wq_clock.specs.Limits.{max_name_length}
-use Rattle.wq_clock.specs.ClockSpec.{ClockSpec, clock_id, old_clock_id, named_cursor, IsWithinLimits, numbers_of, id_from_numbers, id_of, cursor_of, clock_spec_of}
+use Rattle.wq_clock.specs.Limit.{max_name_length}
+use Rattle.wq_clock.specs.ClockSpec.{SpecData, clock_id, old_clock_id, named_cursor, IsWithinLimits, numbers_of, id_from_numbers, id_of, cursor_of, clock_spec_of}
 use Rattle.wq_clock.specs.Spelling.{IsSpelling}
-use Rattle.wq_clock.specs.Spec.{value_of, said_by}
-use Rattle.wq_clock.specs.declared.reading.BadClock.{BadClock}
+use Rattle.wq_clock.specs.Spec.{spec_data, said_by}
+use Rattle.wq_clock.specs.declared.reading.ClockFault.{ClockFault}
 use Rattle.wq_clock.specs.declared.reading.Spec.{Spec}
 use Rattle.std.specs.Result.{IfOk}
-use Rattle.wq_clock.specs.Laws.{TextsSayWhatTheySpell, PrintedIdsReadBack, SameTextSameId}
+use Rattle.wq_clock.specs.Law.{TextsSayWhatTheySpell, PrintedIdsReadBack, SameTextSameId}
 use Rattle.wq_clock.proofs.Joined.{AllInRange, slice_split-join, numbers_of-map, text_from_numbers}
 
 -- what numbers with colons between them say behind `c:`
@@ -25,7 +25,7 @@ id_of-join first ns h =
     ap (option_and_then id_from_numbers) (ap numbers_of (slice_split-join first ns h) ∙ numbers_of-map (first ∷ ns) h)
 
 -- a spelling says what it spells
-says : (text : List ℕ) (spec : ClockSpec) → IsSpelling spec text → clock_spec_of text ≡ Some spec
+says : (text : List ℕ) (spec : SpecData) → IsSpelling spec text → clock_spec_of text ≡ Some spec
 says text (clock_id instance tick) h =
     ap clock_spec_of h.2
     ∙ id_of-join instance.start (instance.pid ∷ instance.root ∷ tick ∷ [])
@@ -37,7 +37,7 @@ says text (named_cursor name) h =
     ∙ cond-true _ _ _ (and_from _ _ (le-leb 1 (length name) h.0) (le-leb (length name) max_name_length h.1))
 
 -- a clock id of these numbers, behind `c:`
-spells_id : (rest ns : List ℕ) (spec : ClockSpec) → AllInRange ns
+spells_id : (rest ns : List ℕ) (spec : SpecData) → AllInRange ns
     → rest ≡ join_with_byte 58 (map decimal ns) → id_from_numbers ns ≡ Some spec
     → IsSpelling spec (99 ∷ 58 ∷ rest)
 spells_id rest [] spec h e is = cc
@@ -51,7 +51,7 @@ spells_id rest (a ∷ b ∷ c ∷ d ∷ []) spec h e is =
 spells_id rest (a ∷ b ∷ c ∷ d ∷ f ∷ ns) spec h e is = cc
 
 -- a cursor, behind `n:`
-spells_cursor : (name : List ℕ) (spec : ClockSpec) → cursor_of name ≡ Some spec
+spells_cursor : (name : List ℕ) (spec : SpecData) → cursor_of name ≡ Some spec
     → IsSpelling spec (110 ∷ 58 ∷ name)
 spells_cursor name spec is =
     let passes = cond_some _ _ _ is in
@@ -66,7 +66,7 @@ first_that_passes false true x y z e = inr (refl, e)
 first_that_passes false false x y z e = cc
 
 -- what a text says, it spells
-spells : (text : List ℕ) (spec : ClockSpec) → clock_spec_of text ≡ Some spec → IsSpelling spec text
+spells : (text : List ℕ) (spec : SpecData) → clock_spec_of text ≡ Some spec → IsSpelling spec text
 spells text spec e = elim (first_that_passes (starts_with nat_eq text (codes "c:")) (starts_with nat_eq text (codes "n:"))
     (id_of (drop 2 text)) (cursor_of (drop 2 text)) spec e) [
       | inl h ↦
@@ -80,12 +80,12 @@ spells text spec e = elim (first_that_passes (starts_with nat_eq text (codes "c:
     ]
 
 -- so it is within the limits
-pub is_within_limits : (text : List ℕ) (r : Result Spec BadClock) → said_by r ≡ clock_spec_of text
-    → IfOk r (λ spec. IsWithinLimits (value_of spec))
+pub is_within_limits : (text : List ℕ) (r : Result Spec ClockFault) → said_by r ≡ clock_spec_of text
+    → IfOk r (λ spec. IsWithinLimits (spec_data spec))
 is_within_limits text (Err e) is = tt
-is_within_limits text (Ok spec) is = of_spelling (value_of spec) (spells text (value_of spec) (sym is))
+is_within_limits text (Ok spec) is = of_spelling (spec_data spec) (spells text (spec_data spec) (sym is))
   where
-    of_spelling : (said : ClockSpec) → IsSpelling said text → IsWithinLimits said
+    of_spelling : (said : SpecData) → IsSpelling said text → IsWithinLimits said
     of_spelling (clock_id instance tick) h = (h.0, h.1)
     of_spelling old_clock_id h = tt
     of_spelling (named_cursor name) h = (h.0, h.1)

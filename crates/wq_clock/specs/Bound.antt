@@ -1,14 +1,14 @@
 -- The point after which an observation is new to a client, as its clock spec gives it.
 -- From Watchman's documentation of clockspecs and of the query key `since`.
 use Rattle.std.specs.Prelude.{◌&&◌, ◌==◌, Option, Some, None, if◌then◌else◌}
-use Rattle.wq_clock.specs.Instance.{InstanceNumbers}
-use Rattle.wq_clock.specs.ClockSpec.{ClockSpec, clock_id, old_clock_id, named_cursor}
+use Rattle.wq_clock.specs.Instance.{InstanceData}
+use Rattle.wq_clock.specs.ClockSpec.{SpecData, clock_id, old_clock_id, named_cursor}
 use Rattle.wq_clock.specs.declared.bound.Bound.{Bound}
 use Rattle.wq_clock.specs.declared.bound.Bound.TheVariants.{Fresh, Tick}
 
 -- the bound of a clock spec at an instance: an id of this instance is its tick, and any other id
 -- fresh; a cursor has none of its own
-abbrev pub bound_of : ClockSpec → InstanceNumbers → Option Bound
+abbrev pub bound_of : SpecData → InstanceData → Option Bound
 bound_of (clock_id other tick) instance =
     if (other.start == instance.start) && (other.pid == instance.pid) && (other.root == instance.root)
     then Some (Tick tick) else Some Fresh

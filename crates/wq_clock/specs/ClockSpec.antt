@@ -6,17 +6,17 @@ use Rattle.std.specs.List.{slice_split, starts_with}
 use Rattle.std.specs.Str.{bytes_eq}
 use Rattle.std.specs.Str.Parse.{digits_value}
 use Rattle.std.specs.Fmt.{decimal}
-use Rattle.wq_clock.specs.Limits.{max_number, max_name_length}
-use Rattle.wq_clock.specs.Instance.{InstanceNumbers, IsInRange}
+use Rattle.wq_clock.specs.Limit.{max_number, max_name_length}
+use Rattle.wq_clock.specs.Instance.{InstanceData, IsInRange}
 
 -- a clock spec that is a text
-pub data ClockSpec : Type 0 where
-  clock_id : (instance : InstanceNumbers) (tick : ℕ) → ClockSpec
-  old_clock_id : ClockSpec
-  named_cursor : (name : List ℕ) → ClockSpec
+pub data SpecData : Type 0 where
+  clock_id : (instance : InstanceData) (tick : ℕ) → SpecData
+  old_clock_id : SpecData
+  named_cursor : (name : List ℕ) → SpecData
 
 -- its numbers and its name are within the limits
-abbrev pub IsWithinLimits : ClockSpec → Type 0
+abbrev pub IsWithinLimits : SpecData → Type 0
 IsWithinLimits (clock_id instance tick) = IsInRange instance × (tick ≤ max_number)
 IsWithinLimits old_clock_id = Unit {0}
 IsWithinLimits (named_cursor name) = (1 ≤ length name) × (length name ≤ max_name_length)
@@ -42,23 +42,23 @@ numbers_of [] = Some []
 numbers_of (part ∷ parts) = with_first (number_of part) (numbers_of parts)
 
 -- four numbers are a clock id, two are an old one
-abbrev pub id_from_numbers : List ℕ → Option ClockSpec
+abbrev pub id_from_numbers : List ℕ → Option SpecData
 id_from_numbers (start ∷ pid ∷ root ∷ tick ∷ []) =
     Some (clock_id (record { start = start; pid = pid; root = root }) tick)
 id_from_numbers (first ∷ second ∷ []) = Some old_clock_id
 id_from_numbers _ = None
 
 -- what the text behind `c:` says: the id whose numbers stand between its colons
-abbrev pub id_of : List ℕ → Option ClockSpec
+abbrev pub id_of : List ℕ → Option SpecData
 id_of text = option_and_then id_from_numbers (numbers_of (parts_of text))
 
 -- what the text behind `n:` says: a cursor's name of 1 to 255 bytes
-abbrev pub cursor_of : List ℕ → Option ClockSpec
+abbrev pub cursor_of : List ℕ → Option SpecData
 cursor_of name =
     if nat_le 1 (length name) && nat_le (length name) max_name_length then Some (named_cursor name) else None
 
 -- what a text says as a clock spec
-abbrev pub clock_spec_of : List ℕ → Option ClockSpec
+abbrev pub clock_spec_of : List ℕ → Option SpecData
 clock_spec_of text =
     if starts_with nat_eq text (codes "c:") then id_of (drop 2 text)
     else (if starts_with nat_eq text (codes "n:") then cursor_of (drop 2 text) else None)

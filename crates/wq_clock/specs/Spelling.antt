@@ -1,13 +1,13 @@
 -- The grammar of clock specs: by which texts each of them may be written.
 -- From Watchman's documentation of clockspecs; the limits are this server's own.
 use Rattle.std.specs.Prelude.{ℕ, ◌≡◌, ◌≤◌, List, ◌++◌, length, codes}
-use Rattle.wq_clock.specs.Limits.{max_number, max_name_length}
+use Rattle.wq_clock.specs.Limit.{max_number, max_name_length}
 use Rattle.wq_clock.specs.Instance.{IsInRange}
 use Rattle.wq_clock.specs.ClockText.{clock_text, old_clock_text}
-use Rattle.wq_clock.specs.ClockSpec.{ClockSpec, clock_id, old_clock_id, named_cursor}
+use Rattle.wq_clock.specs.ClockSpec.{SpecData, clock_id, old_clock_id, named_cursor}
 
 -- a clock id has one text; any two numbers make an old one; a cursor's name stands behind `n:`
-abbrev pub IsSpelling : ClockSpec → List ℕ → Type 0
+abbrev pub IsSpelling : SpecData → List ℕ → Type 0
 IsSpelling (clock_id instance tick) text =
     IsInRange instance × (tick ≤ max_number) × (text ≡ clock_text instance tick)
 IsSpelling old_clock_id text =

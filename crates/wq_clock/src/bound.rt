@@ -2,8 +2,8 @@
 ghost use Rattle.std.specs.Prelude.{◌≡◌, pos, ◌≤ℤ◌};
 ghost use Rattle.std.specs.Option.{SomeIff};
 ghost use Rattle.wq_clock.specs.Bound.{bound_of};
-ghost use Rattle.wq_clock.specs.Instance.{instance_numbers};
-ghost use Rattle.wq_clock.specs.Spec.{value_of};
+ghost use Rattle.wq_clock.specs.Instance.{instance_data};
+ghost use Rattle.wq_clock.specs.Spec.{spec_data};
 
 use crate::instance::{Instance, MAX_NUMBER};
 use crate::reading::Spec;
@@ -46,7 +46,7 @@ impl Bound {
 /// At start 7, process 9 and root 1, `c:7:9:1:99` is `Bound::Tick(99)`, and `c:7:8:1:1` is
 /// `Bound::Fresh`.
 pub fn resolve(spec: &Spec<'_>, instance: &Instance) -> Option<Bound>
-    ensures { result ≡ bound_of (value_of spec.now) (instance_numbers instance.now) }
+    ensures { result ≡ bound_of (spec_data spec.now) (instance_data instance.now) }
 {
     match spec {
         Spec::Id(other, tick) if other == instance => Some(Bound::Tick(*tick)),

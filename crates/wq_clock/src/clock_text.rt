@@ -3,7 +3,7 @@ ghost use Rattle.std.specs.Prelude.{◌≡◌, ◌+◌, ◌≤◌, ◌++◌, len
 ghost use Rattle.std.specs.Fmt.{decimal};
 ghost use Rattle.arrayvec.specs.ArrayString.{array_string_len};
 ghost use Rattle.wq_clock.specs.ClockText.{clock_text};
-ghost use Rattle.wq_clock.specs.Instance.{instance_numbers};
+ghost use Rattle.wq_clock.specs.Instance.{instance_data};
 
 use crate::instance::{Instance, MAX_NUMBER};
 use arrayvec::ArrayString;
@@ -45,7 +45,7 @@ impl ClockText {
 /// It is `c:7:9:1:42` for start 7, process 9, root 1 and tick 42. Every clock id has this one text.
 pub fn print(instance: &Instance, tick: u64) -> ClockText
     requires { tick ≤ MAX_NUMBER }
-    ensures { result ≡ clock_text (instance_numbers instance.now) tick }
+    ensures { result ≡ clock_text (instance_data instance.now) tick }
 {
     let mut text = ArrayString::new();
     push_number(&mut text, "c:", instance.start);

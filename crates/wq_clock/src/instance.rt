@@ -1,6 +1,6 @@
 //! Instances: which run of the server, and which root, a clock id belongs to.
 ghost use Rattle.std.specs.Prelude.{◌≡◌, ◌≤◌};
-ghost use Rattle.wq_clock.specs.Limits.{max_number};
+ghost use Rattle.wq_clock.specs.Limit.{max_number};
 
 /// The greatest number that a clock id may hold, 2^62.
 pub const MAX_NUMBER: u64 = 1 << 62;
@@ -23,14 +23,14 @@ pub struct Instance {
 }
 
 impl Instance {
-    ghost use Rattle.wq_clock.specs.Instance.{instance_numbers};
+    ghost use Rattle.wq_clock.specs.Instance.{instance_data};
 
     /// The instance of these numbers.
     pub const fn new(start: u64, pid: u64, root: u64) -> Instance
         requires start { start ≤ MAX_NUMBER }
         requires pid { pid ≤ MAX_NUMBER }
         requires root { root ≤ MAX_NUMBER }
-        ensures { instance_numbers result ≡ record { start = start; pid = pid; root = root } }
+        ensures { instance_data result ≡ record { start = start; pid = pid; root = root } }
     {
         Instance { start, pid, root }
     }

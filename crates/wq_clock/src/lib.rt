@@ -8,13 +8,11 @@
 mod bound;
 mod clock_text;
 mod instance;
-mod laws;
+mod law;
 mod reading;
-#[cfg(test)]
-mod tests;
 
 pub use bound::{Bound, resolve};
 pub use clock_text::{ClockText, MAX_CLOCK_TEXT, print};
 pub use instance::{Instance, MAX_NUMBER};
-pub use laws::{printed_ids_read_back, same_text_same_id, texts_say_what_they_spell};
-pub use reading::{BadClock, MAX_CURSOR_NAME, Spec, parse};
+pub use law::{printed_ids_read_back, same_text_same_id, texts_say_what_they_spell};
+pub use reading::{ClockFault, MAX_CURSOR_NAME, Spec, parse};

@@ -1,7 +1,7 @@
 //! Reading clock specs from texts, without memory.
 ghost use Rattle.std.specs.Prelude.{◌≡◌, ◌≤◌, Some, None, IfSome, IfNone, IfOk, OnErr, All};
 ghost use Rattle.wq_clock.specs.ClockSpec.{IsWithinLimits, parts_of, number_of, numbers_of, id_from_numbers, id_of, cursor_of, clock_spec_of};
-ghost use Rattle.wq_clock.specs.Spec.{said_by, value_of};
+ghost use Rattle.wq_clock.specs.Spec.{said_by, spec_data};
 
 use crate::instance::{Instance, MAX_NUMBER};
 use arrayvec::ArrayVec;
@@ -28,7 +28,7 @@ pub enum Spec<'a> {
 /// The text is no clock spec.
 #[derive(Clone, Copy, Debug, PartialEq, Eq, Error)]
 #[error("bad clockspec")]
-pub struct BadClock;
+pub struct ClockFault;
 
 /// Reads a clock spec, of the forms in Watchman's documentation of clockspecs.
 ///
@@ -36,26 +36,26 @@ pub struct BadClock;
 /// to 255 bytes.
 /// So `c:7:9:1:42` is a clock id, `c:9:42` an old one and `n:build` a cursor; `c:7:9:1:042` is
 /// refused.
-pub fn parse(text: &str) -> Result<Spec<'_>, BadClock>
-    ensures read { IfOk result (λ spec. clock_spec_of text.now ≡ Some (value_of spec)) }
+pub fn parse(text: &str) -> Result<Spec<'_>, ClockFault>
+    ensures read { IfOk result (λ spec. clock_spec_of text.now ≡ Some (spec_data spec)) }
     ensures refused { OnErr result (clock_spec_of text.now ≡ None) }
-    ensures within_limits { IfOk result (λ spec. IsWithinLimits (value_of spec)) }
+    ensures within_limits { IfOk result (λ spec. IsWithinLimits (spec_data spec)) }
 {
     if let Some(numbers) = text.strip_prefix("c:") {
         id(numbers)
     } else if let Some(name) = text.strip_prefix("n:") {
         cursor(name)
     } else {
-        Err(BadClock)
+        Err(ClockFault)
     }
 }
 
 /// The clock id whose numbers stand between the colons of `text`.
-fn id(text: &str) -> Result<Spec<'_>, BadClock>
+fn id(text: &str) -> Result<Spec<'_>, ClockFault>
     ensures { said_by result ≡ id_of text.now }
 {
     let Some(numbers) = numbers(text) else {
-        return Err(BadClock);
+        return Err(ClockFault);
     };
     id_from(numbers.as_slice())
 }
@@ -77,25 +77,25 @@ fn numbers(text: &str) -> Option<ArrayVec<u64, ID_NUMBERS>>
 }
 
 /// The clock id of these numbers.
-fn id_from<'a>(numbers: &[u64]) -> Result<Spec<'a>, BadClock>
+fn id_from<'a>(numbers: &[u64]) -> Result<Spec<'a>, ClockFault>
     requires { All (λ n. n ≤ MAX_NUMBER) numbers.now }
     ensures { said_by result ≡ id_from_numbers numbers.now }
 {
     match *numbers {
         [start, pid, root, tick] => Ok(Spec::Id(Instance::new(start, pid, root), tick)),
         [_, _] => Ok(Spec::OldId),
-        _ => Err(BadClock),
+        _ => Err(ClockFault),
     }
 }
 
 /// The cursor of this name.
-fn cursor(name: &str) -> Result<Spec<'_>, BadClock>
+fn cursor(name: &str) -> Result<Spec<'_>, ClockFault>
     ensures { said_by result ≡ cursor_of name.now }
 {
     if 1 <= name.len() && name.len() <= MAX_CURSOR_NAME {
         Ok(Spec::Cursor(name))
     } else {
-        Err(BadClock)
+        Err(ClockFault)
     }
 }
 

@@ -2,14 +2,14 @@
 use Rattle.std.proofs.Common.{◌≡◌, ℕ, zero, suc, ◌+◌, ◌<◌, ◌≤◌, Bool, true, false, ◌&&◌, ◌==◌, nat_le, if◌then◌else◌, List, [], ◌∷◌, ◌++◌, length, drop, Option, Some, None, option_map, refl, sym, ◌∙◌, ap, subst, arith, append_assoc, append-nil, length-drop}
 use Rattle.std.specs.List.{prefix_len}
 use Rattle.std.specs.Option.{option_and_then, option_map_or}
-use Rattle.wq_glob.specs.Bytes.{is_slash, is_star, is_open, is_close}
+use Rattle.wq_glob.specs.Byte.{is_slash, is_star, is_open, is_close}
 use Rattle.wq_glob.specs.Class.{Class}
 use Rattle.wq_glob.specs.Reading.{begins, letter, class_at, class_items, first_item, before_items, items_from, is_negation}
-use Rattle.wq_glob.specs.Atoms.{Atom, Literal, One, Star, Dirs, Nothing, opens, known_class, literal_at, one_of_at, stars_at, stars_before, first_atom, atoms_from}
-use Rattle.wq_glob.specs.Steps.{StandsFor, AllStand, step_opens}
-use Rattle.wq_glob.specs.declared.classes.Item.{Item}
-use Rattle.wq_glob.specs.declared.options.Flags.{Flags}
-use Rattle.wq_glob.specs.declared.steps.Step.{Step}
+use Rattle.wq_glob.specs.Atom.{Atom, Literal, One, Star, Dirs, Nothing, opens, known_class, literal_at, one_of_at, stars_at, stars_before, first_atom, atoms_from}
+use Rattle.wq_glob.specs.Step.{StandsFor, AllStand, step_opens}
+use Rattle.wq_glob.specs.declared.class.Item.{Item}
+use Rattle.wq_glob.specs.declared.flag.Flags.{Flags}
+use Rattle.wq_glob.specs.declared.step.Step.{Step}
 use Rattle.wq_glob.proofs.ItemLemmas.{Shorter, NotLonger, letter_shorter, first_shorter}
 
 -- what is read of a class leaves no longer text

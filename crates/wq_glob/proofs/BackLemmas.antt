@@ -1,12 +1,12 @@
 -- The last byte of a pattern, against the last byte of a text.
 use Rattle.std.proofs.Common.{◌≡◌, ℕ, ◌+◌, ◌-◌, ◌≤◌, Bool, true, false, ◌==◌, List, [], ◌∷◌, length, drop, get_or, sym, ◌∙◌, ap, subst, inl, inr, arith}
 use Rattle.std.proofs.lemmas.Bool.{cases_lt, cases_eq, and_left}
-use Rattle.wq_glob.specs.Bytes.{folded}
-use Rattle.wq_glob.specs.Marks.{Mark, marks}
-use Rattle.wq_glob.specs.Cells.{cell_of, dead, step_fits, marks_at, mark_at}
-use Rattle.wq_glob.specs.declared.options.Flags.{Flags}
-use Rattle.wq_glob.specs.declared.steps.Step.{Step}
-use Rattle.wq_glob.specs.declared.steps.Step.TheVariants.{Byte}
+use Rattle.wq_glob.specs.Byte.{folded}
+use Rattle.wq_glob.specs.Mark.{Mark, marks}
+use Rattle.wq_glob.specs.Cell.{cell_of, dead, step_fits, marks_at, mark_at}
+use Rattle.wq_glob.specs.declared.flag.Flags.{Flags}
+use Rattle.wq_glob.specs.declared.step.Step.{Step}
+use Rattle.wq_glob.specs.declared.step.Step.TheVariants.{Byte}
 use Rattle.wq_glob.proofs.EndLemmas.{end_cell, none_below}
 use Rattle.wq_glob.proofs.MarkLemmas.{marks_step}
 use Rattle.wq_glob.proofs.RowLemmas.{cell_at_end, dead_below, drop_all, drop_step}

@@ -3,14 +3,14 @@ use Rattle.std.proofs.Common.{◌≡◌, ◌≢◌, ℕ, zero, suc, ◌+◌, ◌
 use Rattle.std.proofs.lemmas.Bool.{cases_lt, cases_eq, and_right}
 use Rattle.std.proofs.lemmas.List.{get_or-replicate, get_or_past}
 use Rattle.std.proofs.Math.ListN.{replicate, length-replicate}
-use Rattle.wq_glob.specs.Steps.{step_reach}
-use Rattle.wq_glob.specs.Cells.{cell_of, dead, step_fits, IsRow, IsWindow, IsBlank, may_be_empty}
+use Rattle.wq_glob.specs.Step.{step_reach}
+use Rattle.wq_glob.specs.Cell.{cell_of, dead, step_fits, IsRow, IsWindow, IsBlank, may_be_empty}
 use Rattle.wq_glob.proofs.RowLemmas.{drop_all}
-use Rattle.wq_glob.specs.declared.options.Flags.{Flags}
-use Rattle.wq_glob.specs.declared.rows.Cell.{Cell}
-use Rattle.wq_glob.specs.declared.rows.Window.{Window}
-use Rattle.wq_glob.specs.declared.steps.Step.{Step}
-use Rattle.wq_glob.specs.declared.steps.Step.TheVariants.{Byte, AnyByte, Set, Stars, Below, Tail, Never}
+use Rattle.wq_glob.specs.declared.flag.Flags.{Flags}
+use Rattle.wq_glob.specs.declared.row.Cell.{Cell}
+use Rattle.wq_glob.specs.declared.row.Window.{Window}
+use Rattle.wq_glob.specs.declared.step.Step.{Step}
+use Rattle.wq_glob.specs.declared.step.Step.TheVariants.{Byte, AnyByte, Set, Stars, Below, Tail, Never}
 
 or_nothing : (b : Bool) → (b || false) ≡ b
 or_nothing true = refl

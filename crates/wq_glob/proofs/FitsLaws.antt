@@ -2,12 +2,12 @@
 use Rattle.std.proofs.Common.{◌≡◌, Bool, true, ◌&&◌, ◌||◌, ◌⊎◌, IsTrue, List, [], ◌∷◌, ◌++◌, refl, sym, ap, subst, inl, inr}
 use Rattle.std.specs.List.{list_all}
 use Rattle.std.proofs.lemmas.Bool.{and_parts, and_from, or_cases, or_left, or_right, false≢true}
-use Rattle.wq_glob.specs.Bytes.{is_slash}
-use Rattle.wq_glob.specs.Atoms.{Atom, Literal, One, OneOf, Star, Dirs, Rest, Nothing}
-use Rattle.wq_glob.specs.Marks.{Mark}
+use Rattle.wq_glob.specs.Byte.{is_slash}
+use Rattle.wq_glob.specs.Atom.{Atom, Literal, One, OneOf, Star, Dirs, Rest, Nothing}
+use Rattle.wq_glob.specs.Mark.{Mark}
 use Rattle.wq_glob.specs.Fits.{IsOne, IsEach, EndsInSlash, Takes, Cuts}
 use Rattle.wq_glob.specs.FitsTest.{Reach, Single, Many, Folders, reach, admits, folders, many, single, part_of, fits_by}
-use Rattle.wq_glob.specs.declared.options.Flags.{Flags}
+use Rattle.wq_glob.specs.declared.flag.Flags.{Flags}
 
 -- a part of this reach, each of whose bytes passes the test
 abbrev PartOf : Reach → (Mark → Bool) → List Mark → Type 0

@@ -1,14 +1,14 @@
 -- The bytes at the front of a pattern.
 use Rattle.std.proofs.Common.{◌≡◌, ℕ, ◌+◌, ◌<◌, ◌≤◌, Bool, false, ◌&&◌, ◌==◌, List, ◌∷◌, length, drop, get_or, ◌∙◌, ap, arith}
-use Rattle.wq_glob.specs.Bytes.{folded}
-use Rattle.wq_glob.specs.Marks.{Mark}
-use Rattle.wq_glob.specs.Cells.{step_fits, marks_at}
+use Rattle.wq_glob.specs.Byte.{folded}
+use Rattle.wq_glob.specs.Mark.{Mark}
+use Rattle.wq_glob.specs.Cell.{step_fits, marks_at}
 use Rattle.wq_glob.proofs.MarkLemmas.{marks_step}
 use Rattle.wq_glob.proofs.RowLemmas.{drop_step}
 use Rattle.wq_glob.proofs.RunLemmas.{marks_end}
-use Rattle.wq_glob.specs.declared.options.Flags.{Flags}
-use Rattle.wq_glob.specs.declared.steps.Step.{Step}
-use Rattle.wq_glob.specs.declared.steps.Step.TheVariants.{Byte}
+use Rattle.wq_glob.specs.declared.flag.Flags.{Flags}
+use Rattle.wq_glob.specs.declared.step.Step.{Step}
+use Rattle.wq_glob.specs.declared.step.Step.TheVariants.{Byte}
 
 -- a byte of the pattern takes the byte of the text
 pub byte_here : (f : Flags) (s : Step) (b : ℕ) (text : List ℕ) (at : ℕ) → s ≡ Byte b → at < length text → (later : List Step) →

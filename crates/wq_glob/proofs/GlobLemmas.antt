@@ -1,14 +1,14 @@
 -- The steps of a pattern fit what its atoms fit.
 use Rattle.std.proofs.Common.{◌≡◌, ℕ, suc, ◌<◌, ◌≤◌, Bool, true, List, [], ◌∷◌, length, get_or, refl, ◌∙◌, ap, subst, arith}
-use Rattle.wq_glob.specs.Bytes.{is_slash}
-use Rattle.wq_glob.specs.Atoms.{Atom}
-use Rattle.wq_glob.specs.Marks.{Mark, marks, marks_from}
+use Rattle.wq_glob.specs.Byte.{is_slash}
+use Rattle.wq_glob.specs.Atom.{Atom}
+use Rattle.wq_glob.specs.Mark.{Mark, marks, marks_from}
 use Rattle.wq_glob.specs.FitsTest.{Reach, Single, Many, Folders, reach, admits, folders, many, single, part_of, fits_by}
-use Rattle.wq_glob.specs.Glob.{Glob, atoms_of, fits, Fits}
-use Rattle.wq_glob.specs.Steps.{AllStand, IsCompiled, step_admits}
-use Rattle.wq_glob.specs.Cells.{step_fits}
-use Rattle.wq_glob.specs.declared.options.Flags.{Flags}
-use Rattle.wq_glob.specs.declared.steps.Step.{Step}
+use Rattle.wq_glob.specs.Pattern.{PatternData, atoms_of, fits, Fits}
+use Rattle.wq_glob.specs.Step.{AllStand, IsCompiled, step_admits}
+use Rattle.wq_glob.specs.Cell.{step_fits}
+use Rattle.wq_glob.specs.declared.flag.Flags.{Flags}
+use Rattle.wq_glob.specs.declared.step.Step.{Step}
 use Rattle.wq_glob.proofs.FitsLaws.{cuts_from_test, test_from_cuts}
 use Rattle.wq_glob.proofs.AtomLemmas.{atoms_few}
 
@@ -54,7 +54,7 @@ same_length f [] (a ∷ atoms) all = absurd all
 same_length f (s ∷ steps) [] all = absurd all
 same_length f (s ∷ steps) (a ∷ atoms) all = ap suc (same_length f steps atoms all.1)
 
-module _ (g : Glob) (steps : List Step) (compiled : IsCompiled g.text g.flags steps) where
+module _ (g : PatternData) (steps : List Step) (compiled : IsCompiled g.text g.flags steps) where
   pub steps_fit : (text : List ℕ) → ((i : ℕ) → get_or text i 0 < 256) → step_fits g.flags steps (marks (g.flags).dotfiles text) ≡ fits g text
   unfolding fits atoms_of
   steps_fit text small = same_fits g.flags steps _ compiled.stands _ (marks_are_bytes (g.flags).dotfiles true text small)
@@ -67,23 +67,23 @@ module _ (g : Glob) (steps : List Step) (compiled : IsCompiled g.text g.flags st
   steps_few = omega (arith, same_length g.flags steps _ compiled.stands, atoms_few g.flags (length g.text) true g.text, compiled.short)
 
 -- the test says yes exactly where the pattern fits
-pub fits_cuts : (g : Glob) (text : List ℕ) → fits g text ≡ true → Fits g text
+pub fits_cuts : (g : PatternData) (text : List ℕ) → fits g text ≡ true → Fits g text
 unfolding fits Fits
 fits_cuts g text h = cuts_from_test g.flags (atoms_of g) (marks (g.flags).dotfiles text) h
 
-pub cuts_fits : (g : Glob) (text : List ℕ) → Fits g text → fits g text ≡ true
+pub cuts_fits : (g : PatternData) (text : List ℕ) → Fits g text → fits g text ≡ true
 unfolding fits Fits
 cuts_fits g text h = test_from_cuts g.flags (atoms_of g) (marks (g.flags).dotfiles text) h
 
 -- what the fields of a pattern say of its value
-pub compiled_as : (g : Glob) (text : List ℕ) (f : Flags) (steps : List Step) → record { text = text; flags = f } ≡ g → IsCompiled text f steps → IsCompiled g.text g.flags steps
-compiled_as g text f steps is compiled = subst (λ (v : Glob). IsCompiled v.text v.flags steps) is compiled
+pub compiled_as : (g : PatternData) (text : List ℕ) (f : Flags) (steps : List Step) → record { text = text; flags = f } ≡ g → IsCompiled text f steps → IsCompiled g.text g.flags steps
+compiled_as g text f steps is compiled = subst (λ (v : PatternData). IsCompiled v.text v.flags steps) is compiled
 
 -- what the matcher says of the steps, said of the pattern
-pub matched : (g : Glob) (text pattern : List ℕ) (f : Flags) (steps slice : List Step) (answer : Bool) → record { text = pattern; flags = f } ≡ g → IsCompiled pattern f steps → slice ≡ steps →
+pub matched : (g : PatternData) (text pattern : List ℕ) (f : Flags) (steps slice : List Step) (answer : Bool) → record { text = pattern; flags = f } ≡ g → IsCompiled pattern f steps → slice ≡ steps →
     ((i : ℕ) → get_or text i 0 < 256) → answer ≡ step_fits f slice (marks f.dotfiles text) → answer ≡ fits g text
 matched g text pattern f steps slice answer is compiled same small says =
     says
     ∙ ap (λ (l : List Step). step_fits f l (marks f.dotfiles text)) same
     ∙ steps_fit (record { text = pattern; flags = f }) steps compiled text small
-    ∙ ap (λ (v : Glob). fits v text) is
+    ∙ ap (λ (v : PatternData). fits v text) is

@@ -1,16 +1,16 @@
 -- The cells of a row, from those behind the byte.
 use Rattle.std.proofs.Common.{◌≡◌, ℕ, zero, suc, ◌+◌, ◌-◌, ◌<◌, ◌≤◌, Bool, true, false, List, [], ◌∷◌, length, drop, get_or, refl, sym, ◌∙◌, ap, subst, inl, inr, arith, add-one, drop-cons}
 use Rattle.std.proofs.lemmas.Bool.{cases_eq}
-use Rattle.wq_glob.specs.Bytes.{is_slash}
-use Rattle.wq_glob.specs.Marks.{Mark}
+use Rattle.wq_glob.specs.Byte.{is_slash}
+use Rattle.wq_glob.specs.Mark.{Mark}
 use Rattle.wq_glob.specs.FitsTest.{Reach, Single, Many, Folders}
-use Rattle.wq_glob.specs.Steps.{step_reach, step_takes, seen_of}
-use Rattle.wq_glob.specs.Cells.{cell_of, next_cell, dead, step_fits}
-use Rattle.wq_glob.specs.declared.options.Flags.{Flags}
-use Rattle.wq_glob.specs.declared.rows.Cell.{Cell}
-use Rattle.wq_glob.specs.declared.rows.Seen.{Seen}
-use Rattle.wq_glob.specs.declared.steps.Step.{Step}
-use Rattle.wq_glob.specs.declared.steps.Step.TheVariants.{Byte, AnyByte, Set, Stars, Below, Tail, Never}
+use Rattle.wq_glob.specs.Step.{step_reach, step_takes, seen_of}
+use Rattle.wq_glob.specs.Cell.{cell_of, next_cell, dead, step_fits}
+use Rattle.wq_glob.specs.declared.flag.Flags.{Flags}
+use Rattle.wq_glob.specs.declared.row.Cell.{Cell}
+use Rattle.wq_glob.specs.declared.row.Seen.{Seen}
+use Rattle.wq_glob.specs.declared.step.Step.{Step}
+use Rattle.wq_glob.specs.declared.step.Step.TheVariants.{Byte, AnyByte, Set, Stars, Below, Tail, Never}
 
 -- the recurrence of the cells
 cell_step : (f : Flags) (s : Step) (later : List Step) (x : Mark) (text : List Mark) → cell_of f (s ∷ later) (x ∷ text) ≡ next_cell (step_reach s) (step_takes s (seen_of f x)) (is_slash x.byte) (cell_of f (s ∷ later) text) (step_fits f later text) (step_fits f later (x ∷ text))

@@ -1,13 +1,13 @@
 -- Row after row, from the end of the text to a place.
 use Rattle.std.proofs.Common.{◌≡◌, ℕ, zero, suc, ◌+◌, ◌*◌, ◌≤◌, true, false, List, [], length, drop, refl, sym, ap, subst, arith}
 use Rattle.std.proofs.Math.Nat.{mul-le-mul_left}
-use Rattle.wq_glob.specs.Marks.{Mark, marks}
-use Rattle.wq_glob.specs.Cells.{cell_of, dead, step_fits, marks_at, mark_at}
+use Rattle.wq_glob.specs.Mark.{Mark, marks}
+use Rattle.wq_glob.specs.Cell.{cell_of, dead, step_fits, marks_at, mark_at}
 use Rattle.wq_glob.proofs.RowLemmas.{dead_above, drop_all}
 use Rattle.wq_glob.proofs.MarkLemmas.{marks_step, length-marks_from}
-use Rattle.wq_glob.specs.declared.options.Flags.{Flags}
-use Rattle.wq_glob.specs.declared.rows.Cell.{Cell}
-use Rattle.wq_glob.specs.declared.steps.Step.{Step}
+use Rattle.wq_glob.specs.declared.flag.Flags.{Flags}
+use Rattle.wq_glob.specs.declared.row.Cell.{Cell}
+use Rattle.wq_glob.specs.declared.step.Step.{Step}
 
 -- at the end of the text there are no marks
 pub marks_end : (f : Flags) (text : List ℕ) → marks_at f text (length text) ≡ []

@@ -2,17 +2,17 @@
 use Rattle.std.proofs.Common.{◌≡◌, ℕ, ◌+◌, ◌<◌, ◌≤◌, Bool, true, false, not, ◌&&◌, nat_le, if◌then◌else◌, List, [], drop, Some, None, refl, sym, ◌∙◌, ap, subst, arith}
 use Rattle.std.specs.List.{list_any}
 use Rattle.std.proofs.lemmas.Bool.{not-true, and_parts, leb-true, ne_eqb}
-use Rattle.wq_glob.specs.Bytes.{is_slash, is_upper, folded, lower_of}
+use Rattle.wq_glob.specs.Byte.{is_slash, is_upper, folded, lower_of}
 use Rattle.wq_glob.specs.ByteSet.{has_byte}
 use Rattle.wq_glob.specs.Class.{Class, in_class}
 use Rattle.wq_glob.specs.Reading.{begins, class_at, class_items, is_negation}
-use Rattle.wq_glob.specs.Atoms.{Literal, OneOf, Nothing, is_unknown, known_class, one_of_at}
+use Rattle.wq_glob.specs.Atom.{Literal, OneOf, Nothing, is_unknown, known_class, one_of_at}
 use Rattle.wq_glob.specs.Fits.{is_wild}
-use Rattle.wq_glob.specs.Steps.{StandsFor}
-use Rattle.wq_glob.specs.declared.byte_sets.ByteSet.{ByteSet}
-use Rattle.wq_glob.specs.declared.classes.Item.{Item}
-use Rattle.wq_glob.specs.declared.options.Flags.{Flags}
-use Rattle.wq_glob.specs.declared.steps.Step.TheVariants.{Byte, Set, Never}
+use Rattle.wq_glob.specs.Step.{StandsFor}
+use Rattle.wq_glob.specs.declared.byte_set.ByteSet.{ByteSet}
+use Rattle.wq_glob.specs.declared.class.Item.{Item}
+use Rattle.wq_glob.specs.declared.flag.Flags.{Flags}
+use Rattle.wq_glob.specs.declared.step.Step.TheVariants.{Byte, Set, Never}
 
 -- a letter without its case is a slash where it was one
 slash_folded : (fold : Bool) (b : ℕ) → is_slash (folded fold b) ≡ is_slash b

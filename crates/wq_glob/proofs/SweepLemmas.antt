@@ -1,13 +1,13 @@
 -- A sweep over a row from its end to its start, for one byte of the text.
 use Rattle.std.proofs.Common.{◌≡◌, ◌≢◌, ℕ, ◌+◌, ◌<◌, ◌≤◌, Bool, false, List, ◌∷◌, ◌⊎◌, Option, Some, None, length, drop, get_or, set, sym, ◌∙◌, ap, inl, inr, arith, get_or-set_same, get_or-set_other}
 use Rattle.std.proofs.lemmas.Bool.{cases_lt, cases_eq}
-use Rattle.wq_glob.specs.Marks.{Mark}
-use Rattle.wq_glob.specs.Cells.{cell_of, dead, step_fits, IsRow, IsWindow, Bounds}
+use Rattle.wq_glob.specs.Mark.{Mark}
+use Rattle.wq_glob.specs.Cell.{cell_of, dead, step_fits, IsRow, IsWindow, Bounds}
 use Rattle.wq_glob.proofs.RowLemmas.{dead_above, dead_below}
-use Rattle.wq_glob.specs.declared.options.Flags.{Flags}
-use Rattle.wq_glob.specs.declared.rows.Cell.{Cell}
-use Rattle.wq_glob.specs.declared.rows.Window.{Window}
-use Rattle.wq_glob.specs.declared.steps.Step.{Step}
+use Rattle.wq_glob.specs.declared.flag.Flags.{Flags}
+use Rattle.wq_glob.specs.declared.row.Cell.{Cell}
+use Rattle.wq_glob.specs.declared.row.Window.{Window}
+use Rattle.wq_glob.specs.declared.step.Step.{Step}
 
 -- what a sweep over a row from its end has made of it, with the cells from `k` on renewed for the byte `x`
 pub record IsSwept (f : Flags) (steps : List Step) (x : Mark) (text : List Mark) (row : List Cell) (k : ℕ) (old_next new_next : Bool) : Type 0 where

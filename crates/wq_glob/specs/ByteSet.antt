@@ -1,7 +1,7 @@
 -- Which bytes a set of four words holds.
 use Rattle.std.specs.Prelude.{ℕ, Bool, ◌==◌, ◌/◌, ◌%◌, slice_index}
 use Rattle.std.specs.Int.{bit_at}
-use Rattle.wq_glob.specs.declared.byte_sets.ByteSet.{ByteSet}
+use Rattle.wq_glob.specs.declared.byte_set.ByteSet.{ByteSet}
 
 -- byte b is bit b % 64 of word b / 64
 unfoldable pub has_byte : ByteSet → ℕ → Bool

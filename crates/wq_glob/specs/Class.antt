@@ -2,11 +2,11 @@
 -- After the bracket expressions of POSIX, in ASCII.
 use Rattle.std.specs.Prelude.{ℕ, Bool, false, ◌==◌, not, ◌&&◌, ◌||◌, if◌then◌else◌, List}
 use Rattle.std.specs.List.{list_any}
-use Rattle.wq_glob.specs.Bytes.{is_between, is_upper, is_lower, lower_of, upper_of}
-use Rattle.wq_glob.specs.declared.classes.ClassName.{ClassName}
-use Rattle.wq_glob.specs.declared.classes.ClassName.TheVariants.{Alnum, Alpha, Blank, Cntrl, Digit, Graph, Lower, Print, Punct, Space, Upper, Xdigit}
-use Rattle.wq_glob.specs.declared.classes.Item.{Item}
-use Rattle.wq_glob.specs.declared.classes.Item.TheVariants.{Range, Named, Unknown}
+use Rattle.wq_glob.specs.Byte.{is_between, is_upper, is_lower, lower_of, upper_of}
+use Rattle.wq_glob.specs.declared.class.ClassName.{ClassName}
+use Rattle.wq_glob.specs.declared.class.ClassName.TheVariants.{Alnum, Alpha, Blank, Cntrl, Digit, Graph, Lower, Print, Punct, Space, Upper, Xdigit}
+use Rattle.wq_glob.specs.declared.class.Item.{Item}
+use Rattle.wq_glob.specs.declared.class.Item.TheVariants.{Range, Named, Unknown}
 
 abbrev pub is_digit : ℕ → Bool
 is_digit b = is_between 48 57 b

@@ -2,11 +2,11 @@
 -- to its atom. After git's wildmatch, in this project's profile; no order of search is in it.
 use Rattle.std.specs.Prelude.{◌≡◌, Bool, not, ◌==◌, ◌&&◌, IsTrue, ◌⊎◌, List, [], ◌∷◌, ◌++◌}
 use Rattle.std.specs.List.{list_all}
-use Rattle.wq_glob.specs.Bytes.{is_slash, folded}
+use Rattle.wq_glob.specs.Byte.{is_slash, folded}
 use Rattle.wq_glob.specs.Class.{in_class}
-use Rattle.wq_glob.specs.Atoms.{Atom, Literal, One, OneOf, Star, Dirs, Rest, Nothing}
-use Rattle.wq_glob.specs.Marks.{Mark}
-use Rattle.wq_glob.specs.declared.options.Flags.{Flags}
+use Rattle.wq_glob.specs.Atom.{Atom, Literal, One, OneOf, Star, Dirs, Rest, Nothing}
+use Rattle.wq_glob.specs.Mark.{Mark}
+use Rattle.wq_glob.specs.declared.flag.Flags.{Flags}
 
 -- no hidden dot: what may stand in the part of an atom that is no literal
 abbrev pub is_shown : Mark → Bool

@@ -1,12 +1,12 @@
 -- The same as a test that computes: whether a pattern fits a text, atom by atom. Above it stands the law that it
 -- says yes exactly where the text can be cut.
 use Rattle.std.specs.Prelude.{Bool, true, false, ◌==◌, ◌&&◌, ◌||◌, List, [], ◌∷◌}
-use Rattle.wq_glob.specs.Bytes.{is_slash, folded}
+use Rattle.wq_glob.specs.Byte.{is_slash, folded}
 use Rattle.wq_glob.specs.Class.{in_class}
-use Rattle.wq_glob.specs.Atoms.{Atom, Literal, One, OneOf, Star, Dirs, Rest, Nothing}
-use Rattle.wq_glob.specs.Marks.{Mark}
+use Rattle.wq_glob.specs.Atom.{Atom, Literal, One, OneOf, Star, Dirs, Rest, Nothing}
+use Rattle.wq_glob.specs.Mark.{Mark}
 use Rattle.wq_glob.specs.Fits.{is_shown, is_wild}
-use Rattle.wq_glob.specs.declared.options.Flags.{Flags}
+use Rattle.wq_glob.specs.declared.flag.Flags.{Flags}
 
 -- how long the part of an atom is: one byte, any number of bytes, or nothing or bytes up to a slash
 pub data Reach : Type 0 where

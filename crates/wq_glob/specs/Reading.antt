@@ -3,11 +3,11 @@
 use Rattle.std.specs.Prelude.{ℕ, zero, suc, ◌-◌, ◌+◌, Bool, false, ◌==◌, not, ◌&&◌, ◌||◌, if◌then◌else◌, nat_le, List, [], ◌∷◌, length, take, drop, slice_index, Option, Some, None, option_map, option_and_then, position, codes, bytes_eq}
 use Rattle.std.specs.Option.{option_or}
 use Rattle.std.specs.Str.{byte}
-use Rattle.wq_glob.specs.Bytes.{is_close, is_open, is_colon, is_dash, is_escape}
+use Rattle.wq_glob.specs.Byte.{is_close, is_open, is_colon, is_dash, is_escape}
 use Rattle.wq_glob.specs.Class.{Class}
-use Rattle.wq_glob.specs.declared.classes.ClassName.TheVariants.{Alnum, Alpha, Blank, Cntrl, Digit, Graph, Lower, Print, Punct, Space, Upper, Xdigit}
-use Rattle.wq_glob.specs.declared.classes.Item.{Item}
-use Rattle.wq_glob.specs.declared.classes.Item.TheVariants.{Range, Named, Unknown}
+use Rattle.wq_glob.specs.declared.class.ClassName.TheVariants.{Alnum, Alpha, Blank, Cntrl, Digit, Graph, Lower, Print, Punct, Space, Upper, Xdigit}
+use Rattle.wq_glob.specs.declared.class.Item.{Item}
+use Rattle.wq_glob.specs.declared.class.Item.TheVariants.{Range, Named, Unknown}
 
 -- the first byte passes the test
 abbrev pub begins : (ℕ → Bool) → List ℕ → Bool

@@ -12,20 +12,18 @@
 //! knows no files: a caller hands in a basename or a whole name.
 #![tactic(auto)]
 
-mod byte_sets;
-mod bytes;
-mod classes;
-mod limits;
+mod byte_set;
+mod byte;
+mod class;
+mod limit;
 mod matching;
-mod options;
-mod patterns;
+mod flag;
+mod pattern;
 mod reading;
-mod rows;
-mod steps;
-#[cfg(test)]
-mod tests;
+mod row;
+mod step;
 
-pub use limits::{MAX_PATTERN, MAX_TEXT};
+pub use limit::{MAX_PATTERN, MAX_TEXT};
 pub use matching::Hit;
-pub use options::Flags;
-pub use patterns::{Pattern, PatternFault};
+pub use flag::Flags;
+pub use pattern::{Pattern, PatternFault};

@@ -2,14 +2,14 @@
 //! of the text. What a row is stands in `rows`.
 ghost use Rattle.std.specs.Prelude.{◌≡◌, ◌<◌, ◌≤◌, ◌+◌, ◌-◌, ◌*◌, ◌&&◌, ℕ, List, ◌∷◌, [], length, drop, true, false, IsTrue, MatchOption, ⊤};
 ghost use Rattle.std.specs.Bool.{MatchBool};
-ghost use Rattle.wq_glob.specs.Cells.{IsBlank, step_fits, marks_at};
-ghost use Rattle.wq_glob.specs.Marks.{marks};
+ghost use Rattle.wq_glob.specs.Cell.{IsBlank, step_fits, marks_at};
+ghost use Rattle.wq_glob.specs.Mark.{marks};
 
-use crate::bytes::lower_if;
-use crate::limits::{MAX_PATTERN, MAX_TEXT};
-use crate::options::Flags;
-use crate::rows::{Cell, fill_end, renew};
-use crate::steps::Step;
+use crate::byte::lower_if;
+use crate::limit::{MAX_PATTERN, MAX_TEXT};
+use crate::flag::Flags;
+use crate::row::{Cell, fill_end, renew};
+use crate::step::Step;
 
 /// What [`Pattern::matches`](crate::Pattern::matches) answers.
 #[derive(Clone, Copy, Debug, PartialEq, Eq)]

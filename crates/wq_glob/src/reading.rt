@@ -1,22 +1,22 @@
 //! Reads a pattern into the steps that the matcher runs, one for each atom, from left to right. What a class is
 //! stands in `classes`; how steps take a text in `rows`.
 ghost use Rattle.std.specs.Prelude.{◌≡◌, ◌<◌, ◌≤◌, ℕ, List, [], ◌∷◌, ◌++◌, ◌&&◌, ◌||◌, length, drop, if◌then◌else◌, IfOk, true};
-ghost use Rattle.wq_glob.specs.Atoms.{atoms_from, first_atom, known_class, literal_at, one_of_at, stars_at};
+ghost use Rattle.wq_glob.specs.Atom.{atoms_from, first_atom, known_class, literal_at, one_of_at, stars_at};
 ghost use Rattle.std.specs.List.{prefix_len};
-ghost use Rattle.wq_glob.specs.Bytes.{is_star};
-ghost use Rattle.wq_glob.specs.Members.{AreMembers};
+ghost use Rattle.wq_glob.specs.Byte.{is_star};
+ghost use Rattle.wq_glob.specs.Member.{AreMembers};
 ghost use Rattle.wq_glob.specs.Reading.{begins, is_negation};
-ghost use Rattle.wq_glob.specs.Steps.{AllStand, StandsFor, step_opens};
-ghost use Rattle.wq_glob.specs.declared.classes.Item.{Item};
+ghost use Rattle.wq_glob.specs.Step.{AllStand, StandsFor, step_opens};
+ghost use Rattle.wq_glob.specs.declared.class.Item.{Item};
 
-use crate::bytes::{begins, behind, lower_if};
-use crate::classes::{Members, closed, letter, read_items};
-use crate::options::Flags;
-use crate::steps::Step;
+use crate::byte::{begins, behind, lower_if};
+use crate::class::{Members, closed, letter, read_items};
+use crate::flag::Flags;
+use crate::step::Step;
 use std::alloc::{AllocError, Global};
 
 /// The step of the byte at the front of a text, or of the one behind its backslash.
-#[tactic(auto, unfolding(crate::specs::Atoms::literal_at))]
+#[tactic(auto, unfolding(crate::specs::Atom::literal_at))]
 fn literal(text: &[u8], flags: Flags) -> (Step, &[u8])
     ensures stands { StandsFor flags result.0 (literal_at flags.noescape text.now).0 }
     ensures rest { result.1.now ≡ (literal_at flags.noescape text.now).1 }
@@ -73,7 +73,7 @@ fn star_run(text: &[u8]) -> usize
 }
 
 /// The step of the run of stars at the front of a text.
-#[tactic(auto, unfolding(crate::specs::Atoms::stars_at))]
+#[tactic(auto, unfolding(crate::specs::Atom::stars_at))]
 fn stars(text: &[u8], at_start: bool, flags: Flags) -> (Step, &[u8])
     ensures stands { StandsFor flags result.0 (stars_at flags.wholename at_start text.now).0 }
     ensures rest { result.1.now ≡ (stars_at flags.wholename at_start text.now).1 }
@@ -92,7 +92,7 @@ fn stars(text: &[u8], at_start: bool, flags: Flags) -> (Step, &[u8])
 }
 
 /// The step of the atom at the front of a text, and what follows it.
-#[tactic(auto, unfolding(crate::specs::Atoms::first_atom))]
+#[tactic(auto, unfolding(crate::specs::Atom::first_atom))]
 fn first_step(text: &[u8], at_start: bool, flags: Flags) -> (Step, &[u8])
     requires { 0 < length text.now }
     ensures stands { StandsFor flags result.0 (first_atom flags at_start text.now).0 }

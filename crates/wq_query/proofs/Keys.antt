@@ -6,17 +6,17 @@ use Rattle.serde_json.specs.Data.{Data, Items, item}
 use Rattle.serde_json.specs.Find.{get, as_array, as_str}
 use Rattle.serde_json.specs.View.{view, items_view}
 use Rattle.serde_json.specs.declared.value.Value.{Value}
-use Rattle.wq_clock.specs.Instance.{InstanceNumbers}
+use Rattle.wq_clock.specs.Instance.{InstanceData}
 use Rattle.wq_clock.specs.declared.bound.Bound.{Bound}
-use Rattle.wq_term.specs.Term.{Term}
+use Rattle.wq_term.specs.Expr.{ExprData}
 use Rattle.wq_query.specs.declared.fault.QueryFault.{QueryFault}
 use Rattle.wq_query.specs.declared.fault.QueryFault.TheVariants.{WrongValue}
 use Rattle.wq_query.specs.declared.field.Field.{Field}
 use Rattle.wq_query.specs.Asked.{asks, has_left_out_key, expression_of, fields_in, fields_of, since_of, flag_of, is_whole, not_empty, cons_both}
 use Rattle.wq_query.specs.Field.{field_named}
-use Rattle.wq_query.specs.Keys.{GivesFields}
+use Rattle.wq_query.specs.Key.{GivesFields}
 
-pub asks_at : (instance : InstanceNumbers) (d : Data) (t : Term) (fields : List Field) (bound : Bound) (flag whole : Bool) → has_left_out_key d ≡ false → expression_of instance (get (codes "expression") d) ≡ Ok t → fields_of (get (codes "fields") d) ≡ Some fields → since_of instance (get (codes "since") d) ≡ Some bound → flag_of (get (codes "empty_on_fresh_instance") d) ≡ Some flag → is_whole (get (codes "sync_timeout") d) ≡ whole → asks instance d ≡ if whole then Ok (record { expression = t; fields = fields; bound = bound; empty_on_fresh_instance = flag }) else Err WrongValue
+pub asks_at : (instance : InstanceData) (d : Data) (t : ExprData) (fields : List Field) (bound : Bound) (flag whole : Bool) → has_left_out_key d ≡ false → expression_of instance (get (codes "expression") d) ≡ Ok t → fields_of (get (codes "fields") d) ≡ Some fields → since_of instance (get (codes "since") d) ≡ Some bound → flag_of (get (codes "empty_on_fresh_instance") d) ≡ Some flag → is_whole (get (codes "sync_timeout") d) ≡ whole → asks instance d ≡ if whole then Ok (record { expression = t; fields = fields; bound = bound; empty_on_fresh_instance = flag }) else Err WrongValue
 asks_at instance d t fields bound flag whole none expression named since said number = rw (none, expression, named, since, said, number) refl
 
 -- names that are some give no empty list

@@ -5,13 +5,13 @@ use Rattle.std.specs.Result.{result_ok}
 use Rattle.std.specs.List.{list_any}
 use Rattle.serde_json.specs.Data.{Data, Items, no_items, item}
 use Rattle.serde_json.specs.Find.{get, as_array, as_bool, as_str, as_number, as_i64}
-use Rattle.wq_clock.specs.Instance.{InstanceNumbers}
+use Rattle.wq_clock.specs.Instance.{InstanceData}
 use Rattle.wq_clock.specs.declared.bound.Bound.{Bound}
 use Rattle.wq_clock.specs.declared.bound.Bound.TheVariants.{Fresh}
 use Rattle.wq_term.specs.declared.fault.TermFault.{TermFault}
-use Rattle.wq_term.specs.Limits.{max_depth}
-use Rattle.wq_term.specs.Arguments.{bound_in}
-use Rattle.wq_term.specs.Term.{Term, always}
+use Rattle.wq_term.specs.Limit.{max_depth}
+use Rattle.wq_term.specs.Argument.{bound_in}
+use Rattle.wq_term.specs.Expr.{ExprData, always}
 use Rattle.wq_term.specs.Reading.{reads_as}
 use Rattle.wq_query.specs.declared.fault.QueryFault.{QueryFault}
 use Rattle.wq_query.specs.declared.fault.QueryFault.TheVariants.{LeftOutKey, Expression, UnknownField, BadClockSpec, WrongValue}
@@ -19,8 +19,8 @@ use Rattle.wq_query.specs.declared.field.Field.{Field}
 use Rattle.wq_query.specs.Field.{field_named, default_fields}
 
 -- a query: which files match, what is told of each, after which point files changed, and whether a fresh answer lists none
-pub record Asked : Type 0 where
-  pub expression : Term
+pub record QueryData : Type 0 where
+  pub expression : ExprData
   pub fields : List Field
   pub bound : Bound
   pub empty_on_fresh_instance : Bool
@@ -64,7 +64,7 @@ abbrev pub has_left_out_key : Data → Bool
 has_left_out_key d = has_key_of left_out_keys d || not (is_plain_case (get (codes "case_sensitive") d))
 
 -- the expression: every file where there is none
-abbrev pub expression_of : InstanceNumbers → Option Data → Result Term TermFault
+abbrev pub expression_of : InstanceData → Option Data → Result ExprData TermFault
 expression_of instance None = Ok always
 expression_of instance (Some d) = reads_as instance max_depth d
 
@@ -79,7 +79,7 @@ fields_of None = Some default_fields
 fields_of (Some d) = not_empty (option_and_then fields_in (as_array d))
 
 -- the bound that `since` sets at an instance: fresh where it is not there; a cursor sets none
-abbrev pub since_of : InstanceNumbers → Option Data → Option Bound
+abbrev pub since_of : InstanceData → Option Data → Option Bound
 since_of instance None = Some Fresh
 since_of instance (Some d) = result_ok (bound_in instance d)
 
@@ -94,7 +94,7 @@ is_whole None = true
 is_whole (Some d) = in_range (option_and_then as_i64 (as_number d))
 
 -- a query of what its keys say, or the fault of the first that is wrong
-abbrev pub asked_with : Result Term TermFault → Option (List Field) → Option Bound → Option Bool → Bool → Result Asked QueryFault
+abbrev pub asked_with : Result ExprData TermFault → Option (List Field) → Option Bound → Option Bool → Bool → Result QueryData QueryFault
 asked_with (Err fault) fields bound flag whole = Err (Expression fault)
 asked_with (Ok t) None bound flag whole = Err UnknownField
 asked_with (Ok t) (Some fields) None flag whole = Err BadClockSpec
@@ -103,7 +103,7 @@ asked_with (Ok t) (Some fields) (Some bound) (Some flag) whole =
     if whole then Ok (record { expression = t; fields = fields; bound = bound; empty_on_fresh_instance = flag }) else Err WrongValue
 
 -- what a query object asks: its faults are looked for in this order
-abbrev pub asks : InstanceNumbers → Data → Result Asked QueryFault
+abbrev pub asks : InstanceData → Data → Result QueryData QueryFault
 asks instance d =
     if has_left_out_key d then Err LeftOutKey
     else asked_with (expression_of instance (get (codes "expression") d)) (fields_of (get (codes "fields") d)) (since_of instance (get (codes "since") d)) (flag_of (get (codes "empty_on_fresh_instance") d)) (is_whole (get (codes "sync_timeout") d))

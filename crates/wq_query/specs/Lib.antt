@@ -3,4 +3,4 @@ pub mod Asked
 pub mod Listed
 pub mod Reply
 pub mod Query
-pub mod Keys
+pub mod Key

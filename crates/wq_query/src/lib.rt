@@ -8,8 +8,6 @@ mod listing;
 mod query;
 mod reading;
 mod reply;
-#[cfg(test)]
-mod tests;
 
 pub use fault::QueryFault;
 pub use field::Field;

@@ -1,9 +1,9 @@
 //! A query, and the plan of answering it with a bound.
 ghost use Rattle.std.specs.Prelude.{◌≡◌};
 ghost use Rattle.serde_json.specs.View.{view};
-ghost use Rattle.wq_clock.specs.Instance.{instance_numbers};
+ghost use Rattle.wq_clock.specs.Instance.{instance_data};
 ghost use Rattle.wq_clock.specs.declared.bound.Bound.TheVariants.{Fresh};
-ghost use Rattle.wq_term.specs.Term.{term_of};
+ghost use Rattle.wq_term.specs.Expr.{term_of};
 ghost use Rattle.wq_query.specs.Asked.{asks};
 ghost use Rattle.wq_query.specs.Query.{asked_of, Gives};
 
@@ -37,7 +37,7 @@ impl Query {
     /// Keys that are not known are ignored, and so are `dedup_results`, `defer` and `drop`. The value of
     /// `sync_timeout` is tested here, and used by who crawls. A value that is no object has no keys.
     pub fn read(alloc: Global, value: &Value, instance: &Instance) -> Result<Query, QueryFault>
-        ensures { Gives result (asks (instance_numbers instance.now) (view value.now)) }
+        ensures { Gives result (asks (instance_data instance.now) (view value.now)) }
     {
         if reading::has_left_out_key(value) {
             return Err(QueryFault::LeftOutKey);

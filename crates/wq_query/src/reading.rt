@@ -2,10 +2,10 @@
 ghost use Rattle.std.specs.Prelude.{◌≡◌, map, option_and_then, option_map};
 ghost use Rattle.serde_json.specs.Find.{as_str};
 ghost use Rattle.serde_json.specs.View.{view, items_view};
-ghost use Rattle.wq_clock.specs.Instance.{instance_numbers};
+ghost use Rattle.wq_clock.specs.Instance.{instance_data};
 ghost use Rattle.wq_query.specs.Asked.{has_key_of, has_left_out_key, is_plain_case, expression_of, fields_in, fields_of, since_of, flag_of, is_whole};
 ghost use Rattle.wq_query.specs.Field.{field_named};
-ghost use Rattle.wq_query.specs.Keys.{GivesExpression, GivesFields};
+ghost use Rattle.wq_query.specs.Key.{GivesExpression, GivesFields};
 
 use crate::fault::QueryFault;
 use crate::field::Field;
@@ -54,7 +54,7 @@ pub(crate) fn expression(
     value: Option<&Value>,
     instance: &Instance,
 ) -> Result<Expr, QueryFault>
-    ensures { GivesExpression result (expression_of (instance_numbers instance.now) (option_map (λ v. view v.now) value.entry)) }
+    ensures { GivesExpression result (expression_of (instance_data instance.now) (option_map (λ v. view v.now) value.entry)) }
 {
     let Some(value) = value else {
         return Ok(Expr::True);
@@ -68,7 +68,7 @@ pub(crate) fn expression(
 
 /// The bound that `since` sets: fresh where it is not there, and none where it is no clock spec or a cursor.
 pub(crate) fn since(value: Option<&Value>, instance: &Instance) -> Option<Bound>
-    ensures { result ≡ since_of (instance_numbers instance.now) (option_map (λ v. view v.now) value.entry) }
+    ensures { result ≡ since_of (instance_data instance.now) (option_map (λ v. view v.now) value.entry) }
 {
     match value {
         None => Some(Bound::Fresh),

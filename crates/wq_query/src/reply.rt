@@ -4,7 +4,7 @@ ghost use Rattle.serde_json.specs.Data.{string};
 ghost use Rattle.serde_json.specs.View.{view as data_of};
 ghost use Rattle.serde_json.specs.Written.{compact_text};
 ghost use Rattle.wq_clock.specs.ClockText.{clock_text};
-ghost use Rattle.wq_clock.specs.Instance.{instance_numbers};
+ghost use Rattle.wq_clock.specs.Instance.{instance_data};
 ghost use Rattle.wq_view.specs.Kind.{letter_of};
 ghost use Rattle.wq_query.specs.Listed.{listed};
 ghost use Rattle.wq_query.specs.Reply.{field_data, file_data, reply_of};
@@ -28,7 +28,7 @@ pub fn answer(
     instance: &Instance,
     view: &View,
 ) -> Result<Value, AllocError>
-    ensures { IfOk result (λ v. data_of v ≡ reply_of (asked_of plan.now.query) plan.now.bound (instance_numbers instance.now) view.now) }
+    ensures { IfOk result (λ v. data_of v ≡ reply_of (asked_of plan.now.query) plan.now.bound (instance_data instance.now) view.now) }
 {
     let files = Value::Array(files(alloc, plan, instance, view)?);
     let clock = print(instance, view.tick());
@@ -47,7 +47,7 @@ pub fn answer_bytes(
     instance: &Instance,
     view: &View,
 ) -> Result<Vec<u8>, AllocError>
-    ensures { IfOk result (λ text. text.items ≡ compact_text (reply_of (asked_of plan.now.query) plan.now.bound (instance_numbers instance.now) view.now)) }
+    ensures { IfOk result (λ text. text.items ≡ compact_text (reply_of (asked_of plan.now.query) plan.now.bound (instance_data instance.now) view.now)) }
 {
     answer(alloc, plan, instance, view)?.to_vec(alloc)
 }
@@ -59,7 +59,7 @@ fn files(
     instance: &Instance,
     view: &View,
 ) -> Result<Vec<Value>, AllocError>
-    ensures { IfOk result (λ files. map data_of files.items ≡ map (file_data plan.now.query.fields.items (instance_numbers instance.now) plan.now.bound) (listed (asked_of plan.now.query) plan.now.bound view.now.records)) }
+    ensures { IfOk result (λ files. map data_of files.items ≡ map (file_data plan.now.query.fields.items (instance_data instance.now) plan.now.bound) (listed (asked_of plan.now.query) plan.now.bound view.now.records)) }
 {
     let mut files = Vec::new(alloc);
     if is_fresh(plan.bound) && plan.query.empty_on_fresh_instance {
@@ -82,7 +82,7 @@ fn file_value(
     bound: Bound,
     file: &Record,
 ) -> Result<Value, AllocError>
-    ensures { IfOk result (λ v. data_of v ≡ file_data fields.now (instance_numbers instance.now) bound file.now) }
+    ensures { IfOk result (λ v. data_of v ≡ file_data fields.now (instance_data instance.now) bound file.now) }
 {
     if let [field] = fields {
         return field_value(alloc, *field, instance, bound, file);
@@ -103,7 +103,7 @@ fn field_value(
     bound: Bound,
     file: &Record,
 ) -> Result<Value, AllocError>
-    ensures { IfOk result (λ v. data_of v ≡ field_data (instance_numbers instance.now) bound file.now field) }
+    ensures { IfOk result (λ v. data_of v ≡ field_data (instance_data instance.now) bound file.now field) }
 {
     match field {
         Field::Name => Value::try_from_str(alloc, file.name.as_str()),
@@ -121,7 +121,7 @@ fn field_value(
 /// The clock id of a tick of an instance.
 fn clock_value(alloc: Global, instance: &Instance, tick: u64) -> Result<Value, AllocError>
     requires { tick ≤ MAX_NUMBER }
-    ensures { IfOk result (λ v. data_of v ≡ string (clock_text (instance_numbers instance.now) tick)) }
+    ensures { IfOk result (λ v. data_of v ≡ string (clock_text (instance_data instance.now) tick)) }
 {
     Value::try_from_str(alloc, print(instance, tick).as_str())
 }

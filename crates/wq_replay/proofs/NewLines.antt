@@ -2,7 +2,7 @@
 use Rattle.std.proofs.Common.{◌≡◌, ℕ, suc, ◌-◌, Bool, true, false, ◌==◌, nat_lt, if◌then◌else◌, List, [], ◌∷◌, length, take, refl, sym, ap, ◌∙◌, arith}
 use Rattle.std.proofs.lemmas.Bool.{lt-ltb}
 use Rattle.std.specs.Io.BufRead.{take_through, drop_through, strip_last, ends_with_byte}
-use Rattle.wq_replay.specs.Lines.{lines_of, put_first}
+use Rattle.wq_replay.specs.Line.{lines_of, put_first}
 
 -- the first line of some bytes
 abbrev pub first_line : List ℕ → List ℕ

@@ -7,8 +7,8 @@ use Rattle.std.specs.Io.KnownBytes.{Consumes, Keeps}
 use Rattle.std.specs.Io.BufRead.{take_through, drop_through, ends_with_byte, strip_last}
 use Rattle.std.proofs.KnownBytes.{starts_with_rest}
 use Rattle.memchr.specs.Find.{NoneBefore, Nowhere, Passes, is_byte}
-use Rattle.wq_replay.specs.Limits.{max_script_line}
-use Rattle.wq_replay.specs.Lines.{lines_of}
+use Rattle.wq_replay.specs.Limit.{max_script_line}
+use Rattle.wq_replay.specs.Line.{lines_of}
 use Rattle.wq_replay.specs.Taken.{BeginsWith, TakesLine, TakesPart, is_last, kept, max_kept, stops}
 use Rattle.wq_replay.proofs.NewLines.{first_line, lines_first, strip_through}
 

@@ -3,14 +3,14 @@ use Rattle.std.proofs.Common.{◌≡◌, ℕ, zero, suc, ◌+◌, ◌<◌, ◌�
 use Rattle.std.proofs.lemmas.Bool.{lt-ltb}
 use Rattle.std.proofs.lemmas.List.{append-nil, append_assoc}
 use Rattle.std.specs.Io.KnownBytes.{Appends}
-use Rattle.wq_replay.specs.Lines.{lines_of}
+use Rattle.wq_replay.specs.Line.{lines_of}
 use Rattle.wq_replay.specs.Replay.{Ends, Plays, PlaysTurn, start, turn_of}
 use Rattle.wq_replay.specs.Stage.{Stage, Turn, goes_on, passes, answers, strange}
 use Rattle.wq_replay.specs.StageData.{Does, IsAt, NamesNoLine}
 use Rattle.wq_replay.specs.Taken.{BeginsWith, TakesLine}
-use Rattle.wq_replay.specs.Limits.{max_script, max_script_line}
-use Rattle.wq_replay.specs.declared.replay.ReplayFault.{ReplayFault}
-use Rattle.wq_replay.specs.declared.replay.ReplayFault.TheVariants.{Line, Read, Write, Memory}
+use Rattle.wq_replay.specs.Limit.{max_script, max_script_line}
+use Rattle.wq_replay.specs.declared.player.ReplayFault.{ReplayFault}
+use Rattle.wq_replay.specs.declared.player.ReplayFault.TheVariants.{Line, Read, Write, Memory}
 use Rattle.wq_replay.proofs.Steps.{appends_none}
 use Rattle.wq_replay.specs.declared.stage.Stage.{Stage as StageCode}
 

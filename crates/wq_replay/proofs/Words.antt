@@ -6,8 +6,8 @@ use Rattle.std.proofs.lemmas.List.{take_all, length-drop}
 use Rattle.std.proofs.lemmas.Slice.Eq.{bytes_eq-Decides}
 use Rattle.memchr.specs.Find.{NoneBefore, Nowhere, Passes, is_byte}
 use Rattle.wq_view.specs.Kind.{letter_of}
-use Rattle.wq_view.specs.declared.kinds.Kind.{Kind}
-use Rattle.wq_view.specs.declared.kinds.Kind.TheVariants.{File, Dir, Link, Block, Char, Fifo, Socket, Door, Unknown}
+use Rattle.wq_view.specs.declared.kind.Kind.{Kind}
+use Rattle.wq_view.specs.declared.kind.Kind.TheVariants.{File, Dir, Link, Block, Char, Fifo, Socket, Door, Unknown}
 use Rattle.wq_replay.specs.ScriptLine.{first_word, is_letter, kind_of}
 
 pub no_word : (text : List ℕ) → Nowhere (Passes (is_byte 32) text) 0 (length text) → first_word text ≡ None

@@ -2,8 +2,8 @@
 use Rattle.std.specs.Prelude.{ℕ, Bool, if◌then◌else◌, List, codes, Option, Some, None}
 use Rattle.serde_json.specs.Data.{Data, string, object, Items, no_items, item, no_members, member}
 use Rattle.wq_clock.specs.ClockText.{clock_text}
-use Rattle.wq_clock.specs.Instance.{InstanceNumbers}
-use Rattle.wq_view.specs.View.{FileView}
+use Rattle.wq_clock.specs.Instance.{InstanceData}
+use Rattle.wq_view.specs.View.{ViewData}
 
 -- what may stand behind the root: nothing, or one object
 abbrev pub are_options : Items → Bool
@@ -17,6 +17,6 @@ clock_root (item (string root) options) = if are_options options then Some root 
 clock_root _ = None
 
 -- the clock id of a view
-abbrev pub clock_data : InstanceNumbers → FileView → Data
+abbrev pub clock_data : InstanceData → ViewData → Data
 clock_data instance view =
     object (member (codes "clock") (string (clock_text instance view.tick)) (member (codes "version") (string (codes "wq-1")) no_members))

@@ -5,13 +5,13 @@ use Rattle.std.specs.List.{list_all, starts_with}
 use Rattle.std.specs.Str.{is_utf8}
 use Rattle.serde_json.specs.Data.{Data, string, array, object, Items, no_items, item, no_members, member}
 use Rattle.serde_json.specs.Read.{read as read_text}
-use Rattle.wq_clock.specs.Instance.{InstanceNumbers}
-use Rattle.wq_view.specs.View.{FileView}
-use Rattle.wq_query.specs.Asked.{Asked, asks}
+use Rattle.wq_clock.specs.Instance.{InstanceData}
+use Rattle.wq_view.specs.View.{ViewData}
+use Rattle.wq_query.specs.Asked.{QueryData, asks}
 use Rattle.wq_query.specs.Reply.{reply_of}
 use Rattle.wq_query.specs.declared.fault.QueryFault.{QueryFault}
 use Rattle.wq_replay.specs.Clock.{clock_data, clock_root}
-use Rattle.wq_replay.specs.Limits.{max_line}
+use Rattle.wq_replay.specs.Limit.{max_line}
 use Rattle.wq_replay.specs.declared.refusal.Refusal.{Refusal}
 use Rattle.wq_replay.specs.declared.refusal.Refusal.TheVariants.{LineTooLong, NotJson, NotACommand, UnknownCommand, WrongArguments, Bser, NotWatched, Query}
 use Rattle.wq_replay.specs.Refusal.{refusal_text}
@@ -26,7 +26,7 @@ command_of (array (item (string name) arguments)) = Some (name, arguments)
 command_of _ = None
 
 -- what is answered to a query that was read
-abbrev pub answer_asked : InstanceNumbers → FileView → Result Asked QueryFault → Result Data Refusal
+abbrev pub answer_asked : InstanceData → ViewData → Result QueryData QueryFault → Result Data Refusal
 answer_asked instance view (Ok query) = Ok (reply_of query query.bound instance view)
 answer_asked instance view (Err fault) = Err (Query fault)
 
@@ -46,18 +46,18 @@ query_of (Some (string root, object ms)) = Some (root, object ms)
 query_of _ = None
 
 -- what is answered to a query of a root
-abbrev pub answer_query : InstanceNumbers → FileView → Option (List ℕ × Data) → Result Data Refusal
+abbrev pub answer_query : InstanceData → ViewData → Option (List ℕ × Data) → Result Data Refusal
 answer_query instance view None = Err WrongArguments
 answer_query instance view (Some (root, query)) =
     if is_root root then answer_asked instance view (asks instance query) else Err NotWatched
 
 -- what is answered to `clock` of a root
-abbrev pub answer_clock : InstanceNumbers → FileView → Option (List ℕ) → Result Data Refusal
+abbrev pub answer_clock : InstanceData → ViewData → Option (List ℕ) → Result Data Refusal
 answer_clock instance view None = Err WrongArguments
 answer_clock instance view (Some root) = if is_root root then Ok (clock_data instance view) else Err NotWatched
 
 -- what is answered to a command
-abbrev pub answer_command : InstanceNumbers → FileView → Option (List ℕ × Items) → Result Data Refusal
+abbrev pub answer_command : InstanceData → ViewData → Option (List ℕ × Items) → Result Data Refusal
 answer_command instance view None = Err NotACommand
 answer_command instance view (Some (name, arguments)) =
     if bytes_eq name (codes "query") then answer_query instance view (query_of (two_of arguments))
@@ -65,7 +65,7 @@ answer_command instance view (Some (name, arguments)) =
     else Err UnknownCommand
 
 -- what is answered to the value of a line
-abbrev pub answer_value : InstanceNumbers → FileView → Option Data → Result Data Refusal
+abbrev pub answer_value : InstanceData → ViewData → Option Data → Result Data Refusal
 answer_value instance view None = Err NotJson
 answer_value instance view (Some d) = answer_command instance view (command_of d)
 
@@ -79,7 +79,7 @@ abbrev pub value_of : List ℕ → Option Data
 value_of line = if is_utf8 line then read_text line else None
 
 -- what is answered to a line
-abbrev pub answer_line : InstanceNumbers → FileView → List ℕ → Result Data Refusal
+abbrev pub answer_line : InstanceData → ViewData → List ℕ → Result Data Refusal
 answer_line instance view line =
     if is_binary line then Err Bser
     else if nat_lt max_line (length line) then Err LineTooLong
@@ -96,5 +96,5 @@ reply_from (Ok d) = d
 reply_from (Err refusal) = error_data refusal
 
 -- the reply to a line
-abbrev pub reply_to : InstanceNumbers → FileView → List ℕ → Data
+abbrev pub reply_to : InstanceData → ViewData → List ℕ → Data
 reply_to instance view line = reply_from (answer_line instance view line)

@@ -1,4 +1,4 @@
-pub mod Limits
+pub mod Limit
 pub mod Refusal
 pub mod Clock
 pub mod Command
@@ -6,7 +6,7 @@ pub mod Gives
 pub mod Number
 pub mod ScriptLine
 pub mod LineData
-pub mod Lines
+pub mod Line
 pub mod Stage
 pub mod Replay
 pub mod StageData

@@ -3,20 +3,20 @@ use Rattle.std.specs.Prelude.{◌≡◌, ◌≤◌, ◌⊎◌, ℕ, ◌+◌, ℤ
 use Rattle.std.specs.Fmt.{signed_decimal}
 use Rattle.std.specs.Io.KnownBytes.{Appends}
 use Rattle.serde_json.specs.Written.{compact_text}
-use Rattle.wq_clock.specs.Instance.{InstanceNumbers}
+use Rattle.wq_clock.specs.Instance.{InstanceData}
 use Rattle.wq_view.specs.History.{History}
-use Rattle.wq_view.specs.View.{FileView, IsViewOf}
+use Rattle.wq_view.specs.View.{ViewData, IsViewOf}
 use Rattle.wq_replay.specs.Command.{reply_to, error_data}
-use Rattle.wq_replay.specs.Lines.{lines_of}
+use Rattle.wq_replay.specs.Line.{lines_of}
 use Rattle.wq_replay.specs.ScriptLine.{line_of}
 use Rattle.wq_replay.specs.Stage.{Stage, Turn, goes_on, passes, answers, strange, turn_at, Passed}
 use Rattle.wq_replay.specs.declared.refusal.Refusal.TheVariants.{NoMemory}
-use Rattle.wq_replay.specs.declared.replay.ReplayFault.{ReplayFault}
-use Rattle.wq_replay.specs.declared.replay.ReplayFault.TheVariants.{Line, Read, Write, Memory}
-use Rattle.wq_replay.specs.Limits.{max_script, max_script_line}
+use Rattle.wq_replay.specs.declared.player.ReplayFault.{ReplayFault}
+use Rattle.wq_replay.specs.declared.player.ReplayFault.TheVariants.{Line, Read, Write, Memory}
+use Rattle.wq_replay.specs.Limit.{max_script, max_script_line}
 
 -- the instance that answers scripts
-abbrev pub replay_instance : InstanceNumbers
+abbrev pub replay_instance : InstanceData
 replay_instance = record { start = 7; pid = 9; root = 1 }
 
 -- the line that is written for a reply: the client's number, a space and the reply
@@ -25,7 +25,7 @@ sent_line client text = signed_decimal client ++ codes " " ++ text ++ codes "\n"
 
 -- a line is the reply to a client's line at the view of a history, or says that the memory ran out
 pub record IsSent (history : History) (client : ℤ) (line written : List ℕ) : Type 0 where
-  pub view : FileView
+  pub view : ViewData
   pub is_view : IsViewOf history view
   pub text : (written ≡ sent_line client (compact_text (reply_to replay_instance view line)))
       ⊎ (written ≡ sent_line client (compact_text (error_data NoMemory)))

@@ -1,16 +1,16 @@
 -- What a line of a script says. Words are separated by a single space; a name and a client's line are the rest of their line.
 use Rattle.std.specs.Prelude.{ℕ, ℤ, pos, Bool, ◌&&◌, ◌==◌, int_le, List, [], ◌∷◌, codes, bytes_eq, if◌then◌else◌, Option, Some, None, option_map, option_and_then}
 use Rattle.wq_view.specs.Kind.{letter_of}
-use Rattle.wq_view.specs.Row.{Row}
-use Rattle.wq_view.specs.declared.kinds.Kind.{Kind}
-use Rattle.wq_view.specs.declared.kinds.Kind.TheVariants.{File, Dir, Link, Block, Char, Fifo, Socket, Door, Unknown}
+use Rattle.wq_view.specs.Seen.{SeenData}
+use Rattle.wq_view.specs.declared.kind.Kind.{Kind}
+use Rattle.wq_view.specs.declared.kind.Kind.TheVariants.{File, Dir, Link, Block, Char, Fifo, Socket, Door, Unknown}
 use Rattle.wq_replay.specs.Number.{number_of}
 
 pub data ScriptLine : Type 0 where
   -- a listing begins, seen at this second
   pass : ℤ → ScriptLine
   -- a row of the listing
-  row : Row → ScriptLine
+  row : SeenData → ScriptLine
   -- the listing ends, and is passed over
   end : ScriptLine
   -- a client sends a line

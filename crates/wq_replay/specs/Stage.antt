@@ -1,15 +1,15 @@
 -- Where a script stands, and what its next line does.
 use Rattle.std.specs.Prelude.{◌≡◌, ◌≢◌, ◌⊎◌, ℕ, ℤ, if◌then◌else◌, List, [], ◌∷◌, ◌++◌, length, Option, Some, None, is_none}
-use Rattle.wq_view.specs.Row.{Row}
-use Rattle.wq_view.specs.Listing.{Listing, listing_of, listing_fault}
-use Rattle.wq_view.specs.History.{History, last_sights}
-use Rattle.wq_view.specs.Limits.{max_tick}
+use Rattle.wq_view.specs.Seen.{SeenData}
+use Rattle.wq_view.specs.Listing.{PassData, listing_of, listing_fault}
+use Rattle.wq_view.specs.History.{History, last_stats}
+use Rattle.wq_view.specs.Limit.{max_tick}
 use Rattle.wq_replay.specs.ScriptLine.{ScriptLine, pass, row, end, ask}
 
 -- a listing that is open
 pub record Draft : Type 0 where
   pub second : ℤ
-  pub rows : List Row
+  pub rows : List SeenData
 
 -- the passes so far, and the listing that is open
 pub record Stage : Type 0 where
@@ -21,7 +21,7 @@ pub data Turn : Type 0 where
   -- the script goes on at this stage
   goes_on : Stage → Turn
   -- the root is passed over
-  passes : History → Listing → Turn
+  passes : History → PassData → Turn
   -- a client is answered
   answers : ℤ → List ℕ → Turn
   -- the line has another shape
@@ -53,8 +53,8 @@ turn_at stage None = strange
 turn_at stage (Some line) = turn_in stage.history stage.draft line
 
 -- the history after a pass: one that sees what the last one saw adds nothing, and none is added when the ticks are spent
-abbrev pub Passed : History → Listing → History → Type 0
+abbrev pub Passed : History → PassData → History → Type 0
 Passed history seen next =
-    ((last_sights history ≡ seen.sights) × (next ≡ history))
-    ⊎ (((last_sights history ≢ seen.sights) × (next ≡ history ++ seen ∷ []))
+    ((last_stats history ≡ seen.stats) × (next ≡ history))
+    ⊎ (((last_stats history ≢ seen.stats) × (next ≡ history ++ seen ∷ []))
     ⊎ ((length history ≡ max_tick) × (next ≡ history)))

@@ -2,11 +2,11 @@
 use Rattle.std.specs.Prelude.{◌≡◌, ℕ, Bool, true, false, List, [], None, option_map, is_some, IsTrue}
 use Rattle.wq_view.specs.History.{History}
 use Rattle.wq_view.specs.Listing.{listing_of, listing_fault}
-use Rattle.wq_view.specs.View.{FileView, IsViewOf}
+use Rattle.wq_view.specs.View.{ViewData, IsViewOf}
 use Rattle.wq_replay.specs.Replay.{IsSent}
 use Rattle.wq_replay.specs.Stage.{Draft, Stage, Turn, goes_on, passes, answers, strange, Passed}
-use Rattle.wq_replay.specs.declared.replay.ReplayFault.{ReplayFault}
-use Rattle.wq_replay.specs.declared.replay.ReplayFault.TheVariants.{Line, Read, Write, Memory}
+use Rattle.wq_replay.specs.declared.player.ReplayFault.{ReplayFault}
+use Rattle.wq_replay.specs.declared.player.ReplayFault.TheVariants.{Line, Read, Write, Memory}
 use Rattle.wq_replay.specs.declared.stage.Draft.{Draft as DraftCode}
 use Rattle.wq_replay.specs.declared.stage.Stage.{Stage as StageCode}
 
@@ -29,7 +29,7 @@ Does stage strange false code written = written ≡ []
 Does _ _ _ _ _ = ⊥
 
 -- the pass of a listing was taken into the view; it says false where the listing has a fault
-abbrev pub PassesOver : History → Draft → Bool → FileView → Type 0
+abbrev pub PassesOver : History → Draft → Bool → ViewData → Type 0
 PassesOver history draft true view =
     (listing_fault draft.rows draft.second ≡ None)
     × ((next : History) × Passed history (listing_of draft.rows draft.second) next × IsViewOf next view)

@@ -1,8 +1,8 @@
 -- How the lines of a script are taken from a reader, each in bounded memory.
 use Rattle.std.specs.Prelude.{◌≡◌, ◌⊎◌, ◌<◌, ℕ, zero, suc, ◌+◌, ◌-◌, Bool, true, false, ◌||◌, ◌==◌, List, [], ◌∷◌, ◌++◌, length, take, Option, Some}
 use Rattle.std.specs.Io.BufRead.{take_through}
-use Rattle.wq_replay.specs.Limits.{max_script_line}
-use Rattle.wq_replay.specs.Lines.{lines_of}
+use Rattle.wq_replay.specs.Limit.{max_script_line}
+use Rattle.wq_replay.specs.Line.{lines_of}
 
 -- how many bytes of a line are kept, its newline counted: one over the limit shows that a line is too long
 abbrev pub max_kept : ℕ

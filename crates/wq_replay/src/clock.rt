@@ -1,7 +1,7 @@
 //! The command `clock`: the clock id of the view.
 ghost use Rattle.std.specs.Prelude.{◌≡◌, IfOk, option_map};
 ghost use Rattle.serde_json.specs.View.{view as data_of, items_view};
-ghost use Rattle.wq_clock.specs.Instance.{instance_numbers};
+ghost use Rattle.wq_clock.specs.Instance.{instance_data};
 ghost use Rattle.wq_replay.specs.Clock.{are_options, clock_data, clock_root};
 ghost use Rattle.wq_replay.specs.Command.{answer_clock};
 ghost use Rattle.wq_replay.specs.Gives.{Gives};
@@ -20,7 +20,7 @@ pub(crate) fn answer_clock(
     view: &View,
     arguments: &[Value],
 ) -> Result<Vec<u8>, Refusal>
-    ensures { Gives result (answer_clock (instance_numbers instance.now) view.now (clock_root (items_view arguments.now))) }
+    ensures { Gives result (answer_clock (instance_data instance.now) view.now (clock_root (items_view arguments.now))) }
 {
     let Some(root) = clock_root(arguments) else {
         return Err(Refusal::WrongArguments);
@@ -58,7 +58,7 @@ fn are_options(values: &[Value]) -> bool
 
 /// The reply to `clock`.
 fn clock_value(alloc: Global, instance: &Instance, view: &View) -> Result<Value, AllocError>
-    ensures { IfOk result (λ v. data_of v ≡ clock_data (instance_numbers instance.now) view.now) }
+    ensures { IfOk result (λ v. data_of v ≡ clock_data (instance_data instance.now) view.now) }
 {
     let clock = print(instance, view.tick());
     json!(in alloc; { "clock": clock.as_str(), "version": "wq-1" })

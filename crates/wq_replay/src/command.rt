@@ -2,7 +2,7 @@
 ghost use Rattle.std.specs.Prelude.{◌≡◌, IfOk, option_map};
 ghost use Rattle.serde_json.specs.View.{view as data_of, items_view};
 ghost use Rattle.serde_json.specs.Written.{compact_text};
-ghost use Rattle.wq_clock.specs.Instance.{instance_numbers};
+ghost use Rattle.wq_clock.specs.Instance.{instance_data};
 ghost use Rattle.wq_replay.specs.Command.{answer_line, answer_value, answer_command, answer_query, command_of, error_data, is_binary, is_root, only_of, query_of, reply_to, two_of, value_of};
 ghost use Rattle.wq_replay.specs.Gives.{Gives, GivesValue};
 
@@ -30,7 +30,7 @@ pub fn reply(
     view: &View,
     line: &[u8],
 ) -> Result<Vec<u8>, AllocError>
-    ensures { IfOk result (λ text. text.items ≡ compact_text (reply_to (instance_numbers instance.now) view.now line.now)) }
+    ensures { IfOk result (λ text. text.items ≡ compact_text (reply_to (instance_data instance.now) view.now line.now)) }
 {
     match answer_line(alloc, instance, view, line) {
         Ok(text) => Ok(text),
@@ -46,7 +46,7 @@ fn answer_line(
     view: &View,
     line: &[u8],
 ) -> Result<Vec<u8>, Refusal>
-    ensures { Gives result (answer_line (instance_numbers instance.now) view.now line.now) }
+    ensures { Gives result (answer_line (instance_data instance.now) view.now line.now) }
 {
     if is_binary(line) {
         return Err(Refusal::Bser);
@@ -103,7 +103,7 @@ fn answer_query(
     view: &View,
     arguments: &[Value],
 ) -> Result<Vec<u8>, Refusal>
-    ensures { Gives result (answer_query (instance_numbers instance.now) view.now (query_of (two_of (items_view arguments.now)))) }
+    ensures { Gives result (answer_query (instance_data instance.now) view.now (query_of (two_of (items_view arguments.now)))) }
 {
     let Some((root, query)) = query_arguments(arguments) else {
         return Err(Refusal::WrongArguments);

@@ -5,11 +5,11 @@
 mod clock;
 mod command;
 mod refusal;
-mod replay;
+mod player;
 mod script;
 mod stage;
 mod taking;
 
 pub use command::{MAX_LINE, reply};
 pub use refusal::Refusal;
-pub use replay::{MAX_SCRIPT, MAX_SCRIPT_LINE, ReplayFault, replay};
+pub use player::{MAX_SCRIPT, MAX_SCRIPT_LINE, ReplayFault, replay};

@@ -5,7 +5,7 @@ ghost use Rattle.std.specs.Io.BufRead.{strip_last};
 ghost use Rattle.wq_replay.specs.StageData.{NamesNoLine};
 ghost use Rattle.wq_replay.specs.Taken.{TakesLine, TakesPart, is_last, kept, max_kept};
 
-use crate::replay::{MAX_SCRIPT_LINE, ReplayFault};
+use crate::player::{MAX_SCRIPT_LINE, ReplayFault};
 use memchr::memchr;
 use std::io::{BufRead, Error, ErrorKind};
 

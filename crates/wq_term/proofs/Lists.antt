@@ -7,37 +7,37 @@ use Rattle.serde_json.specs.View.{view, items_view}
 use Rattle.serde_json.specs.declared.value.Value.{Value}
 use Rattle.wq_term.specs.declared.fault.TermFault.TheVariants.{UnknownTerm, WrongArguments, TooDeep, BadClockSpec, CursorInTerm, PatternTooLong, NoMemory}
 use Rattle.wq_term.specs.declared.fault.TermFault.{TermFault}
-use Rattle.wq_term.specs.Term.{Term, Terms, no_terms, term_of, terms_of}
+use Rattle.wq_term.specs.Expr.{ExprData, ExprsData, no_terms, term_of, terms_of}
 use Rattle.wq_term.specs.declared.expr.Expr.{Expr}
-use Rattle.wq_term.specs.Arguments.{only_of, one_or_two_of, comparison_of}
-use Rattle.wq_term.specs.PatternArguments.{one_to_three_of}
+use Rattle.wq_term.specs.Argument.{only_of, one_or_two_of, comparison_of}
+use Rattle.wq_term.specs.PatternArgument.{one_to_three_of}
 use Rattle.wq_term.specs.Reading.{Answer, GivesAs, follow, read_all, read_plain}
 
 -- the answer of a list whose first terms are read
-abbrev pub prefixed : List Term → Result Terms TermFault → Result Terms TermFault
+abbrev pub prefixed : List ExprData → Result ExprsData TermFault → Result ExprsData TermFault
 prefixed [] rest = rest
 prefixed (t ∷ ts) rest = follow (Ok t) (prefixed ts rest)
 
-pub prefixed-push : (ts : List Term) (t : Term) (rest : Result Terms TermFault) → prefixed (ts ++ t ∷ []) rest ≡ prefixed ts (follow (Ok t) rest)
+pub prefixed-push : (ts : List ExprData) (t : ExprData) (rest : Result ExprsData TermFault) → prefixed (ts ++ t ∷ []) rest ≡ prefixed ts (follow (Ok t) rest)
 prefixed-push [] t rest = refl
 prefixed-push (u ∷ ts) t rest = ap (follow (Ok u)) (prefixed-push ts t rest)
 
 -- at the end the terms are those read
-pub prefixed-end : (ts : List Term) → prefixed ts (Ok no_terms) ≡ Ok (terms_of ts)
+pub prefixed-end : (ts : List ExprData) → prefixed ts (Ok no_terms) ≡ Ok (terms_of ts)
 prefixed-end [] = refl
 prefixed-end (t ∷ ts) = ap (follow (Ok t)) (prefixed-end ts)
 
 -- a fault is that of the whole list
-pub prefixed-fault : (ts : List Term) (fault : TermFault) → prefixed ts (Err fault) ≡ Err fault
+pub prefixed-fault : (ts : List ExprData) (fault : TermFault) → prefixed ts (Err fault) ≡ Err fault
 prefixed-fault [] fault = refl
 prefixed-fault (t ∷ ts) fault = ap (follow (Ok t)) (prefixed-fault ts fault)
 
 -- one more term is read
-pub read_more : (read : Data → Answer) (ts : List Term) (d : Data) (ds : Items) (t : Term) (all : Result Terms TermFault) → read d ≡ Ok t → prefixed ts (read_all read (item d ds)) ≡ all → prefixed (ts ++ t ∷ []) (read_all read ds) ≡ all
+pub read_more : (read : Data → Answer) (ts : List ExprData) (d : Data) (ds : Items) (t : ExprData) (all : Result ExprsData TermFault) → read d ≡ Ok t → prefixed ts (read_all read (item d ds)) ≡ all → prefixed (ts ++ t ∷ []) (read_all read ds) ≡ all
 read_more read ts d ds t all is so_far = prefixed-push ts t (read_all read ds) ∙ ap (λ r. prefixed ts (follow r (read_all read ds))) (sym is) ∙ so_far
 
 -- one more term has a fault
-pub read_fault : (read : Data → Answer) (ts : List Term) (d : Data) (ds : Items) (fault : TermFault) (all : Result Terms TermFault) → read d ≡ Err fault → prefixed ts (read_all read (item d ds)) ≡ all → all ≡ Err fault
+pub read_fault : (read : Data → Answer) (ts : List ExprData) (d : Data) (ds : Items) (fault : TermFault) (all : Result ExprsData TermFault) → read d ≡ Err fault → prefixed ts (read_all read (item d ds)) ≡ all → all ≡ Err fault
 read_fault read ts d ds fault all is so_far = sym so_far ∙ ap (λ r. prefixed ts (follow r (read_all read ds))) is ∙ prefixed-fault ts fault
 
 -- the items from a place on are the item there and those behind it
@@ -73,7 +73,7 @@ comparison_none (v ∷ w ∷ []) f = absurd (f refl)
 comparison_none (v ∷ w ∷ x ∷ values) f = refl
 
 -- arguments where there are to be none
-pub plain_some : (t : Term) (values : List Value) → (length values == 0) ≡ false → read_plain t (items_view values) ≡ Err WrongArguments
+pub plain_some : (t : ExprData) (values : List Value) → (length values == 0) ≡ false → read_plain t (items_view values) ≡ Err WrongArguments
 plain_some t [] e = absurd (false≢true (sym e))
 plain_some t (v ∷ values) e = refl
 

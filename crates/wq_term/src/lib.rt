@@ -7,8 +7,6 @@ mod fault;
 mod head;
 mod meaning;
 mod reading;
-#[cfg(test)]
-mod tests;
 
 pub use expr::{Case, Depth, Expr, Relation, Scope, Since};
 pub use fault::TermFault;

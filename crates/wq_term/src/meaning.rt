@@ -1,10 +1,10 @@
 //! Whether a record matches an expression, straight from what the expression means. It takes no memory.
 ghost use Rattle.std.specs.Prelude.{◌≡◌, ◌||◌, ◌&&◌, map};
-ghost use Rattle.wq_term.specs.Term.{means, every, some, has_kind, empty, term_of, terms_of};
+ghost use Rattle.wq_term.specs.Expr.{means, every, some, has_kind, empty, term_of, terms_of};
 
-mod numbers;
-mod patterns;
-mod texts;
+mod number;
+mod pattern;
+mod text;
 
 use crate::expr::Expr;
 use wq_view::{Kind, Record};
@@ -20,12 +20,12 @@ pub fn holds(expr: &Expr, file: &Record) -> bool
         Expr::Exists => file.exists,
         Expr::Empty => is_empty(file),
         Expr::KindIs(kind) => has_kind(*kind, file),
-        Expr::Name { case, scope, texts } => texts::is_named(*case, *scope, texts, file),
-        Expr::Match(pattern) => patterns::name_fits(pattern, file),
-        Expr::Suffix(texts) => texts::has_suffix(texts, file),
+        Expr::Name { case, scope, texts } => text::is_named(*case, *scope, texts, file),
+        Expr::Match(pattern) => pattern::name_fits(pattern, file),
+        Expr::Suffix(texts) => text::has_suffix(texts, file),
         Expr::Size(relation, n) => file.exists && relation.holds(file.size, *n),
         Expr::Since(since) => since.holds(file),
-        Expr::Dirname { case, dir, depth } => texts::is_below(*case, dir, *depth, file),
+        Expr::Dirname { case, dir, depth } => text::is_below(*case, dir, *depth, file),
         Expr::Not(term) => !holds(term, file),
         Expr::AllOf(terms) => all_hold(terms, file),
         Expr::AnyOf(terms) => any_holds(terms, file),

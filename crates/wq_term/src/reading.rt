@@ -2,24 +2,24 @@
 //! one term say is read in the modules below; what a term means is not said here.
 ghost use Rattle.std.specs.Prelude.{◌≡◌};
 ghost use Rattle.serde_json.specs.View.{view, items_view};
-ghost use Rattle.wq_clock.specs.Instance.{instance_numbers};
-ghost use Rattle.wq_term.specs.Arguments.{only_of};
-ghost use Rattle.wq_term.specs.Limits.{max_depth};
+ghost use Rattle.wq_clock.specs.Instance.{instance_data};
+ghost use Rattle.wq_term.specs.Argument.{only_of};
+ghost use Rattle.wq_term.specs.Limit.{max_depth};
 ghost use Rattle.wq_term.specs.Reading.{Gives, GivesAll, read_plain, read_negation, read_all, read_named, reads_as};
-ghost use Rattle.wq_term.specs.Term.{term_of};
+ghost use Rattle.wq_term.specs.Expr.{term_of};
 
-mod arguments;
-mod names;
-mod numbers;
-mod patterns;
-mod words;
+mod argument;
+mod name;
+mod number;
+mod pattern;
+mod word;
 
 use crate::expr::{Case, Expr};
 use crate::fault::TermFault;
 use crate::head::Head;
-use arguments::{only, parts};
-pub use arguments::{MAX_NUMBER, MAX_TEXT};
-pub use numbers::read_bound;
+use argument::{only, parts};
+pub use argument::{MAX_NUMBER, MAX_TEXT};
+pub use number::read_bound;
 use serde_json::Value;
 use std::alloc::Global;
 use wq_clock::Instance;
@@ -32,7 +32,7 @@ pub const MAX_DEPTH: u32 = 64;
 /// A term is an array headed by its name, with its arguments behind it; the bare name stands for an array
 /// of it alone. The first fault refuses the value: see [`TermFault`].
 pub fn read_expr(alloc: Global, value: &Value, instance: &Instance) -> Result<Expr, TermFault>
-    ensures { Gives result (reads_as (instance_numbers instance.now) max_depth (view value.now)) }
+    ensures { Gives result (reads_as (instance_data instance.now) max_depth (view value.now)) }
 {
     read_term(alloc, value, instance, MAX_DEPTH)
 }
@@ -46,7 +46,7 @@ fn read_term(
     instance: &Instance,
     levels: u32,
 ) -> Result<Expr, TermFault>
-    ensures { Gives result (reads_as (instance_numbers instance.now) levels (view value.now)) }
+    ensures { Gives result (reads_as (instance_data instance.now) levels (view value.now)) }
 {
     if levels == 0 {
         return Err(TermFault::TooDeep);
@@ -69,23 +69,23 @@ fn read_named(
     instance: &Instance,
     levels: u32,
 ) -> Result<Expr, TermFault>
-    ensures { Gives result (read_named (instance_numbers instance.now) (reads_as (instance_numbers instance.now) levels) head (items_view arguments.now)) }
+    ensures { Gives result (read_named (instance_data instance.now) (reads_as (instance_data instance.now) levels) head (items_view arguments.now)) }
 {
     match head {
         Head::True => read_plain(Expr::True, arguments),
         Head::False => read_plain(Expr::False, arguments),
         Head::Exists => read_plain(Expr::Exists, arguments),
         Head::Empty => read_plain(Expr::Empty, arguments),
-        Head::KindIs => names::read_kind(arguments),
-        Head::Name => names::read_name(alloc, Case::Exact, arguments),
-        Head::Iname => names::read_name(alloc, Case::Folded, arguments),
-        Head::Match => patterns::read_match(alloc, Case::Exact, arguments),
-        Head::Imatch => patterns::read_match(alloc, Case::Folded, arguments),
-        Head::Suffix => names::read_suffix(alloc, arguments),
-        Head::Size => numbers::read_size(arguments),
-        Head::Since => numbers::read_since(arguments, instance),
-        Head::Dirname => names::read_dirname(alloc, Case::Exact, arguments),
-        Head::Idirname => names::read_dirname(alloc, Case::Folded, arguments),
+        Head::KindIs => name::read_kind(arguments),
+        Head::Name => name::read_name(alloc, Case::Exact, arguments),
+        Head::Iname => name::read_name(alloc, Case::Folded, arguments),
+        Head::Match => pattern::read_match(alloc, Case::Exact, arguments),
+        Head::Imatch => pattern::read_match(alloc, Case::Folded, arguments),
+        Head::Suffix => name::read_suffix(alloc, arguments),
+        Head::Size => number::read_size(arguments),
+        Head::Since => number::read_since(arguments, instance),
+        Head::Dirname => name::read_dirname(alloc, Case::Exact, arguments),
+        Head::Idirname => name::read_dirname(alloc, Case::Folded, arguments),
         Head::Not => read_negation(alloc, arguments, instance, levels),
         Head::AllOf => Ok(Expr::AllOf(read_all(alloc, arguments, instance, levels)?)),
         Head::AnyOf => Ok(Expr::AnyOf(read_all(alloc, arguments, instance, levels)?)),
@@ -100,7 +100,7 @@ fn read_negation(
     instance: &Instance,
     levels: u32,
 ) -> Result<Expr, TermFault>
-    ensures { Gives result (read_negation (reads_as (instance_numbers instance.now) levels) (only_of (items_view arguments.now))) }
+    ensures { Gives result (read_negation (reads_as (instance_data instance.now) levels) (only_of (items_view arguments.now))) }
 {
     let Some(term) = only(arguments) else {
         return Err(TermFault::WrongArguments);
@@ -117,7 +117,7 @@ fn read_all(
     instance: &Instance,
     levels: u32,
 ) -> Result<Vec<Expr>, TermFault>
-    ensures { GivesAll result (read_all (reads_as (instance_numbers instance.now) levels) (items_view arguments.now)) }
+    ensures { GivesAll result (read_all (reads_as (instance_data instance.now) levels) (items_view arguments.now)) }
 {
     let mut terms = Vec::new(alloc);
     for argument in arguments {

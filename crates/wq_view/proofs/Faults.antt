@@ -11,9 +11,9 @@ use Rattle.std.proofs.lemmas.Option.{slice_get_read}
 use Rattle.wq_view.specs.declared.listing.PassFault.{PassFault}
 use Rattle.wq_view.specs.declared.listing.PassFault.TheVariants.{BadName, NameTwice, OutOfRange}
 use Rattle.wq_view.specs.Name.{is_valid_name}
-use Rattle.wq_view.specs.Row.{Row, sight_of, is_in_range, is_lawful_row, is_count}
+use Rattle.wq_view.specs.Seen.{SeenData, stat_of, is_in_range, is_lawful_row, is_count}
 use Rattle.wq_view.specs.Listing.{names_of, row_fault, listing_fault}
-use Rattle.wq_view.specs.Limits.{max_rows}
+use Rattle.wq_view.specs.Limit.{max_rows}
 use Rattle.wq_view.proofs.NameOrder.{names_total, both_true}
 
 -- a name of the list is among the names before, or stands twice in it
@@ -73,12 +73,12 @@ clash_is false xs tells = elim (clash [] xs) as (λ b. clash [] xs ≡ b → b �
 ] refl
 
 -- past lawful rows, the first fault is a clash among them or what the rest has
-past_lawful : (before : List (List ℕ)) (front rest : List Row) (last : Option PassFault) → list_all is_lawful_row front ≡ true → ((b : List (List ℕ)) → row_fault b rest ≡ last) → row_fault before (front ++ rest) ≡ if clash before (names_of front) then Some NameTwice else last
+past_lawful : (before : List (List ℕ)) (front rest : List SeenData) (last : Option PassFault) → list_all is_lawful_row front ≡ true → ((b : List (List ℕ)) → row_fault b rest ≡ last) → row_fault before (front ++ rest) ≡ if clash before (names_of front) then Some NameTwice else last
 unfolding clash
 past_lawful before [] rest last lawful is = is before
 past_lawful before (row ∷ rows) rest last lawful is =
     let parts = both_true (is_lawful_row row) (list_all is_lawful_row rows) lawful in
-    let own = both_true (is_valid_name row.name) (is_in_range (sight_of row)) parts.0 in
+    let own = both_true (is_valid_name row.name) (is_in_range (stat_of row)) parts.0 in
     rw (own.0, own.1) (elim (list_any (bytes_eq row.name) before) as (λ b. cond b (Some NameTwice) (row_fault (row.name ∷ before) (rows ++ rest)) ≡ cond (b || clash (row.name ∷ before) (names_of rows)) (Some NameTwice) last) [
       | true ↦ refl
       | false ↦ past_lawful (row.name ∷ before) rows rest last parts.1 is
@@ -93,23 +93,23 @@ chosen true fault = refl
 chosen false fault = refl
 
 -- the fault of a row by itself
-abbrev own_fault : Row → PassFault
+abbrev own_fault : SeenData → PassFault
 own_fault row = if is_valid_name row.name then OutOfRange else BadName
 
-own_fault_is : (before : List (List ℕ)) (row : Row) (rows : List Row) → is_lawful_row row ≡ false → row_fault before (row ∷ rows) ≡ Some (own_fault row)
-own_fault_is before row rows unlawful = elim (is_valid_name row.name) as (λ b. (b && is_in_range (sight_of row)) ≡ false → (if not b then Some BadName else if not (is_in_range (sight_of row)) then Some OutOfRange else if list_any (bytes_eq row.name) before then Some NameTwice else row_fault (row.name ∷ before) rows) ≡ Some (if b then OutOfRange else BadName)) [
+own_fault_is : (before : List (List ℕ)) (row : SeenData) (rows : List SeenData) → is_lawful_row row ≡ false → row_fault before (row ∷ rows) ≡ Some (own_fault row)
+own_fault_is before row rows unlawful = elim (is_valid_name row.name) as (λ b. (b && is_in_range (stat_of row)) ≡ false → (if not b then Some BadName else if not (is_in_range (stat_of row)) then Some OutOfRange else if list_any (bytes_eq row.name) before then Some NameTwice else row_fault (row.name ∷ before) rows) ≡ Some (if b then OutOfRange else BadName)) [
   | true ↦ λ e. rw e refl
   | false ↦ λ e. refl
 ] unlawful
 
 -- of lawful rows: a name that stands twice, or nothing
-pub fault_of_lawful : (rows : List Row) (r : Bool) → list_all is_lawful_row rows ≡ true → IsTrue r ↔ IsDistinct bytes_eq (names_of rows) → row_fault [] rows ≡ if r then None else Some NameTwice
+pub fault_of_lawful : (rows : List SeenData) (r : Bool) → list_all is_lawful_row rows ≡ true → IsTrue r ↔ IsDistinct bytes_eq (names_of rows) → row_fault [] rows ≡ if r then None else Some NameTwice
 fault_of_lawful rows r lawful tells =
     ap (row_fault []) (sym (append-nil rows)) ∙ past_lawful [] rows [] None lawful (λ b. refl)
     ∙ rw (clash_is r (names_of rows) tells) (turned r None (Some NameTwice))
 
 -- of rows with an unlawful one behind lawful ones: a name that stands twice before it, or its own fault
-pub fault_at_unlawful : (rows : List Row) (at : ℕ) (row : Row) (r : Bool) → list_all is_lawful_row (take at rows) ≡ true → at < length rows → row ≡ get_or rows at row → IfSome (slice_get rows at) (λ row. is_lawful_row row ≡ false) → IsTrue r ↔ IsDistinct bytes_eq (names_of (take at rows)) → row_fault [] rows ≡ Some (if r then (if is_valid_name row.name then OutOfRange else BadName) else NameTwice)
+pub fault_at_unlawful : (rows : List SeenData) (at : ℕ) (row : SeenData) (r : Bool) → list_all is_lawful_row (take at rows) ≡ true → at < length rows → row ≡ get_or rows at row → IfSome (slice_get rows at) (λ row. is_lawful_row row ≡ false) → IsTrue r ↔ IsDistinct bytes_eq (names_of (take at rows)) → row_fault [] rows ≡ Some (if r then (if is_valid_name row.name then OutOfRange else BadName) else NameTwice)
 fault_at_unlawful rows at row r lawful bound here unlawful tells =
     let there : slice_get rows at ≡ Some row = slice_get_read rows (length rows) at row refl bound here in
     let cut : drop at rows ≡ row ∷ drop (suc at) rows = drop-cons rows at row bound ∙ ap (λ r. r ∷ drop (suc at) rows) (sym here) in
@@ -118,11 +118,11 @@ fault_at_unlawful rows at row r lawful bound here unlawful tells =
     ∙ rw (clash_is r (names_of (take at rows)) tells) (chosen r (own_fault row))
 
 -- past the tests of the whole, a listing's fault is that of its rows
-pub fault_of_rows : (rows : List Row) (second : ℤ) → nat_lt max_rows (length rows) ≡ false → is_count second ≡ true → listing_fault rows second ≡ row_fault [] rows
+pub fault_of_rows : (rows : List SeenData) (second : ℤ) → nat_lt max_rows (length rows) ≡ false → is_count second ≡ true → listing_fault rows second ≡ row_fault [] rows
 fault_of_rows rows second short in_range = rw (short, in_range) refl
 
 -- the fault of lawful rows of which r says whether their names are distinct
-pub fault_when_lawful : (rows : List Row) (second : ℤ) (r : Bool) → length rows ≤ max_rows → is_count second ≡ true → list_all is_lawful_row rows ≡ true → IsTrue r ↔ IsDistinct bytes_eq (names_of rows) → listing_fault rows second ≡ if r then None else Some NameTwice
+pub fault_when_lawful : (rows : List SeenData) (second : ℤ) (r : Bool) → length rows ≤ max_rows → is_count second ≡ true → list_all is_lawful_row rows ≡ true → IsTrue r ↔ IsDistinct bytes_eq (names_of rows) → listing_fault rows second ≡ if r then None else Some NameTwice
 fault_when_lawful rows second r short in_range lawful tells =
     let short_test : nat_lt max_rows (length rows) ≡ false = grind (arith, nat_tests) in
     fault_of_rows rows second short_test in_range ∙ fault_of_lawful rows r lawful tells

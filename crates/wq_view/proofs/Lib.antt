@@ -4,7 +4,7 @@ mod Faults
 mod Listings
 mod LeftOver
 mod Absorbed
-mod Sights
+mod Stats
 mod Histories
 mod Showing
 mod ViewSteps

@@ -10,9 +10,9 @@ use Rattle.std.proofs.lemmas.List.Sorted.{All-permutation, Contains-permutation,
 use Rattle.std.proofs.lemmas.List.Sums.{AllPass-from_list_all, list_all-from_AllPass}
 use Rattle.std.proofs.lemmas.Map.Keys.{IsDistinct-IsPermutation}
 use Rattle.std.proofs.lemmas.Option.{same_Some}
-use Rattle.wq_view.specs.Row.{Row, Sight, sight_of, entry_of, is_lawful_row, is_count}
+use Rattle.wq_view.specs.Seen.{SeenData, Stat, stat_of, entry_of, is_lawful_row, is_count}
 use Rattle.wq_view.specs.Listing.{name_cmp, names_of, IsPass}
-use Rattle.wq_view.specs.Limits.{max_rows}
+use Rattle.wq_view.specs.Limit.{max_rows}
 use Rattle.wq_view.proofs.NameOrder.{names_total, names_exact, same_name}
 use Rattle.wq_view.proofs.Faults.{same_name_flips}
 
@@ -22,24 +22,24 @@ tie_is_same a b = sym (texts_ties a b)
 pub name_ties_itself : (a : List ℕ) → bytes_eq a a ≡ true
 name_ties_itself a = texts_ties a a ∙ ap is_eq (tied_itself names_total a)
 
-apart_in : (x : List ℕ) (rows : List Row) (row : Row) → AllByRecursion (λ y. bytes_eq x y ≡ false) (names_of rows) → Contains rows row → bytes_eq x row.name ≡ false
+apart_in : (x : List ℕ) (rows : List SeenData) (row : SeenData) → AllByRecursion (λ y. bytes_eq x y ≡ false) (names_of rows) → Contains rows row → bytes_eq x row.name ≡ false
 apart_in x [] row all (k, h, e) = absurd (omega arith)
-apart_in x (r ∷ rows) row all (zero, h, e) = subst (λ (z : Row). bytes_eq x z.name ≡ false) e all.0
+apart_in x (r ∷ rows) row all (zero, h, e) = subst (λ (z : SeenData). bytes_eq x z.name ≡ false) e all.0
 apart_in x (r ∷ rows) row all (suc k, h, e) = apart_in x rows row all.1 (k, omega arith, e)
 
 -- a row among rows with distinct names is what its name finds
-found_in : (rows : List Row) (row : Row) → IsDistinct bytes_eq (names_of rows) → Contains rows row → find name_cmp row.name (map entry_of rows) ≡ Some (sight_of row)
+found_in : (rows : List SeenData) (row : SeenData) → IsDistinct bytes_eq (names_of rows) → Contains rows row → find name_cmp row.name (map entry_of rows) ≡ Some (stat_of row)
 unfolding IsDistinct
 found_in [] row distinct (k, h, e) = absurd (omega arith)
-found_in (r ∷ rows) row distinct (zero, h, e) = subst (λ (z : Row). find name_cmp z.name (map entry_of (r ∷ rows)) ≡ Some (sight_of z)) e (rw (tie_is_same r.name r.name, name_ties_itself r.name) refl)
+found_in (r ∷ rows) row distinct (zero, h, e) = subst (λ (z : SeenData). find name_cmp z.name (map entry_of (r ∷ rows)) ≡ Some (stat_of z)) e (rw (tie_is_same r.name r.name, name_ties_itself r.name) refl)
 found_in (r ∷ rows) row distinct (suc k, h, e) =
     let rest : Contains rows row = (k, omega arith, e) in
     rw (tie_is_same row.name r.name, same_name_flips row.name r.name, apart_in r.name rows row distinct.0 rest) (found_in rows row distinct.1 rest)
 
 -- what a name finds is a row among them
-in_found : (q : List ℕ) (s : Sight) (rows : List Row) → find name_cmp q (map entry_of rows) ≡ Some s → (row : Row) × Contains rows row × (row.name ≡ q) × (sight_of row ≡ s)
+in_found : (q : List ℕ) (s : Stat) (rows : List SeenData) → find name_cmp q (map entry_of rows) ≡ Some s → (row : SeenData) × Contains rows row × (row.name ≡ q) × (stat_of row ≡ s)
 in_found q s [] e = absurd (cc)
-in_found q s (r ∷ rows) e = elim (eq_by_cmp name_cmp q r.name) as (λ b. eq_by_cmp name_cmp q r.name ≡ b → cond b (Some (sight_of r)) (find name_cmp q (map entry_of rows)) ≡ Some s → (row : Row) × Contains (r ∷ rows) row × (row.name ≡ q) × (sight_of row ≡ s)) [
+in_found q s (r ∷ rows) e = elim (eq_by_cmp name_cmp q r.name) as (λ b. eq_by_cmp name_cmp q r.name ≡ b → cond b (Some (stat_of r)) (find name_cmp q (map entry_of rows)) ≡ Some s → (row : SeenData) × Contains (r ∷ rows) row × (row.name ≡ q) × (stat_of row ≡ s)) [
   | true ↦ λ ties is. (r, (zero, omega arith, refl), sym (same_name q r.name (sym (tie_is_same q r.name) ∙ ties)), same_Some _ _ is)
   | false ↦ λ apart is.
       let rest = in_found q s rows is in
@@ -47,32 +47,32 @@ in_found q s (r ∷ rows) e = elim (eq_by_cmp name_cmp q r.name) as (λ b. eq_by
 ] refl e
 
 -- rows in another order find alike
-found_alike : (old new : List Row) → IsPermutation old new → IsDistinct bytes_eq (names_of new) → (q : List ℕ) (s : Sight) → find name_cmp q (map entry_of old) ≡ Some s → find name_cmp q (map entry_of new) ≡ Some s
+found_alike : (old new : List SeenData) → IsPermutation old new → IsDistinct bytes_eq (names_of new) → (q : List ℕ) (s : Stat) → find name_cmp q (map entry_of old) ≡ Some s → find name_cmp q (map entry_of new) ≡ Some s
 found_alike old new moved distinct q s e =
     let at = in_found q s old e in
     ap (λ n. find name_cmp n (map entry_of new)) (sym at.2) ∙ found_in new at.0 distinct (Contains-permutation old new at.0 moved at.1) ∙ ap Some at.3
 
-same_found : (old new : List Row) → IsPermutation old new → IsDistinct bytes_eq (names_of old) → IsDistinct bytes_eq (names_of new) → (q : List ℕ) → find name_cmp q (map entry_of new) ≡ find name_cmp q (map entry_of old)
+same_found : (old new : List SeenData) → IsPermutation old new → IsDistinct bytes_eq (names_of old) → IsDistinct bytes_eq (names_of new) → (q : List ℕ) → find name_cmp q (map entry_of new) ≡ find name_cmp q (map entry_of old)
 same_found old new moved old_distinct new_distinct q = at (find name_cmp q (map entry_of old)) (find name_cmp q (map entry_of new)) refl refl
   where
-    at : (a b : Option Sight) → find name_cmp q (map entry_of old) ≡ a → find name_cmp q (map entry_of new) ≡ b → b ≡ a
+    at : (a b : Option Stat) → find name_cmp q (map entry_of old) ≡ a → find name_cmp q (map entry_of new) ≡ b → b ≡ a
     at (Some s) b e f = sym f ∙ found_alike old new moved new_distinct q s e
     at None (Some s) e f = sym (found_alike new old (IsPermutation-sym _ _ moved) old_distinct q s f) ∙ e
     at None None e f = refl
 
 -- sorted rows are a pass of the rows that they were
-pub sorted_listing : (old new : List Row) → IsPermutation old new → IsDistinct bytes_eq (names_of old) → is_sorted name_cmp (map entry_of new) ≡ true → from_sorted {R = name_cmp} (map entry_of new) ≡ from_entries (map entry_of old)
+pub sorted_listing : (old new : List SeenData) → IsPermutation old new → IsDistinct bytes_eq (names_of old) → is_sorted name_cmp (map entry_of new) ≡ true → from_sorted {R = name_cmp} (map entry_of new) ≡ from_entries (map entry_of old)
 sorted_listing old new moved distinct sorted = same_map names_total names_exact _ _ (λ q.
     get-from_sorted name_cmp (map entry_of new) q (subst T (sym sorted) tt)
-    ∙ same_found old new moved distinct (IsDistinct-IsPermutation bytes_eq same_name_flips _ _ (IsPermutation-map (λ (row : Row). row.name) old new moved) distinct) q
+    ∙ same_found old new moved distinct (IsDistinct-IsPermutation bytes_eq same_name_flips _ _ (IsPermutation-map (λ (row : SeenData). row.name) old new moved) distinct) q
     ∙ sym (get-from_entries names_total (map entry_of old) q))
 
 -- lawful rows stay so in another order
-lawful_moved : (old new : List Row) → IsPermutation old new → list_all is_lawful_row old ≡ true → list_all is_lawful_row new ≡ true
+lawful_moved : (old new : List SeenData) → IsPermutation old new → list_all is_lawful_row old ≡ true → list_all is_lawful_row new ≡ true
 lawful_moved old new moved lawful = list_all-from_AllPass is_lawful_row new (All-permutation (λ row. is_lawful_row row ≡ true) old new moved (AllPass-from_list_all is_lawful_row old lawful))
 
 -- lawful rows in order are those of a pass
-pub is_pass : (old new : List Row) (second : ℤ) → IsPermutation old new → length old ≤ max_rows → list_all is_lawful_row old ≡ true → is_count second ≡ true → is_sorted name_cmp (map entry_of new) ≡ true → IsPass new second
+pub is_pass : (old new : List SeenData) (second : ℤ) → IsPermutation old new → length old ≤ max_rows → list_all is_lawful_row old ≡ true → is_count second ≡ true → is_sorted name_cmp (map entry_of new) ≡ true → IsPass new second
 is_pass old new second moved short lawful in_range sorted = record {
   rise = sorted;
   lawful = lawful_moved old new moved lawful;

@@ -3,21 +3,21 @@ use Rattle.std.proofs.Common.{◌≡◌, ℕ, suc, ◌+◌, true, List, [], ◌�
 use Rattle.std.proofs.Math.Dec.{T}
 use Rattle.std.specs.FinMap.{find, entries, get, get-entries, is_sorted, same_map}
 use Rattle.std.specs.FinMap.Entries.{same_entries}
-use Rattle.wq_view.specs.Row.{Row, entry_of}
-use Rattle.wq_view.specs.Listing.{Listing, name_cmp}
-use Rattle.wq_view.specs.FileRecord.{FileRecord, keyed, record_named}
-use Rattle.wq_view.specs.History.{History, record_of, last_sights}
+use Rattle.wq_view.specs.Seen.{SeenData, entry_of}
+use Rattle.wq_view.specs.Listing.{PassData, name_cmp}
+use Rattle.wq_view.specs.RecordData.{RecordData, keyed, record_named}
+use Rattle.wq_view.specs.History.{History, record_of, last_stats}
 use Rattle.wq_view.specs.Merge.{shows, absorbed}
-use Rattle.wq_view.specs.View.{FileView, IsViewOf, HasOneView}
+use Rattle.wq_view.specs.View.{ViewData, IsViewOf, HasOneView}
 use Rattle.wq_view.proofs.NameOrder.{names_total, names_exact}
 use Rattle.wq_view.proofs.Absorbed.{after_pass, absorbed_answers, absorbed_ordered}
-use Rattle.wq_view.proofs.Histories.{record_of_more, existing_of, last_answers, existing_sight}
+use Rattle.wq_view.proofs.Histories.{record_of_more, existing_of, last_answers, existing_stat}
 use Rattle.wq_view.proofs.Showing.{existing, existing_shown, shown_existing, existing_sorted, existing_found}
 
 -- rows that are the entries of a pass
-module _ (history : History) (view : FileView) (pass : Listing) (rows : List Row) (is_view : IsViewOf history view) (are_entries : entries pass.sights ≡ map entry_of rows) where
-  found_is : (q : List ℕ) → find name_cmp q (map entry_of rows) ≡ get pass.sights q
-  found_is q = ap (find name_cmp q) (sym are_entries) ∙ sym (get-entries pass.sights q)
+module _ (history : History) (view : ViewData) (pass : PassData) (rows : List SeenData) (is_view : IsViewOf history view) (are_entries : entries pass.stats ≡ map entry_of rows) where
+  found_is : (q : List ℕ) → find name_cmp q (map entry_of rows) ≡ get pass.stats q
+  found_is q = ap (find name_cmp q) (sym are_entries) ∙ sym (get-entries pass.stats q)
 
   -- the view with the pass is that of the history with it
   pub view_of_more : is_sorted name_cmp (map entry_of rows) ≡ true → IsViewOf (history ++ pass ∷ []) (record { tick = view.tick + 1; records = absorbed (view.tick + 1) pass.second view.records rows })
@@ -29,31 +29,31 @@ module _ (history : History) (view : FileView) (pass : Listing) (rows : List Row
         absorbed_answers (view.tick + 1) pass.second view.records rows is_view.ordered sorted q
         ∙ ap (λ r. after_pass q r (find name_cmp q (map entry_of rows)) (view.tick + 1) pass.second) (is_view.files q)
         ∙ ap (λ o. after_pass q (record_of history q) o (view.tick + 1) pass.second) (found_is q)
-        ∙ ap (λ n. after_pass q (record_of history q) (get pass.sights q) n pass.second) ticks
+        ∙ ap (λ n. after_pass q (record_of history q) (get pass.stats q) n pass.second) ticks
         ∙ sym (record_of_more history pass q);
   }
 
   -- what is found among the existing files is what the last pass saw
-  existing_is : (q : List ℕ) → find name_cmp q (existing view.records) ≡ get (last_sights history) q
-  existing_is q = existing_found view.records is_view.ordered q ∙ ap existing_sight (is_view.files q) ∙ existing_of history q ∙ sym (last_answers history q)
+  existing_is : (q : List ℕ) → find name_cmp q (existing view.records) ≡ get (last_stats history) q
+  existing_is q = existing_found view.records is_view.ordered q ∙ ap existing_stat (is_view.files q) ∙ existing_of history q ∙ sym (last_answers history q)
 
   -- the view shows the pass exactly where the pass has the last map
-  pub shows_last : is_sorted name_cmp (map entry_of rows) ≡ true → IsTrue (shows view.records rows) ↔ (last_sights history ≡ pass.sights)
+  pub shows_last : is_sorted name_cmp (map entry_of rows) ≡ true → IsTrue (shows view.records rows) ↔ (last_stats history ≡ pass.stats)
   shows_last sorted = (there, back)
     where
-      there : IsTrue (shows view.records rows) → last_sights history ≡ pass.sights
-      there e = same_map names_total names_exact (last_sights history) pass.sights (λ q. sym (existing_is q) ∙ ap (find name_cmp q) (existing_shown view.records rows e) ∙ found_is q)
+      there : IsTrue (shows view.records rows) → last_stats history ≡ pass.stats
+      there e = same_map names_total names_exact (last_stats history) pass.stats (λ q. sym (existing_is q) ∙ ap (find name_cmp q) (existing_shown view.records rows e) ∙ found_is q)
 
-      back : last_sights history ≡ pass.sights → IsTrue (shows view.records rows)
+      back : last_stats history ≡ pass.stats → IsTrue (shows view.records rows)
       back e = shown_existing view.records rows (same_entries name_cmp names_total names_exact (existing view.records) (map entry_of rows) (subst T (sym (existing_sorted view.records is_view.ordered)) tt) (subst T (sym sorted) tt) (λ q. existing_is q ∙ ap (λ m. get m q) e ∙ sym (found_is q)))
 
 -- records whose names rise are those that their names find
-same_records : (a b : List FileRecord) → is_sorted name_cmp (keyed a) ≡ true → is_sorted name_cmp (keyed b) ≡ true → ((q : List ℕ) → record_named q a ≡ record_named q b) → a ≡ b
+same_records : (a b : List RecordData) → is_sorted name_cmp (keyed a) ≡ true → is_sorted name_cmp (keyed b) ≡ true → ((q : List ℕ) → record_named q a ≡ record_named q b) → a ≡ b
 same_records a b sorted_a sorted_b same =
     let keys = same_entries name_cmp names_total names_exact (keyed a) (keyed b) (subst T (sym sorted_a) tt) (subst T (sym sorted_b) tt) same in
-    values a ∙ ap (map (λ (e : List ℕ × FileRecord). e.1)) keys ∙ sym (values b)
+    values a ∙ ap (map (λ (e : List ℕ × RecordData). e.1)) keys ∙ sym (values b)
   where
-    values : (rs : List FileRecord) → rs ≡ map (λ (e : List ℕ × FileRecord). e.1) (keyed rs)
+    values : (rs : List RecordData) → rs ≡ map (λ (e : List ℕ × RecordData). e.1) (keyed rs)
     values [] = refl
     values (r ∷ rs) = ap (λ l. r ∷ l) (values rs)
 

@@ -1,8 +1,8 @@
 -- The letters that stand for kinds of files, as in Watchman's documentation of the field `type`.
 use Rattle.std.specs.Prelude.{ℕ}
 use Rattle.std.specs.Str.{byte}
-use Rattle.wq_view.specs.declared.kinds.Kind.{Kind}
-use Rattle.wq_view.specs.declared.kinds.Kind.TheVariants.{File, Dir, Link, Block, Char, Fifo, Socket, Door, Unknown}
+use Rattle.wq_view.specs.declared.kind.Kind.{Kind}
+use Rattle.wq_view.specs.declared.kind.Kind.TheVariants.{File, Dir, Link, Block, Char, Fifo, Socket, Door, Unknown}
 
 -- the ASCII letter of a kind
 abbrev pub letter_of : Kind → ℕ

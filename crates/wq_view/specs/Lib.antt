@@ -1,9 +1,9 @@
-pub mod Limits
+pub mod Limit
 pub mod Kind
 pub mod Name
-pub mod Row
+pub mod Seen
 pub mod Listing
-pub mod FileRecord
+pub mod RecordData
 pub mod Record
 pub mod History
 pub mod View

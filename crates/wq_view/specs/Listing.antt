@@ -1,4 +1,4 @@
--- What one pass over a tree of files saw: a finite map from names to sights, and when.
+-- What one pass over a tree of files saw: a finite map from names to stats, and when.
 -- A pass is made from a list of rows, whose first fault refuses it.
 use Rattle.std.specs.Prelude.{ℕ, ℤ, ◌≤◌, IsTrue, nat_lt, not, if◌then◌else◌, List, [], ◌∷◌, length, map, bytes_eq, refl, Option, Some, None}
 use Rattle.std.specs.Coded.{Coded, code_by, coded×, coded_ℕ, coded_ℤ, coded_list}
@@ -9,49 +9,49 @@ use Rattle.std.specs.Cmp.Lexicographic.{slice_cmp}
 use Rattle.std.specs.FinMap.{FinMap, code, from_entries, is_sorted}
 use Rattle.wq_view.specs.declared.listing.PassFault.{PassFault}
 use Rattle.wq_view.specs.declared.listing.PassFault.TheVariants.{BadName, NameTwice, TooManyRows, OutOfRange}
-use Rattle.wq_view.specs.Limits.{max_rows}
+use Rattle.wq_view.specs.Limit.{max_rows}
 use Rattle.wq_view.specs.Name.{is_valid_name}
-use Rattle.wq_view.specs.Row.{Row, Sight, sight_code, sight_of, entry_of, is_count, is_in_range, is_lawful_row}
+use Rattle.wq_view.specs.Seen.{SeenData, Stat, stat_code, stat_of, entry_of, is_count, is_in_range, is_lawful_row}
 
 -- the byte order of names
 abbrev pub name_cmp : List ℕ → List ℕ → Ordering
 name_cmp = slice_cmp nat_cmp
 
-pub record Listing : Type 0 where
-  pub sights : FinMap name_cmp Sight
+pub record PassData : Type 0 where
+  pub stats : FinMap name_cmp Stat
   -- in seconds of the Unix epoch
   pub second : ℤ
 
 -- a listing as the pair of its parts
-abbrev pub listing_code : Coded Listing
-listing_code = code_by (FinMap name_cmp Sight × ℤ) (coded× (code (coded_list coded_ℕ) sight_code) coded_ℤ) (λ l. (l.sights, l.second)) (λ p. record { sights = p.0; second = p.1 }) (λ _. refl)
+abbrev pub pass_code : Coded PassData
+pass_code = code_by (FinMap name_cmp Stat × ℤ) (coded× (code (coded_list coded_ℕ) stat_code) coded_ℤ) (λ l. (l.stats, l.second)) (λ p. record { stats = p.0; second = p.1 }) (λ _. refl)
 
 -- what rows list, where no name stands twice
-abbrev pub listing_of : List Row → ℤ → Listing
-listing_of rows second = record { sights = from_entries (map entry_of rows); second = second }
+abbrev pub listing_of : List SeenData → ℤ → PassData
+listing_of rows second = record { stats = from_entries (map entry_of rows); second = second }
 
 -- the first fault of rows, row by row, after rows with these names
-abbrev pub row_fault : List (List ℕ) → List Row → Option PassFault
+abbrev pub row_fault : List (List ℕ) → List SeenData → Option PassFault
 row_fault before [] = None
 row_fault before (row ∷ rows) =
     if not (is_valid_name row.name) then Some BadName
-    else if not (is_in_range (sight_of row)) then Some OutOfRange
+    else if not (is_in_range (stat_of row)) then Some OutOfRange
     else if list_any (bytes_eq row.name) before then Some NameTwice
     else row_fault (row.name ∷ before) rows
 
 -- the first fault of a listing: of its length, of its second, and then of its rows
-abbrev pub listing_fault : List Row → ℤ → Option PassFault
+abbrev pub listing_fault : List SeenData → ℤ → Option PassFault
 listing_fault rows second =
     if nat_lt max_rows (length rows) then Some TooManyRows
     else if not (is_count second) then Some OutOfRange
     else row_fault [] rows
 
 -- the names of rows
-abbrev pub names_of : List Row → List (List ℕ)
+abbrev pub names_of : List SeenData → List (List ℕ)
 names_of = map (λ row. row.name)
 
 -- rows that a pass keeps: in the byte order of their names, none twice, each lawful
-pub record IsPass (rows : List Row) (at : ℤ) : Type 0 where
+pub record IsPass (rows : List SeenData) (at : ℤ) : Type 0 where
   pub rise : IsTrue (is_sorted name_cmp (map entry_of rows))
   pub lawful : IsTrue (list_all is_lawful_row rows)
   pub count : length rows ≤ max_rows

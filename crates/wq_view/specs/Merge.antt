@@ -2,45 +2,45 @@
 -- What the result means is said by the view of a history alone.
 use Rattle.std.specs.Prelude.{ℕ, ℤ, Bool, true, false, ◌&&◌, if◌then◌else◌, List, [], ◌∷◌, map, bytes_eq, Some, None}
 use Rattle.std.specs.FinMap.Entries.{by_order}
-use Rattle.wq_view.specs.Row.{Row, sight_of, same_sight}
+use Rattle.wq_view.specs.Seen.{SeenData, stat_of, same_stat}
 use Rattle.wq_view.specs.Listing.{name_cmp}
-use Rattle.wq_view.specs.FileRecord.{FileRecord, last_sight, unseen, observed}
+use Rattle.wq_view.specs.RecordData.{RecordData, last_stat, unseen, observed}
 
 -- the first row is that of a record which exists, and the later rows pass the test
-abbrev pub shows_next : FileRecord → (List Row → Bool) → List Row → Bool
+abbrev pub shows_next : RecordData → (List SeenData → Bool) → List SeenData → Bool
 shows_next r later [] = false
-shows_next r later (row ∷ rows) = bytes_eq r.name row.name && same_sight (last_sight r) (sight_of row) && later rows
+shows_next r later (row ∷ rows) = bytes_eq r.name row.name && same_stat (last_stat r) (stat_of row) && later rows
 
 -- whether the rows say what the records say of the files that exist
-abbrev pub shows : List FileRecord → List Row → Bool
+abbrev pub shows : List RecordData → List SeenData → Bool
 shows [] [] = true
 shows [] (row ∷ rows) = false
 shows (r ∷ rs) rows = if r.exists then shows_next r (shows rs) rows else shows rs rows
 
 -- a record with the unseen records of the rows before it
-abbrev pub put_before : FileRecord → (List Row → List FileRecord) → List Row → List FileRecord
+abbrev pub put_before : RecordData → (List SeenData → List RecordData) → List SeenData → List RecordData
 put_before r later [] = r ∷ later []
 put_before r later (row ∷ rows) =
     by_order (name_cmp r.name row.name) (r ∷ later (row ∷ rows)) (r ∷ later rows) (unseen row.name ∷ put_before r later rows)
 
 -- the records, with an unseen one for each row whose name has none
-abbrev pub with_names : List FileRecord → List Row → List FileRecord
+abbrev pub with_names : List RecordData → List SeenData → List RecordData
 with_names [] rows = map (λ row. unseen row.name) rows
 with_names (r ∷ rs) rows = put_before r (with_names rs) rows
 
 -- a record as the first row shows it if that row has its name, and the later records after it
-abbrev pub observe_next : FileRecord → (List Row → List FileRecord) → List Row → ℕ → ℤ → List FileRecord
+abbrev pub observe_next : RecordData → (List SeenData → List RecordData) → List SeenData → ℕ → ℤ → List RecordData
 observe_next r later [] tick second = observed r None tick second ∷ later []
 observe_next r later (row ∷ rows) tick second =
     if bytes_eq r.name row.name
-    then observed r (Some (sight_of row)) tick second ∷ later rows
+    then observed r (Some (stat_of row)) tick second ∷ later rows
     else observed r None tick second ∷ later (row ∷ rows)
 
 -- the records after a pass with these rows, each of which has its record
-abbrev pub observed_all : ℕ → ℤ → List FileRecord → List Row → List FileRecord
+abbrev pub observed_all : ℕ → ℤ → List RecordData → List SeenData → List RecordData
 observed_all tick second [] rows = []
 observed_all tick second (r ∷ rs) rows = observe_next r (observed_all tick second rs) rows tick second
 
 -- the records after a pass with these rows
-abbrev pub absorbed : ℕ → ℤ → List FileRecord → List Row → List FileRecord
+abbrev pub absorbed : ℕ → ℤ → List RecordData → List SeenData → List RecordData
 absorbed tick second rs rows = observed_all tick second (with_names rs rows) rows

@@ -3,7 +3,7 @@
 use Rattle.std.specs.Prelude.{ℕ, Bool, ◌==◌, nat_le, not, ◌&&◌, if◌then◌else◌, List, [], length, bytes_eq, codes}
 use Rattle.std.specs.Str.{byte, is_utf8}
 use Rattle.std.specs.List.{list_any, list_all, slice_split, after_last}
-use Rattle.wq_view.specs.Limits.{max_name_length}
+use Rattle.wq_view.specs.Limit.{max_name_length}
 
 abbrev pub is_slash : ℕ → Bool
 is_slash b = b == byte "/"

@@ -1,6 +1,6 @@
 -- What the fields of the Rust type `Record` stand for.
-use Rattle.wq_view.specs.declared.records.Record.TheInside.{Inside}
-use Rattle.wq_view.specs.FileRecord.{FileRecord}
+use Rattle.wq_view.specs.declared.file_record.Record.TheInside.{Inside}
+use Rattle.wq_view.specs.RecordData.{RecordData}
 
-abbrev pub file_record : Inside → FileRecord
-file_record r = record { name = r.name; kind = r.kind; size = r.size; mtime_ms = r.mtime_ms; exists = r.exists; ctick = r.ctick; otick = r.otick; csec = r.csec; osec = r.osec }
+abbrev pub record_data : Inside → RecordData
+record_data r = record { name = r.name; kind = r.kind; size = r.size; mtime_ms = r.mtime_ms; exists = r.exists; ctick = r.ctick; otick = r.otick; csec = r.csec; osec = r.osec }

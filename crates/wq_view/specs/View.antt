@@ -3,28 +3,28 @@ use Rattle.std.specs.Prelude.{◌≡◌, ℕ, IsTrue, List, length, refl}
 use Rattle.std.specs.Coded.{Coded, code_by, coded×, coded_ℕ, coded_list}
 use Rattle.std.specs.FinMap.{is_sorted}
 use Rattle.wq_view.specs.Listing.{name_cmp}
-use Rattle.wq_view.specs.FileRecord.{FileRecord, record_code, keyed, record_named}
+use Rattle.wq_view.specs.RecordData.{RecordData, record_code, keyed, record_named}
 use Rattle.wq_view.specs.History.{History, record_of}
 
-pub record FileView : Type 0 where
+pub record ViewData : Type 0 where
   -- the number of the last pass
   pub tick : ℕ
-  pub records : List FileRecord
+  pub records : List RecordData
 
 -- a view as the pair of its parts
-abbrev pub view_code : Coded FileView
-view_code = code_by (ℕ × List FileRecord) (coded× coded_ℕ (coded_list record_code)) (λ v. (v.tick, v.records)) (λ p. record { tick = p.0; records = p.1 }) (λ _. refl)
+abbrev pub view_code : Coded ViewData
+view_code = code_by (ℕ × List RecordData) (coded× coded_ℕ (coded_list record_code)) (λ v. (v.tick, v.records)) (λ p. record { tick = p.0; records = p.1 }) (λ _. refl)
 
 -- the names strictly rise in byte order
-abbrev pub NamesRise : List FileRecord → Type 0
+abbrev pub NamesRise : List RecordData → Type 0
 NamesRise records = IsTrue (is_sorted name_cmp (keyed records))
 
 -- the view of a history: its tick is the number of passes, its names rise, and each name has the record that the history gives it
-pub record IsViewOf (history : History) (view : FileView) : Type 0 where
+pub record IsViewOf (history : History) (view : ViewData) : Type 0 where
   pub tick : view.tick ≡ length history
   pub ordered : NamesRise view.records
   pub files : (name : List ℕ) → record_named name view.records ≡ record_of history name
 
 -- a history has one view
 abbrev pub HasOneView : Type 0
-HasOneView = (history : History) (a b : FileView) → IsViewOf history a → IsViewOf history b → a ≡ b
+HasOneView = (history : History) (a b : ViewData) → IsViewOf history a → IsViewOf history b → a ≡ b

@@ -12,21 +12,19 @@
 //! ```
 #![tactic(auto)]
 
-mod kinds;
-mod laws;
-mod limits;
+mod kind;
+mod law;
+mod limit;
 mod listing;
 mod merging;
-mod names;
-mod records;
-#[cfg(test)]
-mod tests;
-mod views;
+mod name;
+mod file_record;
+mod view;
 
-pub use kinds::Kind;
-pub use laws::history_has_one_view;
-pub use limits::{MAX_NUMBER, MAX_RECORDS, MAX_ROWS, MAX_TICK};
+pub use kind::Kind;
+pub use law::history_has_one_view;
+pub use limit::{MAX_NUMBER, MAX_RECORDS, MAX_ROWS, MAX_TICK};
 pub use listing::{Pass, PassFault, Seen};
-pub use names::{MAX_NAME, Name, is_valid_name};
-pub use records::Record;
-pub use views::{View, ViewFault};
+pub use name::{MAX_NAME, Name, is_valid_name};
+pub use file_record::Record;
+pub use view::{View, ViewFault};

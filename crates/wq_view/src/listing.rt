@@ -3,12 +3,12 @@
 ghost use Rattle.std.specs.Prelude.{◌≡◌, ◌<◌, ◌↔◌, false, Some, None, MatchResult, IfSome, IfNone, List, [], length, ◌≤◌, IfOk, map, take, bytes_eq, slice_get, IsTrue, IsPermutation};
 ghost use Rattle.std.specs.FinMap.{entries, is_sorted};
 ghost use Rattle.std.specs.List.{list_all, IsDistinct};
-ghost use Rattle.wq_view.specs.Row.{entry_of, is_lawful_row, is_count, is_time};
+ghost use Rattle.wq_view.specs.Seen.{entry_of, is_lawful_row, is_count, is_time};
 ghost use Rattle.wq_view.specs.Listing.{name_cmp, names_of, listing_of, listing_fault, row_fault};
 
-use crate::kinds::Kind;
-use crate::limits::{MAX_NUMBER, MAX_ROWS};
-use crate::names::is_valid_name;
+use crate::kind::Kind;
+use crate::limit::{MAX_NUMBER, MAX_ROWS};
+use crate::name::is_valid_name;
 use std::marker::Model;
 use std::sync::ArcSlice;
 use thiserror::Error;
@@ -27,9 +27,9 @@ pub struct Seen {
 
 impl Model for Seen {
     ghost use Rattle.std.specs.Arc.{arc_slice_items};
-    ghost use Rattle.wq_view.specs.Row.{Row};
+    ghost use Rattle.wq_view.specs.Seen.{SeenData};
 
-    ghost Value = { Row };
+    ghost Value = { SeenData };
 
     ghost view = { λ s. record { name = arc_slice_items s.name; kind = s.kind; size = s.size; mtime_ms = s.mtime_ms } };
 }
@@ -64,14 +64,14 @@ pub struct Pass {
 impl Model for Pass {
     ghost use Rattle.std.specs.Prelude.{map};
     ghost use Rattle.std.specs.FinMap.{from_sorted};
-    ghost use Rattle.wq_view.specs.Row.{entry_of};
-    ghost use Rattle.wq_view.specs.Listing.{name_cmp, Listing, listing_code, IsPass};
+    ghost use Rattle.wq_view.specs.Seen.{entry_of};
+    ghost use Rattle.wq_view.specs.Listing.{name_cmp, PassData, pass_code, IsPass};
 
-    ghost Value = { Listing };
+    ghost Value = { PassData };
 
-    ghost coded = { listing_code };
+    ghost coded = { pass_code };
 
-    ghost view = { λ p. record { sights = from_sorted (map entry_of p.rows.items); second = p.second } };
+    ghost view = { λ p. record { stats = from_sorted (map entry_of p.rows.items); second = p.second } };
 
     ghost invariant = { λ p. IsPass p.rows.items p.second };
 }
@@ -102,7 +102,7 @@ impl Pass {
 
     /// The rows in the byte order of their names.
     pub(crate) fn rows(&self) -> &[Seen]
-        ensures entries { entries self.now.sights ≡ map entry_of result.now }
+        ensures entries { entries self.now.stats ≡ map entry_of result.now }
         ensures rise { IsTrue (is_sorted name_cmp (map entry_of result.now)) }
         ensures lawful { IsTrue (list_all is_lawful_row result.now) }
         ensures count { length result.now ≤ MAX_ROWS }

@@ -2,13 +2,13 @@
 //! Each function goes over both lists once.
 ghost use Rattle.std.specs.Prelude.{◌≡◌, ◌+◌, ◌≤◌, ◌^◌, ◌<◌, ◌++◌, map, length, vec_len, IfOk, OnOk, OnErr, IsTrue};
 ghost use Rattle.std.specs.List.{list_all};
-ghost use Rattle.wq_view.specs.Row.{is_lawful_row, is_count};
-ghost use Rattle.wq_view.specs.FileRecord.{unseen};
+ghost use Rattle.wq_view.specs.Seen.{is_lawful_row, is_count};
+ghost use Rattle.wq_view.specs.RecordData.{unseen};
 ghost use Rattle.wq_view.specs.Merge.{shows, with_names, observed_all};
 
-use crate::limits::{MAX_RECORDS, MAX_TICK};
+use crate::limit::{MAX_RECORDS, MAX_TICK};
 use crate::listing::Seen;
-use crate::records::Record;
+use crate::file_record::Record;
 use std::alloc::{AllocError, Global};
 use std::cmp::Ordering;
 
@@ -20,7 +20,7 @@ pub(crate) fn shows(records: &[Record], rows: &[Seen]) -> bool
     for record in records {
         if record.exists {
             match left.split_first() {
-                Some((row, later)) if record.has_name_of(row) && record.has_sight_of(row) => {
+                Some((row, later)) if record.has_name_of(row) && record.has_stat_of(row) => {
                     left = later;
                 }
                 _ => return false,

@@ -1,7 +1,8 @@
 //! The words of the command line.
 
-use clap::Command;
-use std::alloc::{AllocError, Global};
+use clap::error::ErrorKind;
+use clap::{Command, Error};
+use std::alloc::{AllocError, AllocFailed, Global};
 
 /// What the command line asks for.
 #[derive(Clone, Copy, Debug, PartialEq, Eq)]
@@ -10,12 +11,24 @@ pub(crate) enum Task {
     Replay,
 }
 
+/// Why the command line asks for nothing.
+#[derive(Clone, Copy, Debug, PartialEq, Eq, Drop)]
+pub(crate) enum CommandLineFault {
+    /// Its words are not those of a command, or they ask for help.
+    Wrong,
+    /// A growth was refused.
+    NoMemory,
+}
+
 /// What these words ask for, the first of which is the program's name.
-pub(crate) fn read(alloc: Global, words: &[String]) -> Option<Task> {
-    let matches = command(alloc).ok()?.try_get_matches_from(words).ok()?;
+pub(crate) fn task_of(alloc: Global, words: &[String]) -> Result<Task, CommandLineFault> {
+    let matches = match command(alloc)?.try_get_matches_from(words) {
+        Ok(matches) => matches,
+        Err(error) => return Err(fault_of(&error)),
+    };
     match matches.subcommand_name() {
-        Some("replay") => Some(Task::Replay),
-        _ => None,
+        Some("replay") => Ok(Task::Replay),
+        _ => Err(CommandLineFault::Wrong),
     }
 }
 
@@ -23,4 +36,24 @@ fn command<'a>(alloc: Global) -> Result<Command<'a>, AllocError> {
     Command::new(alloc, "wqd")
         .subcommand_required(true)
         .subcommand(Command::new(alloc, "replay"))
+}
+
+/// Memory that ran out is told apart from words that are wrong.
+fn fault_of(error: &Error) -> CommandLineFault {
+    match error.kind() {
+        ErrorKind::OutOfMemory => CommandLineFault::NoMemory,
+        _ => CommandLineFault::Wrong,
+    }
+}
+
+impl From<AllocError> for CommandLineFault {
+    fn from(_error: AllocError) -> CommandLineFault {
+        CommandLineFault::NoMemory
+    }
+}
+
+impl<T: Drop> From<AllocFailed<T>> for CommandLineFault {
+    fn from(_error: AllocFailed<T>) -> CommandLineFault {
+        CommandLineFault::NoMemory
+    }
 }

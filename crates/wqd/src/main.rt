@@ -1,49 +1,55 @@
-//! The file watch server's program: what it answers to a client's line, the replay of scripts, and the command line.
+//! The file watch server's program: the command line, files and exit statuses. What it answers stands in `wq_replay`.
 #![tactic(auto)]
 
-mod clock;
-mod command;
 mod command_line;
-mod refusal;
-mod replay;
-mod script;
-mod stage;
-mod taking;
-#[cfg(test)]
-mod tests;
 
-pub use command::{MAX_LINE, reply};
-use command_line::Task;
-pub use refusal::Refusal;
-pub use replay::{MAX_SCRIPT, MAX_SCRIPT_LINE, ReplayFault, replay};
+use command_line::{CommandLineFault, Task};
 use std::env;
-use std::io::{self, BufReader, BufWriter, Write};
+use std::io::{self, BufReader, BufWriter, ErrorKind, Write};
 use std::process::ExitCode;
+use wq_replay::{ReplayFault, replay};
 
 /// The exit status after a wrong command line.
 const WRONG_COMMAND_LINE: u8 = 2;
 
 fn main(rt: HostRuntime) -> ExitCode {
-    let Some(Task::Replay) = task(&rt) else {
-        eprintln!(rt; "wqd: wrong command line").ok();
-        return ExitCode::from(WRONG_COMMAND_LINE);
-    };
-    match replay_script(&rt) {
+    match task(&rt) {
+        Ok(Task::Replay) => exit_status(&rt, replay_script(&rt)),
+        Err(CommandLineFault::Wrong) => {
+            eprintln!(rt; "wqd: wrong command line").ok();
+            ExitCode::from(WRONG_COMMAND_LINE)
+        }
+        Err(CommandLineFault::NoMemory) => exit_status(&rt, Err(ReplayFault::Memory)),
+    }
+}
+
+/// What the command line asks for, if its words are in UTF-8 and ask for something.
+fn task(rt: &HostRuntime) -> Result<Task, CommandLineFault> {
+    let alloc = rt.alloc();
+    let mut words = Vec::new(alloc);
+    match env::args(rt) {
+        Ok(all) => {
+            for word in all {
+                words.push(word)?;
+            }
+        }
+        Err(error) if error.kind() == ErrorKind::OutOfMemory => {
+            return Err(CommandLineFault::NoMemory);
+        }
+        Err(_) => return Err(CommandLineFault::Wrong),
+    }
+    command_line::task_of(alloc, &words)
+}
+
+/// The status of a replay that ended so. A fault is named on standard error.
+fn exit_status(rt: &HostRuntime, done: Result<(), ReplayFault>) -> ExitCode {
+    match done {
         Ok(()) => ExitCode::SUCCESS,
         Err(fault) => {
             eprintln!(rt; "{fault}").ok();
             ExitCode::FAILURE
         }
     }
-}
-
-/// What the command line asks for, if its words are in UTF-8 and ask for something.
-fn task(rt: &HostRuntime) -> Option<Task> {
-    let mut words = Vec::new(rt.alloc());
-    for word in env::args(rt).ok()? {
-        words.push(word).ok()?;
-    }
-    command_line::read(rt.alloc(), &words)
 }
 
 /// Replays the script on standard input, with the answers to standard output.

@@ -5,7 +5,7 @@ use Rattle.std.proofs.lemmas.List.Elements.{All-push}
 use Rattle.std.proofs.lemmas.Iterator.Splits.{YieldsList-from_str_split}
 use Rattle.std.proofs.lemmas.Iterator.Consumers.{YieldsList-turn, YieldsList-end}
 use Rattle.std.specs.Option.{option_and_then}
-use Rattle.wq_clock.specs.Limits.{max_number}
+use Rattle.wq_clock.specs.Limit.{max_number}
 use Rattle.wq_clock.specs.ClockSpec.{numbers_of, id_from_numbers}
 use Rattle.wq_clock.proofs.Parts.{numbers_of-push, numbers_of-bad, length-numbers_of, id-long}
 use Rattle.wq_clock.proofs.reading.numbers.Goals as goal

@@ -1,6 +1,6 @@
 use Rattle.std.proofs.Common.{ap, ◌+◌, ◌∙◌, ◌==◌, ◌&&◌, ℕ, sym, Bool}
 use Rattle.std.proofs.lemmas.Bool.{ltb-true, le-ltb}
-use Rattle.wq_glob.specs.Cells.{step_fits, marks_at}
+use Rattle.wq_glob.specs.Cell.{step_fits, marks_at}
 use Rattle.wq_glob.proofs.FrontLemmas.{byte_here, byte_past}
 use Rattle.wq_glob.proofs.matching.byte_at.Goals as goal
 

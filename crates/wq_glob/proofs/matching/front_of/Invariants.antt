@@ -1,5 +1,5 @@
 use Rattle.std.proofs.Common.{◌≡◌, ◌≤◌, ◌-◌, length, drop}
-use Rattle.wq_glob.specs.Cells.{step_fits, marks_at}
+use Rattle.wq_glob.specs.Cell.{step_fits, marks_at}
 use Rattle.wq_glob.proofs.matching.front_of.Given as goal
 
 abbrev pub invariant-steps : goal.invariant-steps

@@ -1,6 +1,6 @@
 use Rattle.std.proofs.Common.{arith, ◌-◌, ℕ, List, sym, subst}
-use Rattle.wq_glob.specs.Marks.{Mark}
-use Rattle.wq_glob.specs.Cells.{IsRow, IsWindow, Bounds, marks_at}
+use Rattle.wq_glob.specs.Mark.{Mark}
+use Rattle.wq_glob.specs.Cell.{IsRow, IsWindow, Bounds, marks_at}
 use Rattle.wq_glob.proofs.RunLemmas.{marks_end, dead_from}
 use Rattle.wq_glob.proofs.matching.run.Goals as goal
 

@@ -1,5 +1,5 @@
 use Rattle.std.proofs.Common.{◌-◌, ◌≤◌, ◌+◌, ◌*◌, length}
-use Rattle.wq_glob.specs.Cells.{IsRow, IsWindow, marks_at}
+use Rattle.wq_glob.specs.Cell.{IsRow, IsWindow, marks_at}
 use Rattle.wq_glob.proofs.matching.run.Given as goal
 
 abbrev pub invariant-places : goal.invariant-places

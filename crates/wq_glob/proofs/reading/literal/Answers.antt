@@ -1,4 +1,4 @@
-use Rattle.wq_glob.specs.Atoms.{literal_at}
+use Rattle.wq_glob.specs.Atom.{literal_at}
 use Rattle.wq_glob.proofs.StepLemmas.{stands_byte}
 use Rattle.wq_glob.proofs.reading.literal.Goals as goal
 

@@ -1,8 +1,8 @@
 use Rattle.std.proofs.Common.{sym, ap, subst, ◌≡◌, ℕ, Bool, List, Some, None, []}
-use Rattle.wq_glob.specs.Atoms.{Atom, Nothing, known_class, one_of_at}
+use Rattle.wq_glob.specs.Atom.{Atom, Nothing, known_class, one_of_at}
 use Rattle.wq_glob.specs.Reading.{class_items, begins, is_negation}
-use Rattle.wq_glob.specs.Steps.{StandsFor}
-use Rattle.wq_glob.specs.declared.steps.Step.TheVariants.{Never}
+use Rattle.wq_glob.specs.Step.{StandsFor}
+use Rattle.wq_glob.specs.declared.step.Step.TheVariants.{Never}
 use Rattle.wq_glob.proofs.StepLemmas.{one_of_some, one_of_none, stands_never}
 use Rattle.wq_glob.proofs.reading.one_of.Goals as goal
 use Rattle.wq_glob.proofs.reading.one_of.Goals.{After-class_step, In-None}

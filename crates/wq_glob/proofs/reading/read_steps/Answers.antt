@@ -1,6 +1,6 @@
 use Rattle.std.proofs.Common.{◌≡◌, arith, length, sym, true}
 use Rattle.std.proofs.lemmas.Bool.{eqb-true, eqb-false}
-use Rattle.wq_glob.specs.Atoms.{atoms_from}
+use Rattle.wq_glob.specs.Atom.{atoms_from}
 use Rattle.wq_glob.proofs.AtomLemmas.{atom_less, atoms_more, atoms_end}
 use Rattle.wq_glob.proofs.reading.read_steps.Goals as goal
 

@@ -1,7 +1,7 @@
 use Rattle.std.proofs.Common.{List, ◌++◌, length, true}
-use Rattle.wq_glob.specs.Atoms.{atoms_from}
-use Rattle.wq_glob.specs.Steps.{AllStand}
-use Rattle.wq_glob.specs.declared.steps.Step.{Step}
+use Rattle.wq_glob.specs.Atom.{atoms_from}
+use Rattle.wq_glob.specs.Step.{AllStand}
+use Rattle.wq_glob.specs.declared.step.Step.{Step}
 use Rattle.wq_glob.proofs.reading.read_steps.Given as goal
 
 abbrev pub invariant-atoms : goal.invariant-atoms

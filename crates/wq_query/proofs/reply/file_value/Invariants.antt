@@ -2,9 +2,9 @@
 use Rattle.std.proofs.Common.{◌≡◌, drop}
 use Rattle.serde_json.specs.Data.{no_members}
 use Rattle.serde_json.specs.View.{members_view}
-use Rattle.wq_clock.specs.Instance.{instance_numbers}
+use Rattle.wq_clock.specs.Instance.{instance_data}
 use Rattle.wq_query.specs.Reply.{members_with}
 use Rattle.wq_query.proofs.reply.file_value.Given as goal
 
 abbrev pub invariant-loop-field : goal.invariant-loop-field
-invariant-loop-field l = members_with (instance_numbers l.instance) l.bound l.file (members_view l.members.entries) (drop l.field-index l.fields) ≡ members_with (instance_numbers l.instance) l.bound l.file no_members l.fields
+invariant-loop-field l = members_with (instance_data l.instance) l.bound l.file (members_view l.members.entries) (drop l.field-index l.fields) ≡ members_with (instance_data l.instance) l.bound l.file no_members l.fields

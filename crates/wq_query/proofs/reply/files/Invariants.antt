@@ -2,11 +2,11 @@
 use Rattle.std.proofs.Common.{◌≡◌, map, take}
 use Rattle.std.specs.List.{filter}
 use Rattle.serde_json.specs.View.{view}
-use Rattle.wq_clock.specs.Instance.{instance_numbers}
+use Rattle.wq_clock.specs.Instance.{instance_data}
 use Rattle.wq_query.specs.Listed.{is_listed}
 use Rattle.wq_query.specs.Query.{asked_of}
 use Rattle.wq_query.specs.Reply.{file_data}
 use Rattle.wq_query.proofs.reply.files.Given as goal
 
 abbrev pub invariant-loop-file : goal.invariant-loop-file
-invariant-loop-file l = map view l.files.items ≡ map (file_data l.plan.query.fields.items (instance_numbers l.instance) l.plan.bound) (filter (is_listed (asked_of l.plan.query) l.plan.bound) (take l.file-index l.file-items))
+invariant-loop-file l = map view l.files.items ≡ map (file_data l.plan.query.fields.items (instance_data l.instance) l.plan.bound) (filter (is_listed (asked_of l.plan.query) l.plan.bound) (take l.file-index l.file-items))

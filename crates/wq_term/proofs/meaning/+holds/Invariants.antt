@@ -1,6 +1,6 @@
 -- what is left decides
 use Rattle.std.proofs.Common.{◌≡◌, map, drop}
-use Rattle.wq_term.specs.Term.{every, some, term_of, terms_of}
+use Rattle.wq_term.specs.Expr.{every, some, term_of, terms_of}
 use Rattle.wq_term.proofs.meaning.+holds.Given as goal
 
 abbrev pub invariant-all_hold-loop-term : goal.invariant-all_hold-loop-term

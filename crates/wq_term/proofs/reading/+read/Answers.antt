@@ -4,10 +4,10 @@ use Rattle.std.proofs.Math.ListN.{drop_of_length-le}
 use Rattle.std.proofs.lemmas.Result.{err_from_is_err_and}
 use Rattle.serde_json.specs.Data.{item}
 use Rattle.serde_json.specs.View.{view, items_view}
-use Rattle.wq_clock.specs.Instance.{instance_numbers}
+use Rattle.wq_clock.specs.Instance.{instance_data}
 use Rattle.std.specs.declared.alloc.Global.{Global}
 use Rattle.wq_term.specs.declared.expr.Expr.{Expr}
-use Rattle.wq_term.specs.Term.{term_of, terms_of}
+use Rattle.wq_term.specs.Expr.{term_of, terms_of}
 use Rattle.wq_term.specs.Reading.{read_all, reads_as}
 use Rattle.wq_term.proofs.Lists.{prefixed, prefixed-end, read_more, read_fault, items_from, terms-push, all_refused}
 use Rattle.wq_term.proofs.reading.+read.Goals as goal
@@ -16,12 +16,12 @@ pub read_all-returns : goal.read_all-returns
 read_all-returns t c =
     let none : drop c.loop-argument.argument-index c.args.arguments.now ≡ [] = drop_of_length-le c.args.arguments.now c.loop-argument-test.false in
     sym c.loop-argument.invariant
-    ∙ ap (λ left. prefixed (map term_of c.loop-argument.terms.items) (read_all (reads_as (instance_numbers c.args.instance.now) c.args.levels) (items_view left))) none
+    ∙ ap (λ left. prefixed (map term_of c.loop-argument.terms.items) (read_all (reads_as (instance_data c.args.instance.now) c.args.levels) (items_view left))) none
     ∙ prefixed-end (map term_of c.loop-argument.terms.items)
 
 pub read_all-loop-argument-preserved : goal.read_all-loop-argument-preserved
 read_all-loop-argument-preserved t c =
-    let read = reads_as (instance_numbers c.args.instance.now) c.args.levels in
+    let read = reads_as (instance_data c.args.instance.now) c.args.levels in
     let all = read_all read (items_view c.args.arguments.now) in
     let terms = map term_of c.loop-argument.terms.items in
     let left = items_view (drop (c.loop-argument.argument-index + 1) c.args.arguments.now) in
@@ -32,7 +32,7 @@ read_all-loop-argument-preserved t c =
 
 pub read_all-returns-in_err-read_term : goal.read_all-returns-in_err-read_term
 read_all-returns-in_err-read_term t c =
-    let read = reads_as (instance_numbers c.args.instance.now) c.args.levels in
+    let read = reads_as (instance_data c.args.instance.now) c.args.levels in
     let all = read_all read (items_view c.args.arguments.now) in
     let terms = map term_of c.loop-argument.terms.items in
     let left = items_view (drop (c.loop-argument.argument-index + 1) c.args.arguments.now) in

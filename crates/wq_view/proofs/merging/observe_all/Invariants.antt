@@ -1,7 +1,7 @@
 -- the records observed so far, and those that are left
 use Rattle.std.proofs.Common.{◌≡◌, ◌++◌, take, drop, IsTrue}
 use Rattle.std.specs.List.{list_all}
-use Rattle.wq_view.specs.Row.{is_lawful_row}
+use Rattle.wq_view.specs.Seen.{is_lawful_row}
 use Rattle.wq_view.specs.Merge.{observed_all}
 use Rattle.wq_view.proofs.merging.observe_all.Given as goal
 

@@ -1,6 +1,6 @@
 -- the records so far
 use Rattle.std.proofs.Common.{◌≡◌, ◌++◌, take, map}
-use Rattle.wq_view.specs.FileRecord.{unseen}
+use Rattle.wq_view.specs.RecordData.{unseen}
 use Rattle.wq_view.proofs.merging.push_unseen.Given as goal
 
 abbrev pub invariant-loop-row : goal.invariant-loop-row

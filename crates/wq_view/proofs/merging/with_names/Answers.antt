@@ -1,6 +1,6 @@
 -- One of the lists has ended, and what is left of the other is added.
 use Rattle.std.proofs.Common.{◌≡◌, ◌++◌, map, length, ◌⊎◌, inl, inr, ap, sym, ◌∙◌, append_assoc}
-use Rattle.wq_view.specs.FileRecord.{unseen}
+use Rattle.wq_view.specs.RecordData.{unseen}
 use Rattle.wq_view.proofs.LeftOver.{left_over}
 use Rattle.wq_view.proofs.merging.with_names.Goals as goal
 use Rattle.wq_view.proofs.merging.with_names.Goals.{in_default, in_default-2}

@@ -1,7 +1,7 @@
 -- what is merged, and what is left to merge
 use Rattle.std.proofs.Common.{◌≡◌, ◌+◌, ◌++◌, length, IsTrue}
 use Rattle.std.specs.List.{list_all}
-use Rattle.wq_view.specs.Row.{is_lawful_row}
+use Rattle.wq_view.specs.Seen.{is_lawful_row}
 use Rattle.wq_view.specs.Merge.{with_names}
 use Rattle.wq_view.proofs.merging.with_names.Given as goal
 

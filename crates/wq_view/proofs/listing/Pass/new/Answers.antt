@@ -8,8 +8,8 @@ use Rattle.std.proofs.lemmas.List.{with_items_is}
 use Rattle.std.proofs.lemmas.List.Sorted.{length_permutation}
 use Rattle.std.specs.declared.alloc.Global.{Global}
 use Rattle.wq_view.specs.declared.listing.Seen.{Seen}
-use Rattle.wq_view.specs.Row.{Row, is_lawful_row, is_count}
-use Rattle.wq_view.specs.declared.limits.TheConstants.{MAX_ROWS}
+use Rattle.wq_view.specs.Seen.{SeenData, is_lawful_row, is_count}
+use Rattle.wq_view.specs.declared.limit.TheConstants.{MAX_ROWS}
 use Rattle.wq_view.proofs.Faults.{fault_when_lawful}
 use Rattle.wq_view.proofs.Listings.{sorted_listing, is_pass}
 use Rattle.wq_view.proofs.listing.Pass.new.Goals as goal
@@ -33,7 +33,7 @@ returns-clause-fault c =
     fault_when_lawful c.args.rows.items c.args.second true short second lawful (rw (c.if-not-sort_by_name.false, c.deref_mut-2.ensures.value) at c.sort_by_name.ensures.distinct)
 
 -- the vector after the sort has the sorted rows
-written : (rows : Vec Seen Global) (sorted : List Row) → IsPermutation rows.items sorted → (with_items rows sorted).items ≡ sorted
+written : (rows : Vec Seen Global) (sorted : List SeenData) → IsPermutation rows.items sorted → (with_items rows sorted).items ≡ sorted
 written rows sorted moved = with_items_is rows sorted (omega (arith, length_permutation rows.items sorted moved, rows.ok.0))
 
 pub invariant_of-result : goal.invariant_of-result
@@ -48,4 +48,4 @@ pub returns-clause-pass : goal.returns-clause-pass
 returns-clause-pass c =
     let moved : IsPermutation c.args.rows.items c.sort_by_name.new.rows = rw c.deref_mut-2.ensures.value at c.sort_by_name.ensures.same in
     let distinct = (rw c.deref_mut-2.ensures.value at c.sort_by_name.ensures.distinct).0 c.if-not-sort_by_name.false in
-    rw (to_z-of_z w64 c.args.second c.ranges.second, written c.args.rows c.sort_by_name.new.rows moved) (ap (λ m. record { sights = m; second = c.args.second }) (sorted_listing c.args.rows.items c.sort_by_name.new.rows moved distinct (c.sort_by_name.ensures.rise c.if-not-sort_by_name.false)))
+    rw (to_z-of_z w64 c.args.second c.ranges.second, written c.args.rows c.sort_by_name.new.rows moved) (ap (λ m. record { stats = m; second = c.args.second }) (sorted_listing c.args.rows.items c.sort_by_name.new.rows moved distinct (c.sort_by_name.ensures.rise c.if-not-sort_by_name.false)))

@@ -2,12 +2,12 @@
 use Rattle.std.proofs.Common.{map, sym, ap, subst, ◌∙◌}
 use Rattle.std.proofs.Math.Dec.{T}
 use Rattle.std.specs.FinMap.{entries, entries-from_sorted}
-use Rattle.wq_view.specs.Row.{entry_of}
-use Rattle.wq_view.specs.Listing.{Listing, name_cmp}
+use Rattle.wq_view.specs.Seen.{entry_of}
+use Rattle.wq_view.specs.Listing.{PassData, name_cmp}
 use Rattle.wq_view.proofs.listing.Pass.rows.Goals as goal
 
 pub returns-clause-entries : goal.returns-clause-entries
 returns-clause-entries c =
-    ap (λ (l : Listing). entries l.sights) (sym c.self.view_is)
+    ap (λ (l : PassData). entries l.stats) (sym c.self.view_is)
     ∙ entries-from_sorted name_cmp (map entry_of c.self.inside.rows.items) (subst T (sym c.self.invariant.rise) tt)
     ∙ ap (map entry_of) (sym c.deref.ensures.value)

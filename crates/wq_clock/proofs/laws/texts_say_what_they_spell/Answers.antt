@@ -1,5 +1,0 @@
-use Rattle.wq_clock.proofs.Spellings.{says_what_it_spells}
-use Rattle.wq_clock.proofs.laws.texts_say_what_they_spell.Goals as goal
-
-pub returns : goal.returns
-returns c = says_what_it_spells

@@ -1,0 +1,13 @@
+use Rattle.std.proofs.Common.{◌≡◌, List, length}
+use Rattle.wq_glob.specs.Member.{AreMembers}
+use Rattle.wq_glob.specs.Reading.{class_items, items_from}
+use Rattle.wq_glob.specs.declared.class.Item.{Item}
+use Rattle.wq_glob.proofs.ItemLemmas.{with_items}
+use Rattle.wq_glob.proofs.class.read_items.Given as goal
+
+abbrev pub invariant-items : goal.invariant-items
+invariant-items l =
+    (done : List Item) × (class_items l.noescape l.fn.text ≡ with_items done (items_from (length l.rest) l.noescape l.rest)) × AreMembers l.members done
+
+abbrev pub decreases-items : goal.decreases-items
+decreases-items l = length l.rest

@@ -1,0 +1,10 @@
+use Rattle.std.proofs.Common.{◌≤◌, length}
+use Rattle.wq_glob.proofs.EndLemmas.{IsEndRow}
+use Rattle.wq_glob.specs.declared.flag.Flags.{Flags}
+use Rattle.wq_glob.proofs.row.fill_end.Given as goal
+
+abbrev pub invariant-tails : goal.invariant-tails
+invariant-tails l = record { within : l.low ≤ length l.steps; ends : (f : Flags) → IsEndRow f l.steps l.row l.low }
+
+abbrev pub decreases-tails : goal.decreases-tails
+decreases-tails l = l.low

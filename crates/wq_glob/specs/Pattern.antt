@@ -1,0 +1,46 @@
+-- What a contract sees of a pattern: its text and its flags. Its atoms, and what it fits, follow from these.
+use Rattle.std.specs.Prelude.{ℕ, true, Bool, ◌&&◌, List, length}
+use Rattle.std.specs.Str.{bytes_eq}
+use Rattle.std.specs.Cmp.{IsEquivalence, and_equiv, bool_eq_equiv, on_equiv}
+use Rattle.std.specs.Cmp.Lexicographic.{nat_list_eq_equiv}
+use mathlib.Core.Bool.{beq}
+use Rattle.wq_glob.specs.Atom.{Atom, atoms_from}
+use Rattle.wq_glob.specs.Mark.{marks}
+use Rattle.wq_glob.specs.Fits.{Cuts}
+use Rattle.wq_glob.specs.FitsTest.{fits_by, reach, admits}
+use Rattle.wq_glob.specs.declared.flag.Flags.{Flags}
+
+-- the text and the flags of a pattern
+pub record PatternData : Type 0 where
+  pub text : List ℕ
+  pub flags : Flags
+
+-- the atoms of a pattern, in the order of its text
+unfoldable pub atoms_of : PatternData → List Atom
+atoms_of g = atoms_from (length g.text) g.flags true g.text
+
+-- the pattern fits the text: it can be cut into parts, one for each atom
+unfoldable pub Fits : PatternData → List ℕ → Type 0
+Fits g text = Cuts g.flags (atoms_of g) (marks (g.flags).dotfiles text)
+
+-- the same as a test
+unfoldable pub fits : PatternData → List ℕ → Bool
+fits g text = fits_by reach (admits g.flags) (atoms_of g) (marks (g.flags).dotfiles text)
+
+-- two patterns are equal where their texts and flags are
+abbrev pub same_flags : Flags → Flags → Bool
+same_flags f g = beq f.wholename g.wholename && beq f.dotfiles g.dotfiles && beq f.noescape g.noescape && beq f.fold g.fold
+
+abbrev pub same_pattern : PatternData → PatternData → Bool
+same_pattern g h = bytes_eq g.text h.text && same_flags g.flags h.flags
+
+-- which is an equivalence, as each of its parts is
+pub same_pattern_equiv : IsEquivalence same_pattern
+same_pattern_equiv =
+    and_equiv (on_equiv (λ (g : PatternData). g.text) nat_list_eq_equiv)
+    (on_equiv (λ (g : PatternData). g.flags)
+    (and_equiv
+    (and_equiv
+    (and_equiv (on_equiv (λ (f : Flags). f.wholename) bool_eq_equiv) (on_equiv (λ (f : Flags). f.dotfiles) bool_eq_equiv))
+    (on_equiv (λ (f : Flags). f.noescape) bool_eq_equiv))
+    (on_equiv (λ (f : Flags). f.fold) bool_eq_equiv)))

@@ -1,0 +1,58 @@
+-- What the steps of a compiled pattern mean, and that they stand for its atoms.
+use Rattle.std.specs.Prelude.{◌≡◌, ℕ, ◌<◌, Bool, true, false, ◌==◌, ◌&&◌, ◌≤◌, List, [], ◌∷◌, length}
+use Rattle.wq_glob.specs.Byte.{is_slash, folded}
+use Rattle.wq_glob.specs.ByteSet.{has_byte}
+use Rattle.wq_glob.specs.Atom.{Atom, opens, atoms_from}
+use Rattle.wq_glob.specs.Mark.{Mark}
+use Rattle.wq_glob.specs.Fits.{is_shown, is_wild}
+use Rattle.wq_glob.specs.FitsTest.{Reach, Single, Many, Folders, reach, admits}
+use Rattle.wq_glob.specs.declared.flag.Flags.{Flags}
+use Rattle.wq_glob.specs.Limit.{max_pattern_length}
+use Rattle.wq_glob.specs.declared.row.Seen.{Seen}
+use Rattle.wq_glob.specs.declared.step.Step.{Step}
+use Rattle.wq_glob.specs.declared.step.Step.TheVariants.{Byte, AnyByte, Set, Stars, Below, Tail, Never}
+
+abbrev pub step_reach : Step → Reach
+step_reach Stars = Many
+step_reach Tail = Many
+step_reach Below = Folders
+step_reach _ = Single
+
+-- a mark as the steps of a pattern with these flags see it
+abbrev pub seen_of : Flags → Mark → Seen
+seen_of f x = record { byte = x.byte; folded = folded f.fold x.byte; slash = is_slash x.byte; shown = is_shown x; wild = is_wild f x }
+
+-- a step may take this byte
+abbrev pub step_takes : Step → Seen → Bool
+step_takes (Byte b) s = s.folded == b
+step_takes AnyByte s = s.wild
+step_takes (Set set) s = s.wild && has_byte set s.byte
+step_takes Stars s = s.wild
+step_takes Below s = s.shown
+step_takes Tail s = s.shown
+step_takes Never s = false
+
+abbrev pub step_admits : Flags → Step → Mark → Bool
+step_admits f step x = step_takes step (seen_of f x)
+
+abbrev pub step_opens : Step → Bool
+step_opens (Byte b) = is_slash b
+step_opens Below = true
+step_opens _ = false
+
+-- the step takes what the atom takes
+pub record StandsFor (f : Flags) (step : Step) (atom : Atom) : Type 0 where
+  pub same_reach : step_reach step ≡ reach atom
+  pub same_bytes : (x : Mark) → x.byte < 256 → step_admits f step x ≡ admits f atom x
+  pub same_opening : step_opens step ≡ opens atom
+
+-- the steps stand for the atoms, one for each in order
+abbrev pub AllStand : Flags → List Step → List Atom → Type 0
+AllStand f [] [] = Unit {0}
+AllStand f (s ∷ steps) (a ∷ atoms) = StandsFor f s a × AllStand f steps atoms
+AllStand f _ _ = ⊥
+
+-- the steps of a pattern: its text is not too long, and they stand for its atoms
+pub record IsCompiled (text : List ℕ) (f : Flags) (steps : List Step) : Type 0 where
+  pub short : length text ≤ max_pattern_length
+  pub stands : AllStand f steps (atoms_from (length text) f true text)

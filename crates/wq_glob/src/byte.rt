@@ -1,0 +1,53 @@
+//! Single bytes: how a text begins, and letters without their case.
+ghost use Rattle.std.specs.Prelude.{◌≡◌, ◌==◌, ◌<◌, length, drop};
+ghost use Rattle.wq_glob.specs.Byte.{folded, lower_of, upper_of};
+ghost use Rattle.wq_glob.specs.Reading.{begins};
+
+/// Whether a text begins with the byte.
+pub fn begins(text: &[u8], byte: u8) -> bool
+    ensures { result ≡ begins (λ b. b == byte) text.now }
+{
+    match text.first() {
+        Some(first) => *first == byte,
+        None => false,
+    }
+}
+
+/// What follows the first byte.
+pub fn behind(text: &[u8]) -> &[u8]
+    requires { 0 < length text.now }
+    ensures { result.now ≡ drop 1 text.now }
+{
+    &text[1..]
+}
+
+/// A to Z as a to z, every other byte as it is.
+#[tactic(auto, unfolding(crate::specs::Byte::lower_of))]
+pub fn lower(byte: u8) -> u8
+    ensures { result ≡ lower_of byte }
+{
+    if byte >= b'A' && byte <= b'Z' {
+        byte + 32
+    } else {
+        byte
+    }
+}
+
+/// a to z as A to Z, every other byte as it is.
+#[tactic(auto, unfolding(crate::specs::Byte::upper_of))]
+pub fn upper(byte: u8) -> u8
+    ensures { result ≡ upper_of byte }
+{
+    if byte >= b'a' && byte <= b'z' {
+        byte - 32
+    } else {
+        byte
+    }
+}
+
+/// The byte as it is compared.
+pub fn lower_if(fold: bool, byte: u8) -> u8
+    ensures { result ≡ folded fold byte }
+{
+    if fold { lower(byte) } else { byte }
+}

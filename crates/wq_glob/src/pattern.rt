@@ -1,0 +1,154 @@
+//! Patterns: a text with flags, read once and then tried on paths. How it is read stands in `reading`, how it is tried
+//! in `matching`; which paths are tried, and whether by their last part or whole, is for others to say.
+ghost use Rattle.std.specs.Prelude.{◌≡◌, ◌<◌, ◌≤◌, ◌↔◌, ◌+◌, ◌*◌, IfOk, IsTrue, length, IsErrOf};
+ghost use Rattle.wq_glob.specs.Pattern.{atoms_of, fits, Fits};
+ghost use Rattle.wq_glob.specs.Limit.{max_pattern_length, max_text_length};
+
+use crate::limit::MAX_PATTERN;
+use crate::matching::{Hit, hit_of};
+use crate::flag::Flags;
+use crate::reading::read_steps;
+use crate::step::Step;
+use std::alloc::{AllocError, Global};
+use std::marker::Model;
+use thiserror::Error;
+
+/// Why a text is no pattern.
+#[derive(Clone, Copy, Debug, PartialEq, Eq, Error)]
+pub enum PatternFault {
+    #[error("pattern too long")]
+    TooLong,
+    #[error("no memory")]
+    NoMemory,
+}
+
+impl From<AllocError> for PatternFault {
+    ghost use Rattle.std.specs.Prelude.{◌≡◌};
+    ghost use Rattle.wq_glob.specs.declared.pattern.PatternFault.TheVariants.{NoMemory};
+
+    ghost from_gives = { λ _ fault. fault ≡ NoMemory };
+
+    fn from(_refused: AllocError) -> PatternFault {
+        PatternFault::NoMemory
+    }
+}
+
+/// A pattern of wildmatch. Contracts see its text and its flags, and two patterns are equal where these are.
+#[derive(Debug, Drop)]
+pub struct Pattern {
+    text: Vec<u8>,
+    flags: Flags,
+    steps: Vec<Step>,
+}
+
+impl Model for Pattern {
+    ghost use Rattle.wq_glob.specs.Pattern.{PatternData};
+    ghost use Rattle.wq_glob.specs.Step.{IsCompiled};
+
+    ghost Value = { PatternData };
+
+    ghost view = { λ p. record { text = p.text.items; flags = p.flags } };
+
+    ghost invariant = { λ p. IsCompiled p.text.items p.flags p.steps.items };
+}
+
+impl Clone for Pattern {
+    ghost use Rattle.std.specs.Prelude.{◌≡◌};
+
+    ghost is_clone = { λ p q. q ≡ p };
+
+    fn clone(&self) -> Result<Pattern, AllocError> {
+        Ok(Pattern {
+            text: self.text.clone()?,
+            flags: self.flags,
+            steps: self.steps.clone()?,
+        })
+    }
+}
+
+impl PartialEq for Pattern {
+    ghost use Rattle.std.specs.Cmp.{partial_equiv_from_equiv};
+    ghost use Rattle.std.specs.Prelude.{◌≡◌, ◌↔◌, IsTrue};
+    ghost use Rattle.wq_glob.specs.Pattern.{same_pattern, same_pattern_equiv};
+
+    ghost eq = { same_pattern };
+
+    ghost laws = { partial_equiv_from_equiv same_pattern_equiv };
+
+    /// Two patterns are equal where their texts and their flags are.
+    fn eq(&self, other: &Pattern) -> bool
+        ensures value { result ≡ same_pattern self.now other.now }
+        ensures same { IsTrue result ↔ (self.now ≡ other.now) }
+    {
+        self.flags == other.flags && self.text.as_slice() == other.text.as_slice()
+    }
+}
+
+impl Eq for Pattern {
+    ghost use Rattle.wq_glob.specs.Pattern.{same_pattern_equiv};
+
+    ghost laws = { same_pattern_equiv };
+}
+
+impl Pattern {
+    /// Reads a pattern. Every text of at most [`MAX_PATTERN`] bytes is one: a malformed one, as `[a`, fits nothing.
+    ///
+    /// # Errors
+    /// [`PatternFault::TooLong`] exactly where the text is longer, [`PatternFault::NoMemory`] where a growth was refused.
+    pub fn parse(alloc: Global, text: &[u8], flags: Flags) -> Result<Pattern, PatternFault>
+        ensures read { IfOk result (λ pattern. pattern ≡ record { text = text.now; flags = flags }) }
+        ensures long { IsErrOf result PatternFault.TooLong ↔ (max_pattern_length < length text.now) }
+    {
+        if text.len() > MAX_PATTERN {
+            return Err(PatternFault::TooLong);
+        }
+        let steps = read_steps(alloc, text, flags)?;
+        let text = Vec::from_slice(alloc, text)?;
+        Ok(Pattern { text, flags, steps })
+    }
+
+    /// The text that the pattern was read from.
+    pub fn text(&self) -> &[u8]
+        ensures value { result.now ≡ self.now.text }
+        ensures short { length result.now ≤ max_pattern_length }
+    {
+        self.text.as_slice()
+    }
+
+    /// The flags that the pattern was read with.
+    pub fn flags(&self) -> Flags
+        ensures { result ≡ self.now.flags }
+    {
+        self.flags
+    }
+
+    /// How many atoms the pattern has: literals, `?`, classes, `*`, `**/` and a last `**` count one each.
+    pub fn atoms(&self) -> usize
+        ensures count { result ≡ length (atoms_of self.now) }
+        ensures few { result ≤ max_pattern_length }
+    {
+        self.steps.len()
+    }
+
+    /// Whether the pattern fits a text of at most [`MAX_TEXT`](crate::limit::MAX_TEXT) bytes, and at what cost.
+    ///
+    /// It fits where the text can be cut into parts, one for each atom in order, each allowed to its atom. With m atoms
+    /// and a text of t bytes at most (m + 1)(t + 1) cells are looked at, whatever the pattern; it takes no memory.
+    ///
+    /// ```text
+    /// src/**/*.c   with wholename fits src/a.c and src/x/y/a.c, and not src/.x/a.c
+    /// ```
+    pub fn matches(&self, text: &[u8]) -> Hit
+        requires { length text.now ≤ max_text_length }
+
+        ensures test { result.yes ≡ fits self.now text.now }
+        ensures cuts { IsTrue result.yes ↔ Fits self.now text.now }
+
+        ensures bounded { result.cells ≤ (length (atoms_of self.now) + 1) * (length text.now + 1) }
+        // A yes has looked at each byte, and no answer comes for nothing.
+        ensures counted { IsTrue result.yes → length text.now + 1 ≤ result.cells }
+        ensures looked { 1 ≤ result.cells }
+    {
+        hit_of(self.steps.as_slice(), text, self.flags)
+    }
+}

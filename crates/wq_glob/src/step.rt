@@ -1,0 +1,32 @@
+//! The form of a pattern that the matcher runs: one step for each atom.
+ghost use Rattle.std.specs.Prelude.{◌≡◌};
+ghost use Rattle.wq_glob.specs.Cell.{may_be_empty};
+ghost use Rattle.wq_glob.specs.Step.{step_reach};
+
+use crate::byte_set::ByteSet;
+
+/// What an atom takes of a text.
+#[derive(Clone, Copy, Debug)]
+pub enum Step {
+    /// One byte, this one; without case where the pattern is, and then kept in lower case.
+    Byte(u8),
+    /// `?`: one byte.
+    AnyByte,
+    /// A class: one byte of the set.
+    Set(ByteSet),
+    /// `*`: any bytes.
+    Stars,
+    /// `**/`: nothing, or bytes that end in a slash.
+    Below,
+    /// `**` at the end: any bytes, slashes too.
+    Tail,
+    /// Nothing that a text could have.
+    Never,
+}
+
+/// Whether the part of a step may be empty.
+pub fn may_take_nothing(step: &Step) -> bool
+    ensures { result ≡ may_be_empty (step_reach step.now) }
+{
+    matches!(step, Step::Stars | Step::Below | Step::Tail)
+}

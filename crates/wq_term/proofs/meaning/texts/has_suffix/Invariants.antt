@@ -1,8 +1,0 @@
--- what is left decides
-use Rattle.std.proofs.Common.{◌≡◌, drop}
-use Rattle.wq_term.specs.Term.{texts_in}
-use Rattle.wq_term.specs.Texts.{has_suffix}
-use Rattle.wq_term.proofs.meaning.texts.has_suffix.Given as goal
-
-abbrev pub invariant-loop-text : goal.invariant-loop-text
-invariant-loop-text l = has_suffix (texts_in (drop l.text-index l.texts)) l.file.name ≡ has_suffix (texts_in l.texts) l.file.name

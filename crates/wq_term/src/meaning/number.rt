@@ -1,0 +1,50 @@
+//! How the numbers of a record stand to those of a term.
+ghost use Rattle.std.specs.Prelude.{◌≡◌};
+ghost use Rattle.wq_term.specs.Number.{compares, is_after, is_since};
+
+use crate::expr::{Relation, Since};
+use wq_clock::Bound;
+use wq_view::Record;
+
+/// How many milliseconds a second has.
+const SECOND: i64 = 1000;
+
+impl Relation {
+    /// Whether the first number stands in this relation to the second.
+    pub(crate) fn holds(self, left: i64, right: i64) -> bool
+        ensures { result ≡ compares self left right }
+    {
+        match self {
+            Relation::Eq => left == right,
+            Relation::Ne => left != right,
+            Relation::Gt => left > right,
+            Relation::Ge => left >= right,
+            Relation::Lt => left < right,
+            Relation::Le => left <= right,
+        }
+    }
+}
+
+impl Since {
+    /// Whether what it asks for happened to the file after its point.
+    pub(crate) fn holds(self, file: &Record) -> bool
+        ensures { result ≡ is_since self file.now }
+    {
+        match self {
+            Since::Observed(bound) => is_after(bound, file.exists, file.otick, file.osec),
+            Since::Created(bound) => is_after(bound, file.exists, file.ctick, file.csec),
+            Since::Modified(second) => second < file.mtime_ms.div_euclid(SECOND),
+        }
+    }
+}
+
+/// Whether a moment lies strictly after the bound; of a client that knows nothing, whether the file exists.
+fn is_after(bound: Bound, exists: bool, tick: u64, second: i64) -> bool
+    ensures { result ≡ is_after bound exists tick second }
+{
+    match bound {
+        Bound::Fresh => exists,
+        Bound::Tick(bound) => bound < tick,
+        Bound::Second(bound) => bound < second,
+    }
+}

@@ -1,0 +1,78 @@
+-- The record that a view keeps of one file: what was last seen of it, whether it exists,
+-- and when it was created and last observed to change, as ticks (numbers of passes) and as seconds of the Unix epoch.
+use Rattle.std.specs.Prelude.{ℕ, ℤ, pos, ◌≤◌, Bool, false, true, IsTrue, if◌then◌else◌, List, map, Option, Some, None, refl}
+use Rattle.std.specs.Coded.{Coded, code_by, coded×, coded_ℕ, coded_ℤ, coded_bool, coded_list}
+use Rattle.std.specs.FinMap.{find}
+use Rattle.wq_view.specs.contracts.kind.Kind.{the_row}
+use Rattle.wq_view.specs.declared.kind.Kind.{Kind}
+use Rattle.wq_view.specs.declared.kind.Kind.TheVariants.{Unknown}
+use Rattle.wq_view.specs.Limit.{max_tick}
+use Rattle.wq_view.specs.Name.{is_valid_name}
+use Rattle.wq_view.specs.Seen.{Stat, is_count, is_in_range, same_stat}
+use Rattle.wq_view.specs.Listing.{name_cmp}
+
+pub record RecordData : Type 0 where
+  pub name : List ℕ
+  pub kind : Kind
+  pub size : ℤ
+  pub mtime_ms : ℤ
+  -- whether the last pass saw it
+  pub exists : Bool
+  -- the pass that saw it come, and the last pass that saw a change of it
+  pub ctick : ℕ
+  pub otick : ℕ
+  -- the seconds of those passes
+  pub csec : ℤ
+  pub osec : ℤ
+
+-- a record as the tuple of its parts
+abbrev pub record_code : Coded RecordData
+record_code =
+    code_by (List ℕ × (Kind × (ℤ × (ℤ × (Bool × (ℕ × (ℕ × (ℤ × ℤ))))))))
+    (coded× (coded_list coded_ℕ) (coded× the_row.coded (coded× coded_ℤ (coded× coded_ℤ (coded× coded_bool (coded× coded_ℕ (coded× coded_ℕ (coded× coded_ℤ coded_ℤ))))))))
+    (λ r. (r.name, (r.kind, (r.size, (r.mtime_ms, (r.exists, (r.ctick, (r.otick, (r.csec, r.osec)))))))))
+    (λ p. record { name = p.0; kind = p.1.0; size = p.1.1.0; mtime_ms = p.1.1.1.0; exists = p.1.1.1.1.0; ctick = p.1.1.1.1.1.0; otick = p.1.1.1.1.1.1.0; csec = p.1.1.1.1.1.1.1.0; osec = p.1.1.1.1.1.1.1.1 })
+    (λ _. refl)
+
+-- what was last seen of the file
+abbrev pub last_stat : RecordData → Stat
+last_stat r = record { kind = r.kind; size = r.size; mtime_ms = r.mtime_ms }
+
+-- a valid name, numbers in range, and ticks of at most 2^62
+pub record IsLawful (r : RecordData) : Type 0 where
+  pub name : IsTrue (is_valid_name r.name)
+  pub stat : IsTrue (is_in_range (last_stat r))
+  pub ctick : r.ctick ≤ max_tick
+  pub otick : r.otick ≤ max_tick
+  pub csec : IsTrue (is_count r.csec)
+  pub osec : IsTrue (is_count r.osec)
+
+-- the record of a name that no pass has seen yet
+abbrev pub unseen : List ℕ → RecordData
+unseen name = record { name = name; kind = Unknown; size = pos 0; mtime_ms = pos 0; exists = false; ctick = 0; otick = 0; csec = pos 0; osec = pos 0 }
+
+-- the record after a pass that saw the file otherwise than it was
+abbrev pub changed : RecordData → Stat → ℕ → ℤ → RecordData
+changed r s tick second = record r { kind = s.kind; size = s.size; mtime_ms = s.mtime_ms; otick = tick; osec = second }
+
+-- the record after a pass that saw the file come
+abbrev pub come : RecordData → Stat → ℕ → ℤ → RecordData
+come r s tick second = changed (record r { exists = true; ctick = tick; csec = second }) s tick second
+
+-- the record after a pass that saw the file go
+abbrev pub gone : RecordData → ℕ → ℤ → RecordData
+gone r tick second = record r { exists = false; otick = tick; osec = second }
+
+-- the record after a pass that saw this of the file, or nothing
+abbrev pub observed : RecordData → Option Stat → ℕ → ℤ → RecordData
+observed r None tick second = if r.exists then gone r tick second else r
+observed r (Some s) tick second =
+    if r.exists then (if same_stat (last_stat r) s then r else changed r s tick second) else come r s tick second
+
+-- records as entries by their names
+abbrev pub keyed : List RecordData → List (List ℕ × RecordData)
+keyed = map (λ r. (r.name, r))
+
+-- the record of a name, if there is one
+abbrev pub record_named : List ℕ → List RecordData → Option RecordData
+record_named name records = find name_cmp name (keyed records)

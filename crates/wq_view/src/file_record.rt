@@ -1,0 +1,177 @@
+//! The record that a view keeps of one file, and how a pass changes it.
+//! Which records a view has, and in which order, is not said here.
+ghost use Rattle.std.specs.Prelude.{◌≡◌, ◌≤◌, Some, None, IfOk, IsTrue, bytes_eq};
+ghost use Rattle.wq_view.specs.Name.{basename_of, suffix_of, is_valid_name};
+ghost use Rattle.wq_view.specs.Seen.{stat_of, same_stat, is_lawful_row, is_count};
+ghost use Rattle.wq_view.specs.Listing.{name_cmp};
+ghost use Rattle.wq_view.specs.RecordData.{last_stat, unseen, changed, come, observed};
+
+use crate::kind::Kind;
+use crate::limit::MAX_TICK;
+use crate::listing::Seen;
+use crate::name::{Name, after_last};
+use std::alloc::AllocError;
+use std::cmp::Ordering;
+use std::marker::Model;
+
+/// What a view keeps of one file, deleted or not. A tick is the number of a pass over the root.
+#[derive(Drop)]
+pub struct Record {
+    pub name: Name,
+    /// In bytes, from 0 to 2^62.
+    pub size: i64,
+    /// The time of the last change, in milliseconds of the Unix epoch, from -2^62 to 2^62.
+    pub mtime_ms: i64,
+    /// The tick of the pass that saw the file come.
+    pub ctick: u64,
+    /// The tick of the last pass that saw a change of the file, its deletion too.
+    pub otick: u64,
+    /// The second of the Unix epoch of the pass `ctick`.
+    pub csec: i64,
+    /// The second of the Unix epoch of the pass `otick`.
+    pub osec: i64,
+    pub kind: Kind,
+    /// Whether the last pass saw the file. Kind, size and time are those of the last pass that did.
+    pub exists: bool,
+}
+
+impl Model for Record {
+    ghost use Rattle.wq_view.specs.RecordData.{RecordData, record_code, IsLawful};
+
+    ghost Value = { RecordData };
+
+    ghost coded = { record_code };
+
+    ghost use Rattle.wq_view.specs.Record.{record_data};
+
+    ghost view = { record_data };
+
+    ghost invariant = { λ r. IsLawful (record_data r) };
+}
+
+impl Record {
+    /// What follows the last slash of the name.
+    pub fn basename(&self) -> &[u8]
+        ensures { result.now ≡ basename_of self.now.name }
+    {
+        let name = self.name.as_bytes();
+        after_last(b'/', name).unwrap_or(name)
+    }
+
+    /// What follows the last dot of the basename, and nothing where it has no dot: the suffix of `.php` is `php`.
+    pub fn suffix(&self) -> &[u8]
+        ensures { result.now ≡ suffix_of self.now.name }
+    {
+        after_last(b'.', self.basename()).unwrap_or(b"")
+    }
+
+    /// The record of a name that no pass has seen yet.
+    pub(crate) fn unseen(row: &Seen) -> Result<Record, AllocError>
+        requires { IsTrue (is_lawful_row row.now) }
+        ensures { IfOk result (λ r. r ≡ unseen row.now.name) }
+    {
+        Ok(Record {
+            name: Name::share(&row.name)?,
+            size: 0,
+            mtime_ms: 0,
+            ctick: 0,
+            otick: 0,
+            csec: 0,
+            osec: 0,
+            kind: Kind::Unknown,
+            exists: false,
+        })
+    }
+
+    /// An equal record, over the same name.
+    pub(crate) fn copy(&self) -> Result<Record, AllocError>
+        ensures { IfOk result (λ r. r ≡ self.now) }
+    {
+        Ok(Record {
+            name: self.name.copy()?,
+            size: self.size,
+            mtime_ms: self.mtime_ms,
+            ctick: self.ctick,
+            otick: self.otick,
+            csec: self.csec,
+            osec: self.osec,
+            kind: self.kind,
+            exists: self.exists,
+        })
+    }
+
+    /// How the record's name stands to another in byte order.
+    pub(crate) fn name_order(&self, name: &[u8]) -> Ordering
+        ensures { result ≡ name_cmp self.now.name name.now }
+    {
+        self.name.as_bytes().cmp(name)
+    }
+
+    /// Whether the row has the record's name.
+    pub(crate) fn has_name_of(&self, row: &Seen) -> bool
+        ensures { result ≡ bytes_eq self.now.name row.now.name }
+    {
+        self.name.as_bytes() == row.name.as_slice()
+    }
+
+    /// Whether the row says of the file what was last seen of it.
+    pub(crate) fn has_stat_of(&self, row: &Seen) -> bool
+        ensures { result ≡ same_stat (last_stat self.now) (stat_of row.now) }
+    {
+        self.kind == row.kind && self.size == row.size && self.mtime_ms == row.mtime_ms
+    }
+
+    /// Takes in what a pass saw of the file.
+    pub(crate) fn observe(&mut self, row: &Seen, tick: u64, second: i64)
+        requires row { IsTrue (is_lawful_row row.now) }
+        requires tick { tick ≤ MAX_TICK }
+        requires second { IsTrue (is_count second) }
+        ensures { self.new ≡ observed self.old (Some (stat_of row.now)) tick second }
+    {
+        if !self.exists {
+            self.come(row, tick, second);
+        } else if !self.has_stat_of(row) {
+            self.change(row, tick, second);
+        }
+    }
+
+    /// The file is there, and was not before.
+    fn come(&mut self, row: &Seen, tick: u64, second: i64)
+        requires row { IsTrue (is_lawful_row row.now) }
+        requires tick { tick ≤ MAX_TICK }
+        requires second { IsTrue (is_count second) }
+        ensures { self.new ≡ come self.old (stat_of row.now) tick second }
+    {
+        self.exists = true;
+        self.ctick = tick;
+        self.csec = second;
+        self.change(row, tick, second);
+    }
+
+    /// The file is not what it was.
+    fn change(&mut self, row: &Seen, tick: u64, second: i64)
+        requires row { IsTrue (is_lawful_row row.now) }
+        requires tick { tick ≤ MAX_TICK }
+        requires second { IsTrue (is_count second) }
+        ensures { self.new ≡ changed self.old (stat_of row.now) tick second }
+    {
+        self.kind = row.kind;
+        self.size = row.size;
+        self.mtime_ms = row.mtime_ms;
+        self.otick = tick;
+        self.osec = second;
+    }
+
+    /// Takes in that a pass did not see the file.
+    pub(crate) fn observe_absence(&mut self, tick: u64, second: i64)
+        requires tick { tick ≤ MAX_TICK }
+        requires second { IsTrue (is_count second) }
+        ensures { self.new ≡ observed self.old None tick second }
+    {
+        if self.exists {
+            self.exists = false;
+            self.otick = tick;
+            self.osec = second;
+        }
+    }
+}

@@ -1,0 +1,175 @@
+//! The view of a root: the records of all files that its passes saw, in the byte order of their names.
+//! Lookups take no memory; only a pass that sees new names, and a copy, do.
+ghost use Rattle.std.specs.Prelude.{◌≡◌, ◌≢◌, ◌+◌, ◌≤◌, ◌<◌, ◌↔◌, List, [], ◌∷◌, ◌++◌, Ok, Err, Some, None, true, false, length, IfOk, OnOk, OnErr, IfErr, MatchOption, IsTrue, slice_get};
+ghost use Rattle.wq_view.specs.RecordData.{record_named};
+ghost use Rattle.wq_view.specs.History.{History, last_stats};
+ghost use Rattle.wq_view.specs.Limit.{max_records, max_tick};
+ghost use Rattle.wq_view.specs.View.{IsViewOf, NamesRise};
+
+use crate::limit::{MAX_RECORDS, MAX_TICK};
+use crate::listing::Pass;
+use crate::merging::{add_names, observe_all, push_copies, shows};
+use crate::file_record::Record;
+use std::alloc::{AllocError, Global};
+use std::marker::Model;
+use thiserror::Error;
+
+/// Why a view takes in no pass, or has no copy. It leaves the view as it was.
+#[derive(Clone, Copy, Debug, PartialEq, Eq, Drop, Error)]
+pub enum ViewFault {
+    /// The tick is 2^62, and the pass differs from the last one.
+    #[error("the ticks are spent")]
+    TicksSpent,
+    /// A growth was refused, or there would be over 4,294,967,295 records.
+    #[error("no memory")]
+    NoMemory,
+}
+
+impl From<AllocError> for ViewFault {
+    ghost use Rattle.std.specs.Prelude.{◌≡◌};
+    ghost use Rattle.wq_view.specs.declared.view.ViewFault.TheVariants.{NoMemory};
+
+    ghost from_gives = { λ _ fault. fault ≡ NoMemory };
+
+    fn from(_error: AllocError) -> ViewFault {
+        ViewFault::NoMemory
+    }
+}
+
+/// What the passes over one root make known of its files.
+#[derive(Drop)]
+pub struct View {
+    tick: u64,
+    records: Vec<Record>,
+}
+
+impl Model for View {
+    ghost use Rattle.std.specs.Prelude.{◌≤◌, vec_len};
+    ghost use Rattle.wq_view.specs.Limit.{max_records, max_tick};
+    ghost use Rattle.wq_view.specs.View.{ViewData, view_code, NamesRise};
+
+    ghost Value = { ViewData };
+
+    ghost coded = { view_code };
+
+    ghost view = { λ v. record { tick = v.tick; records = v.records.items } };
+
+    ghost invariant = { λ v. (v.tick ≤ max_tick) × (vec_len v.records ≤ max_records) × NamesRise v.records.items };
+}
+
+impl View {
+    /// The view of a root that no pass went over: tick 0, and no records.
+    pub fn new(alloc: Global) -> View
+        ensures empty { result ≡ record { tick = 0; records = [] } }
+        ensures history { IsViewOf [] result }
+    {
+        View {
+            tick: 0,
+            records: Vec::new(alloc),
+        }
+    }
+
+    /// Takes in a pass, and says whether the tick moved: a pass that saw just what the one before it saw moves nothing.
+    ///
+    /// In O(n + m) for n records and m rows. Only a pass that sees new names takes memory.
+    pub fn absorb(&mut self, pass: &Pass) -> Result<bool, ViewFault>
+        // For every history of which this is the view:
+        ensures moved { (history : History) → IsViewOf history self.old → result ≡ Ok true → IsViewOf (history ++ pass.now ∷ []) self.new }
+        ensures still { (history : History) → IsViewOf history self.old → ((result ≡ Ok false) ↔ (last_stats history ≡ pass.now.stats)) }
+        ensures spent { (history : History) → IsViewOf history self.old → ((result ≡ Err ViewFault.TicksSpent) ↔ ((self.old.tick ≡ max_tick) × (last_stats history ≢ pass.now.stats))) }
+
+        ensures kept { result ≢ Ok true → self.new ≡ self.old }
+    {
+        if self.shows(pass) {
+            return Ok(false);
+        }
+        if self.tick == MAX_TICK {
+            return Err(ViewFault::TicksSpent);
+        }
+        self.take_in(pass)?;
+        Ok(true)
+    }
+
+    /// Whether the pass saw just what the last one saw.
+    fn shows(&self, pass: &Pass) -> bool
+        ensures { (history : History) → IsViewOf history self.now → (IsTrue result ↔ (last_stats history ≡ pass.now.stats)) }
+    {
+        shows(&self.records, pass.rows())
+    }
+
+    /// Takes in a pass that saw something else than the one before it.
+    fn take_in(&mut self, pass: &Pass) -> Result<(), AllocError>
+        requires { self.old.tick < max_tick }
+        ensures ok { (history : History) → IsViewOf history self.old → OnOk result (IsViewOf (history ++ pass.now ∷ []) self.new) }
+        ensures err { OnErr result (self.new ≡ self.old) }
+    {
+        let rows = pass.rows();
+        add_names(&mut self.records, rows)?;
+        self.tick += 1;
+        observe_all(&mut self.records, rows, self.tick, pass.second());
+        Ok(())
+    }
+
+    /// The number of the last pass that moved it, at most 2^62; 0 before any.
+    pub fn tick(&self) -> u64
+        ensures value { result ≡ self.now.tick }
+        ensures bound { result ≤ max_tick }
+    {
+        self.tick
+    }
+
+    /// How many records there are, those of deleted files too.
+    pub fn len(&self) -> usize
+        ensures value { result ≡ length self.now.records }
+        ensures bound { result ≤ max_records }
+    {
+        self.records.len()
+    }
+
+    /// Whether there are no records: no pass saw a file.
+    pub fn is_empty(&self) -> bool
+        ensures { IsTrue result ↔ (self.now.records ≡ []) }
+    {
+        self.records.is_empty()
+    }
+
+    /// The record at this place in the byte order of names.
+    pub fn get(&self, i: usize) -> &Record
+        requires { i < length self.now.records }
+        ensures { slice_get self.now.records i ≡ Some result.now }
+    {
+        &self.records[i]
+    }
+
+    /// The records in the byte order of their names.
+    pub fn records(&self) -> &[Record]
+        ensures value { result.now ≡ self.now.records }
+        ensures rise { NamesRise result.now }
+        ensures bound { length result.now ≤ max_records }
+    {
+        &self.records
+    }
+
+    /// The place of the record of this name, which need be no valid one.
+    pub fn find(&self, name: &str) -> Option<usize>
+        ensures { MatchOption result (record_named name.now self.now.records ≡ None) (λ i. (i < length self.now.records) × (slice_get self.now.records i ≡ record_named name.now self.now.records)) }
+    {
+        let name = name.as_bytes();
+        self.records
+            .binary_search_by(|record| record.name_order(name))
+            .ok()
+    }
+
+    /// An equal view, whose records share their names with this one's.
+    pub fn copy(&self) -> Result<View, ViewFault>
+        ensures ok { IfOk result (λ view. view ≡ self.now) }
+        ensures err { IfErr result (λ fault. fault ≡ ViewFault.NoMemory) }
+    {
+        let mut records = Vec::with_capacity(*self.records.allocator(), self.records.len())?;
+        push_copies(&mut records, &self.records)?;
+        Ok(View {
+            tick: self.tick,
+            records,
+        })
+    }
+}
