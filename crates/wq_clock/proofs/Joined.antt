@@ -9,23 +9,27 @@ use Rattle.std.proofs.lemmas.Fmt.{decimal_is_IsNumeral}
 use Rattle.std.proofs.lemmas.Str.Parse.{digit_at}
 use Rattle.std.proofs.lemmas.Bool.{ne_eqb}
 use Rattle.std.proofs.lemmas.Option.{same_Some}
-use Rattle.wq_clock.specs.Limit.{max_number}
-use Rattle.wq_clock.specs.ClockSpec.{number_of, with_first, numbers_of}
-use Rattle.wq_clock.proofs.DecimalText.{small, number_of-decimal, decimal_of}
+use Rattle.wq_base.specs.Limit.{max_number}
+use Rattle.wq_base.specs.Byte.{is_colon}
+use Rattle.wq_base.specs.Fault.{with_first}
+use Rattle.wq_base.specs.Decimal.{unsigned_of}
+use Rattle.wq_clock.specs.ClockSpec.{numbers_of}
+use Rattle.wq_base.proofs.Unsigned.{small, decimal_of}
+use Rattle.wq_base.proofs.Unsigned.{unsigned_of-decimal}
 
 -- each of the numbers may stand in a clock id
 abbrev pub AllInRange : List ℕ → Type 0
 AllInRange ns = AllByRecursion (λ n. n ≤ max_number) ns
 
 -- no digit is a colon
-no_colon : (n : ℕ) → n ≤ max_number → All (λ byte. (byte == 58) ≡ false) (decimal n)
-no_colon n h = All-from_get_or (λ byte. (byte == 58) ≡ false) (decimal n) 0 (λ i within.
+no_colon : (n : ℕ) → n ≤ max_number → All (λ byte. is_colon byte ≡ false) (decimal n)
+no_colon n h = All-from_get_or (λ byte. is_colon byte ≡ false) (decimal n) 0 (λ i within.
     let digit = digit_at (decimal n) i (decimal_is_IsNumeral n (small n h)).0.1 within in
     ne_eqb _ _ (λ e. absurd (omega (arith, digit, e))))
 
 -- numbers with colons between them have their texts as parts
 pub slice_split-join : (first : ℕ) (ns : List ℕ) → AllInRange (first ∷ ns)
-    → slice_split (λ byte. byte == 58) (join_with_byte 58 (map decimal (first ∷ ns))) ≡ map decimal (first ∷ ns)
+    → slice_split is_colon (join_with_byte 58 (map decimal (first ∷ ns))) ≡ map decimal (first ∷ ns)
 slice_split-join first [] h = slice_split_none _ (decimal first) (no_colon first h.0)
 slice_split-join first (n ∷ ns) h =
     slice_split_at _ (decimal first) 58 _ (no_colon first h.0) refl
@@ -34,7 +38,7 @@ slice_split-join first (n ∷ ns) h =
 -- the texts of numbers are these numbers
 pub numbers_of-map : (ns : List ℕ) → AllInRange ns → numbers_of (map decimal ns) ≡ Some ns
 numbers_of-map [] h = refl
-numbers_of-map (n ∷ ns) h = rw (number_of-decimal (decimal n) n h.0 refl, numbers_of-map ns h.1)
+numbers_of-map (n ∷ ns) h = rw (unsigned_of-decimal max_number (decimal n) n (omega arith) h.0 refl, numbers_of-map ns h.1)
 
 -- what is read of a first part and of the others
 parts_first : (o : Option ℕ) (os : Option (List ℕ)) (part : List ℕ) (parts : List (List ℕ)) (ns : List ℕ) → with_first o os ≡ Some ns
@@ -54,10 +58,10 @@ pub parts_are_decimals : (parts : List (List ℕ)) (ns : List ℕ) → numbers_o
     → AllInRange ns × (parts ≡ map decimal ns)
 parts_are_decimals [] ns e = subst (λ xs. AllInRange xs × ([] ≡ map decimal xs)) (same_Some _ _ e) (tt, refl)
 parts_are_decimals (part ∷ parts) ns e =
-    parts_first (number_of part) (numbers_of parts) part parts ns e (decimal_of part) (parts_are_decimals parts)
+    parts_first (unsigned_of max_number part) (numbers_of parts) part parts ns e (decimal_of max_number part) (parts_are_decimals parts)
 
 -- so a text whose parts are numbers is these with colons between them
-pub text_from_numbers : (text ns : List ℕ) → numbers_of (slice_split (λ byte. byte == 58) text) ≡ Some ns
+pub text_from_numbers : (text ns : List ℕ) → numbers_of (slice_split is_colon text) ≡ Some ns
     → AllInRange ns × (text ≡ join_with_byte 58 (map decimal ns))
 text_from_numbers text ns e =
     let parts = parts_are_decimals _ ns e in

@@ -1,4 +1,3 @@
-mod DecimalText
 mod Parts
 mod Joined
 mod Spellings

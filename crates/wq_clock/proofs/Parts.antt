@@ -2,7 +2,10 @@
 use Rattle.std.proofs.Common.{◌≡◌, ℕ, ◌<◌, zero, suc, List, [], ◌∷◌, ◌++◌, length, get_or, Option, Some, None, refl, sym, ap, ◌∙◌, arith}
 use Rattle.std.specs.Option.{option_and_then}
 use Rattle.std.proofs.lemmas.Option.{same_Some}
-use Rattle.wq_clock.specs.ClockSpec.{number_of, with_first, numbers_of, id_from_numbers}
+use Rattle.wq_base.specs.Fault.{with_first}
+use Rattle.wq_base.specs.Limit.{max_number}
+use Rattle.wq_base.specs.Decimal.{unsigned_of}
+use Rattle.wq_clock.specs.ClockSpec.{numbers_of, id_from_numbers}
 
 -- one more number at the end, with a first number before
 push_first : (o : Option ℕ) (os more : Option (List ℕ)) (ns : List ℕ) (n : ℕ) → with_first o os ≡ Some ns
@@ -14,12 +17,12 @@ push_first (Some m) (Some ms) more ns n e then' =
 
 -- one more part that is a number
 pub numbers_of-push : (parts : List (List ℕ)) (part : List ℕ) (ns : List ℕ) (n : ℕ)
-    → numbers_of parts ≡ Some ns → number_of part ≡ Some n
+    → numbers_of parts ≡ Some ns → unsigned_of max_number part ≡ Some n
     → numbers_of (parts ++ part ∷ []) ≡ Some (ns ++ n ∷ [])
 numbers_of-push [] part ns n e is =
     ap (λ o. with_first o (Some [])) is ∙ ap (λ xs. Some (xs ++ n ∷ [])) (same_Some _ _ e)
 numbers_of-push (first ∷ parts) part ns n e is =
-    push_first (number_of first) (numbers_of parts) _ ns n e (λ ms e'. numbers_of-push parts part ms n e' is)
+    push_first (unsigned_of max_number first) (numbers_of parts) _ ns n e (λ ms e'. numbers_of-push parts part ms n e' is)
 
 -- no numbers, whatever stands first
 with_first-none : (o : Option ℕ) → with_first o None ≡ None
@@ -28,14 +31,14 @@ with_first-none (Some n) = refl
 
 -- a part that is no number
 pub numbers_of-bad : (parts : List (List ℕ)) (i : ℕ) (part : List ℕ) → i < length parts
-    → part ≡ get_or parts i part → number_of part ≡ None
+    → part ≡ get_or parts i part → unsigned_of max_number part ≡ None
     → numbers_of parts ≡ None
 numbers_of-bad [] i part within is bad = absurd (omega arith)
 numbers_of-bad (first ∷ parts) zero part within is bad =
-    ap (λ o. with_first o (numbers_of parts)) (ap number_of (sym is) ∙ bad)
+    ap (λ o. with_first o (numbers_of parts)) (ap (unsigned_of max_number) (sym is) ∙ bad)
 numbers_of-bad (first ∷ parts) (suc i) part within is bad =
-    ap (with_first (number_of first)) (numbers_of-bad parts i part (omega arith) is bad)
-    ∙ with_first-none (number_of first)
+    ap (with_first (unsigned_of max_number first)) (numbers_of-bad parts i part (omega arith) is bad)
+    ∙ with_first-none (unsigned_of max_number first)
 
 -- one more number than without the first
 length_first : (o : Option ℕ) (os : Option (List ℕ)) (ns : List ℕ) (k : ℕ) → with_first o os ≡ Some ns
@@ -49,7 +52,7 @@ pub length-numbers_of : (parts : List (List ℕ)) (ns : List ℕ) → numbers_of
     → length ns ≡ length parts
 length-numbers_of [] ns e = ap length (sym (same_Some _ _ e))
 length-numbers_of (part ∷ parts) ns e =
-    length_first (number_of part) (numbers_of parts) ns (length parts) e (length-numbers_of parts)
+    length_first (unsigned_of max_number part) (numbers_of parts) ns (length parts) e (length-numbers_of parts)
 
 -- five numbers or more are no clock id
 id_from_numbers-long : (ns : List ℕ) → 4 < length ns → id_from_numbers ns ≡ None

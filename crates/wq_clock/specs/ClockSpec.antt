@@ -6,7 +6,11 @@ use Rattle.std.specs.List.{slice_split, starts_with}
 use Rattle.std.specs.Str.{bytes_eq}
 use Rattle.std.specs.Str.Parse.{digits_value}
 use Rattle.std.specs.Fmt.{decimal}
-use Rattle.wq_clock.specs.Limit.{max_number, max_name_length}
+use Rattle.wq_base.specs.Limit.{max_number}
+use Rattle.wq_base.specs.Byte.{is_colon}
+use Rattle.wq_base.specs.Decimal.{unsigned_of}
+use Rattle.wq_base.specs.Fault.{with_first}
+use Rattle.wq_clock.specs.Limit.{max_name_length}
 use Rattle.wq_clock.specs.Instance.{InstanceData, IsInRange}
 
 -- a clock spec that is a text
@@ -23,23 +27,12 @@ IsWithinLimits (named_cursor name) = (1 ≤ length name) × (length name ≤ max
 
 -- the parts of a text between its colons
 abbrev pub parts_of : List ℕ → List (List ℕ)
-parts_of text = slice_split (λ byte. byte == 58) text
-
--- the number of at most 2^62 whose decimal text this is
-unfoldable pub number_of : List ℕ → Option ℕ
-number_of text = let number = digits_value 10 text in
-    if nat_le number max_number && bytes_eq text (decimal number) then Some number else None
-
--- a number before others, unless it or they are none
-abbrev pub with_first : Option ℕ → Option (List ℕ) → Option (List ℕ)
-with_first None numbers = None
-with_first (Some first) None = None
-with_first (Some first) (Some numbers) = Some (first ∷ numbers)
+parts_of text = slice_split is_colon text
 
 -- the numbers of all parts in their order, unless some part is no number
 abbrev pub numbers_of : List (List ℕ) → Option (List ℕ)
 numbers_of [] = Some []
-numbers_of (part ∷ parts) = with_first (number_of part) (numbers_of parts)
+numbers_of (part ∷ parts) = with_first (unsigned_of max_number part) (numbers_of parts)
 
 -- four numbers are a clock id, two are an old one
 abbrev pub id_from_numbers : List ℕ → Option SpecData

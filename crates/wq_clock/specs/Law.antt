@@ -1,6 +1,6 @@
 -- What reading clock specs, their grammar and printing clock ids have to do with each other.
 use Rattle.std.specs.Prelude.{ℕ, List, ◌≡◌, ◌≤◌, ◌↔◌, Some}
-use Rattle.wq_clock.specs.Limit.{max_number}
+use Rattle.wq_base.specs.Limit.{max_number}
 use Rattle.wq_clock.specs.Instance.{InstanceData, IsInRange}
 use Rattle.wq_clock.specs.ClockText.{clock_text}
 use Rattle.wq_clock.specs.ClockSpec.{SpecData, clock_id, clock_spec_of}

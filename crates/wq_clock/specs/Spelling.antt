@@ -1,7 +1,8 @@
 -- The grammar of clock specs: by which texts each of them may be written.
 -- From Watchman's documentation of clockspecs; the limits are this server's own.
 use Rattle.std.specs.Prelude.{ℕ, ◌≡◌, ◌≤◌, List, ◌++◌, length, codes}
-use Rattle.wq_clock.specs.Limit.{max_number, max_name_length}
+use Rattle.wq_base.specs.Limit.{max_number}
+use Rattle.wq_clock.specs.Limit.{max_name_length}
 use Rattle.wq_clock.specs.Instance.{IsInRange}
 use Rattle.wq_clock.specs.ClockText.{clock_text, old_clock_text}
 use Rattle.wq_clock.specs.ClockSpec.{SpecData, clock_id, old_clock_id, named_cursor}

@@ -5,10 +5,11 @@ ghost use Rattle.arrayvec.specs.ArrayString.{array_string_len};
 ghost use Rattle.wq_clock.specs.ClockText.{clock_text};
 ghost use Rattle.wq_clock.specs.Instance.{instance_data};
 
-use crate::instance::{Instance, MAX_NUMBER};
+use crate::instance::Instance;
 use arrayvec::ArrayString;
 use itoa::Buffer;
 use std::marker::Model;
+use wq_base::MAX_NUMBER;
 
 /// The most digits of a number in a clock id: 2^62 has 19.
 const MAX_DIGITS: usize = 19;
@@ -56,7 +57,7 @@ pub fn print(instance: &Instance, tick: u64) -> ClockText
 }
 
 /// Appends `mark` and then `number` in decimal.
-#[tactic(auto, using(crate::proofs::DecimalText::decimal_is_short))]
+#[tactic(auto, using(wq_base::proofs::Unsigned::decimal_is_short))]
 fn push_number(text: &mut ArrayString<MAX_CLOCK_TEXT>, mark: &str, number: u64)
     requires small { number ≤ MAX_NUMBER }
     requires room { array_string_len text.old + length mark.now + MAX_DIGITS ≤ MAX_CLOCK_TEXT }

@@ -1,9 +1,8 @@
 //! Instances: which run of the server, and which root, a clock id belongs to.
 ghost use Rattle.std.specs.Prelude.{◌≡◌, ◌≤◌};
-ghost use Rattle.wq_clock.specs.Limit.{max_number};
+ghost use Rattle.wq_base.specs.Limit.{max_number};
 
-/// The greatest number that a clock id may hold, 2^62.
-pub const MAX_NUMBER: u64 = 1 << 62;
+use wq_base::MAX_NUMBER;
 
 /// One run of the server that watches one root. Ticks of two instances have nothing to do with each
 /// other.

@@ -1,12 +1,12 @@
 //! Reading clock specs from texts, without memory.
 ghost use Rattle.std.specs.Prelude.{◌≡◌, ◌≤◌, Some, None, IfSome, IfNone, IfOk, OnErr, All};
-ghost use Rattle.wq_clock.specs.ClockSpec.{IsWithinLimits, parts_of, number_of, numbers_of, id_from_numbers, id_of, cursor_of, clock_spec_of};
+ghost use Rattle.wq_clock.specs.ClockSpec.{IsWithinLimits, parts_of, numbers_of, id_from_numbers, id_of, cursor_of, clock_spec_of};
 ghost use Rattle.wq_clock.specs.Spec.{said_by, spec_data};
 
-use crate::instance::{Instance, MAX_NUMBER};
+use crate::instance::Instance;
 use arrayvec::ArrayVec;
-use itoa::Buffer;
 use thiserror::Error;
+use wq_base::{MAX_NUMBER, unsigned_number};
 
 /// The most bytes of a cursor's name.
 pub const MAX_CURSOR_NAME: usize = 255;
@@ -71,7 +71,7 @@ fn numbers(text: &str) -> Option<ArrayVec<u64, ID_NUMBERS>>
         if numbers.is_full() {
             return None;
         }
-        numbers.push(number(part)?);
+        numbers.push(unsigned_number(part, MAX_NUMBER)?);
     }
     Some(numbers)
 }
@@ -96,21 +96,5 @@ fn cursor(name: &str) -> Result<Spec<'_>, ClockFault>
         Ok(Spec::Cursor(name))
     } else {
         Err(ClockFault)
-    }
-}
-
-/// The number of at most 2^62 whose decimal text this is.
-fn number(text: &str) -> Option<u64>
-    ensures value { result ≡ number_of text.now }
-    ensures in_range { IfSome result (λ n. n ≤ MAX_NUMBER) }
-{
-    let number: u64 = text.parse().ok()?;
-    if number > MAX_NUMBER {
-        return None;
-    }
-    if Buffer::new().format(number) == text {
-        Some(number)
-    } else {
-        None
     }
 }

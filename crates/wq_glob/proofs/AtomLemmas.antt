@@ -2,7 +2,8 @@
 use Rattle.std.proofs.Common.{◌≡◌, ℕ, zero, suc, ◌+◌, ◌<◌, ◌≤◌, Bool, true, false, ◌&&◌, ◌==◌, nat_le, if◌then◌else◌, List, [], ◌∷◌, ◌++◌, length, drop, Option, Some, None, option_map, refl, sym, ◌∙◌, ap, subst, arith, append_assoc, append-nil, length-drop}
 use Rattle.std.specs.List.{prefix_len}
 use Rattle.std.specs.Option.{option_and_then, option_map_or}
-use Rattle.wq_glob.specs.Byte.{is_slash, is_star, is_open, is_close}
+use Rattle.wq_base.specs.Byte.{is_slash}
+use Rattle.wq_glob.specs.Byte.{is_star, is_open, is_close}
 use Rattle.wq_glob.specs.Class.{Class}
 use Rattle.wq_glob.specs.Reading.{begins, letter, class_at, class_items, first_item, before_items, items_from, is_negation}
 use Rattle.wq_glob.specs.Atom.{Atom, Literal, One, Star, Dirs, Nothing, opens, known_class, literal_at, one_of_at, stars_at, stars_before, first_atom, atoms_from}

@@ -1,6 +1,6 @@
 -- The steps of a pattern fit what its atoms fit.
 use Rattle.std.proofs.Common.{◌≡◌, ℕ, suc, ◌<◌, ◌≤◌, Bool, true, List, [], ◌∷◌, length, get_or, refl, ◌∙◌, ap, subst, arith}
-use Rattle.wq_glob.specs.Byte.{is_slash}
+use Rattle.wq_base.specs.Byte.{is_slash}
 use Rattle.wq_glob.specs.Atom.{Atom}
 use Rattle.wq_glob.specs.Mark.{Mark, marks, marks_from}
 use Rattle.wq_glob.specs.FitsTest.{Reach, Single, Many, Folders, reach, admits, folders, many, single, part_of, fits_by}

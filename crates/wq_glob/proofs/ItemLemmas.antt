@@ -3,7 +3,8 @@ use Rattle.std.proofs.Common.{◌≡◌, ℕ, zero, suc, ◌+◌, ◌-◌, ◌<�
 use Rattle.std.specs.Option.{option_or, option_and_then}
 use Rattle.std.specs.List.{position}
 use Rattle.std.proofs.lemmas.Bool.{false≢true}
-use Rattle.wq_glob.specs.Byte.{is_close, is_open, is_colon, is_dash, is_escape}
+use Rattle.wq_base.specs.Byte.{is_colon}
+use Rattle.wq_glob.specs.Byte.{is_close, is_open, is_dash, is_escape}
 use Rattle.wq_glob.specs.Reading.{begins, next, letter, item_named, named_item, range_end, item_from, plain_item, first_item, before_items, items_from, class_items}
 use Rattle.wq_glob.specs.declared.class.Item.{Item}
 

@@ -1,7 +1,7 @@
 -- The marks of a text, place by place.
 use Rattle.std.proofs.Common.{◌≡◌, ℕ, zero, suc, ◌+◌, ◌-◌, ◌<◌, Bool, true, false, not, ◌&&◌, ◌||◌, ◌==◌, List, [], ◌∷◌, length, drop, get_or, refl, sym, ◌∙◌, ap, arith, add-one, sub-one}
 use Rattle.std.proofs.lemmas.Bool.{ne_eqb}
-use Rattle.wq_glob.specs.Byte.{is_slash, is_dot}
+use Rattle.wq_base.specs.Byte.{is_slash, is_dot}
 use Rattle.wq_glob.specs.Mark.{marks, marks_from}
 use Rattle.wq_glob.specs.Cell.{marks_at, mark_at}
 use Rattle.wq_glob.specs.declared.flag.Flags.{Flags}

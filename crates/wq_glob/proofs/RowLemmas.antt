@@ -1,7 +1,7 @@
 -- The cells of a row, from those behind the byte.
 use Rattle.std.proofs.Common.{◌≡◌, ℕ, zero, suc, ◌+◌, ◌-◌, ◌<◌, ◌≤◌, Bool, true, false, List, [], ◌∷◌, length, drop, get_or, refl, sym, ◌∙◌, ap, subst, inl, inr, arith, add-one, drop-cons}
 use Rattle.std.proofs.lemmas.Bool.{cases_eq}
-use Rattle.wq_glob.specs.Byte.{is_slash}
+use Rattle.wq_base.specs.Byte.{is_slash}
 use Rattle.wq_glob.specs.Mark.{Mark}
 use Rattle.wq_glob.specs.FitsTest.{Reach, Single, Many, Folders}
 use Rattle.wq_glob.specs.Step.{step_reach, step_takes, seen_of}

@@ -2,7 +2,8 @@
 use Rattle.std.proofs.Common.{◌≡◌, ℕ, ◌+◌, ◌<◌, ◌≤◌, Bool, true, false, not, ◌&&◌, nat_le, if◌then◌else◌, List, [], drop, Some, None, refl, sym, ◌∙◌, ap, subst, arith}
 use Rattle.std.specs.List.{list_any}
 use Rattle.std.proofs.lemmas.Bool.{not-true, and_parts, leb-true, ne_eqb}
-use Rattle.wq_glob.specs.Byte.{is_slash, is_upper, folded, lower_of}
+use Rattle.wq_base.specs.Byte.{is_slash}
+use Rattle.wq_glob.specs.Byte.{is_upper, folded, lower_of}
 use Rattle.wq_glob.specs.ByteSet.{has_byte}
 use Rattle.wq_glob.specs.Class.{Class, in_class}
 use Rattle.wq_glob.specs.Reading.{begins, class_at, class_items, is_negation}

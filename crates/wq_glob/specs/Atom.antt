@@ -4,7 +4,8 @@ use Rattle.std.specs.Prelude.{ℕ, zero, suc, Bool, true, false, ◌==◌, ◌&&
 use Rattle.std.specs.List.{list_any, prefix_len}
 use Rattle.std.specs.Option.{option_map_or}
 use Rattle.std.specs.Str.{byte}
-use Rattle.wq_glob.specs.Byte.{is_slash, is_star, is_open}
+use Rattle.wq_base.specs.Byte.{is_slash}
+use Rattle.wq_glob.specs.Byte.{is_star, is_open}
 use Rattle.wq_glob.specs.Class.{Class}
 use Rattle.wq_glob.specs.Reading.{begins, letter, class_at}
 use Rattle.wq_glob.specs.declared.class.Item.{Item}

@@ -3,12 +3,6 @@
 use Rattle.std.specs.Prelude.{ℕ, ◌+◌, ◌-◌, Bool, ◌==◌, nat_le, ◌&&◌, if◌then◌else◌}
 use Rattle.std.specs.Str.{byte}
 
-abbrev pub is_slash : ℕ → Bool
-is_slash b = b == byte "/"
-
-abbrev pub is_dot : ℕ → Bool
-is_dot b = b == byte "."
-
 abbrev pub is_star : ℕ → Bool
 is_star b = b == byte "*"
 
@@ -18,9 +12,6 @@ is_close b = b == byte "]"
 
 abbrev pub is_open : ℕ → Bool
 is_open b = b == byte "["
-
-abbrev pub is_colon : ℕ → Bool
-is_colon b = b == byte ":"
 
 abbrev pub is_dash : ℕ → Bool
 is_dash b = b == byte "-"

@@ -1,7 +1,7 @@
 -- The table that the matcher fills from the end of the text to its start, and from the last step to the first:
 -- what is known of each tail of the pattern at each tail of the text.
 use Rattle.std.specs.Prelude.{◌≡◌, ℕ, ◌-◌, ◌<◌, ◌≤◌, Bool, true, false, not, ◌==◌, ◌&&◌, ◌||◌, List, [], ◌∷◌, length, drop, slice_index, slice_index_or, Option, MatchOption}
-use Rattle.wq_glob.specs.Byte.{is_slash, is_dot}
+use Rattle.wq_base.specs.Byte.{is_slash, is_dot}
 use Rattle.wq_glob.specs.Mark.{Mark, marks}
 use Rattle.wq_glob.specs.FitsTest.{Reach, Single, Many, Folders, fits_by, folders}
 use Rattle.wq_glob.specs.Step.{step_reach, step_admits}

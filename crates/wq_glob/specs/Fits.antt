@@ -2,7 +2,8 @@
 -- to its atom. After git's wildmatch, in this project's profile; no order of search is in it.
 use Rattle.std.specs.Prelude.{◌≡◌, Bool, not, ◌==◌, ◌&&◌, IsTrue, ◌⊎◌, List, [], ◌∷◌, ◌++◌}
 use Rattle.std.specs.List.{list_all}
-use Rattle.wq_glob.specs.Byte.{is_slash, folded}
+use Rattle.wq_base.specs.Byte.{is_slash}
+use Rattle.wq_glob.specs.Byte.{folded}
 use Rattle.wq_glob.specs.Class.{in_class}
 use Rattle.wq_glob.specs.Atom.{Atom, Literal, One, OneOf, Star, Dirs, Rest, Nothing}
 use Rattle.wq_glob.specs.Mark.{Mark}

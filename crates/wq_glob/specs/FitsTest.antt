@@ -1,7 +1,8 @@
 -- The same as a test that computes: whether a pattern fits a text, atom by atom. Above it stands the law that it
 -- says yes exactly where the text can be cut.
 use Rattle.std.specs.Prelude.{Bool, true, false, ◌==◌, ◌&&◌, ◌||◌, List, [], ◌∷◌}
-use Rattle.wq_glob.specs.Byte.{is_slash, folded}
+use Rattle.wq_base.specs.Byte.{is_slash}
+use Rattle.wq_glob.specs.Byte.{folded}
 use Rattle.wq_glob.specs.Class.{in_class}
 use Rattle.wq_glob.specs.Atom.{Atom, Literal, One, OneOf, Star, Dirs, Rest, Nothing}
 use Rattle.wq_glob.specs.Mark.{Mark}

@@ -1,6 +1,6 @@
 -- A path as a pattern sees it: its bytes, each with whether it is a leading dot that only a literal may take.
 use Rattle.std.specs.Prelude.{ℕ, Bool, true, not, ◌&&◌, List, [], ◌∷◌}
-use Rattle.wq_glob.specs.Byte.{is_slash, is_dot}
+use Rattle.wq_base.specs.Byte.{is_slash, is_dot}
 
 -- a byte of the text, and whether it is a hidden dot
 pub record Mark : Type 0 where

@@ -3,7 +3,8 @@
 use Rattle.std.specs.Prelude.{ℕ, zero, suc, ◌-◌, ◌+◌, Bool, false, ◌==◌, not, ◌&&◌, ◌||◌, if◌then◌else◌, nat_le, List, [], ◌∷◌, length, take, drop, slice_index, Option, Some, None, option_map, option_and_then, position, codes, bytes_eq}
 use Rattle.std.specs.Option.{option_or}
 use Rattle.std.specs.Str.{byte}
-use Rattle.wq_glob.specs.Byte.{is_close, is_open, is_colon, is_dash, is_escape}
+use Rattle.wq_base.specs.Byte.{is_colon}
+use Rattle.wq_glob.specs.Byte.{is_close, is_open, is_dash, is_escape}
 use Rattle.wq_glob.specs.Class.{Class}
 use Rattle.wq_glob.specs.declared.class.ClassName.TheVariants.{Alnum, Alpha, Blank, Cntrl, Digit, Graph, Lower, Print, Punct, Space, Upper, Xdigit}
 use Rattle.wq_glob.specs.declared.class.Item.{Item}

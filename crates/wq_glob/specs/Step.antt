@@ -1,6 +1,7 @@
 -- What the steps of a compiled pattern mean, and that they stand for its atoms.
 use Rattle.std.specs.Prelude.{◌≡◌, ℕ, ◌<◌, Bool, true, false, ◌==◌, ◌&&◌, ◌≤◌, List, [], ◌∷◌, length}
-use Rattle.wq_glob.specs.Byte.{is_slash, folded}
+use Rattle.wq_base.specs.Byte.{is_slash}
+use Rattle.wq_glob.specs.Byte.{folded}
 use Rattle.wq_glob.specs.ByteSet.{has_byte}
 use Rattle.wq_glob.specs.Atom.{Atom, opens, atoms_from}
 use Rattle.wq_glob.specs.Mark.{Mark}

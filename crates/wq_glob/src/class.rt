@@ -1,7 +1,8 @@
 //! Reads the classes of a pattern, as `[a-z]` or `[![:digit:]]`, into sets of bytes. Where a class ends and what is
 //! no class is said here; what a set takes of a text is not.
 ghost use Rattle.std.specs.Prelude.{◌≡◌, ◌<◌, ◌==◌, ℕ, ◌+◌, List, [], ◌∷◌, ◌++◌, ◌||◌, length, drop, None, Some, MatchOption, option_map, not, position, IfSome, IsTrue, ◌≤◌, ◌-◌, ◌&&◌, nat_le, slice_index};
-ghost use Rattle.wq_glob.specs.Byte.{is_close, is_colon};
+ghost use Rattle.wq_base.specs.Byte.{is_colon};
+ghost use Rattle.wq_glob.specs.Byte.{is_close};
 ghost use Rattle.wq_glob.specs.ByteSet.{has_byte};
 ghost use Rattle.wq_glob.specs.Class.{in_item, in_items, in_name, in_class, in_either_case};
 ghost use Rattle.wq_glob.specs.Member.{AreMembers, HasItems, Holds};

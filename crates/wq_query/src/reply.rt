@@ -15,7 +15,8 @@ use crate::listing::{is_fresh, is_listed, is_new};
 use crate::query::Plan;
 use serde_json::{Map, Value, json};
 use std::alloc::{AllocError, Global};
-use wq_clock::{Bound, Instance, MAX_NUMBER, print};
+use wq_base::MAX_NUMBER;
+use wq_clock::{Bound, Instance, print};
 use wq_view::{Kind, Record, View};
 
 /// How many milliseconds a second has.

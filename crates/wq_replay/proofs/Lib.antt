@@ -1,5 +1,4 @@
 mod Values
-mod Numbers
 mod Words
 mod NewLines
 mod Parts

@@ -3,7 +3,6 @@ pub mod Refusal
 pub mod Clock
 pub mod Command
 pub mod Gives
-pub mod Number
 pub mod ScriptLine
 pub mod LineData
 pub mod Line

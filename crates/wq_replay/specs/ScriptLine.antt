@@ -4,7 +4,7 @@ use Rattle.wq_view.specs.Kind.{letter_of}
 use Rattle.wq_view.specs.Seen.{SeenData}
 use Rattle.wq_view.specs.declared.kind.Kind.{Kind}
 use Rattle.wq_view.specs.declared.kind.Kind.TheVariants.{File, Dir, Link, Block, Char, Fifo, Socket, Door, Unknown}
-use Rattle.wq_replay.specs.Number.{number_of}
+use Rattle.wq_base.specs.Decimal.{signed_of}
 
 pub data ScriptLine : Type 0 where
   -- a listing begins, seen at this second
@@ -45,7 +45,7 @@ client_of z = if int_le (pos 1) z && int_le z (pos 32) then Some z else None
 
 -- a number, and what follows the space behind it
 abbrev pub number_then : List ℕ → Option (ℤ × List ℕ)
-number_then text = option_and_then (λ w. option_map (λ z. (z, w.1)) (number_of w.0)) (first_word text)
+number_then text = option_and_then (λ w. option_map (λ z. (z, w.1)) (signed_of w.0)) (first_word text)
 
 -- a row of a kind: its size, its time of change and its name
 abbrev pub row_of : Kind → List ℕ → Option ScriptLine
@@ -63,7 +63,7 @@ ask_of text = option_and_then (λ n. option_map (λ client. ask client n.1) (cli
 -- a line by its first word and what follows
 abbrev pub worded : List ℕ × List ℕ → Option ScriptLine
 worded (word, rest) =
-    if bytes_eq word (codes "pass") then option_map pass (number_of rest)
+    if bytes_eq word (codes "pass") then option_map pass (signed_of rest)
     else if bytes_eq word (codes "ask") then ask_of rest
     else option_and_then (λ kind. row_of kind rest) (kind_of word)
 

@@ -1,11 +1,10 @@
 //! The lines of a script, each as what it says. What they do is not said here.
 ghost use Rattle.std.specs.Prelude.{◌≡◌, option_map};
-ghost use Rattle.wq_replay.specs.Number.{number_of};
 ghost use Rattle.wq_replay.specs.ScriptLine.{ask_of, first_word, kind_of, line_of, number_then, row_of};
 ghost use Rattle.wq_replay.specs.LineData.{line_data};
 
-use itoa::Buffer;
 use memchr::memchr;
+use wq_base::signed_number;
 use wq_view::Kind;
 
 /// What a line of a script says.
@@ -51,7 +50,7 @@ pub(crate) fn read_line(text: &[u8]) -> Option<Line<'_>>
     }
     let (word, rest) = first_word(text)?;
     if word == PASS {
-        Some(Line::Pass(number(rest)?))
+        Some(Line::Pass(signed_number(rest)?))
     } else if word == ASK {
         ask(rest)
     } else {
@@ -95,29 +94,12 @@ fn first_word(text: &[u8]) -> Option<(&[u8], &[u8])>
     Some((&text[..at], &text[at + 1..]))
 }
 
-/// The number of 64 bits whose decimal text this is.
-fn number(text: &[u8]) -> Option<i64>
-    ensures { result ≡ number_of text.now }
-{
-    let Ok(text) = str::from_utf8(text) else {
-        return None;
-    };
-    let Ok(number) = text.parse::<i64>() else {
-        return None;
-    };
-    if Buffer::new().format(number) == text {
-        Some(number)
-    } else {
-        None
-    }
-}
-
 /// A number, and what follows the space behind it.
 fn number_then(text: &[u8]) -> Option<(i64, &[u8])>
     ensures { option_map (λ n. (n.0, n.1.now)) result ≡ number_then text.now }
 {
     let (word, rest) = first_word(text)?;
-    Some((number(word)?, rest))
+    Some((signed_number(word)?, rest))
 }
 
 /// The kind that a word names by its letter.

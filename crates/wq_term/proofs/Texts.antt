@@ -6,12 +6,14 @@ use Rattle.std.proofs.lemmas.Bool.Decides.{nat_tests}
 use Rattle.std.specs.declared.alloc.Global.{Global}
 use Rattle.serde_json.specs.Data.{Data, Items, item}
 use Rattle.wq_view.specs.declared.name.TheConstants.{MAX_NAME}
-use Rattle.wq_view.specs.Name.{is_valid_name, is_slash}
+use Rattle.wq_base.specs.Byte.{is_slash}
+use Rattle.wq_view.specs.Name.{is_valid_name}
 use Rattle.wq_term.specs.declared.expr.Scope.{Scope}
 use Rattle.wq_term.specs.declared.expr.Scope.TheVariants.{Basename, Wholename}
 use Rattle.wq_term.specs.Text.{part_of}
 use Rattle.wq_term.specs.declared.fault.TermFault.{TermFault}
-use Rattle.wq_term.specs.Argument.{text_of, with_first, all_texts_of}
+use Rattle.wq_base.specs.Fault.{with_first}
+use Rattle.wq_term.specs.Argument.{text_of, all_texts_of}
 use Rattle.wq_term.specs.Expr.{texts_in}
 
 -- a valid name has at most 4,096 bytes

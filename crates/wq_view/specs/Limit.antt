@@ -1,6 +1,7 @@
 -- The limits of names, listings and views, which are this server's own.
 -- Watchman's documentation names none of them.
-use Rattle.std.specs.Prelude.{ℕ, ◌^◌}
+use Rattle.std.specs.Prelude.{ℕ}
+use Rattle.wq_base.specs.Limit.{max_number}
 
 -- the most bytes of a name
 abbrev pub max_name_length : ℕ
@@ -10,13 +11,9 @@ max_name_length = 4096
 abbrev pub max_rows : ℕ
 max_rows = 1000000
 
--- the greatest size and second, and the greatest time either side of 0
-abbrev pub max_number : ℕ
-max_number = 2 ^ 62
-
 -- the last tick of a view
 abbrev pub max_tick : ℕ
-max_tick = 2 ^ 62
+max_tick = max_number
 
 -- the most records of a view, so that a position fits 32 bits
 abbrev pub max_records : ℕ

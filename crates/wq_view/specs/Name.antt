@@ -1,15 +1,10 @@
 -- The names of files: paths relative to a root, as bytes, with their parts between slashes.
 -- What a basename and a suffix are is said in Watchman's documentation of the expression terms.
 use Rattle.std.specs.Prelude.{ℕ, Bool, ◌==◌, nat_le, not, ◌&&◌, if◌then◌else◌, List, [], length, bytes_eq, codes}
-use Rattle.std.specs.Str.{byte, is_utf8}
+use Rattle.std.specs.Str.{is_utf8}
 use Rattle.std.specs.List.{list_any, list_all, slice_split, after_last}
+use Rattle.wq_base.specs.Byte.{is_slash, is_dot}
 use Rattle.wq_view.specs.Limit.{max_name_length}
-
-abbrev pub is_slash : ℕ → Bool
-is_slash b = b == byte "/"
-
-abbrev pub is_dot : ℕ → Bool
-is_dot b = b == byte "."
 
 -- a part between slashes that names something: not empty, not `.` and not `..`
 abbrev pub is_plain_part : List ℕ → Bool

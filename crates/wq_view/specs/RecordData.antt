@@ -3,6 +3,7 @@
 use Rattle.std.specs.Prelude.{ℕ, ℤ, pos, ◌≤◌, Bool, false, true, IsTrue, if◌then◌else◌, List, map, Option, Some, None, refl}
 use Rattle.std.specs.Coded.{Coded, code_by, coded×, coded_ℕ, coded_ℤ, coded_bool, coded_list}
 use Rattle.std.specs.FinMap.{find}
+use Rattle.std.specs.Int.{int_div_euclid}
 use Rattle.wq_view.specs.contracts.kind.Kind.{the_row}
 use Rattle.wq_view.specs.declared.kind.Kind.{Kind}
 use Rattle.wq_view.specs.declared.kind.Kind.TheVariants.{Unknown}
@@ -33,6 +34,10 @@ record_code =
     (λ r. (r.name, (r.kind, (r.size, (r.mtime_ms, (r.exists, (r.ctick, (r.otick, (r.csec, r.osec)))))))))
     (λ p. record { name = p.0; kind = p.1.0; size = p.1.1.0; mtime_ms = p.1.1.1.0; exists = p.1.1.1.1.0; ctick = p.1.1.1.1.1.0; otick = p.1.1.1.1.1.1.0; csec = p.1.1.1.1.1.1.1.0; osec = p.1.1.1.1.1.1.1.1 })
     (λ _. refl)
+
+-- milliseconds as whole seconds, rounded down: -1 ms lies in second -1
+abbrev pub seconds_of : ℤ → ℤ
+seconds_of ms = int_div_euclid ms (pos 1000)
 
 -- what was last seen of the file
 abbrev pub last_stat : RecordData → Stat

@@ -5,7 +5,7 @@ use Rattle.std.specs.Coded.{Coded, code_by, coded×, coded_ℤ}
 use Rattle.std.specs.Ordering.{int_eq}
 use Rattle.wq_view.specs.contracts.kind.Kind.{the_row}
 use Rattle.wq_view.specs.declared.kind.Kind.{Kind}
-use Rattle.wq_view.specs.Limit.{max_number}
+use Rattle.wq_base.specs.Limit.{max_number}
 use Rattle.wq_view.specs.Kind.{letter_of}
 use Rattle.wq_view.specs.Name.{is_valid_name}
 

@@ -4,7 +4,7 @@ ghost use Rattle.std.specs.Prelude.{◌≡◌, ◌≤◌, Some, None, IfOk, IsTr
 ghost use Rattle.wq_view.specs.Name.{basename_of, suffix_of, is_valid_name};
 ghost use Rattle.wq_view.specs.Seen.{stat_of, same_stat, is_lawful_row, is_count};
 ghost use Rattle.wq_view.specs.Listing.{name_cmp};
-ghost use Rattle.wq_view.specs.RecordData.{last_stat, unseen, changed, come, observed};
+ghost use Rattle.wq_view.specs.RecordData.{last_stat, unseen, changed, come, observed, seconds_of};
 
 use crate::kind::Kind;
 use crate::limit::MAX_TICK;
@@ -13,6 +13,9 @@ use crate::name::{Name, after_last};
 use std::alloc::AllocError;
 use std::cmp::Ordering;
 use std::marker::Model;
+
+/// How many milliseconds a second has.
+const MILLISECONDS: i64 = 1000;
 
 /// What a view keeps of one file, deleted or not. A tick is the number of a pass over the root.
 #[derive(Drop)]
@@ -63,6 +66,13 @@ impl Record {
         ensures { result.now ≡ suffix_of self.now.name }
     {
         after_last(b'.', self.basename()).unwrap_or(b"")
+    }
+
+    /// The modification time in whole seconds of the Unix epoch, rounded down: -1 ms lies in second -1.
+    pub fn mtime(&self) -> i64
+        ensures { result ≡ seconds_of self.now.mtime_ms }
+    {
+        self.mtime_ms.div_euclid(MILLISECONDS)
     }
 
     /// The record of a name that no pass has seen yet.

@@ -23,7 +23,7 @@ mod view;
 
 pub use kind::Kind;
 pub use law::history_has_one_view;
-pub use limit::{MAX_NUMBER, MAX_RECORDS, MAX_ROWS, MAX_TICK};
+pub use limit::{MAX_RECORDS, MAX_ROWS, MAX_TICK};
 pub use listing::{Pass, PassFault, Seen};
 pub use name::{MAX_NAME, Name, is_valid_name};
 pub use file_record::Record;

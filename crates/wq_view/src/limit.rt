@@ -1,10 +1,9 @@
 //! The limits of a view, each said once.
 
-/// The greatest size in bytes, time in milliseconds and second, either side of 0 where it has a sign.
-pub const MAX_NUMBER: i64 = 1 << 62;
+use wq_base::MAX_NUMBER;
 
 /// The last tick that a view may reach.
-pub const MAX_TICK: u64 = 1 << 62;
+pub const MAX_TICK: u64 = MAX_NUMBER;
 
 /// How many rows a pass may list.
 pub const MAX_ROWS: usize = 1_000_000;

@@ -7,11 +7,12 @@ ghost use Rattle.wq_view.specs.Seen.{entry_of, is_lawful_row, is_count, is_time}
 ghost use Rattle.wq_view.specs.Listing.{name_cmp, names_of, listing_of, listing_fault, row_fault};
 
 use crate::kind::Kind;
-use crate::limit::{MAX_NUMBER, MAX_ROWS};
+use crate::limit::MAX_ROWS;
 use crate::name::is_valid_name;
 use std::marker::Model;
 use std::sync::ArcSlice;
 use thiserror::Error;
+use wq_base::MAX_SIGNED;
 
 /// One row of a listing, as a walker saw it: nothing of it is tested yet.
 #[derive(Drop)]
@@ -184,12 +185,12 @@ fn names_rise(rows: &[Seen]) -> bool
 fn is_count(value: i64) -> bool
     ensures { result ≡ is_count value }
 {
-    0 <= value && value <= MAX_NUMBER
+    0 <= value && value <= MAX_SIGNED
 }
 
 /// Whether a time is from -2^62 to 2^62.
 fn is_time(value: i64) -> bool
     ensures { result ≡ is_time value }
 {
-    -MAX_NUMBER <= value && value <= MAX_NUMBER
+    -MAX_SIGNED <= value && value <= MAX_SIGNED
 }

@@ -4,7 +4,8 @@ ghost use Rattle.std.specs.Prelude.{◌≡◌, ◌==◌, true, false, IfOk, IsTr
 ghost use Rattle.std.specs.Arc.{arc_slice_items};
 ghost use Rattle.std.specs.List.{after_last, list_all, list_any, slice_split};
 ghost use Rattle.std.specs.Str.{is_utf8};
-ghost use Rattle.wq_view.specs.Name.{is_plain_part, is_slash, is_valid_name};
+ghost use Rattle.wq_base.specs.Byte.{is_slash};
+ghost use Rattle.wq_view.specs.Name.{is_plain_part, is_valid_name};
 
 use memchr::memrchr;
 use std::alloc::AllocError;

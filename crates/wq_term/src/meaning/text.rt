@@ -1,7 +1,7 @@
 //! How the texts of a term stand to the name of a file.
 ghost use Rattle.std.specs.Prelude.{◌≡◌, ◌≤◌, IfSome, option_map, count_by, length, pos};
 ghost use Rattle.std.specs.Str.{str_eq_ignore_ascii_case};
-ghost use Rattle.wq_view.specs.Name.{is_slash};
+ghost use Rattle.wq_base.specs.Byte.{is_slash};
 ghost use Rattle.wq_term.specs.Expr.{texts_in};
 ghost use Rattle.wq_term.specs.Text.{same_text, part_of, is_named, is_suffix, has_suffix, is_below, rest_below, after_slash, has_depth};
 

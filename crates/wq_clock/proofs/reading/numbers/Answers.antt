@@ -5,7 +5,7 @@ use Rattle.std.proofs.lemmas.List.Elements.{All-push}
 use Rattle.std.proofs.lemmas.Iterator.Splits.{YieldsList-from_str_split}
 use Rattle.std.proofs.lemmas.Iterator.Consumers.{YieldsList-turn, YieldsList-end}
 use Rattle.std.specs.Option.{option_and_then}
-use Rattle.wq_clock.specs.Limit.{max_number}
+use Rattle.wq_base.specs.Limit.{max_number}
 use Rattle.wq_clock.specs.ClockSpec.{numbers_of, id_from_numbers}
 use Rattle.wq_clock.proofs.Parts.{numbers_of-push, numbers_of-bad, length-numbers_of, id-long}
 use Rattle.wq_clock.proofs.reading.numbers.Goals as goal
@@ -20,19 +20,19 @@ returns-then-is_full-clause-refused c =
     let count = length-numbers_of _ _ c.loop-part.invariant.2 ∙ length-map c.loop-part.yielded _ in
     id-long _ (omega (arith, turn.0, count, full))
 
-pub returns-in_err-number-clause-refused : goal.returns-in_err-number-clause-refused
-returns-in_err-number-clause-refused c =
+pub returns-in_err-unsigned_number-clause-refused : goal.returns-in_err-unsigned_number-clause-refused
+returns-in_err-unsigned_number-clause-refused c =
     let parts = YieldsList-from_str_split {s = c.into_iter-part-iterator.result} 58 c.args.text.now (lit< tt)
     (search rules) (search rules) (search rules) in
     let turn = YieldsList-turn parts c.loop-part.yielded _ c.loop-part.yielded_by _ _
     c.in-Some.part c.in-Some.is c.next.ensures.steps in
-    let bad = numbers_of-bad _ _ _ turn.0 turn.1 (sym c.number.ensures.value ∙ c.in_err-number.was) in
+    let bad = numbers_of-bad _ _ _ turn.0 turn.1 (sym c.unsigned_number.ensures.value ∙ c.in_err-unsigned_number.was) in
     rw c.from_residual.ensures (ap (option_and_then id_from_numbers) bad)
 
 pub loop-part-preserved : goal.loop-part-preserved
 loop-part-preserved c =
-    let push = numbers_of-push _ _ _ _ c.loop-part.invariant.2 (sym c.number.ensures.value ∙ c.in_ok-number.was) in
-    let in_range = All-push (λ n. n ≤ max_number) _ _ c.loop-part.invariant.3 c.in_ok-number.ensures.in_range in
+    let push = numbers_of-push _ _ _ _ c.loop-part.invariant.2 (sym c.unsigned_number.ensures.value ∙ c.in_ok-unsigned_number.was) in
+    let in_range = All-push (λ n. n ≤ max_number) _ _ c.loop-part.invariant.3 c.in_ok-unsigned_number.ensures.in_range in
     (tt, tt, rw (map-append, c.push.ensures.items) push, rw c.push.ensures.items in_range)
 
 pub returns-clause-found : goal.returns-clause-found

@@ -1,6 +1,6 @@
 use Rattle.std.proofs.Common.{◌≡◌, ◌≤◌, Some, map}
 use Rattle.std.specs.List.{All}
-use Rattle.wq_clock.specs.Limit.{max_number}
+use Rattle.wq_base.specs.Limit.{max_number}
 use Rattle.wq_clock.specs.ClockSpec.{numbers_of}
 use Rattle.wq_clock.proofs.reading.numbers.Given as goal
 

@@ -3,7 +3,8 @@ use Rattle.std.proofs.Common.{rules}
 use borrow.Author.Tests.{tests}
 use Rattle.std.proofs.lemmas.Iterator.Search.{all_from_yields_List}
 use Rattle.std.proofs.lemmas.Iterator.Splits.{YieldsList-from_slice_split}
-use Rattle.wq_view.specs.Name.{is_plain_part, is_slash}
+use Rattle.wq_base.specs.Byte.{is_slash}
+use Rattle.wq_view.specs.Name.{is_plain_part}
 use Rattle.wq_view.proofs.name.has_plain_parts.Goals as goal
 
 pub returns : goal.returns

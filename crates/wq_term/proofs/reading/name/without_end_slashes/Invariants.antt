@@ -1,7 +1,7 @@
 -- behind the end there are slashes alone
 use Rattle.std.proofs.Common.{◌≡◌, ◌≤◌, ◌+◌, length, take}
 use Rattle.std.specs.List.{suffix_len}
-use Rattle.wq_view.specs.Name.{is_slash}
+use Rattle.wq_base.specs.Byte.{is_slash}
 use Rattle.wq_term.proofs.reading.name.without_end_slashes.Given as goal
 
 abbrev pub invariant-loop-end : goal.invariant-loop-end

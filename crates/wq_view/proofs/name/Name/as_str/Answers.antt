@@ -4,7 +4,8 @@ use Rattle.std.specs.List.{list_all, list_any, slice_split}
 use Rattle.std.specs.Str.{is_utf8}
 use Rattle.std.proofs.lemmas.Str.{IsUtf8-from_is_utf8}
 use Rattle.wq_view.specs.declared.name.TheConstants.{MAX_NAME}
-use Rattle.wq_view.specs.Name.{is_valid_name, is_plain_part, is_slash}
+use Rattle.wq_base.specs.Byte.{is_slash}
+use Rattle.wq_view.specs.Name.{is_valid_name, is_plain_part}
 use Rattle.wq_view.proofs.NameOrder.{both_true}
 use Rattle.wq_view.proofs.name.Name.as_str.Goals as goal
 

@@ -8,13 +8,13 @@ use Rattle.std.proofs.lemmas.Slice.Eq.{bytes_eq-Decides}
 use Rattle.std.proofs.lemmas.Str.{IsUtf8-from_ascii}
 use Rattle.std.proofs.lemmas.Fmt.{parse-signed_decimal}
 use Rattle.itoa.proofs.Decimal.{IsAscii-signed_decimal}
-use Rattle.wq_replay.specs.Number.{is_i64, number_of}
+use Rattle.wq_base.specs.Decimal.{is_word, signed_of}
 
-from_fits : (z : ℤ) → FitsSigned w64 z → is_i64 z ≡ true
+from_fits : (z : ℤ) → FitsSigned w64 z → is_word z ≡ true
 from_fits (pos n) h = lt-ltb n (2 ^ 63) h.sfits
 from_fits (negsuc n) h = lt-ltb n (2 ^ 63) h.sfits
 
-to_fits : (z : ℤ) → is_i64 z ≡ true → FitsSigned w64 z
+to_fits : (z : ℤ) → is_word z ≡ true → FitsSigned w64 z
 to_fits (pos n) h = record { sfits = ltb-true n (2 ^ 63) h }
 to_fits (negsuc n) h = record { sfits = ltb-true n (2 ^ 63) h }
 
@@ -25,31 +25,31 @@ reads {E} text z e fits is parses =
     cc
 
 -- a text that is the decimal text of no number that fits is no number
-pub no_number : (text : List ℕ) → ((z : ℤ) → FitsSigned w64 z → text ≡ signed_decimal z → ⊥) → number_of text ≡ None
-unfolding number_of
+pub no_number : (text : List ℕ) → ((z : ℤ) → FitsSigned w64 z → text ≡ signed_decimal z → ⊥) → signed_of text ≡ None
+unfolding signed_of
 no_number text none = cond-false _ _ _ (false_from_ne_true _ (λ passes.
     let parts = and_parts _ _ passes in
     none (signed_digits_value 10 text) (to_fits _ parts.0) ((bytes_eq-Decides text _).0 parts.1)))
 
 -- nor is one that is no text
-pub not_text : (text : List ℕ) → (IsUtf8 text → ⊥) → number_of text ≡ None
+pub not_text : (text : List ℕ) → (IsUtf8 text → ⊥) → signed_of text ≡ None
 not_text text isnt = no_number text (λ z fits is. isnt (subst IsUtf8 (sym is) (IsUtf8-from_ascii _ (IsAscii-signed_decimal z fits))))
 
 -- nor one that `parse` does not read
-pub not_read : {E : Type 0} (text : List ℕ) (e : E) → ParsesSigned w64 10 text (Err e) → number_of text ≡ None
+pub not_read : {E : Type 0} (text : List ℕ) (e : E) → ParsesSigned w64 10 text (Err e) → signed_of text ≡ None
 not_read text e parses = no_number text (λ z fits is. reads text z e fits is parses)
 
 -- what it reads is the number, if it has this text
-pub is_number : (text : List ℕ) (z : ℤ) → FitsSigned w64 z → z ≡ signed_digits_value 10 text → text ≡ signed_decimal z → number_of text ≡ Some z
-unfolding number_of
+pub is_number : (text : List ℕ) (z : ℤ) → FitsSigned w64 z → z ≡ signed_digits_value 10 text → text ≡ signed_decimal z → signed_of text ≡ Some z
+unfolding signed_of
 is_number text z fits is same = rw (← is) (cond-true _ _ _ (and_from _ _ (from_fits z fits) ((bytes_eq-Decides text (signed_decimal z)).1 same)))
 
 and_false : (b : Bool) → (b && false) ≡ false
 and_false true = refl
 and_false false = refl
 
-pub other_text : (text : List ℕ) (z : ℤ) → z ≡ signed_digits_value 10 text → (text ≡ signed_decimal z → ⊥) → number_of text ≡ None
-unfolding number_of
+pub other_text : (text : List ℕ) (z : ℤ) → z ≡ signed_digits_value 10 text → (text ≡ signed_decimal z → ⊥) → signed_of text ≡ None
+unfolding signed_of
 other_text text z is isnt =
     let other : bytes_eq text (signed_decimal z) ≡ false = false_from_ne_true _ (λ same. isnt ((bytes_eq-Decides text (signed_decimal z)).0 same)) in
-    rw (← is, other, and_false (is_i64 z)) refl
+    rw (← is, other, and_false (is_word z)) refl

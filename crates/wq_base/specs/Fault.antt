@@ -1,0 +1,29 @@
+-- Chains of tests, each with the fault that it finds: they read as the `let .. else` of the code.
+-- No public document is behind them.
+use Rattle.std.specs.Prelude.{Bool, true, false, List, ◌∷◌, Option, Some, None, Result, Ok, Err}
+
+-- what follows a value that is there, and where it is not this fault
+abbrev pub or_fault : {A B E : Type 0} → E → Option A → (A → Result B E) → Result B E
+or_fault fault None next = Err fault
+or_fault fault (Some a) next = next a
+
+-- what follows where a test holds, and else this fault
+abbrev pub unless_fault : {B E : Type 0} → E → Bool → Result B E → Result B E
+unless_fault fault false next = Err fault
+unless_fault fault true next = next
+
+-- what follows a result, and its own fault where it is one
+abbrev pub or_its_fault : {A B E F : Type 0} → (E → F) → Result A E → (A → Result B F) → Result B F
+or_its_fault of (Err fault) next = Err (of fault)
+or_its_fault of (Ok a) next = next a
+
+-- true is said
+abbrev pub is_true : Option Bool → Bool
+is_true None = false
+is_true (Some b) = b
+
+-- a first value before others, unless it or they are missing
+abbrev pub with_first : {A : Type 0} → Option A → Option (List A) → Option (List A)
+with_first None rest = None
+with_first (Some first) None = None
+with_first (Some first) (Some rest) = Some (first ∷ rest)

@@ -1,0 +1,4 @@
+pub mod Limit
+pub mod Byte
+pub mod Decimal
+pub mod Fault

@@ -1,0 +1,7 @@
+//! The limit of the server's numbers, said once for both kinds of them.
+
+/// The greatest number of the protocol, 2^62: it fits signed and unsigned words and JSON's integers alike.
+pub const MAX_NUMBER: u64 = 1 << 62;
+
+/// The same as a signed number: the greatest one either side of 0.
+pub const MAX_SIGNED: i64 = 1 << 62;
