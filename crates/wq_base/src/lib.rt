@@ -4,6 +4,8 @@
 
 mod decimal;
 mod limit;
+mod version;
 
 pub use decimal::{signed_number, unsigned_number};
 pub use limit::{MAX_NUMBER, MAX_SIGNED};
+pub use version::VERSION;

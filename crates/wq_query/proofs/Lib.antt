@@ -1,3 +1,3 @@
 mod Names
 mod Keys
-mod NoFloat
+pub mod NoFloat

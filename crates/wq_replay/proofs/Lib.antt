@@ -2,5 +2,9 @@ mod Values
 mod Words
 mod NewLines
 mod Parts
+mod Inside
+mod Fronts
+mod Sent
 mod Steps
 mod Playing
+mod Ending

@@ -1,17 +1,21 @@
 -- What a text says as a JSON value, and lists of one.
-use Rattle.std.proofs.Common.{◌≡◌, ℕ, suc, Bool, true, false, List, [], ◌∷◌, length, Some, None, refl, if◌then◌else◌, ◌==◌, ◌-◌, nat_eq, take, drop, codes, ap, ◌∙◌, arith}
-use Rattle.std.proofs.lemmas.Bool.{ne_eqb}
+use Rattle.std.proofs.Common.{◌≡◌, ℕ, Bool, true, false, List, [], ◌∷◌, length, Some, None, refl, sym, if◌then◌else◌, ◌==◌, ◌-◌, nat_eq, take, drop, codes, ap, ◌∙◌, arith}
 use Rattle.std.proofs.lemmas.List.{take_all, length-drop}
 use Rattle.std.specs.List.{list_all, starts_with}
 use Rattle.std.specs.Str.{IsUtf8, is_utf8}
 use Rattle.std.proofs.lemmas.Str.{IsUtf8-from_is_utf8, is_utf8-from_IsUtf8}
-use Rattle.serde_json.specs.Data.{Data, Members, object}
+use mathlib.Core.Bool.{false≢true}
+use Rattle.serde_json.specs.Data.{Data, null, boolean, number, string, array, object, Items, item}
 use Rattle.serde_json.specs.Read.{read as read_text}
 use Rattle.serde_json.specs.View.{items_view, view}
 use Rattle.serde_json.specs.declared.value.Value.{Value}
+use Rattle.wq_base.specs.Byte.{is_slash}
 use Rattle.wq_replay.specs.Clock.{are_options}
-use Rattle.wq_replay.specs.Command.{value_of, only_of, is_root}
+use Rattle.wq_replay.specs.Query.{only_object}
+use Rattle.wq_replay.specs.Reply.{value_of}
+use Rattle.wq_replay.specs.Root.{is_root}
 
+-- the value of a line in UTF-8
 pub value_read : (line : List ℕ) (d : Data) → IsUtf8 line → read_text line ≡ Some d → value_of line ≡ Some d
 value_read line d text read = rw (is_utf8-from_IsUtf8 line text, read) refl
 
@@ -23,20 +27,40 @@ no_value line none = at (is_utf8 line) (λ h. none (IsUtf8-from_is_utf8 line h))
     at true none = none refl
     at false none = refl
 
-pub not_one : (values : List Value) → (length values ≡ 1 → ⊥) → only_of (items_view values) ≡ None
-not_one [] isnt = refl
-not_one (a ∷ []) isnt = absurd (isnt refl)
-not_one (a ∷ b ∷ values) isnt = refl
-
 -- behind the root there are slashes
-pub root_then : (text : List ℕ) (slashes : Bool) → starts_with nat_eq text (codes "/r") ≡ true → slashes ≡ list_all (λ byte. byte == 47) (drop 2 text) → slashes ≡ is_root text
+pub root_then : (text : List ℕ) (slashes : Bool) → starts_with nat_eq text (codes "/r") ≡ true → slashes ≡ list_all is_slash (drop 2 text) → slashes ≡ is_root text
 root_then text slashes begins is = rw begins is
 
 -- the bytes from a place on
 pub from_place : (bytes text : List ℕ) (i : ℕ) → bytes ≡ text → take (length bytes - i) (drop i bytes) ≡ drop i text
 from_place bytes text i same = take_all (length bytes - i) (drop i bytes) (omega (arith, length-drop i bytes)) ∙ ap (drop i) same
 
--- behind an object nothing may stand
-pub one_object : (options : Value) (rest values : List Value) (ms : Members) (empty : Bool) → values ≡ options ∷ rest → view options ≡ object ms → empty ≡ (length rest == 0) → empty ≡ are_options (items_view values)
-one_object options [] values ms empty is said none = none ∙ rw (is, said) refl
-one_object options (v ∷ vs) values ms empty is said none = none ∙ rw (is, said) (ne_eqb (suc (length vs)) 0 (λ h. omega (arith, h)))
+-- two values are no options
+two_options : (d e : Data) (ds : Items) → are_options (item d (item e ds)) ≡ false
+two_options null e ds = refl
+two_options (boolean b) e ds = refl
+two_options (number n) e ds = refl
+two_options (string text) e ds = refl
+two_options (array items) e ds = refl
+two_options (object ms) e ds = refl
+
+-- nor one object
+two_objects : (d e : Data) (ds : Items) → only_object (item d (item e ds)) ≡ None
+two_objects null e ds = refl
+two_objects (boolean b) e ds = refl
+two_objects (number n) e ds = refl
+two_objects (string text) e ds = refl
+two_objects (array items) e ds = refl
+two_objects (object ms) e ds = refl
+
+-- behind the options nothing may stand
+pub more_options : (value : Value) (rest values : List Value) → values ≡ value ∷ rest → (length rest == 0) ≡ false
+    → false ≡ are_options (items_view values)
+more_options value [] values is more = absurd (false≢true (sym more))
+more_options value (v ∷ vs) values is more = rw is (sym (two_options (view value) (view v) (items_view vs)))
+
+-- nor behind the object
+pub more_objects : (value : Value) (rest values : List Value) → values ≡ value ∷ rest → (length rest == 0) ≡ false
+    → None ≡ only_object (items_view values)
+more_objects value [] values is more = absurd (false≢true (sym more))
+more_objects value (v ∷ vs) values is more = rw is (sym (two_objects (view value) (view v) (items_view vs)))

@@ -1,22 +1,33 @@
--- How results of the code stand for what is answered: want of memory aside, they are it.
-use Rattle.std.specs.Prelude.{◌≡◌, ℕ, Option, Some, None, Result, Ok, Err, Vec}
-use Rattle.std.specs.declared.alloc.Global.{Global}
+-- How results of the code stand for what is answered: they are it, unless memory ran out.
+-- No public document is behind them.
+use Rattle.std.specs.Prelude.{◌≡◌, false, Option, Some, None, Result, Ok, Err}
 use Rattle.serde_json.specs.Data.{Data}
-use Rattle.serde_json.specs.View.{view}
-use Rattle.serde_json.specs.Written.{compact_text}
+use Rattle.serde_json.specs.View.{view as data_of, items_view}
+use Rattle.serde_json.specs.Written.{has_float}
 use Rattle.serde_json.specs.declared.value.Value.{Value}
+use Rattle.wq_replay.specs.Reply.{WordsData}
+use Rattle.wq_replay.specs.declared.command.Words.{Words}
 use Rattle.wq_replay.specs.declared.refusal.Refusal.{Refusal}
 use Rattle.wq_replay.specs.declared.refusal.Refusal.TheVariants.{NotJson, NoMemory}
-use Rattle.wq_replay.specs.Command.{reply_from}
 
--- the text is the reply's, or the refusal is the answer's, or the memory ran out
-abbrev pub Gives : Result (Vec ℕ Global) Refusal → Result Data Refusal → Type 0
-Gives (Ok text) answer = text.items ≡ compact_text (reply_from answer)
-Gives (Err NoMemory) answer = Unit {0}
+-- the value is this reply, and has no float, so that it has one text
+abbrev pub IsReply : Data → Value → Type 0
+IsReply reply value = (data_of value ≡ reply) × (has_float reply ≡ false)
+
+-- the value or the refusal is the answer, unless memory ran out
+abbrev pub Gives : Result Value Refusal → Result Data Refusal → Type 0
+Gives (Ok value) answer = (answer ≡ Ok (data_of value)) × (has_float (data_of value) ≡ false)
+Gives (Err NoMemory) _ = Unit {0}
 Gives (Err refusal) answer = answer ≡ Err refusal
 
--- the value is the line's, or the line has none, or the memory ran out
+-- the value is the line's, or the line has none, unless memory ran out
 abbrev pub GivesValue : Result Value Refusal → Option Data → Type 0
-GivesValue (Ok v) said = said ≡ Some (view v)
-GivesValue (Err NoMemory) said = Unit {0}
+GivesValue (Ok value) said = said ≡ Some (data_of value)
+GivesValue (Err NoMemory) _ = Unit {0}
 GivesValue (Err refusal) said = (said ≡ None) × (refusal ≡ NotJson)
+
+-- the name and the arguments are those words
+abbrev pub IsWords : Option Words → Option WordsData → Type 0
+IsWords None said = said ≡ None
+IsWords (Some words) said =
+    said ≡ Some (record { name = words.name.now; arguments = items_view words.arguments.now })

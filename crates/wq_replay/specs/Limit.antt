@@ -1,4 +1,5 @@
--- The limits of lines and scripts in bytes, of lines without their newlines. They are this server's own.
+-- The limits of lines and scripts in bytes, of lines without their newlines.
+-- They are this server's own.
 use Rattle.std.specs.Prelude.{ℕ}
 
 -- a client's line

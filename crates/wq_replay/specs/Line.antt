@@ -1,5 +1,7 @@
 -- The lines of a script: each ends at a newline, which the last line need not have.
+-- It is this server's own.
 use Rattle.std.specs.Prelude.{ℕ, ◌==◌, List, [], ◌∷◌, if◌then◌else◌}
+use Rattle.wq_base.specs.Byte.{newline}
 
 -- a byte before the first line, which it makes where there is none
 abbrev pub put_first : ℕ → List (List ℕ) → List (List ℕ)
@@ -9,4 +11,4 @@ put_first byte (line ∷ lines) = (byte ∷ line) ∷ lines
 -- the lines of some bytes, without their newlines
 abbrev pub lines_of : List ℕ → List (List ℕ)
 lines_of [] = []
-lines_of (byte ∷ bytes) = if byte == 10 then [] ∷ lines_of bytes else put_first byte (lines_of bytes)
+lines_of (byte ∷ bytes) = if byte == newline then [] ∷ lines_of bytes else put_first byte (lines_of bytes)

@@ -1,9 +1,11 @@
 -- What a `Line` of the code stands for.
-use Rattle.wq_replay.specs.ScriptLine.{ScriptLine, pass, row, end, ask}
+-- No public document is behind it.
+use Rattle.wq_replay.specs.Script.{LineData, pass, row, end, ask}
 use Rattle.wq_replay.specs.declared.script.Line.{Line}
 use Rattle.wq_replay.specs.declared.script.Line.TheVariants.{Pass, Row, End, Ask}
 
-abbrev pub line_data : Line → ScriptLine
+-- the line of a script that it is
+abbrev pub line_data : Line → LineData
 line_data (Pass second) = pass second
 line_data (Row r) = row (record { name = r.name.now; kind = r.kind; size = r.size; mtime_ms = r.mtime_ms })
 line_data End = end

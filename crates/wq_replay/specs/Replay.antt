@@ -1,19 +1,20 @@
--- What the replay of a script writes.
-use Rattle.std.specs.Prelude.{◌≡◌, ◌≤◌, ◌⊎◌, ℕ, ◌+◌, ℤ, List, [], ◌∷◌, ◌++◌, length, nat_lt, if◌then◌else◌, codes, Option, Some, None, Result, Ok, Err}
+-- What the replay of a script writes, and how it ends.
+-- It is this server's own.
+use Rattle.std.specs.Prelude.{◌≡◌, ◌≢◌, ◌≤◌, ◌<◌, ◌⊎◌, ℕ, suc, ℤ, List, [], ◌∷◌, ◌++◌, length, codes, All, Option, Some, None, Result, Ok, Err}
 use Rattle.std.specs.Fmt.{signed_decimal}
 use Rattle.std.specs.Io.KnownBytes.{Appends}
 use Rattle.serde_json.specs.Written.{compact_text}
+use Rattle.wq_base.specs.Byte.{newline}
 use Rattle.wq_clock.specs.Instance.{InstanceData}
-use Rattle.wq_view.specs.History.{History}
+use Rattle.wq_view.specs.History.{History, Differ}
 use Rattle.wq_view.specs.View.{ViewData, IsViewOf}
-use Rattle.wq_replay.specs.Command.{reply_to, error_data}
+use Rattle.wq_replay.specs.Reply.{reply_to, error_data}
 use Rattle.wq_replay.specs.Line.{lines_of}
-use Rattle.wq_replay.specs.ScriptLine.{line_of}
-use Rattle.wq_replay.specs.Stage.{Stage, Turn, goes_on, passes, answers, strange, turn_at, Passed}
+use Rattle.wq_replay.specs.Stage.{StageData, Turn, drafts, passes, answers, malformed, start, turn_of, Passed}
 use Rattle.wq_replay.specs.declared.refusal.Refusal.TheVariants.{NoMemory}
-use Rattle.wq_replay.specs.declared.player.ReplayFault.{ReplayFault}
-use Rattle.wq_replay.specs.declared.player.ReplayFault.TheVariants.{Line, Read, Write, Memory}
-use Rattle.wq_replay.specs.Limit.{max_script, max_script_line}
+use Rattle.wq_replay.specs.declared.fault.ReplayFault.{ReplayFault}
+use Rattle.wq_replay.specs.declared.fault.ReplayFault.TheVariants.{Line, TooLong, Read, Write, Memory}
+use Rattle.wq_replay.specs.Limit.{max_script}
 
 -- the instance that answers scripts
 abbrev pub replay_instance : InstanceData
@@ -21,43 +22,89 @@ replay_instance = record { start = 7; pid = 9; root = 1 }
 
 -- the line that is written for a reply: the client's number, a space and the reply
 abbrev pub sent_line : ℤ → List ℕ → List ℕ
-sent_line client text = signed_decimal client ++ codes " " ++ text ++ codes "\n"
+sent_line client text = signed_decimal client ++ (codes " " ++ (text ++ codes "\n"))
 
--- a line is the reply to a client's line at the view of a history, or says that the memory ran out
+-- a line is the reply to a client's line at the view of a history, or says that memory ran out
 pub record IsSent (history : History) (client : ℤ) (line written : List ℕ) : Type 0 where
   pub view : ViewData
   pub is_view : IsViewOf history view
   pub text : (written ≡ sent_line client (compact_text (reply_to replay_instance view line)))
       ⊎ (written ≡ sent_line client (compact_text (error_data NoMemory)))
 
--- where a script starts
-abbrev pub start : Stage
-start = record { history = []; draft = None }
+-- what a line does takes the script from a stage to the next, with this written; what is malformed does not
+abbrev pub Does : StageData → Turn → List ℕ → StageData → Type 0
+Does stage (drafts draft) written after =
+    (written ≡ []) × (after ≡ record { history = stage.history; draft = Some draft })
+Does stage (passes seen) written after = (next : History) × Passed stage.history seen next
+    × (written ≡ []) × (after ≡ record { history = next; draft = None })
+Does stage (answers client line) written after = IsSent stage.history client line written × (after ≡ stage)
+Does stage malformed written after = ⊥
 
--- what a line does at a stage; a line over the limit has another shape
-abbrev pub turn_of : Stage → List ℕ → Turn
-turn_of stage line = if nat_lt max_script_line (length line) then strange else turn_at stage (line_of line)
+-- these lines take the script in turn from a stage to another, with this written
+abbrev pub Plays : StageData → List (List ℕ) → List ℕ → StageData → Type 0
+Plays stage [] written after = (written ≡ []) × (after ≡ stage)
+Plays stage (line ∷ lines) written after = (next : StageData) × (first later : List ℕ)
+    × Does stage (turn_of stage line) first next × (written ≡ first ++ later) × Plays next lines later after
 
--- a turn is taken with these bytes written, up to a line of another shape if there is one: it has this number, and
--- the later lines are played as `later` says
-abbrev pub PlaysTurn : ℕ → Stage → Turn → (Stage → List ℕ → Option ℕ → Type 0) → List ℕ → Option ℕ → Type 0
-PlaysTurn n stage (goes_on next) later written fault = later next written fault
-PlaysTurn n stage (passes history seen) later written fault =
-    (next : History) × Passed history seen next × later (record { history = next; draft = None }) written fault
-PlaysTurn n stage (answers client line) later written fault =
-    (sent more : List ℕ) × IsSent stage.history client line sent × (written ≡ sent ++ more) × later stage more fault
-PlaysTurn n stage strange later written fault = (written ≡ []) × (fault ≡ Some n)
+-- So many first lines of a script were played, their replies were written, the script stands here, and these lines
+-- are left. Of the passes that were added, neighbours differ.
+pub record FirstLines (script : List ℕ) (before after : Option (List ℕ)) (count : ℕ) (at : StageData)
+    (left : List (List ℕ)) : Type 0 where
+  pub first : List (List ℕ)
+  pub written : List ℕ
+  pub lines : lines_of script ≡ first ++ left
+  pub count_is : length first ≡ count
+  pub plays : Plays start first written at
+  pub appends : Appends before after written
+  pub differ : Differ at.history
 
--- these lines, the first of which has this number, are played from a stage
-abbrev pub Plays : ℕ → Stage → List (List ℕ) → List ℕ → Option ℕ → Type 0
-Plays n stage [] written fault = (written ≡ []) × (fault ≡ None)
-Plays n stage (line ∷ lines) written fault = PlaysTurn n stage (turn_of stage line) (λ next. Plays (n + 1) next lines) written fault
+-- a front of some bytes was written
+abbrev pub AppendsFront : Option (List ℕ) → Option (List ℕ) → List ℕ → Type 0
+AppendsFront before after bytes = (front back : List ℕ) × (bytes ≡ front ++ back) × Appends before after front
 
--- how a replay of a script ends: well, the script within its limit and all its lines replayed; or with the number of the first line that has another
--- shape, the lines before it replayed. Of the faults of the reader, of the writer and of memory nothing is said.
-abbrev pub Ends : List ℕ → Option (List ℕ) → Option (List ℕ) → Result (Unit {0}) ReplayFault → Type 0
-Ends script before after (Ok _) = (length script ≤ max_script) × (written : List ℕ) × Appends before after written × Plays 1 start (lines_of script) written None
-Ends script before after (Err (Line n)) = (written : List ℕ) × Appends before after written × Plays 1 start (lines_of script) written (Some n)
-Ends script before after (Err Read) = Unit {0}
-Ends script before after (Err Write) = Unit {0}
-Ends script before after (Err Memory) = Unit {0}
+-- a reader was left within the first line of some bytes: what was taken of them has no newline
+abbrev pub StopsWithin : List ℕ → Option (List ℕ) → Type 0
+StopsWithin bytes rest = (taken left : List ℕ) × (rest ≡ Some left) × (bytes ≡ taken ++ left)
+    × All (λ byte. byte ≢ newline) taken
+
+-- all lines were played, and the script is within its limit
+abbrev pub EndsWell : List ℕ → Option (List ℕ) → Option (List ℕ) → Type 0
+EndsWell script before after =
+    (length script ≤ max_script) × (count : ℕ) × (at : StageData) × FirstLines script before after count at []
+
+-- the lines before the one of this number were played, and it is malformed
+abbrev pub EndsAtLine : ℕ → List ℕ → Option (List ℕ) → Option (List ℕ) → Type 0
+EndsAtLine n script before after = (count : ℕ) × (at : StageData) × (line : List ℕ) × (later : List (List ℕ))
+    × (n ≡ suc count) × FirstLines script before after count at (line ∷ later) × (turn_of at line ≡ malformed)
+
+-- the script is over its limit; some first lines were played
+abbrev pub EndsTooLong : List ℕ → Option (List ℕ) → Option (List ℕ) → Type 0
+EndsTooLong script before after = (max_script < length script) × (count : ℕ) × (at : StageData)
+    × (left : List (List ℕ)) × FirstLines script before after count at left
+
+-- some first lines were played, and the next one was not taken to its end
+abbrev pub EndsReading : List ℕ → Option (List ℕ) → Option (List ℕ) → Option (List ℕ) → Type 0
+EndsReading script before after rest = (count : ℕ) × (at : StageData) × (bytes : List ℕ)
+    × FirstLines script before after count at (lines_of bytes) × StopsWithin bytes rest
+
+-- some first lines were played, the next one asks, and of the line that is sent for it a front was written
+abbrev pub EndsWriting : List ℕ → Option (List ℕ) → Option (List ℕ) → Type 0
+EndsWriting script before after = (count : ℕ) × (at : StageData) × (line : List ℕ) × (later : List (List ℕ))
+    × (between : Option (List ℕ)) × FirstLines script before between count at (line ∷ later)
+    × (client : ℤ) × (text sent : List ℕ) × (turn_of at line ≡ answers client text)
+    × IsSent at.history client text sent × AppendsFront between after sent
+
+-- some first lines were played, and the next one, which is not malformed, wrote nothing
+abbrev pub EndsDoing : List ℕ → Option (List ℕ) → Option (List ℕ) → Type 0
+EndsDoing script before after = (count : ℕ) × (at : StageData) × (line : List ℕ) × (later : List (List ℕ))
+    × FirstLines script before after count at (line ∷ later) × (turn_of at line ≢ malformed)
+
+-- how the replay of a script ends, by what a writer held before and after, and what a reader has left
+abbrev pub Ends : List ℕ → Option (List ℕ) → Option (List ℕ) → Option (List ℕ)
+    → Result (Unit {0}) ReplayFault → Type 0
+Ends script before after rest (Ok _) = EndsWell script before after
+Ends script before after rest (Err (Line n)) = EndsAtLine n script before after
+Ends script before after rest (Err TooLong) = EndsTooLong script before after
+Ends script before after rest (Err Read) = EndsReading script before after rest
+Ends script before after rest (Err Write) = EndsWriting script before after
+Ends script before after rest (Err Memory) = EndsReading script before after rest ⊎ EndsDoing script before after

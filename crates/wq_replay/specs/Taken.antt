@@ -1,6 +1,8 @@
 -- How the lines of a script are taken from a reader, each in bounded memory.
+-- It is this server's own.
 use Rattle.std.specs.Prelude.{◌≡◌, ◌⊎◌, ◌<◌, ℕ, zero, suc, ◌+◌, ◌-◌, Bool, true, false, ◌||◌, ◌==◌, List, [], ◌∷◌, ◌++◌, length, take, Option, Some}
 use Rattle.std.specs.Io.BufRead.{take_through}
+use Rattle.wq_base.specs.Byte.{newline}
 use Rattle.wq_replay.specs.Limit.{max_script_line}
 use Rattle.wq_replay.specs.Line.{lines_of}
 
@@ -10,13 +12,13 @@ max_kept = max_script_line + 1
 
 -- what is kept of the first line of some bytes, where there is room for so many: with its newline, or a front of it
 abbrev pub kept : ℕ → List ℕ → List ℕ
-kept room bytes = take_through 10 (take room bytes)
+kept room bytes = take_through newline (take room bytes)
 
 -- the first line of some bytes stops within them: at its newline, or where there is no more room
 abbrev pub stops : ℕ → List ℕ → Bool
 stops zero bytes = true
 stops (suc room) [] = false
-stops (suc room) (byte ∷ bytes) = byte == 10 || stops room bytes
+stops (suc room) (byte ∷ bytes) = byte == newline || stops room bytes
 
 -- nothing is taken behind these bytes: the line stops within them, or there are none
 abbrev pub is_last : ℕ → List ℕ → Bool
@@ -25,18 +27,22 @@ is_last room bytes = stops room bytes || length bytes == 0
 -- the front of these bytes went from the reader behind what was taken before; if the line stops there, all is taken
 -- that is kept of it, and else the same is still to come that was
 abbrev pub TakesPart : List ℕ → List ℕ → Bool → List ℕ → Option (List ℕ) → Type 0
-TakesPart bytes before true after rest = (left : List ℕ) × (rest ≡ Some left) × (before ++ bytes ≡ after ++ left)
+TakesPart bytes before true after rest =
+    (left : List ℕ) × (rest ≡ Some left) × (before ++ bytes ≡ after ++ left)
     × (before ++ kept (max_kept - length before) bytes ≡ after)
-TakesPart bytes before false after rest = (left : List ℕ) × (rest ≡ Some left) × (before ++ bytes ≡ after ++ left)
+TakesPart bytes before false after rest =
+    (left : List ℕ) × (rest ≡ Some left) × (before ++ bytes ≡ after ++ left)
     × (before ++ kept (max_kept - length before) bytes ≡ after ++ kept (max_kept - length after) left)
 
 -- some bytes begin with this line, and those are behind it; or both their first line and this one are over the limit
 abbrev pub BeginsWith : List ℕ → List ℕ → List ℕ → Type 0
 BeginsWith bytes line left =
     (lines_of bytes ≡ line ∷ lines_of left)
-    ⊎ ((max_script_line < length line) × (whole : List ℕ) × (more : List (List ℕ)) × (lines_of bytes ≡ whole ∷ more) × (max_script_line < length whole))
+    ⊎ ((max_script_line < length line) × (whole : List ℕ) × (more : List (List ℕ))
+    × (lines_of bytes ≡ whole ∷ more) × (max_script_line < length whole))
 
 -- so many of some bytes are taken for their first line, if any are left, and those are behind it
 abbrev pub TakesLine : List ℕ → ℕ → List ℕ → Option (List ℕ) → Type 0
 TakesLine bytes zero line rest = bytes ≡ []
-TakesLine bytes (suc taken) line rest = (left : List ℕ) × (rest ≡ Some left) × (length bytes ≡ suc taken + length left) × BeginsWith bytes line left
+TakesLine bytes (suc taken) line rest =
+    (left : List ℕ) × (rest ≡ Some left) × (length bytes ≡ suc taken + length left) × BeginsWith bytes line left

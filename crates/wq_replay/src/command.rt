@@ -1,24 +1,41 @@
-//! The reply to a line of a client, at a view of the one root that is watched. Sessions are not kept here.
+//! The reply to a line of a client, at a view of the one root that is watched. What a command takes and answers stands
+//! in a room of its own; the text of every reply is printed here. Sessions are not kept.
 ghost use Rattle.std.specs.Prelude.{◌≡◌, IfOk, option_map};
 ghost use Rattle.serde_json.specs.View.{view as data_of, items_view};
 ghost use Rattle.serde_json.specs.Written.{compact_text};
 ghost use Rattle.wq_clock.specs.Instance.{instance_data};
-ghost use Rattle.wq_replay.specs.Command.{answer_line, answer_value, answer_command, answer_query, command_of, error_data, is_binary, is_root, only_of, query_of, reply_to, two_of, value_of};
-ghost use Rattle.wq_replay.specs.Gives.{Gives, GivesValue};
+ghost use Rattle.wq_replay.specs.Command.{answer_command, command_named};
+ghost use Rattle.wq_replay.specs.Reply.{answer_line, error_data, is_binary, reply_to, value_of, words_of};
+ghost use Rattle.wq_replay.specs.Gives.{Gives, GivesValue, IsReply, IsWords};
 
-use crate::clock::answer_clock;
 use crate::refusal::Refusal;
 use serde_json::{Value, json};
 use std::alloc::{AllocError, Global};
+use wq_base::VERSION;
 use wq_clock::Instance;
-use wq_query::{Query, QueryFault, answer_bytes};
 use wq_view::View;
+
+mod clock;
+mod query;
 
 /// How many bytes a client's line may have, without its newline.
 pub const MAX_LINE: usize = 1_048_576;
 
-/// The root that is watched.
-const ROOT: &[u8] = b"/r";
+/// What a client may ask.
+#[derive(Clone, Copy, Debug, PartialEq, Eq)]
+pub(crate) enum Command {
+    /// Which files there are, and which of them changed.
+    Query,
+    /// Which pass was the last.
+    Clock,
+}
+
+/// A command's name with its arguments.
+#[derive(Clone, Copy)]
+pub(crate) struct Words<'a> {
+    pub(crate) name: &'a str,
+    pub(crate) arguments: &'a [Value],
+}
 
 /// The reply to a client's line: compact JSON, with its keys in byte order and without a newline.
 ///
@@ -32,10 +49,22 @@ pub fn reply(
 ) -> Result<Vec<u8>, AllocError>
     ensures { IfOk result (λ text. text.items ≡ compact_text (reply_to (instance_data instance.now) view.now line.now)) }
 {
+    reply_value(alloc, instance, view, line)?.to_vec(alloc)
+}
+
+/// The reply as a value.
+fn reply_value(
+    alloc: Global,
+    instance: &Instance,
+    view: &View,
+    line: &[u8],
+) -> Result<Value, AllocError>
+    ensures { IfOk result (IsReply (reply_to (instance_data instance.now) view.now line.now)) }
+{
     match answer_line(alloc, instance, view, line) {
-        Ok(text) => Ok(text),
+        Ok(value) => Ok(value),
         Err(Refusal::NoMemory) => Err(AllocError),
-        Err(refusal) => error_value(alloc, refusal)?.to_vec(alloc),
+        Err(refusal) => error_value(alloc, refusal),
     }
 }
 
@@ -45,7 +74,7 @@ fn answer_line(
     instance: &Instance,
     view: &View,
     line: &[u8],
-) -> Result<Vec<u8>, Refusal>
+) -> Result<Value, Refusal>
     ensures { Gives result (answer_line (instance_data instance.now) view.now line.now) }
 {
     if is_binary(line) {
@@ -55,17 +84,45 @@ fn answer_line(
         return Err(Refusal::LineTooLong);
     }
     let value = read_value(alloc, line)?;
-    let Some((name, arguments)) = command(&value) else {
+    let Some(words) = words_of(&value) else {
         return Err(Refusal::NotACommand);
     };
-    match name {
-        "query" => answer_query(alloc, instance, view, arguments),
-        "clock" => answer_clock(alloc, instance, view, arguments),
-        _ => Err(Refusal::UnknownCommand),
+    let Some(command) = Command::named(words.name) else {
+        return Err(Refusal::UnknownCommand);
+    };
+    command.answer(alloc, instance, view, words.arguments)
+}
+
+impl Command {
+    /// The command of this name.
+    fn named(name: &str) -> Option<Command>
+        ensures { result ≡ command_named name.now }
+    {
+        match name {
+            "query" => Some(Command::Query),
+            "clock" => Some(Command::Clock),
+            _ => None,
+        }
+    }
+
+    /// What is answered to the command with these arguments.
+    fn answer(
+        self,
+        alloc: Global,
+        instance: &Instance,
+        view: &View,
+        arguments: &[Value],
+    ) -> Result<Value, Refusal>
+        ensures { Gives result (answer_command (instance_data instance.now) view.now self (items_view arguments.now)) }
+    {
+        match self {
+            Command::Query => query::answer_query(alloc, instance, view, arguments),
+            Command::Clock => clock::answer_clock(alloc, instance, view, arguments),
+        }
     }
 }
 
-/// The line begins with byte 0.
+/// Whether the line begins with byte 0.
 fn is_binary(line: &[u8]) -> bool
     ensures { result ≡ is_binary line.now }
 {
@@ -83,85 +140,25 @@ fn read_value(alloc: Global, line: &[u8]) -> Result<Value, Refusal>
     }
 }
 
-/// The name of a command and its arguments.
-fn command(value: &Value) -> Option<(&str, &[Value])>
-    ensures { option_map (λ p. (p.0.now, items_view p.1.now)) result ≡ command_of (data_of value.now) }
+/// The name of a command and its arguments: an array headed by a text.
+fn words_of(value: &Value) -> Option<Words<'_>>
+    ensures { IsWords result (words_of (data_of value.now)) }
 {
     let Value::Array(items) = value else {
         return None;
     };
     match items.split_first() {
-        Some((Value::String(name), arguments)) => Some((name.as_str(), arguments)),
+        Some((Value::String(name), arguments)) => Some(Words {
+            name: name.as_str(),
+            arguments,
+        }),
         _ => None,
     }
-}
-
-/// What is answered to the arguments of `query`.
-fn answer_query(
-    alloc: Global,
-    instance: &Instance,
-    view: &View,
-    arguments: &[Value],
-) -> Result<Vec<u8>, Refusal>
-    ensures { Gives result (answer_query (instance_data instance.now) view.now (query_of (two_of (items_view arguments.now)))) }
-{
-    let Some((root, query)) = query_arguments(arguments) else {
-        return Err(Refusal::WrongArguments);
-    };
-    if !is_root(root) {
-        return Err(Refusal::NotWatched);
-    }
-    match Query::read(alloc, query, instance) {
-        Ok(query) => {
-            let bound = query.bound();
-            let plan = query.plan_plain(bound);
-            Ok(answer_bytes(alloc, &plan, instance, view)?)
-        }
-        Err(QueryFault::NoMemory) => Err(Refusal::NoMemory),
-        Err(fault) => Err(Refusal::Query(fault)),
-    }
-}
-
-/// The root and the object that `query` takes.
-fn query_arguments(arguments: &[Value]) -> Option<(&str, &Value)>
-    ensures { option_map (λ p. (p.0.now, data_of p.1.now)) result ≡ query_of (two_of (items_view arguments.now)) }
-{
-    match two(arguments)? {
-        (Value::String(root), query) if query.is_object() => Some((root.as_str(), query)),
-        _ => None,
-    }
-}
-
-/// The two arguments, where there are just two.
-fn two(arguments: &[Value]) -> Option<(&Value, &Value)>
-    ensures { option_map (λ p. (data_of p.0.now, data_of p.1.now)) result ≡ two_of (items_view arguments.now) }
-{
-    let (first, rest) = arguments.split_first()?;
-    Some((first, only(rest)?))
-}
-
-/// The argument, where there is just one.
-fn only(arguments: &[Value]) -> Option<&Value>
-    ensures { option_map (λ v. data_of v.now) result ≡ only_of (items_view arguments.now) }
-{
-    if arguments.len() == 1 {
-        arguments.first()
-    } else {
-        None
-    }
-}
-
-/// The text is the root's, slashes at its end aside.
-pub(crate) fn is_root(text: &str) -> bool
-    ensures { result ≡ is_root text.now }
-{
-    let bytes = text.as_bytes();
-    bytes.starts_with(ROOT) && bytes[ROOT.len()..].iter().all(|byte| *byte == b'/')
 }
 
 /// The reply that names a refusal.
 fn error_value(alloc: Global, refusal: Refusal) -> Result<Value, AllocError>
-    ensures { IfOk result (λ v. data_of v ≡ error_data refusal) }
+    ensures { IfOk result (IsReply (error_data refusal)) }
 {
-    json!(in alloc; { "error": refusal.text(), "version": "wq-1" })
+    json!(in alloc; { "error": refusal.text(), "version": VERSION })
 }

@@ -2,14 +2,19 @@
 //! them. Files, the command line and exit statuses are left to the program above.
 #![tactic(auto)]
 
-mod clock;
 mod command;
-mod refusal;
+mod fault;
 mod player;
+mod refusal;
+mod root;
 mod script;
+mod sending;
 mod stage;
+mod step;
 mod taking;
 
 pub use command::{MAX_LINE, reply};
+pub use fault::ReplayFault;
+pub use player::{MAX_SCRIPT, replay};
 pub use refusal::Refusal;
-pub use player::{MAX_SCRIPT, MAX_SCRIPT_LINE, ReplayFault, replay};
+pub use taking::MAX_SCRIPT_LINE;

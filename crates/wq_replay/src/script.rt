@@ -1,6 +1,6 @@
-//! The lines of a script, each as what it says. What they do is not said here.
+//! The lines of a script, each as what it says. What they do is left to `step`.
 ghost use Rattle.std.specs.Prelude.{◌≡◌, option_map};
-ghost use Rattle.wq_replay.specs.ScriptLine.{ask_of, first_word, kind_of, line_of, number_then, row_of};
+ghost use Rattle.wq_replay.specs.Script.{ask_of, first_word, kind_of, line_of, number_then, row_of};
 ghost use Rattle.wq_replay.specs.LineData.{line_data};
 
 use memchr::memchr;
@@ -41,7 +41,7 @@ const END: &[u8] = b"end";
 /// The greatest number of a client.
 const MAX_CLIENT: i64 = 32;
 
-/// What a line says, unless it has another shape.
+/// What a line says, unless it is malformed.
 pub(crate) fn read_line(text: &[u8]) -> Option<Line<'_>>
     ensures { option_map line_data result ≡ line_of text.now }
 {
@@ -70,7 +70,7 @@ fn ask(text: &[u8]) -> Option<Line<'_>>
     }
 }
 
-/// A row of a kind: its size, its time of change and its name.
+/// A row of a kind: its size, its modification time and its name.
 fn row(kind: Kind, text: &[u8]) -> Option<Line<'_>>
     ensures { option_map line_data result ≡ row_of kind text.now }
 {
@@ -106,9 +106,8 @@ fn number_then(text: &[u8]) -> Option<(i64, &[u8])>
 fn kind(word: &[u8]) -> Option<Kind>
     ensures { result ≡ kind_of word.now }
 {
-    let (letter, rest) = word.split_first()?;
-    if !rest.is_empty() {
-        return None;
+    match word {
+        [letter] => Kind::from_letter(*letter),
+        _ => None,
     }
-    Kind::from_letter(*letter)
 }

@@ -10,8 +10,8 @@ pub(crate) struct Stage {
 }
 
 impl Stage {
-    ghost use Rattle.wq_replay.specs.Replay.{start};
-    ghost use Rattle.wq_replay.specs.StageData.{IsAt};
+    ghost use Rattle.wq_replay.specs.Stage.{start};
+    ghost use Rattle.wq_replay.specs.Step.{IsAt};
 
     /// Where a script starts: before any pass, and with no listing open.
     pub(crate) fn new(alloc: Global) -> Stage

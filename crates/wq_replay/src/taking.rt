@@ -1,13 +1,17 @@
 //! Takes the lines of a script from a reader. Of a line over the limit only a front is kept, so that no line needs
 //! more memory. What a line says is not looked at here.
-ghost use Rattle.std.specs.Prelude.{◌≡◌, ◌≤◌, true, [], length, IfErr, IfOk, IfSome, OnOk};
+ghost use Rattle.std.specs.Prelude.{◌≡◌, ◌≤◌, true, false, [], length, IfOk, IfSome, OnErr, OnOk};
 ghost use Rattle.std.specs.Io.BufRead.{strip_last};
-ghost use Rattle.wq_replay.specs.StageData.{NamesNoLine};
+ghost use Rattle.std.specs.Io.KnownBytes.{Keeps};
+ghost use Rattle.wq_replay.specs.Replay.{StopsWithin};
 ghost use Rattle.wq_replay.specs.Taken.{TakesLine, TakesPart, is_last, kept, max_kept};
 
-use crate::player::{MAX_SCRIPT_LINE, ReplayFault};
+use crate::fault::TakeFault;
 use memchr::memchr;
 use std::io::{BufRead, Error, ErrorKind};
+
+/// How many bytes a line of a script may have, without its newline.
+pub const MAX_SCRIPT_LINE: usize = 1_048_640;
 
 /// How many bytes of a line are kept, its newline counted. One byte over the limit shows that a line is too long.
 const MAX_KEPT: usize = MAX_SCRIPT_LINE + 1;
@@ -15,14 +19,13 @@ const MAX_KEPT: usize = MAX_SCRIPT_LINE + 1;
 /// Takes the next line of a script, without its newline, and says how many bytes were taken: none at the end.
 ///
 /// Of a line over the limit a front is taken that is over the limit too.
-pub(crate) fn next_line<R: BufRead>(
-    reader: &mut R,
-    line: &mut Vec<u8>,
-) -> Result<usize, ReplayFault>
-    ensures done { IfOk result (λ taken. IfSome (R.remaining reader.old) (λ bytes. TakesLine bytes taken line.new.items (R.remaining reader.new))) }
+pub(crate) fn next_line<R: BufRead>(reader: &mut R, line: &mut Vec<u8>) -> Result<usize, TakeFault>
+    ensures done { IfOk result (λ taken. IfSome (R.remaining reader.old) (λ bytes.
+        TakesLine bytes taken line.new.items (R.remaining reader.new))) }
+    ensures within { OnErr result (IfSome (R.remaining reader.old) (λ bytes.
+        StopsWithin bytes (R.remaining reader.new))) }
     ensures few { IfOk result (λ taken. taken ≤ max_kept) }
     ensures kept { length line.new.items ≤ max_kept }
-    ensures fault { IfErr result NamesNoLine }
 {
     line.clear();
     take_line(reader, line)?;
@@ -32,26 +35,31 @@ pub(crate) fn next_line<R: BufRead>(
 }
 
 /// Takes the next line with its newline, as much of it as is kept.
-fn take_line<R: BufRead>(reader: &mut R, line: &mut Vec<u8>) -> Result<(), ReplayFault>
+fn take_line<R: BufRead>(reader: &mut R, line: &mut Vec<u8>) -> Result<(), TakeFault>
     requires { line.old.items ≡ [] }
-    ensures done { OnOk result (IfSome (R.remaining reader.old) (λ bytes. TakesPart bytes [] true line.new.items (R.remaining reader.new))) }
+    ensures done { OnOk result (IfSome (R.remaining reader.old) (λ bytes.
+        TakesPart bytes [] true line.new.items (R.remaining reader.new))) }
+    ensures within { OnErr result (IfSome (R.remaining reader.old) (λ bytes.
+        StopsWithin bytes (R.remaining reader.new))) }
     ensures kept { length line.new.items ≤ max_kept }
-    ensures fault { IfErr result NamesNoLine }
 {
     for _ in 0..u64::MAX {
         if take_part(reader, line)? {
             return Ok(());
         }
     }
-    Err(ReplayFault::Read)
+    Err(TakeFault::Read)
 }
 
 /// Takes what the reader shows of a line, and says whether that was its last part.
-fn take_part<R: BufRead>(reader: &mut R, line: &mut Vec<u8>) -> Result<bool, ReplayFault>
+fn take_part<R: BufRead>(reader: &mut R, line: &mut Vec<u8>) -> Result<bool, TakeFault>
     requires { length line.old.items ≤ max_kept }
-    ensures done { IfOk result (λ last. IfSome (R.remaining reader.old) (λ bytes. TakesPart bytes line.old.items last line.new.items (R.remaining reader.new))) }
+    ensures done { IfOk result (λ last. IfSome (R.remaining reader.old) (λ bytes.
+        TakesPart bytes line.old.items last line.new.items (R.remaining reader.new))) }
+    ensures within { IfOk result (λ last. last ≡ false → IfSome (R.remaining reader.old) (λ bytes.
+        StopsWithin bytes (R.remaining reader.new))) }
+    ensures untaken { OnErr result (Keeps (R.remaining reader.old) (R.remaining reader.new)) }
     ensures kept { length line.new.items ≤ max_kept }
-    ensures fault { IfErr result NamesNoLine }
 {
     let shown = match reader.fill_buf() {
         Ok(shown) => shown,
@@ -77,13 +85,11 @@ fn part(shown: &[u8], room: usize) -> (usize, bool)
 }
 
 /// Why a script cannot be read.
-fn read_fault(error: &Error) -> ReplayFault
-    ensures { NamesNoLine result }
-{
+fn read_fault(error: &Error) -> TakeFault {
     if error.kind() == ErrorKind::OutOfMemory {
-        ReplayFault::Memory
+        TakeFault::NoMemory
     } else {
-        ReplayFault::Read
+        TakeFault::Read
     }
 }
 

@@ -1,6 +1,6 @@
 -- A history is the list of the passes over one root, the first pass first; nothing here asks that neighbours differ.
 -- What each pass saw of a name, and the record of a name that follows from them, each name by itself.
-use Rattle.std.specs.Prelude.{ℕ, zero, suc, ℤ, pos, Bool, true, false, not, ◌&&◌, is_some, is_none, if◌then◌else◌, List, [], ◌∷◌, length, slice_get, Option, Some, None, option_map, option_and_then}
+use Rattle.std.specs.Prelude.{◌≢◌, ℕ, zero, suc, ℤ, pos, Bool, true, false, not, ◌&&◌, is_some, is_none, if◌then◌else◌, List, [], ◌∷◌, length, slice_get, Option, Some, None, option_map, option_and_then}
 use Rattle.std.specs.Option.{option_map_or}
 use Rattle.std.specs.FinMap.{FinMap, empty, get}
 use Rattle.wq_view.specs.Seen.{Stat, same_stat}
@@ -64,6 +64,15 @@ record_from name stats seconds n =
 -- the record that a history gives a name
 abbrev pub record_of : History → List ℕ → Option RecordData
 record_of history name = record_from name (stat_at history name) (second_of history) (length history)
+
+-- each pass saw something else than the one before it, and the first something else than this
+abbrev pub DifferFrom : FinMap name_cmp Stat → History → Type 0
+DifferFrom before [] = Unit {0}
+DifferFrom before (pass ∷ passes) = (before ≢ pass.stats) × DifferFrom pass.stats passes
+
+-- neighbouring passes differ, and the first one is not empty
+abbrev pub Differ : History → Type 0
+Differ history = DifferFrom empty history
 
 -- the map of the last pass, and before the first pass the empty map
 abbrev pub last_stats : History → FinMap name_cmp Stat

@@ -1,6 +1,6 @@
 //! What kinds of files there are, and the letters that stand for them in listings and replies.
 ghost use Rattle.std.specs.Prelude.{◌≡◌, MatchOption, ◌≢◌, ℕ};
-ghost use Rattle.wq_view.specs.Kind.{letter_of};
+ghost use Rattle.wq_view.specs.Kind.{kind_with, letter_of};
 
 /// What a file is, by the kinds of POSIX and one that only Solaris has.
 #[derive(Clone, Copy, Debug, PartialEq, Eq)]
@@ -36,8 +36,10 @@ impl Kind {
     }
 
     /// The kind that has this letter.
+    #[tactic(auto, unfolding(crate::specs::Kind::kind_with))]
     pub fn from_letter(letter: u8) -> Option<Kind>
-        ensures { MatchOption result ((kind : Kind) → letter_of kind ≢ letter) (λ kind. letter_of kind ≡ letter) }
+        ensures table { result ≡ kind_with letter }
+        ensures letter { MatchOption result ((kind : Kind) → letter_of kind ≢ letter) (λ kind. letter_of kind ≡ letter) }
     {
         match letter {
             b'f' => Some(Kind::File),

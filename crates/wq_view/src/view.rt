@@ -77,7 +77,8 @@ impl View {
         ensures moved { (history : History) → IsViewOf history self.old → result ≡ Ok true → IsViewOf (history ++ pass.now ∷ []) self.new }
         ensures still { (history : History) → IsViewOf history self.old → ((result ≡ Ok false) ↔ (last_stats history ≡ pass.now.stats)) }
         ensures spent { (history : History) → IsViewOf history self.old → ((result ≡ Err ViewFault.TicksSpent) ↔ ((self.old.tick ≡ max_tick) × (last_stats history ≢ pass.now.stats))) }
-
+        // And for any:
+        ensures room { result ≡ Ok true → self.old.tick < max_tick }
         ensures kept { result ≢ Ok true → self.new ≡ self.old }
     {
         if self.shows(pass) {

@@ -1,19 +1,36 @@
 -- The lines are played from the front.
-use Rattle.std.proofs.Common.{true, false, arith}
-use Rattle.wq_replay.proofs.Playing.{all_played, one_played, one_strange, no_line, steps_as}
+use Rattle.std.proofs.Common.{Ok, Err, arith}
+use Rattle.wq_replay.proofs.Ending.{ends_as, ends_handed, ends_stepping, ends_taking, ends_too_long, ends_untaken, ends_well, goes_on, holds_first, stepped_as}
 use Rattle.wq_replay.proofs.player.play.Goals as goal
 
+pub loop-number-init : goal.loop-number-init
+loop-number-init g c = (omega arith, holds_first _ _ _ c.requires)
+
 pub returns-in_err-taken : goal.returns-in_err-taken
-returns-in_err-taken g c = no_line _ _ _ c.in_err-taken.field-0.0 c.from_residual.result c.in_err-taken.ensures.fault c.from_residual.ensures
+returns-in_err-taken g c =
+    ends_handed _ _ _ _ c.in_err-taken.field-0.0 c.from_residual.result c.from_residual.ensures
+    (ends_taking _ _ _ _ _ c.loop-number.size c.loop-number.number c.loop-number.stage c.in_err-taken.field-0.0 c.loop-number.invariant.1 c.in_err-taken.ensures.within)
 
 pub returns-then-taken-eq0 : goal.returns-then-taken-eq0
-returns-then-taken-eq0 g c = all_played _ _ _ _ c.loop-number.size c.loop-number.number c.in_ok-taken.taken _ _ _ c.loop-number.invariant.1 c.loop-number.invariant.0 c.if-taken-eq0.true c.in_ok-taken.ensures.done
+returns-then-taken-eq0 g c =
+    ends_well _ _ _ _ _ (g.R.Read.remaining c.next_line.new.reader) c.loop-number.size c.loop-number.number c.in_ok-taken.taken c.loop-number.stage c.next_line.new.line.items c.loop-number.invariant.1 c.loop-number.invariant.0 c.if-taken-eq0.true c.in_ok-taken.ensures.done
 
-pub returns-in_err-step : goal.returns-in_err-step
-returns-in_err-step g c = no_line _ _ _ c.in_err-step.field-0.0 c.from_residual-in_err-step.result c.in_err-step.ensures.fault c.from_residual-in_err-step.ensures
+pub returns-then-size-gt-MAX_SCRIPT : goal.returns-then-size-gt-MAX_SCRIPT
+returns-then-size-gt-MAX_SCRIPT g c =
+    ends_too_long _ _ _ _ _ (g.R.Read.remaining c.next_line.new.reader) c.loop-number.size c.loop-number.number c.in_ok-taken.taken c.loop-number.stage c.next_line.new.line.items c.loop-number.invariant.1 (omega arith) c.in_ok-taken.ensures.done
 
-pub returns-then-not-branch : goal.returns-then-not-branch
-returns-then-not-branch g c = one_strange _ _ _ _ _ c.loop-number.size c.loop-number.number c.in_ok-taken.taken _ _ _ _ c.loop-number.invariant.1 (omega arith) c.in_ok-taken.ensures.done (steps_as c.loop-number.stage c.step.new.stage (g.W.Write.contents c.loop-number.writer) (g.W.Write.contents c.step.new.writer) c.deref.result.now c.next_line.new.line.items c.in_ok-step.field-0 false c.deref.ensures.value c.if-not-branch.true c.in_ok-step.ensures.done)
+pub returns-in-Err : goal.returns-in-Err
+returns-in-Err g c =
+    ends_as _ _ _ _ _ _ c.at.ensures
+    (ends_stepping _ _ _ _ _ _ c.loop-number.size c.loop-number.number c.in_ok-taken.taken c.loop-number.stage c.step.new.stage c.next_line.new.line.items _ c.in-Err.fault c.loop-number.invariant.1 (omega arith) c.in_ok-taken.ensures.done
+    (stepped_as c.loop-number.stage c.step.new.stage _ _ c.deref.result.now c.next_line.new.line.items c.step.result (Err c.in-Err.fault) c.deref.ensures.value c.in-Err.is c.step.ensures))
 
 pub loop-number-preserved : goal.loop-number-preserved
-loop-number-preserved g c = (omega arith, one_played _ _ _ _ _ c.loop-number.size c.loop-number.number c.in_ok-taken.taken _ _ _ _ c.loop-number.invariant.1 (omega arith) c.in_ok-taken.ensures.done (steps_as c.loop-number.stage c.step.new.stage (g.W.Write.contents c.loop-number.writer) (g.W.Write.contents c.step.new.writer) c.deref.result.now c.next_line.new.line.items c.in_ok-step.field-0 true c.deref.ensures.value c.if-not-branch.false c.in_ok-step.ensures.done))
+loop-number-preserved g c = (
+  omega arith,
+  goes_on _ _ _ _ _ _ c.loop-number.size c.loop-number.number c.in_ok-taken.taken c.loop-number.stage c.step.new.stage c.next_line.new.line.items c.loop-number.invariant.1 (omega arith) c.in_ok-taken.ensures.done
+      (stepped_as c.loop-number.stage c.step.new.stage _ _ c.deref.result.now c.next_line.new.line.items c.step.result (Ok tt) c.deref.ensures.value c.in_default.is c.step.ensures),
+)
+
+pub returns : goal.returns
+returns g c = ends_untaken _ _ _ _ c.loop-number.size c.loop-number.number c.loop-number.stage c.loop-number.invariant.1

@@ -1,0 +1,4 @@
+//! The version of the protocol.
+
+/// What every reply says under the key `version`.
+pub const VERSION: &str = "wq-1";

@@ -1,0 +1,208 @@
+-- How the playing of a script goes on, and how it ends.
+use Rattle.std.proofs.Common.{◌≡◌, ◌≢◌, ℕ, ℤ, zero, suc, ◌+◌, ◌<◌, ◌≤◌, List, [], ◌∷◌, length, Option, Some, None, Result, Ok, Err, IsErr, IsErrAnd, IfSome, refl, sym, ap, subst, ◌∙◌, arith, inl, inr}
+use Rattle.std.proofs.lemmas.Bool.{lt-leb}
+use Rattle.wq_replay.specs.Fault.{fault_at, fault_of}
+use Rattle.wq_replay.specs.Limit.{max_script, max_script_line}
+use Rattle.wq_replay.specs.Line.{lines_of}
+use Rattle.wq_replay.specs.Replay.{AppendsFront, Does, Ends, EndsReading, FirstLines, IsSent, StopsWithin}
+use Rattle.wq_replay.specs.Stage.{StageData, Turn, drafts, passes, answers, malformed, start, turn_of}
+use Rattle.wq_replay.specs.Step.{IsAt, StopsWriting, Takes}
+use Rattle.wq_replay.specs.Taken.{BeginsWith, TakesLine}
+use Rattle.wq_replay.specs.declared.fault.ReplayFault.TheVariants.{TooLong, Read}
+use Rattle.wq_replay.specs.declared.fault.StepFault.{StepFault}
+use Rattle.wq_replay.specs.declared.fault.StepFault.TheVariants.{Malformed, Write, NoMemory}
+use Rattle.wq_replay.specs.declared.fault.TakeFault.{TakeFault}
+use Rattle.wq_replay.specs.declared.fault.TakeFault.TheVariants.{Read as NotRead, NoMemory as NotKept}
+use Rattle.wq_replay.specs.declared.stage.Stage.{Stage}
+use Rattle.wq_replay.specs.declared.fault.ReplayFault.{ReplayFault}
+use Rattle.wq_replay.proofs.Fronts.{keeps_same}
+use Rattle.wq_replay.proofs.Inside.{within_kept}
+use Rattle.wq_replay.proofs.Playing.{first_kept, first_none, first_then}
+
+-- where the playing of a script stands: so many bytes were taken, and the lines before this number were played
+abbrev pub Holds : Option (List ℕ) → Option (List ℕ) → Option (List ℕ) → Option (List ℕ) → ℕ → ℕ → Stage → Type 0
+Holds script left before now size n code = IfSome script (λ bytes. (at : StageData) × (rest : List ℕ) × (count : ℕ)
+    × (left ≡ Some rest) × (n ≡ suc count) × IsAt code at × (length bytes ≡ size + length rest)
+    × FirstLines bytes before now count at (lines_of rest))
+
+-- at the start nothing is played
+pub holds_first : (script before : Option (List ℕ)) (code : Stage) → IsAt code start → Holds script script before before 0 1 code
+holds_first None before code is = tt
+holds_first (Some bytes) before code is = (start, bytes, 0, refl, refl, is, omega arith, first_none bytes before)
+
+-- what was taken of known bytes
+taken_of : (left rest : Option (List ℕ)) (bytes line : List ℕ) (taken : ℕ) → left ≡ Some bytes
+    → IfSome left (λ bytes. TakesLine bytes taken line rest) → TakesLine bytes taken line rest
+taken_of left rest bytes line taken is takes = subst (λ k. IfSome k (λ bytes. TakesLine bytes taken line rest)) is takes
+
+nothing_left : (bytes line : List ℕ) (rest : Option (List ℕ)) (taken : ℕ) → taken ≡ 0 → TakesLine bytes taken line rest → bytes ≡ []
+nothing_left bytes line rest taken none takes = subst (λ n. TakesLine bytes n line rest) none takes
+
+-- no line is left: the script ends well
+pub ends_well : (script left before now rest after : Option (List ℕ)) (size n taken : ℕ) (code : Stage) (line : List ℕ)
+    → Holds script left before now size n code → size ≤ max_script → taken ≡ 0
+    → IfSome left (λ bytes. TakesLine bytes taken line rest) → IfSome script (λ bytes. Ends bytes before now after (Ok tt))
+ends_well None left before now rest after size n taken code line holds within none takes = tt
+ends_well (Some bytes) left before now rest after size n taken code line (at, rest_bytes, count, is, numbered, stands, sized, first) within none takes =
+    let ended : rest_bytes ≡ [] = nothing_left rest_bytes line rest taken none (taken_of left rest rest_bytes line taken is takes) in
+    let short : length rest_bytes ≡ 0 = ap length ended in
+    (omega (arith, sized, short), count, at, subst (λ bs. FirstLines bytes before now count at (lines_of bs)) ended first)
+
+-- a line that was taken is counted
+counted : (bytes line : List ℕ) (rest : Option (List ℕ)) (taken : ℕ) → TakesLine bytes taken line rest → taken ≤ length bytes
+counted bytes line rest zero takes = omega arith
+counted bytes line rest (suc taken) (left, is, sized, begins) = omega (arith, sized)
+
+-- the line that was taken makes the script too long
+pub ends_too_long : (script left before now rest after : Option (List ℕ)) (size n taken : ℕ) (code : Stage) (line : List ℕ)
+    → Holds script left before now size n code → max_script < size + taken
+    → IfSome left (λ bytes. TakesLine bytes taken line rest) → IfSome script (λ bytes. Ends bytes before now after (Err TooLong))
+ends_too_long None left before now rest after size n taken code line holds over takes = tt
+ends_too_long (Some bytes) left before now rest after size n taken code line (at, rest_bytes, count, is, numbered, stands, sized, first) over takes =
+    let few : taken ≤ length rest_bytes = counted rest_bytes line rest taken (taken_of left rest rest_bytes line taken is takes) in
+    (omega (arith, sized, few), count, at, lines_of rest_bytes, first)
+
+-- the next line was not taken to its end
+ends_reading : (script left before now rest : Option (List ℕ)) (size n : ℕ) (code : Stage)
+    → Holds script left before now size n code → IfSome left (λ bytes. StopsWithin bytes rest)
+    → IfSome script (λ bytes. EndsReading bytes before now rest)
+ends_reading None left before now rest size n code holds stops = tt
+ends_reading (Some bytes) left before now rest size n code (at, rest_bytes, count, is, numbered, stands, sized, first) stops =
+    (count, at, rest_bytes, first, subst (λ k. IfSome k (λ bytes. StopsWithin bytes rest)) is stops)
+
+pub ends_taking : (script left before now rest : Option (List ℕ)) (size n : ℕ) (code : Stage) (fault : TakeFault)
+    → Holds script left before now size n code → IfSome left (λ bytes. StopsWithin bytes rest)
+    → IfSome script (λ bytes. Ends bytes before now rest (Err (fault_of fault)))
+ends_taking None left before now rest size n code fault holds stops = tt
+ends_taking (Some bytes) left before now rest size n code NotRead holds stops =
+    ends_reading (Some bytes) left before now rest size n code holds stops
+ends_taking (Some bytes) left before now rest size n code NotKept holds stops =
+    inl (ends_reading (Some bytes) left before now rest size n code holds stops)
+
+-- a line over the limit is malformed
+long_is_malformed : (at : StageData) (line : List ℕ) → max_script_line < length line → turn_of at line ≡ malformed
+long_is_malformed at line long = let over = lt-leb (length line) max_script_line long in rw over refl
+
+-- the turn of a line that was taken is that of the first line that is left
+abbrev pub FirstIs : StageData → List ℕ → List ℕ → List ℕ → Type 0
+FirstIs at bytes line left = (whole : List ℕ) × (later : List (List ℕ)) × (lines_of bytes ≡ whole ∷ later)
+    × (turn_of at line ≡ turn_of at whole) × (turn_of at line ≢ malformed → later ≡ lines_of left)
+
+first_is : (at : StageData) (bytes line left : List ℕ) → BeginsWith bytes line left → FirstIs at bytes line left
+first_is at bytes line left (inl is) = (line, lines_of left, is, refl, λ well. refl)
+first_is at bytes line left (inr (long, whole, later, is, longer)) = (
+  whole,
+  later,
+  is,
+  long_is_malformed at line long ∙ sym (long_is_malformed at whole longer),
+  λ well. absurd (well (long_is_malformed at line long)),
+)
+
+-- what a step does is no malformed line's
+goes_well : (at : StageData) (turn : Turn) (now later : Option (List ℕ)) (next : Stage) → Takes at turn now later (Ok tt) next → turn ≢ malformed
+goes_well at malformed now later next (written, after, appends, does, stands) = absurd does
+goes_well at (drafts draft) now later next takes = λ h. cc
+goes_well at (passes seen) now later next takes = λ h. cc
+goes_well at (answers client text) now later next takes = λ h. cc
+
+-- a step of a taken line, at the place where the script stands
+abbrev pub Stepped : Stage → Option (List ℕ) → Option (List ℕ) → List ℕ → Result (Unit {0}) StepFault → Stage → Type 0
+Stepped code now later line result next = (at : StageData) → IsAt code at → Takes at (turn_of at line) now later result next
+
+-- the step of a text that is equal to the line, with a result that is equal to another
+pub stepped_as : (code next : Stage) (now later : Option (List ℕ)) (text line : List ℕ) (result said : Result (Unit {0}) StepFault)
+    → text ≡ line → result ≡ said → Stepped code now later text result next → Stepped code now later line said next
+stepped_as code next now later text line result said same is steps =
+    subst (λ l. Stepped code now later l said next) same (subst (λ r. Stepped code now later text r next) is steps)
+
+-- one more line was played
+pub goes_on : (script left before now later rest : Option (List ℕ)) (size n taken : ℕ) (code next : Stage) (line : List ℕ)
+    → Holds script left before now size n code → 0 < taken → IfSome left (λ bytes. TakesLine bytes taken line rest)
+    → Stepped code now later line (Ok tt) next → Holds script rest before later (size + taken) (n + 1) next
+goes_on None left before now later rest size n taken code next line holds some takes steps = tt
+goes_on (Some bytes) left before now later rest size n zero code next line holds some takes steps = absurd (omega arith)
+goes_on (Some bytes) left before now later rest size n (suc taken) code next line (at, rest_bytes, count, is, numbered, stands, sized, first) some takes steps =
+    let took : TakesLine rest_bytes (suc taken) line rest = taken_of left rest rest_bytes line (suc taken) is takes in
+    let step = steps at stands in
+    let whole = first_is at rest_bytes line took.0 took.3 in
+    let behind = whole.4 (goes_well at (turn_of at line) now later next step) in
+    let sizes = took.2 in (
+      step.1,
+      took.0,
+      suc count,
+      took.1,
+      omega (arith, numbered),
+      step.4,
+      omega (arith, sized, sizes),
+      subst (FirstLines bytes before later (suc count) step.1) behind
+          (first_then bytes before now later count at step.1 whole.0 step.0 whole.1
+          (subst (FirstLines bytes before now count at) whole.2 first)
+          (subst (λ turn. Does at turn step.0 step.1) whole.3 step.3) step.2),
+    )
+
+-- a line was not done
+pub ends_stepping : (script left before now later rest : Option (List ℕ)) (size n taken : ℕ) (code next : Stage) (line : List ℕ)
+    (after : Option (List ℕ)) (fault : StepFault)
+    → Holds script left before now size n code → 0 < taken → IfSome left (λ bytes. TakesLine bytes taken line rest)
+    → Stepped code now later line (Err fault) next → IfSome script (λ bytes. Ends bytes before later after (Err (fault_at n fault)))
+ends_stepping None left before now later rest size n taken code next line after fault holds some takes steps = tt
+ends_stepping (Some bytes) left before now later rest size n zero code next line after fault holds some takes steps = absurd (omega arith)
+ends_stepping (Some bytes) left before now later rest size n (suc taken) code next line after Malformed (at, rest_bytes, count, is, numbered, stands, sized, first) some takes steps =
+    let took : TakesLine rest_bytes (suc taken) line rest = taken_of left rest rest_bytes line (suc taken) is takes in
+    let step = steps at stands in
+    let whole = first_is at rest_bytes line took.0 took.3 in (
+      count,
+      at,
+      whole.0,
+      whole.1,
+      numbered,
+      first_kept bytes before now later count at (whole.0 ∷ whole.1) (subst (FirstLines bytes before now count at) whole.2 first) step.1,
+      sym whole.3 ∙ step.0,
+    )
+ends_stepping (Some bytes) left before now later rest size n (suc taken) code next line after Write (at, rest_bytes, count, is, numbered, stands, sized, first) some takes steps =
+    let took : TakesLine rest_bytes (suc taken) line rest = taken_of left rest rest_bytes line (suc taken) is takes in
+    let whole = first_is at rest_bytes line took.0 took.3 in
+    let wrote = stops_writing at (turn_of at line) now later (steps at stands) in
+    (count, at, whole.0, whole.1, now, subst (FirstLines bytes before now count at) whole.2 first, wrote.0, wrote.1, wrote.2, sym whole.3 ∙ wrote.3, wrote.4, wrote.5)
+  where
+    stops_writing : (at : StageData) (turn : Turn) (now later : Option (List ℕ)) → StopsWriting at turn now later
+        → (client : ℤ) × (text sent : List ℕ) × (turn ≡ answers client text)
+        × IsSent at.history client text sent × AppendsFront now later sent
+    stops_writing at (answers client text) now later (sent, is, front) = (client, text, sent, refl, is, front)
+    stops_writing at (drafts draft) now later stops = absurd stops
+    stops_writing at (passes seen) now later stops = absurd stops
+    stops_writing at malformed now later stops = absurd stops
+ends_stepping (Some bytes) left before now later rest size n (suc taken) code next line after NoMemory (at, rest_bytes, count, is, numbered, stands, sized, first) some takes steps =
+    let took : TakesLine rest_bytes (suc taken) line rest = taken_of left rest rest_bytes line (suc taken) is takes in
+    let step = steps at stands in
+    let whole = first_is at rest_bytes line took.0 took.3 in
+    inr (
+      count,
+      at,
+      whole.0,
+      whole.1,
+      first_kept bytes before now later count at (whole.0 ∷ whole.1) (subst (FirstLines bytes before now count at) whole.2 first) step.1,
+      λ bad. step.0 (whole.3 ∙ bad),
+    )
+
+-- a result that hands on the fault of a taking
+pub ends_handed : (script before now rest : Option (List ℕ)) (fault : TakeFault) (result : Result (Unit {0}) ReplayFault)
+    → IsErr result × IsErrAnd result (λ handed. handed ≡ fault_of fault)
+    → IfSome script (λ bytes. Ends bytes before now rest (Err (fault_of fault)))
+    → IfSome script (λ bytes. Ends bytes before now rest result)
+ends_handed script before now rest fault (Ok done) hands ends = absurd hands.1
+ends_handed script before now rest fault (Err handed) hands ends =
+    subst (λ f. IfSome script (λ bytes. Ends bytes before now rest (Err f))) (sym hands.1) ends
+
+-- a fault that is said to be another
+pub ends_as : (script before now rest : Option (List ℕ)) (fault said : ReplayFault) → said ≡ fault
+    → IfSome script (λ bytes. Ends bytes before now rest (Err fault))
+    → IfSome script (λ bytes. Ends bytes before now rest (Err said))
+ends_as script before now rest fault said same ends =
+    subst (λ f. IfSome script (λ bytes. Ends bytes before now rest (Err f))) (sym same) ends
+
+-- no line was taken: the reader is where it was
+pub ends_untaken : (script left before now : Option (List ℕ)) (size n : ℕ) (code : Stage)
+    → Holds script left before now size n code → IfSome script (λ bytes. Ends bytes before now left (Err Read))
+ends_untaken script left before now size n code holds =
+    ends_reading script left before now left size n code holds (within_kept left left (keeps_same left))

@@ -1,0 +1,20 @@
+-- How the faults of a step, and of taking a line, end a replay.
+-- It is this server's own.
+use Rattle.std.specs.Prelude.{ℕ}
+use Rattle.wq_replay.specs.declared.fault.ReplayFault.{ReplayFault}
+use Rattle.wq_replay.specs.declared.fault.ReplayFault.TheVariants.{Line, Read, Write, Memory}
+use Rattle.wq_replay.specs.declared.fault.StepFault.{StepFault}
+use Rattle.wq_replay.specs.declared.fault.StepFault.TheVariants.{Malformed, Write as NotWritten, NoMemory}
+use Rattle.wq_replay.specs.declared.fault.TakeFault.{TakeFault}
+use Rattle.wq_replay.specs.declared.fault.TakeFault.TheVariants.{Read as NotRead, NoMemory as NotKept}
+
+-- a step at the line of this number
+abbrev pub fault_at : ℕ → StepFault → ReplayFault
+fault_at number Malformed = Line number
+fault_at number NotWritten = Write
+fault_at number NoMemory = Memory
+
+-- the taking of a line
+abbrev pub fault_of : TakeFault → ReplayFault
+fault_of NotRead = Read
+fault_of NotKept = Memory

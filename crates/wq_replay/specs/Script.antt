@@ -1,0 +1,75 @@
+-- What a line of a script says. Words are separated by a single space; a name and a client's line are the rest of
+-- their line. The letters of kinds are those of Watchman's field `type`; the rest is this server's own.
+use Rattle.std.specs.Prelude.{ℕ, ℤ, pos, Bool, ◌&&◌, ◌==◌, int_le, List, [], ◌∷◌, codes, bytes_eq, if◌then◌else◌, Option, Some, None, option_map, option_and_then}
+use Rattle.std.specs.Str.{byte}
+use Rattle.wq_base.specs.Decimal.{signed_of}
+use Rattle.wq_view.specs.Kind.{kind_with}
+use Rattle.wq_view.specs.Seen.{SeenData}
+use Rattle.wq_view.specs.declared.kind.Kind.{Kind}
+
+pub data LineData : Type 0 where
+  -- a listing begins, seen at this second
+  pass : ℤ → LineData
+  -- a row of the listing
+  row : SeenData → LineData
+  -- the listing ends, and is passed over
+  end : LineData
+  -- a client sends a line
+  ask : ℤ → List ℕ → LineData
+
+abbrev pub is_space : ℕ → Bool
+is_space b = b == byte " "
+
+-- a byte before a word
+abbrev pub before_word : ℕ → List ℕ × List ℕ → List ℕ × List ℕ
+before_word b (word, rest) = (b ∷ word, rest)
+
+-- the word before the first space, and what follows that space
+abbrev pub first_word : List ℕ → Option (List ℕ × List ℕ)
+first_word [] = None
+first_word (b ∷ bs) = if is_space b then Some ([], bs) else option_map (before_word b) (first_word bs)
+
+-- a word that is a number, and what follows it
+abbrev pub number_before : List ℕ × List ℕ → Option (ℤ × List ℕ)
+number_before (word, rest) = option_map (λ number. (number, rest)) (signed_of word)
+
+-- a number, and what follows the space behind it
+abbrev pub number_then : List ℕ → Option (ℤ × List ℕ)
+number_then text = option_and_then number_before (first_word text)
+
+-- the kind that a word names: it is the letter of one
+abbrev pub kind_of : List ℕ → Option Kind
+kind_of (letter ∷ []) = kind_with letter
+kind_of _ = None
+
+-- the row of a kind and a size, from its modification time and its name
+abbrev pub row_from : Kind → ℤ → ℤ × List ℕ → LineData
+row_from kind size (mtime_ms, name) =
+    row (record { name = name; kind = kind; size = size; mtime_ms = mtime_ms })
+
+-- the row of a kind, from its size and what follows it
+abbrev pub row_sized : Kind → ℤ × List ℕ → Option LineData
+row_sized kind (size, rest) = option_map (row_from kind size) (number_then rest)
+
+-- a row of a kind: its size, its modification time and its name
+abbrev pub row_of : Kind → List ℕ → Option LineData
+row_of kind text = option_and_then (row_sized kind) (number_then text)
+
+-- a client's line, where the number is one of a client: 1 to 32
+abbrev pub ask_from : ℤ × List ℕ → Option LineData
+ask_from (client, line) = if int_le (pos 1) client && int_le client (pos 32) then Some (ask client line) else None
+
+-- a client's line
+abbrev pub ask_of : List ℕ → Option LineData
+ask_of text = option_and_then ask_from (number_then text)
+
+-- a line by its first word and what follows
+abbrev pub line_worded : List ℕ × List ℕ → Option LineData
+line_worded (word, rest) =
+    if bytes_eq word (codes "pass") then option_map pass (signed_of rest)
+    else if bytes_eq word (codes "ask") then ask_of rest
+    else option_and_then (λ kind. row_of kind rest) (kind_of word)
+
+-- what a line says, unless it is malformed
+abbrev pub line_of : List ℕ → Option LineData
+line_of text = if bytes_eq text (codes "end") then Some end else option_and_then line_worded (first_word text)

@@ -1,0 +1,71 @@
+//! The command `query`: which files there are, and which of them changed.
+ghost use Rattle.std.specs.Prelude.{◌≡◌, IfOk, option_map};
+ghost use Rattle.serde_json.specs.View.{view as data_of, items_view};
+ghost use Rattle.wq_clock.specs.Instance.{instance_data};
+ghost use Rattle.wq_query.specs.Query.{asked_of};
+ghost use Rattle.wq_replay.specs.Query.{answer_asked, answer_query, arguments_of, only_object};
+ghost use Rattle.wq_replay.specs.Gives.{Gives, IsReply};
+
+use crate::refusal::Refusal;
+use crate::root::is_root;
+use serde_json::Value;
+use std::alloc::{AllocError, Global};
+use wq_clock::Instance;
+use wq_query::{Query, QueryFault, answer};
+use wq_view::View;
+
+/// What is answered to the arguments of `query`.
+pub(crate) fn answer_query(
+    alloc: Global,
+    instance: &Instance,
+    view: &View,
+    arguments: &[Value],
+) -> Result<Value, Refusal>
+    ensures { Gives result (answer_query (instance_data instance.now) view.now (items_view arguments.now)) }
+{
+    let Some((root, query)) = arguments_of(arguments) else {
+        return Err(Refusal::WrongArguments);
+    };
+    if !is_root(root) {
+        return Err(Refusal::NotWatched);
+    }
+    match Query::read(alloc, query, instance) {
+        Ok(query) => Ok(answer_read(alloc, query, instance, view)?),
+        Err(QueryFault::NoMemory) => Err(Refusal::NoMemory),
+        Err(fault) => Err(Refusal::Query(fault)),
+    }
+}
+
+/// The reply to a query that was read, at the bound that it sets.
+fn answer_read(
+    alloc: Global,
+    query: Query,
+    instance: &Instance,
+    view: &View,
+) -> Result<Value, AllocError>
+    ensures { IfOk result (IsReply (answer_asked (instance_data instance.now) view.now (asked_of query))) }
+{
+    let bound = query.bound();
+    let plan = query.plan_plain(bound);
+    answer(alloc, &plan, instance, view)
+}
+
+/// The root and the object that `query` takes.
+fn arguments_of(arguments: &[Value]) -> Option<(&str, &Value)>
+    ensures { option_map (λ (root, query). (root.now, data_of query.now)) result ≡ arguments_of (items_view arguments.now) }
+{
+    let (root, behind) = arguments.split_first()?;
+    let query = only_object(behind)?;
+    Some((root.as_str()?, query))
+}
+
+/// The object, where nothing else is there.
+fn only_object(values: &[Value]) -> Option<&Value>
+    ensures { option_map (λ value. data_of value.now) result ≡ only_object (items_view values.now) }
+{
+    let (value, rest) = values.split_first()?;
+    if !rest.is_empty() {
+        return None;
+    }
+    if value.is_object() { Some(value) } else { None }
+}

@@ -1,0 +1,106 @@
+//! Why a replay ends before its script does, and the parts of that: a step, and the taking of a line.
+ghost use Rattle.std.specs.Prelude.{◌≡◌};
+ghost use Rattle.wq_replay.specs.Fault.{fault_at};
+
+use std::alloc::{AllocError, AllocFailed};
+use thiserror::Error;
+
+/// Why a replay ended before its script did.
+#[derive(Clone, Copy, Debug, PartialEq, Eq, Drop, Error)]
+pub enum ReplayFault {
+    /// The line of this number, counted from 1, is malformed.
+    #[error("script line {0}")]
+    Line(u64),
+    /// The script is longer than [`MAX_SCRIPT`](crate::MAX_SCRIPT).
+    #[error("replay failed")]
+    TooLong,
+    /// The script could not be read.
+    #[error("replay failed")]
+    Read,
+    /// A reply could not be written.
+    #[error("replay failed")]
+    Write,
+    /// A growth was refused.
+    #[error("replay failed")]
+    Memory,
+}
+
+/// Why a line of a script was not done.
+#[derive(Clone, Copy, Debug, PartialEq, Eq, Drop)]
+pub(crate) enum StepFault {
+    /// It is malformed.
+    Malformed,
+    /// Its reply could not be written.
+    Write,
+    /// A growth was refused.
+    NoMemory,
+}
+
+/// Why a line of a script was not taken to its end.
+#[derive(Clone, Copy, Debug, PartialEq, Eq, Drop)]
+pub(crate) enum TakeFault {
+    /// The script could not be read.
+    Read,
+    /// A growth was refused.
+    NoMemory,
+}
+
+impl StepFault {
+    /// The end of a replay at the line of this number.
+    pub(crate) fn at(self, number: u64) -> ReplayFault
+        ensures { result ≡ fault_at number self }
+    {
+        match self {
+            StepFault::Malformed => ReplayFault::Line(number),
+            StepFault::Write => ReplayFault::Write,
+            StepFault::NoMemory => ReplayFault::Memory,
+        }
+    }
+}
+
+impl From<TakeFault> for ReplayFault {
+    ghost use Rattle.std.specs.Prelude.{◌≡◌};
+    ghost use Rattle.wq_replay.specs.Fault.{fault_of};
+
+    ghost from_gives = { λ fault end. end ≡ fault_of fault };
+
+    fn from(fault: TakeFault) -> ReplayFault {
+        match fault {
+            TakeFault::Read => ReplayFault::Read,
+            TakeFault::NoMemory => ReplayFault::Memory,
+        }
+    }
+}
+
+impl From<AllocError> for StepFault {
+    ghost use Rattle.std.specs.Prelude.{◌≡◌};
+    ghost use Rattle.wq_replay.specs.declared.fault.StepFault.TheVariants.{NoMemory};
+
+    ghost from_gives = { λ _ fault. fault ≡ NoMemory };
+
+    fn from(_error: AllocError) -> StepFault {
+        StepFault::NoMemory
+    }
+}
+
+impl<T: Drop> From<AllocFailed<T>> for StepFault {
+    ghost use Rattle.std.specs.Prelude.{◌≡◌};
+    ghost use Rattle.wq_replay.specs.declared.fault.StepFault.TheVariants.{NoMemory};
+
+    ghost from_gives = { λ _ fault. fault ≡ NoMemory };
+
+    fn from(_error: AllocFailed<T>) -> StepFault {
+        StepFault::NoMemory
+    }
+}
+
+impl From<AllocError> for TakeFault {
+    ghost use Rattle.std.specs.Prelude.{◌≡◌};
+    ghost use Rattle.wq_replay.specs.declared.fault.TakeFault.TheVariants.{NoMemory};
+
+    ghost from_gives = { λ _ fault. fault ≡ NoMemory };
+
+    fn from(_error: AllocError) -> TakeFault {
+        TakeFault::NoMemory
+    }
+}
