@@ -4,7 +4,7 @@ import os
 import subprocess
 import sys
 from pathlib import Path
-from typing import IO, Iterable, List, NamedTuple, Sequence, Union
+from typing import Iterable, List, NamedTuple, Optional, Sequence, Union
 
 TOP = Path(__file__).resolve().parent.parent
 DEFAULT_PROGRAM = TOP / "crates" / "wqd" / "out" / "wqd"
@@ -26,14 +26,14 @@ def program_path() -> Path:
     return path
 
 
-def run(words: Sequence[Union[str, bytes]], script: bytes = b"", program: Union[Path, None] = None) -> Ended:
+def run(words: Sequence[Union[str, bytes]], script: bytes = b"", program: Optional[Path] = None) -> Ended:
     """Runs the program with these words and this standard input."""
     command: List[Union[str, bytes]] = [str(program or program_path()), *words]
     ended = subprocess.run(command, input=script, stdout=subprocess.PIPE, stderr=subprocess.PIPE)
     return Ended(ended.stdout, ended.stderr, ended.returncode)
 
 
-def replay(script: bytes, program: Union[Path, None] = None) -> Ended:
+def replay(script: bytes, program: Optional[Path] = None) -> Ended:
     return run(["replay"], script, program)
 
 

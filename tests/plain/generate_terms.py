@@ -133,7 +133,8 @@ def dirname_term(draws: Draws, world: World, head: str) -> str:
 def match_term(draws: Draws, world: World, head: str) -> str:
     if draws.one_in(20):
         long = [long_text(draws, 255)]
-        return array(draws, [f'"{head}"'] + draws.pick([[], ["7"], ['["*"]'], ['"*"', '"basename"', "null"], long, long]))
+        wrong = [[], ["7"], ['["*"]'], ['"*"', '"basename"', "null"], long, long]
+        return array(draws, [f'"{head}"'] + draws.pick(wrong))
     chosen = scope(draws)
     text = pattern(draws, world, chosen == ['"wholename"'])
     flags = [match_flags(draws)] if len(chosen) == 1 and draws.one_in(2) else []
@@ -189,7 +190,8 @@ def clock_spec(draws: Draws, world: World) -> str:
     if draws.one_in(20):
         return draws.pick(BAD_CLOCK_SPECS)
     if draws.one_in(25):
-        return draws.pick(['"n:k"', '"n:c:1:2"', '"n: "', '"n:\\u0000"', '"n:' + "k" * 255 + '"', '"n:' + "ü" * 127 + '"'])
+        names = ["k", "c:1:2", " ", "\\u0000", "k" * 255, "ü" * 127]
+        return f'"n:{draws.pick(names)}"'
     if draws.one_in(8):
         return draws.pick(FRESH_IDS)
     if draws.one_in(2):

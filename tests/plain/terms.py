@@ -1,7 +1,7 @@
 """Expressions: a term is read as the test that says which records it matches."""
 
 import operator
-from typing import Any, Callable, List, Optional, Tuple
+from typing import Any, Callable, List, Optional
 
 import clocks
 from clocks import Bound
