@@ -18,7 +18,10 @@ NAMES = [
     "..a", "...",
     "a..c", ".php", "php", "a.PHP", "x\ty", "x\x01y", "x\x7fy", "😀.txt", "é/É", "a-b_c", "foo/bar",
     "foo/bar/x",
-    "foo/bar/y/x", "foo/barx/z", "k=1", "x\r", "Z", "z",
+    "foo/bar/y/x", "foo/barx/z", "k=1", "x\ry", "Z", "z", "7", "_", "~", "[", "^", "\t", "\x7f", "\x0b",
+    "\x1f", " ", ":]", "[]",
+    "x:", "a]", "g", "F", "G", "x/.c", "x/[a]/7", "x/y/.z/a.c", "*", "?", "@", "`", "{", "/".join("abcdefgh"),
+    "a" * 40,
 ]
 FIELDS = ["name", "exists", "new", "size", "type", "cclock", "oclock", "mtime", "mtime_ms"]
 LETTERS = "fffffffddddlbcpsD?"
@@ -45,7 +48,8 @@ BAD_LINES = [
     b'["query","/r",{},]', b"[1,]",
     b'["query","/r",{}] x', b'["query","/r",{}][]', b'["\xff"]', b'["\xc0\x80"]', b'["\xed\xa0\x80"]',
     b'["\\ud800"]',
-    b'["\\udc00\\ud800"]', b'["\\ud800\\u0041"]', b'["\\u00g0"]', b'["\\x41"]', b'["a\tb"]', b'["a\x00b"]',
+    b'["\\udc00\\ud800"]', b'["\\udc00"]', b'["\\uDFFFa"]', b'["\\ud83d\\ude00"]', b'["\\ud800\\u0041"]',
+    b'["\\u00g0"]', b'["\\x41"]', b'["a\tb"]', b'["a\x00b"]',
     b'["\x7f"]', b"['a']",
     b"[01]", b"[+1]", b"[1.]", b"[.5]", b"[1e]", b"[-]", b"[1e400]", b"[-1e400]", b"[0e999999999999]",
     b"[1e-999999999999]",
@@ -87,13 +91,20 @@ FAULTY_ROWS = [
     b"f 1 1 \xed\xa0\x80",
 ]
 
+CLASS_SCRIPT_EACH = 500
+CLASS_NAMES = [
+    "alnum", "alpha", "blank", "cntrl", "digit", "graph", "lower", "print", "punct", "space", "upper", "xdigit", "foo",
+]
+
 Tree = Dict[str, Tuple[str, int, int]]
 
 
 def script(counter: int) -> bytes:
     """The script of a counter: passes with questions between them, and now and then a malformed line."""
     draws = Draws(counter)
-    names = sorted({draws.pick(NAMES) for _ in range(draws.between(2, 12))})
+    if counter % CLASS_SCRIPT_EACH == 1:
+        return class_script(draws)
+    names = sorted({draws.pick(NAMES) for _ in range(draws.between(3, 18))})
     lines: List[bytes] = []
     seconds = [draws.pick([0, 10, 100, 1000])]
     tree: Tree = {}
@@ -103,13 +114,24 @@ def script(counter: int) -> bytes:
         tree = next_tree(draws, names, tree)
         seconds.append(next_second(draws, seconds[-1]))
         lines += pass_lines(draws, tree, seconds[-1])
-    lines += questions(draws, World(names, passes, seconds), draws.between(4, 14))
+    lines += questions(draws, World(names, passes, seconds), draws.between(6, 30))
     if draws.one_in(8):
         lines += malformed_end(draws, tree)
         lines += questions(draws, World(names, passes, seconds), 1)
     if counter % LONG_LINE_EACH == 0:
         lines.insert(0, LONG_LINES[counter // LONG_LINE_EACH % len(LONG_LINES)])
     return b"\n".join(lines) + draws.pick([b"\n", b"\n", b"\n", b""])
+
+
+def class_script(draws: Draws) -> bytes:
+    """Each named class, turned and not, on a name that ends in each byte that can end one."""
+    names = ["x" + chr(byte) for byte in range(1, 128) if chr(byte) not in "/\n"] + ["xü"]
+    lines = pass_lines(draws, {name: ("f", 1, 1) for name in names}, 1)
+    for name in CLASS_NAMES:
+        for head, text in [("match", "x[{}]"), ("match", "x[!{}]"), ("imatch", "X[{}]"), ("imatch", "x[^{}]?")]:
+            term = f'["{head}","{text}"]'.replace("{}", f"[:{name}:]")
+            lines.append(b'ask 1 ["query","/r",{"expression":%s,"fields":["name"]}]' % term.encode())
+    return b"\n".join(lines) + b"\n"
 
 
 def next_second(draws: Draws, second: int) -> int:

@@ -17,8 +17,14 @@ CLASSES = [
     "[!]a]", "[ü]",
     "[[:xdigit:][:space:]]", "[[:graph:]]", "[[:cntrl:]]", "[[:print:]]", "[[:blank:]x]", "[[:alnum:]_]",
     "[--b]",
-    "[[:lower:]-z]", "[a-c-e]", "[]-a]", "[!-a]", "[\\", "[a\\]",
+    "[[:lower:]-z]", "[a-c-e]", "[]-a]", "[!-a]", "[\\", "[a\\]", "[[:lower:]]", "[[:space:]]",
+    "[^[:space:]]",
+    "[[:blank:]]", "[[:xdigit:]]", "[![:print:]]", "[^[:graph:][:cntrl:]]", "[![:foo:]]", "[[:UPPER:]]",
+    "[[:alpha]",
+    "[^]]", "[]]", "[[]", "[a-\\]]", "[\\[-\\]]", "[[:upper:]-]", "[[:punct:][:alnum:]]",
 ]
+STARTS = ["**/", "**/", "**/**/", "**/*/", "*/", "***/", "**", "**\\/"]
+PIECES = ["*", "**", "?", "/", "**/", "a", "A", ".", "\\", "x", "[", "]", "!", "-", *CLASSES]
 
 
 class World(NamedTuple):
@@ -43,7 +49,7 @@ def term(draws: Draws, world: World, levels: int) -> str:
         return draws.pick(UNKNOWN_TERMS)
     if levels > 0 and draws.one_in(3):
         return combination(draws, world, levels)
-    head = draws.pick(list(TERMS))
+    head = draws.pick([*TERMS, *["match", "imatch"] * 3])
     return TERMS[head](draws, world, head)
 
 
@@ -150,31 +156,37 @@ def match_flags(draws: Draws) -> str:
 
 def pattern(draws: Draws, world: World, is_wholename: bool) -> str:
     """A pattern from the name of a file, with some of its characters made wild; or one of pieces alone."""
-    if draws.one_in(6):
-        pieces = ["*", "**", "?", "/", "**/", "a", "A", ".", "\\", "x", "[", "]", "!", "-"] + CLASSES
-        return "".join(draws.some(pieces, 6))
+    choice = draws.below(12)
+    if choice == 0:
+        return "".join(draws.some(PIECES, 6))
+    if choice == 1:
+        return draws.pick(["", "?", "*", "x"]) + draws.pick(CLASSES) + draws.pick(["", "", "]", "y"])
     name = draws.pick(world.names)
-    text = name if is_wholename else name.rsplit("/", 1)[-1]
-    start = draws.pick(["", "", "", "**/", "*", "***/", "**"])
-    end = draws.pick(["", "", "", "", "*", "/**", "?", "\\"])
-    return start + "".join(wild(draws, character) for character in text) + end
+    if not is_wholename:
+        return wild_part(draws, name.rsplit("/", 1)[-1])
+    parts = [wild_part(draws, part) for part in name.split("/")]
+    kept = draws.below(len(parts)) if draws.one_in(2) else 0
+    start = draws.pick(STARTS) if kept or draws.one_in(4) else ""
+    end = draws.pick(["/**", "/*", "**"]) if draws.one_in(8) else ""
+    return start + draws.pick(["/", "/", "/", "/", "/**/", "[/]", "\\/"]).join(parts[kept:]) + end
+
+
+def wild_part(draws: Draws, text: str) -> str:
+    """A part of a name, with one, two or all of its characters made wild."""
+    wilds = draws.pick([0, 1, 1, 1, 2, 2, len(text)])
+    places = {draws.below(len(text)) for _ in range(wilds)}
+    end = draws.pick(["*", "**", "?", "\\", "["]) if draws.one_in(10) else ""
+    return "".join(wild(draws, text[place]) if place in places else text[place] for place in range(len(text))) + end
 
 
 def wild(draws: Draws, character: str) -> str:
-    choice = draws.below(20)
-    if choice == 0:
-        return draws.pick(CLASSES)
-    if choice == 1:
-        return "[" + draws.pick(["", "!", "^"]) + character + "]"
-    if choice == 2:
-        return draws.pick(["*", "**", "*" + character])
-    if choice == 3:
-        return "?" * len(character.encode())
-    if choice == 4:
-        return "\\" + character
-    if choice == 5:
-        return draws.pick(["", "**/" + character, character + "**", character.swapcase()])
-    return character
+    """What often takes this character."""
+    single = draws.pick(["[{}]", "[!{}]", "[^x{}]", "[{}-{}]", "[.{}]", "[\\{}]"]).replace("{}", character)
+    near = f"[{chr(max(ord(character) - 1, 1))}-{chr(ord(character) + 1)}]"
+    return draws.pick([
+        "?" * len(character.encode()), "*", "**", "*" + character, character + "*", "\\" + character,
+        character.swapcase(), single, single, single, near, draws.pick(CLASSES), draws.pick(CLASSES), "",
+    ])
 
 
 def since_term(draws: Draws, world: World, head: str) -> str:
@@ -202,7 +214,8 @@ def clock_spec(draws: Draws, world: World) -> str:
 
 
 FRESH_IDS = [
-    '"c:7:8:1:1"', '"c:8:9:1:1"', '"c:7:9:2:1"', '"c:9:1"', '"c:0:0"', f'"c:{MAX}:{MAX}:{MAX}:{MAX}"', '"c:0:0:0:0"',
+    '"c:7:8:1:1"', '"c:8:9:1:1"', '"c:7:9:2:1"', '"c:9:1"', '"c:0:0"', f'"c:{MAX}:{MAX}:{MAX}:{MAX}"',
+    '"c:0:0:0:0"',
 ]
 BAD_CLOCK_SPECS = [
     '"c:7:9:1:01"', '"c:+7:9:1:1"', '"c:-0:9:1:1"', '"c: 7:9:1:1"', '"c:7:9:1:1\\n"', f'"c:7:9:1:{MAX + 1}"',

@@ -1,10 +1,12 @@
 """Wildmatch patterns: a pattern is a row of atoms, and fits a text that can be cut into one part for each."""
 
-from typing import FrozenSet, List, NamedTuple, Optional, Tuple
+from typing import AbstractSet, FrozenSet, List, NamedTuple, Optional, Tuple
 
 SLASH, DOT, STAR, QUESTION, BACKSLASH, DASH = b"/.*?\\-"
 OPEN, CLOSE = b"[]"
 
+SMALL = bytes(range(256)).lower()
+CAPITAL = bytes(range(256)).upper()
 UPPER = range(ord("A"), ord("Z") + 1)
 LOWER = range(ord("a"), ord("z") + 1)
 DIGIT = range(ord("0"), ord("9") + 1)
@@ -51,10 +53,10 @@ class NoEnd(Exception):
     """The class has no closing bracket."""
 
 
-def fits(pattern: bytes, flags: Flags, text: bytes) -> bool:
+def fits(atoms: List[Atom], flags: Flags, text: bytes) -> bool:
     """Tries every cut of the text: `ends` are the places where the parts of the atoms so far can end."""
     ends = {0}
-    for atom in atoms_of(pattern, flags):
+    for atom in atoms:
         ends = {
             end
             for start in ends
@@ -189,9 +191,6 @@ def byte_at(pattern: bytes, place: int) -> int:
     return pattern[place]
 
 
-def in_either_case(members) -> FrozenSet[int]:
+def in_either_case(members: AbstractSet[int]) -> FrozenSet[int]:
     """The bytes that are one of these, or whose small or capital letter is."""
-    return frozenset(
-        byte for byte in range(256)
-        if byte in members or bytes([byte]).lower()[0] in members or bytes([byte]).upper()[0] in members
-    )
+    return frozenset(byte for byte in range(256) if {byte, SMALL[byte], CAPITAL[byte]} & members)

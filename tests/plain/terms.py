@@ -9,7 +9,7 @@ from errors import (BAD_CLOCK_SPEC, CURSOR_IN_TERM, PATTERN_TOO_LONG, TOO_DEEP, 
                     Refused)
 from json_values import is_whole_number
 from limits import MAX_PATTERN, MAX_TERM_DEPTH, MAX_TEXT
-from patterns import Flags, fits
+from patterns import Flags, atoms_of, fits
 from views import Record
 
 Test = Callable[[Record], bool]
@@ -162,7 +162,8 @@ def read_match(fold: bool) -> Callable[[List[Any]], Test]:
             wholename=scope == "wholename", dotfiles=options.get("includedotfiles", False),
             noescape=options.get("noescape", False), fold=fold,
         )
-        return lambda record: fits(pattern, flags, part(record))
+        atoms = atoms_of(pattern, flags)
+        return lambda record: fits(atoms, flags, part(record))
     return read
 
 
