@@ -59,7 +59,7 @@ class Tally:
         sys.exit(1 if self.failed or not self.passed else 0)
 
 
-def shown(text: bytes, length: int = 2000) -> str:
+def excerpt(text: bytes, length: int = 2000) -> str:
     """A text for a message: cut where it is long, with bytes that are not UTF-8 escaped."""
     cut = text if len(text) <= length else text[:length] + b" .. (%d bytes)" % len(text)
     return cut.decode("utf-8", "backslashreplace")

@@ -7,7 +7,7 @@ import clocks
 import errors
 from json_values import NotJson, read
 from patterns import Flags, atoms_of
-from queries import FIELDS, LEFT_OUT_KEYS, Query, listed, read_query
+from queries import FIELDS, LEFT_OUT_KEYS, Query, listed_records, read_query
 from replay import Malformed, Turn, turns
 from terms import COMBINATIONS, RELATIONS, SINCE_FIELDS, TERMS, TYPE_LETTERS, read_term
 from views import View
@@ -77,7 +77,7 @@ def count_left_out_keys(line: bytes, counts: Counter) -> None:
 
 def count_query(asked: Dict[str, Any], view: View, counts: Counter) -> None:
     query = read_query(asked)
-    files = listed(query, view)
+    files = listed_records(query, view)
     counts["files listed" if files else "no file listed"] += 1
     counts["deleted file listed"] += any(not record.exists for record in files)
     counts[f"bound: {bound_case(asked, query, view)}"] += 1

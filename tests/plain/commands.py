@@ -5,7 +5,7 @@ from typing import Any, Dict, List
 from clocks import clock_id
 from errors import (BINARY, LINE_TOO_LONG, NOT_A_COMMAND, NOT_JSON, NOT_WATCHED, UNKNOWN_COMMAND, WRONG_ARGUMENTS,
                     Refused)
-from json_values import NotJson, compact, read
+from json_values import NotJson, compact_text, read
 from limits import MAX_LINE
 from queries import read_query, reply_to
 from views import View
@@ -17,7 +17,7 @@ def answer(line: bytes, view: View) -> bytes:
         reply = reply_to_line(line, view)
     except Refused as refused:
         reply = {"error": refused.error, "version": "wq-1"}
-    return compact(reply).encode()
+    return compact_text(reply).encode()
 
 
 def reply_to_line(line: bytes, view: View) -> Dict[str, Any]:

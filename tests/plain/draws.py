@@ -2,7 +2,7 @@
 
 from typing import Any, List, Sequence, Tuple
 
-from json_values import compact
+from json_values import compact_text
 
 MASK = 2**64 - 1
 
@@ -41,11 +41,11 @@ class Draws:
 def json_text(draws: Draws, text: str) -> str:
     """The text in JSON, in one of its spellings."""
     if draws.one_in(12):
-        return '"' + "".join(escaped(character) for character in text) + '"'
-    return compact(text)
+        return '"' + "".join(escapes_of(character) for character in text) + '"'
+    return compact_text(text)
 
 
-def escaped(character: str) -> str:
+def escapes_of(character: str) -> str:
     """The character as one escape, or as two where it has two code units."""
     units = character.encode("utf-16-be")
     return "".join("\\u%02X%02x" % (units[place], units[place + 1]) for place in range(0, len(units), 2))

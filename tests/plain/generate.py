@@ -193,10 +193,10 @@ def line(draws: Draws, world: World) -> bytes:
         options = json_object(draws, [("sync_timeout", draws.pick(ANY_VALUES + ["0", "5000"]))])
         return array(draws, ['"clock"', root] + draws.pick([[], [options]])).encode()
     asked = array(draws, ['"query"', root, query(draws, world)]).encode()
-    return damaged(draws, asked) if draws.one_in(20) else asked
+    return damage(draws, asked) if draws.one_in(20) else asked
 
 
-def damaged(draws: Draws, text: bytes) -> bytes:
+def damage(draws: Draws, text: bytes) -> bytes:
     """The text with a byte left out, put in or changed."""
     place = draws.below(len(text))
     byte = bytes([draws.pick(b'"\\[]{},:0-+.eE \t\r\x00\x1f\xff\xc3/ut1')])

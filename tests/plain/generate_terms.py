@@ -176,10 +176,10 @@ def wild_part(draws: Draws, text: str) -> str:
     wilds = draws.pick([0, 1, 1, 1, 2, 2, len(text)])
     places = {draws.below(len(text)) for _ in range(wilds)}
     end = draws.pick(["*", "**", "?", "\\", "["]) if draws.one_in(10) else ""
-    return "".join(wild(draws, text[place]) if place in places else text[place] for place in range(len(text))) + end
+    return "".join(wildcard_for(draws, text[place]) if place in places else text[place] for place in range(len(text))) + end
 
 
-def wild(draws: Draws, character: str) -> str:
+def wildcard_for(draws: Draws, character: str) -> str:
     """What often takes this character."""
     single = draws.pick(["[{}]", "[!{}]", "[^x{}]", "[{}-{}]", "[.{}]", "[\\{}]"]).replace("{}", character)
     near = f"[{chr(max(ord(character) - 1, 1))}-{chr(ord(character) + 1)}]"

@@ -117,9 +117,9 @@ class Reader:
             if self.takes('"'):
                 return "".join(parts)
             self.require("\\")
-            parts.append(self.escaped())
+            parts.append(self.escape())
 
-    def escaped(self) -> str:
+    def escape(self) -> str:
         """The character that stands behind a backslash."""
         letter = self.next()
         self.place += 1
@@ -173,7 +173,7 @@ def is_whole_number(value: Any) -> bool:
     return isinstance(value, int) and not isinstance(value, bool) and -MAX_NUMBER <= value <= MAX_NUMBER
 
 
-def compact(value: Any) -> str:
+def compact_text(value: Any) -> str:
     """The value without blanks, the keys of objects in byte order (which is that of the code points)."""
     if value is None:
         return "null"
@@ -184,9 +184,9 @@ def compact(value: Any) -> str:
     if isinstance(value, str):
         return '"' + "".join(written_character(character) for character in value) + '"'
     if isinstance(value, list):
-        return "[" + ",".join(compact(entry) for entry in value) + "]"
+        return "[" + ",".join(compact_text(entry) for entry in value) + "]"
     if isinstance(value, dict):
-        return "{" + ",".join(f"{compact(key)}:{compact(value[key])}" for key in sorted(value)) + "}"
+        return "{" + ",".join(f"{compact_text(key)}:{compact_text(value[key])}" for key in sorted(value)) + "}"
     raise TypeError(f"no reply has a value of this kind: {value!r}")
 
 

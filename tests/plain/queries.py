@@ -67,13 +67,13 @@ def read_since(value: Any) -> Bound:
 def reply_to(query: Query, view: View) -> Dict[str, Any]:
     return {
         "clock": clock_id(view.tick),
-        "files": [file_of(record, query) for record in listed(query, view)],
+        "files": [file_of(record, query) for record in listed_records(query, view)],
         "is_fresh_instance": query.bound.kind == "fresh",
         "version": "wq-1",
     }
 
 
-def listed(query: Query, view: View) -> List[Record]:
+def listed_records(query: Query, view: View) -> List[Record]:
     if query.bound.kind == "fresh" and query.is_empty_on_fresh:
         return []
     return [record for record in view.records if is_candidate(record, query.bound) and query.matches(record)]

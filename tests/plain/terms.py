@@ -109,7 +109,7 @@ def part_of(scope: Optional[str]) -> Callable[[Record], bytes]:
     return (lambda record: record.name) if scope == "wholename" else (lambda record: record.basename)
 
 
-def folded(text: bytes, fold: bool) -> bytes:
+def fold_case(text: bytes, fold: bool) -> bytes:
     """`bytes.lower` changes A to Z alone."""
     return text.lower() if fold else text
 
@@ -117,9 +117,9 @@ def folded(text: bytes, fold: bool) -> bytes:
 def read_name(fold: bool) -> Callable[[List[Any]], Test]:
     def read(arguments: List[Any]) -> Test:
         require(1 <= len(arguments) <= 2)
-        names = {folded(name, fold) for name in texts_of(arguments[0])}
+        names = {fold_case(name, fold) for name in texts_of(arguments[0])}
         part = part_of(arguments[1] if len(arguments) == 2 else "basename")
-        return lambda record: folded(part(record), fold) in names
+        return lambda record: fold_case(part(record), fold) in names
     return read
 
 
@@ -133,12 +133,12 @@ def read_dirname(fold: bool) -> Callable[[List[Any]], Test]:
     def read(arguments: List[Any]) -> Test:
         require(1 <= len(arguments) <= 2 and is_short_text(arguments[0]))
         directory = arguments[0].rstrip("/").encode()
-        start = folded(directory + b"/" if directory else b"", fold)
+        start = fold_case(directory + b"/" if directory else b"", fold)
         has_depth = depth_test(arguments[1]) if len(arguments) == 2 else (lambda depth: True)
 
         def is_below(record: Record) -> bool:
             rest = record.name[len(start):]
-            return folded(record.name, fold).startswith(start) and has_depth(rest.count(b"/"))
+            return fold_case(record.name, fold).startswith(start) and has_depth(rest.count(b"/"))
         return is_below
     return read
 

@@ -42,7 +42,7 @@ class Page(NamedTuple):
     errors: Dict[str, str]
 
 
-def expanded(text: str) -> str:
+def expand(text: str) -> str:
     return REPEATED.sub(lambda found: found.group(1) * int(found.group(2)), text)
 
 
@@ -125,10 +125,10 @@ class Cell:
     """A cell of a table: the examples that it shows in code, its other words, and its marks."""
 
     def __init__(self, text: str) -> None:
-        self.marks = [expanded(found.strip()) for found in COMMENT.findall(text)]
+        self.marks = [expand(found.strip()) for found in COMMENT.findall(text)]
         self.shown = COMMENT.sub("", text).strip()
 
-    def marked(self, word: str) -> List[str]:
+    def marks_of(self, word: str) -> List[str]:
         return [mark[len(word) + 1:].strip() for mark in self.marks if mark.startswith(word + ":")]
 
     def codes(self) -> List[str]:
@@ -137,16 +137,16 @@ class Cell:
 
     def placeholders(self) -> Dict[str, str]:
         """For each placeholder the JSON value that it stands for."""
-        pairs = (mark.split(" = ", 1) for mark in self.marked("where"))
+        pairs = (mark.split(" = ", 1) for mark in self.marks_of("where"))
         return {name: value for name, value in pairs}
 
     def json_examples(self) -> List[str]:
         """The examples in JSON, where a placeholder is the value that it stands for."""
-        return self.marked("run") or [self.with_values(code) for code in self.shown_examples()]
+        return self.marks_of("run") or [self.with_values(code) for code in self.shown_examples()]
 
     def text_examples(self) -> List[str]:
         """The examples that are texts, where a placeholder is the text that it stands for."""
-        return self.marked("run") or [self.with_texts(code) for code in self.shown_examples()]
+        return self.marks_of("run") or [self.with_texts(code) for code in self.shown_examples()]
 
     def shown_examples(self) -> List[str]:
         """What stands in code, but for the placeholders alone."""
@@ -173,4 +173,4 @@ class Table:
 
     def examples(self) -> Iterator[Dict[str, Cell]]:
         """The rows that are to be run."""
-        return (row for row in self.rows if not any(cell.marked("not run") for cell in row.values()))
+        return (row for row in self.rows if not any(cell.marks_of("not run") for cell in row.values()))

@@ -82,7 +82,7 @@ def output_of_last_line(element: Element, page: Page) -> Examples:
     yield writes(last_line, last_line, "\n".join(element.lines) + "\n")
 
 
-def line_answered(element: Element, page: Page) -> Examples:
+def line_with_answer(element: Element, page: Page) -> Examples:
     """`line`: what a client sends, and is answered."""
     for line in element.lines:
         yield is_taken(line, ask(line))
@@ -177,7 +177,7 @@ def faults_of_expressions(element: Element, page: Page) -> Examples:
         words, examples = words_and_examples(row)
         for expression in examples.json_examples():
             yield is_refused(expression, by_expression(expression), words, page)
-        for expression in examples.marked("taken"):
+        for expression in examples.marks_of("taken"):
             yield is_taken(expression, by_expression(expression))
 
 
@@ -285,7 +285,7 @@ RULES: List[Tuple[str, Callable[[Element, Page], Examples]]] = [
     ("reply to ", reply_to_line),
     ("queries after ", queries_after),
     ("lines", lines_after),
-    ("line", line_answered),
+    ("line", line_with_answer),
     ("expressions after ", expressions_after),
     ("expressions on files", expressions_on_files),
     ("records after ", records_after),
