@@ -17,7 +17,8 @@ CLASSES = [
     "[!]a]", "[ü]",
     "[[:xdigit:][:space:]]", "[[:graph:]]", "[[:cntrl:]]", "[[:print:]]", "[[:blank:]x]", "[[:alnum:]_]",
     "[--b]",
-    "[[:lower:]-z]", "[a-c-e]", "[]-a]", "[!-a]", "[\\", "[a\\]", "[[:lower:]]", "[[:space:]]",
+    "[[:lower:]-z]", "[a-c-e]", "[a-c--e]", "[[:a]b:]", "[]-a]", "[!-a]", "[\\", "[a\\]", "[[:lower:]]",
+    "[[:space:]]",
     "[^[:space:]]",
     "[[:blank:]]", "[[:xdigit:]]", "[![:print:]]", "[^[:graph:][:cntrl:]]", "[![:foo:]]", "[[:UPPER:]]",
     "[[:alpha]",
@@ -176,7 +177,8 @@ def wild_part(draws: Draws, text: str) -> str:
     wilds = draws.pick([0, 1, 1, 1, 2, 2, len(text)])
     places = {draws.below(len(text)) for _ in range(wilds)}
     end = draws.pick(["*", "**", "?", "\\", "["]) if draws.one_in(10) else ""
-    return "".join(wildcard_for(draws, text[place]) if place in places else text[place] for place in range(len(text))) + end
+    made = [wildcard_for(draws, text[place]) if place in places else text[place] for place in range(len(text))]
+    return "".join(made) + end
 
 
 def wildcard_for(draws: Draws, character: str) -> str:
