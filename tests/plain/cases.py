@@ -1,0 +1,149 @@
+"""Counts how often each case came in generated scripts, so that a reader sees that none is missing."""
+
+from collections import Counter
+from typing import Any, Dict, Iterator, List
+
+import clocks
+import errors
+from json_values import NotJson, read
+from patterns import Flags, atoms_of
+from queries import FIELDS, LEFT_OUT_KEYS, Query, listed_records, read_query
+from replay import Malformed, Turn, turns
+from terms import COMBINATIONS, RELATIONS, SINCE_FIELDS, TERMS, TYPE_LETTERS, read_term
+from views import View
+
+ATOMS = ["literal", "one", "class", "star", "directories", "rest", "nothing"]
+BOUNDS = ["no since", "fresh clock id", "tick", "tick beyond the view", "second"]
+SCOPED_TERMS = ["name", "iname", "match", "imatch"]
+SCRIPT_FAULTS = [
+    "not a line", "in a pass", "outside of a pass", "line too long", "second out of range", "name not valid",
+    "number out of range", "name twice",
+]
+
+
+def expected_cases() -> List[str]:
+    """Every case that has to come."""
+    cases = ["clock answered", "query answered", "files listed", "no file listed", "deleted file listed"]
+    cases += ["empty on fresh instance", "one field", "several fields", "a field twice", "default fields"]
+    cases += [f"error {error}" for error in errors.ALL]
+    cases += ["script ends well"] + [f"script line: {fault}" for fault in SCRIPT_FAULTS]
+    cases += [f"field {name}" for name in FIELDS] + [f"bound: {bound}" for bound in BOUNDS]
+    cases += [f"new is {value} after a {kind}" for kind in ("tick", "second") for value in ("true", "false")]
+    cases += [f"left out key {key}" for key in LEFT_OUT_KEYS]
+    cases += [f"term {name} {answer}" for name in [*COMBINATIONS, *TERMS] for answer in answers_of(name)]
+    cases += [f"since {field} with a {kind}" for field in SINCE_FIELDS for kind in ("fresh", "tick", "second")
+              if field != "mtime" or kind == "second"]
+    cases += [f"type {letter}" for letter in TYPE_LETTERS]
+    cases += [f"relation {relation} in {term}" for relation in RELATIONS for term in ("size", "dirname", "idirname")]
+    cases += [f"{term} of {scope}" for term in SCOPED_TERMS for scope in ("basename", "wholename")]
+    cases += [f"{term} with {flag}" for term in ("match", "imatch") for flag in ("includedotfiles", "noescape")]
+    cases += [f"atom {kind} in {term}" for kind in ATOMS for term in ("match", "imatch")]
+    return cases
+
+
+def answers_of(term: str) -> List[str]:
+    return {"true": ["matches"], "false": ["does not match"]}.get(term, ["matches", "does not match"])
+
+
+def count_cases(script: bytes, counts: Counter) -> None:
+    try:
+        for turn in turns(script):
+            count_turn(turn, counts)
+        counts["script ends well"] += 1
+    except Malformed as malformed:
+        counts[f"script line: {malformed.reason}"] += 1
+
+
+def count_turn(turn: Turn, counts: Counter) -> None:
+    reply = read(turn.reply)
+    if "error" in reply:
+        counts[f"error {reply['error']}"] += 1
+        count_left_out_keys(turn.line, counts)
+    elif "files" not in reply:
+        counts["clock answered"] += 1
+    else:
+        counts["query answered"] += 1
+        count_query(read(turn.line)[2], turn.view, counts)
+
+
+def count_left_out_keys(line: bytes, counts: Counter) -> None:
+    try:
+        value = read(line)
+    except NotJson:
+        return
+    if isinstance(value, list) and len(value) == 3 and isinstance(value[2], dict):
+        counts.update(f"left out key {key}" for key in LEFT_OUT_KEYS if key in value[2])
+
+
+def count_query(asked: Dict[str, Any], view: View, counts: Counter) -> None:
+    query = read_query(asked)
+    files = listed_records(query, view)
+    counts["files listed" if files else "no file listed"] += 1
+    counts["deleted file listed"] += any(not record.exists for record in files)
+    counts[f"bound: {bound_case(asked, query, view)}"] += 1
+    counts["empty on fresh instance"] += query.bound.kind == "fresh" and query.is_empty_on_fresh
+    count_fields(asked, query, counts)
+    for record in files:
+        is_new = "true" if FIELDS["new"](record, query.bound) else "false"
+        counts[f"new is {is_new} after a {query.bound.kind}"] += "new" in query.fields
+    if "expression" in asked:
+        for term in terms_in(asked["expression"]):
+            count_term(term, view, counts)
+
+
+def bound_case(asked: Dict[str, Any], query: Query, view: View) -> str:
+    if "since" not in asked:
+        return "no since"
+    if query.bound.kind == "fresh":
+        return "fresh clock id"
+    if query.bound.kind == "tick" and query.bound.number > view.tick:
+        return "tick beyond the view"
+    return query.bound.kind
+
+
+def count_fields(asked: Dict[str, Any], query: Query, counts: Counter) -> None:
+    counts["one field" if len(query.fields) == 1 else "several fields"] += 1
+    counts["a field twice"] += len(set(query.fields)) < len(query.fields)
+    counts["default fields"] += "fields" not in asked
+    counts.update(f"field {name}" for name in set(query.fields))
+
+
+def terms_in(value: Any) -> Iterator[List[Any]]:
+    """The term and all terms in it, each as a head and its arguments."""
+    parts = [value] if isinstance(value, str) else value
+    yield parts
+    if parts[0] in COMBINATIONS:
+        for inner in parts[1:]:
+            yield from terms_in(inner)
+
+
+def count_term(term: List[Any], view: View, counts: Counter) -> None:
+    head = term[0]
+    test = read_term(term)
+    for answer in {test(record) for record in view.records}:
+        counts[f"term {head} {'matches' if answer else 'does not match'}"] += 1
+    if head == "type":
+        counts[f"type {term[1]}"] += 1
+    elif head == "size":
+        counts[f"relation {term[1]} in size"] += 1
+    elif head in ("dirname", "idirname") and len(term) == 3:
+        counts[f"relation {term[2][1]} in {head}"] += 1
+    elif head in ("name", "iname"):
+        counts[f"{head} of {scope_of(term)}"] += 1
+    elif head in ("match", "imatch"):
+        count_match(term, counts)
+    elif head == "since":
+        field = term[2] if len(term) == 3 else "oclock"
+        counts[f"since {field} with a {clocks.bound_of(term[1]).kind}"] += 1
+
+
+def scope_of(term: List[Any]) -> str:
+    return term[2] if len(term) >= 3 else "basename"
+
+
+def count_match(term: List[Any], counts: Counter) -> None:
+    options = term[3] if len(term) == 4 else {}
+    counts[f"{term[0]} of {scope_of(term)}"] += 1
+    counts.update(f"{term[0]} with {flag}" for flag in options if options[flag])
+    flags = Flags(wholename=scope_of(term) == "wholename", noescape=options.get("noescape", False))
+    counts.update(f"atom {kind} in {term[0]}" for kind in {atom.kind for atom in atoms_of(term[1].encode(), flags)})

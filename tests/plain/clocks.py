@@ -1,0 +1,66 @@
+"""Clock ids and clock specs, at a server with start 7 and process 9, and the root with number 1."""
+
+import re
+from typing import Any, List, NamedTuple, Optional
+
+from json_values import is_whole_number
+from limits import MAX_CURSOR_NAME, MAX_NUMBER
+
+INSTANCE = [7, 9, 1]
+DECIMAL = re.compile(r"0|[1-9][0-9]{0,18}")
+
+
+class Bound(NamedTuple):
+    """What a clock spec stands for: `fresh`, or the number of a `tick` or a `second`."""
+
+    kind: str
+    number: int = 0
+
+
+FRESH = Bound("fresh")
+
+
+class BadClockSpec(Exception):
+    """The value is no clock spec."""
+
+
+class NamedCursor(Exception):
+    """The value is a clock spec, and names a cursor."""
+
+
+def clock_id(tick: int) -> str:
+    return ":".join(["c", *(str(number) for number in INSTANCE), str(tick)])
+
+
+def bound_of(value: Any) -> Bound:
+    """The bound of a clock spec in JSON."""
+    if isinstance(value, str):
+        return bound_of_text(value)
+    if is_whole_number(value) and value >= 0:
+        return Bound("second", value)
+    raise BadClockSpec
+
+
+def bound_of_text(text: str) -> Bound:
+    if text.startswith("n:") and 1 <= len(text[2:].encode()) <= MAX_CURSOR_NAME:
+        raise NamedCursor
+    if not text.startswith("c:"):
+        raise BadClockSpec
+    numbers = [number_of(part) for part in text[2:].split(":")]
+    if None in numbers or len(numbers) not in (2, 4):
+        raise BadClockSpec
+    return bound_of_numbers(numbers)
+
+
+def bound_of_numbers(numbers: List[Optional[int]]) -> Bound:
+    """A clock id of this server is its tick. One of another server, and one of the older form, is fresh."""
+    if len(numbers) == 4 and numbers[:3] == INSTANCE:
+        return Bound("tick", numbers[3])
+    return FRESH
+
+
+def number_of(digits: str) -> Optional[int]:
+    """The number that is written so: decimal, in one way, at most 2^62."""
+    if DECIMAL.fullmatch(digits) is None or int(digits) > MAX_NUMBER:
+        return None
+    return int(digits)

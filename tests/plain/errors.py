@@ -1,0 +1,32 @@
+"""The errors that a reply names."""
+
+LINE_TOO_LONG = "E1: line too long"
+NOT_JSON = "E2: not JSON"
+NOT_A_COMMAND = "E3: not a command array"
+UNKNOWN_COMMAND = "E4: unknown command"
+WRONG_ARGUMENTS = "E5: wrong arguments"
+BINARY = "E6: BSER is not spoken here"
+NOT_WATCHED = "E14: root is not watched"
+LEFT_OUT_KEY = "E20: query key is left out"
+UNKNOWN_FIELD = "E21: unknown field"
+BAD_CLOCK_SPEC = "E23: bad clockspec"
+UNKNOWN_TERM = "E24: unknown term"
+WRONG_TERM_ARGUMENTS = "E25: wrong term arguments"
+TOO_DEEP = "E26: expression too deep"
+CURSOR_IN_TERM = "E27: cursor in a term"
+PATTERN_TOO_LONG = "E28: pattern too long"
+WRONG_QUERY_VALUE = "E37: wrong query value"
+
+ALL = [
+    LINE_TOO_LONG, NOT_JSON, NOT_A_COMMAND, UNKNOWN_COMMAND, WRONG_ARGUMENTS, BINARY, NOT_WATCHED, LEFT_OUT_KEY,
+    UNKNOWN_FIELD, BAD_CLOCK_SPEC, UNKNOWN_TERM, WRONG_TERM_ARGUMENTS, TOO_DEEP, CURSOR_IN_TERM, PATTERN_TOO_LONG,
+    WRONG_QUERY_VALUE,
+]
+
+
+class Refused(Exception):
+    """A client's line is refused with this error."""
+
+    def __init__(self, error: str) -> None:
+        super().__init__(error)
+        self.error = error

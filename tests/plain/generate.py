@@ -1,0 +1,239 @@
+"""Generated scripts, each by a fixed rule from a counter.
+
+    python3 tests/plain/generate.py COUNTER
+
+writes the script of that counter.
+"""
+
+import sys
+from typing import Dict, List, Tuple
+
+from draws import Draws, array, json_object
+from generate_terms import MAX, WRONG_NUMBERS, World, clock_spec, expression
+
+NAMES = [
+    "a", "a.c", "A.C", ".a.c", "b.txt", "src", "src/a.c", "src/A.c", "Src/a.c", "src/b/c.TXT", "src/.y/a.c",
+    ".x/a.c",
+    "x/y/z/a.c", "x/y", "x", "ü", "Ü.c", "日本/語.c", "a b", "a\\b", 'a"b', "[a]", "a*b", "-", "]", "!", "b.",
+    "..a", "...",
+    "a..c", ".php", "php", "a.PHP", "x\ty", "x\x01y", "x\x7fy", "😀.txt", "é/É", "a-b_c", "foo/bar",
+    "foo/bar/x",
+    "foo/bar/y/x", "foo/barx/z", "k=1", "x\ry", "Z", "z", "7", "_", "~", "[", "^", "\t", "\x7f", "\x0b",
+    "\x1f", " ", ":]", "[]",
+    "x:", "a]", "g", "F", "G", "x/.c", "x/[a]/7", "x/y/.z/a.c", "*", "?", "@", "`", "{", "/".join("abcdefgh"),
+    "a" * 40,
+]
+FIELDS = ["name", "exists", "new", "size", "type", "cclock", "oclock", "mtime", "mtime_ms"]
+LETTERS = "fffffffddddlbcpsD?"
+WRONG_FIELDS = [
+    '"name"', "[]", '["name",7]', '["mode"]', '["Name"]', "null", "{}", '[["name"]]', '[""]', '["name",null]',
+]
+LEFT_OUT_KEYS = [
+    "suffix", "path", "glob", "glob_includedotfiles", "program", "relative_root", "settle_period",
+    "settle_timeout",
+]
+IGNORED_KEYS = ["dedup_results", "defer", "drop", "frob", "", "Fields", "case_sensitive "]
+ANY_VALUES = ["true", "null", "[]", '{"a":[1,2]}', '"x"', "1.5", "-0", '"\\ud83d\\ude00"']
+ROOTS = ['"/r"', '"/r/"', '"/r///"', '"\\u002fr"']
+OTHER_ROOTS = ['"/q"', '"/"', '"r"', '""', '"//r"', '"/r/x"', '"/R"', '"/r "']
+
+BAD_LINES = [
+    b"[", b"7", b"{}", b"[]", b"[7]", b"[[]]", b'["frob"]', b'["frob",1.5]', b'["Query","/r",{}]', b'[""]',
+    b'"query"', b"null",
+    b'["query"]', b'["query","/r"]', b'["query","/r",[]]', b'["query",7,{}]', b'["query","/r",{},{}]',
+    b'["query","/q",[]]',
+    b'["query","/r",null]', b'["clock"]', b'["clock","/r",null]', b'["clock","/r",{},{}]', b'["clock",7]',
+    b'["clock","/q"]',
+    b'["clock","/r",[]]', b'["clock","/q",7]', b"", b" ", b"\xef\xbb\xbf[]", b'["query","/r",{}',
+    b'["query","/r",{},]', b"[1,]",
+    b'["query","/r",{}] x', b'["query","/r",{}][]', b'["\xff"]', b'["\xc0\x80"]', b'["\xed\xa0\x80"]',
+    b'["\\ud800"]',
+    b'["\\udc00\\ud800"]', b'["\\udc00"]', b'["\\uDFFFa"]', b'["\\ud83d\\ude00"]', b'["\\ud800\\u0041"]',
+    b'["\\u00g0"]', b'["\\x41"]', b'["a\tb"]', b'["a\x00b"]',
+    b'["\x7f"]', b"['a']",
+    b"[01]", b"[+1]", b"[1.]", b"[.5]", b"[1e]", b"[-]", b"[1e400]", b"[-1e400]", b"[0e999999999999]",
+    b"[1e-999999999999]",
+    b"[1.7976931348623157e308]", b"[1.7976931348623159e308]", b"[" + b"9" * 400 + b"]", b"[NaN]",
+    b"[Infinity]", b"[nul]",
+    b"[True]", b'{"a":1,}', b'{"a" 1}', b"{1:2}", b'{"a":1 "b":2}', b"[" * 127 + b"]" * 127,
+    b"[" * 128 + b"]" * 128,
+    b'["x",' + b"[" * 126 + b"]" * 127, b'["x",' + b"[" * 127 + b"]" * 128,
+    b'["x",' + b'{"a":' * 126 + b"1" + b"}" * 126 + b"]",
+    b'["x",' + b'{"a":' * 127 + b"1" + b"}" * 127 + b"]", b"\x00", b"\x00[]", b" \x00", b"[]\x00",
+    b'["clock"\x0c,"/r"]',
+    b'\t["clock" ,\r"/r"] ', b"[\"clock\",\"/r\"]//", b'["clock","\\/r"]', b"[1 2]", b'["a" "b"]', b"]", b",",
+    b'["\\', b'["\\u12',
+]
+LONG_LINE_EACH = 250
+LONG_LINES = [
+    b"ask 1 " + b" " * 1_048_576, b"ask 1 " + b" " * 1_048_577, b"ask 1 \x00" + b"x" * 1_048_600,
+    b'ask 1 ["frob","' + b"x" * 1_048_565 + b'"]', b"ask 1 " + b" " * 1_048_634, b"ask 1 " + b" " * 1_048_635,
+]
+BAD_SCRIPT_LINES = [
+    b"", b"#", b"end", b"pass", b"pass x", b"pass 01", b"pass +1", b"pass -0", b"pass 1 ", b" pass 1",
+    b"Pass 1", b"pass  1",
+    b"pass 9223372036854775808", b"ask", b"ask 1", b"ask 0 []", b"ask 33 []", b"ask x []", b"ask  1 []",
+    b"ask 01 []",
+    b"ask -1 []", b"end ", b"f 1 1 a", b"tick 1", b"\x00", b"\xff", b"ask 1\t[]", b"pass 1\r", b"idle 1",
+]
+BAD_ROWS = [
+    b"f", b"f 1", b"f 1 1", b"F 1 1 a", b"ff 1 1 a", b"f 01 1 a", b"f 1 -0 a", b"f +1 1 a", b"f 1.5 1 a",
+    b"f  1 1 a", b"",
+    b"ask 1 []", b"pass 5", b"f 9223372036854775808 1 a", b"f 1 -9223372036854775809 a", b"x 1 1 a",
+    b"f 1 x a", b"end ",
+]
+FAULTY_ROWS = [
+    b"f 1 1 ", b"f 1 1 /a", b"f 1 1 a/", b"f 1 1 a//b", b"f 1 1 .", b"f 1 1 ..", b"f 1 1 a/./b",
+    b"f 1 1 a/../b", b"f 1 1 \xff",
+    b"f 1 1 a\x00b", b"f 1 1 " + b"a" * 4097, b"f -1 1 new", b"f 4611686018427387905 1 new",
+    b"f 1 4611686018427387905 new",
+    b"f 1 -4611686018427387905 new", b"f 9223372036854775807 1 new", b"f 1 -9223372036854775808 new",
+    b"f 1 1 \xed\xa0\x80",
+]
+
+CLASS_SCRIPT_EACH = 500
+CLASS_NAMES = [
+    "alnum", "alpha", "blank", "cntrl", "digit", "graph", "lower", "print", "punct", "space", "upper", "xdigit", "foo",
+]
+
+Tree = Dict[str, Tuple[str, int, int]]
+
+
+def script(counter: int) -> bytes:
+    """The script of a counter: passes with questions between them, and now and then a malformed line."""
+    draws = Draws(counter)
+    if counter % CLASS_SCRIPT_EACH == 1:
+        return class_script(draws)
+    names = sorted({draws.pick(NAMES) for _ in range(draws.between(3, 18))})
+    lines: List[bytes] = []
+    seconds = [draws.pick([0, 10, 100, 1000])]
+    tree: Tree = {}
+    passes = 0 if draws.one_in(10) else draws.between(1, 7)
+    for number in range(passes):
+        lines += questions(draws, World(names, number, seconds), draws.below(3))
+        tree = next_tree(draws, names, tree)
+        seconds.append(next_second(draws, seconds[-1]))
+        lines += pass_lines(draws, tree, seconds[-1])
+    lines += questions(draws, World(names, passes, seconds), draws.between(6, 30))
+    if draws.one_in(8):
+        lines += malformed_end(draws, tree)
+        lines += questions(draws, World(names, passes, seconds), 1)
+    if counter % LONG_LINE_EACH == 0:
+        lines.insert(0, LONG_LINES[counter // LONG_LINE_EACH % len(LONG_LINES)])
+    return b"\n".join(lines) + draws.pick([b"\n", b"\n", b"\n", b""])
+
+
+def class_script(draws: Draws) -> bytes:
+    """Each named class, turned and not, on a name that ends in each byte that can end one."""
+    names = ["x" + chr(byte) for byte in range(1, 128) if chr(byte) not in "/\n"] + ["xü"]
+    lines = pass_lines(draws, {name: ("f", 1, 1) for name in names}, 1)
+    for name in CLASS_NAMES:
+        for head, text in [("match", "x[{}]"), ("match", "x[!{}]"), ("imatch", "X[{}]"), ("imatch", "x[^{}]?")]:
+            term = f'["{head}","{text}"]'.replace("{}", f"[:{name}:]")
+            lines.append(b'ask 1 ["query","/r",{"expression":%s,"fields":["name"]}]' % term.encode())
+    return b"\n".join(lines) + b"\n"
+
+
+def next_second(draws: Draws, second: int) -> int:
+    if second == MAX:
+        return draws.pick([0, MAX])
+    return draws.pick([second, second + 1, second + 1, second + 10, max(second - 5, 0), MAX])
+
+
+def next_tree(draws: Draws, names: List[str], tree: Tree) -> Tree:
+    """The tree that the next pass sees: some files come, some change, some go, most stay."""
+    if draws.one_in(8):
+        return dict(tree)
+    following: Tree = {}
+    for name in names:
+        choice = draws.below(8)
+        if choice == 0 or (choice < 3 and name not in tree):
+            continue
+        is_same = name in tree and choice < 6
+        following[name] = tree[name] if is_same else sight(draws)
+    return following
+
+
+def sight(draws: Draws) -> Tuple[str, int, int]:
+    size = draws.pick([0, 0, 0, 1, 2, 3, 7, 100, MAX])
+    mtime_ms = draws.pick([0, 999, 1000, 1999, 2000, 3000, -1, -1000, -1001, MAX, -MAX])
+    return draws.pick(LETTERS), size, mtime_ms
+
+
+def pass_lines(draws: Draws, tree: Tree, second: int) -> List[bytes]:
+    rows = [f"{letter} {size} {mtime_ms} {name}".encode() for name, (letter, size, mtime_ms) in tree.items()]
+    if draws.one_in(2):
+        rows.reverse()
+    return [b"pass %d" % second, *rows, b"end"]
+
+
+def malformed_end(draws: Draws, tree: Tree) -> List[bytes]:
+    """Lines with which the replay ends, or a pass that is left open."""
+    choice = draws.below(6)
+    if choice <= 1:
+        return [draws.pick(BAD_SCRIPT_LINES)]
+    if choice == 2:
+        return [b"pass 5", draws.pick(BAD_ROWS), b"end"]
+    if choice == 3:
+        return [b"pass " + draws.pick([b"-1", b"4611686018427387905", b"-9223372036854775808"]), b"end"]
+    row = draws.pick([b"f 1 1 twice", b"d 0 0 twice"]) if draws.one_in(2) else draws.pick(FAULTY_ROWS)
+    rows = [b"f 1 1 twice", row]
+    return [b"pass 5", *rows] if choice == 4 and draws.one_in(2) else [b"pass 5", *rows, b"end"]
+
+
+def questions(draws: Draws, world: World, count: int) -> List[bytes]:
+    return [b"ask %d " % draws.between(1, 32) + line(draws, world) for _ in range(count)]
+
+
+def line(draws: Draws, world: World) -> bytes:
+    if draws.one_in(12):
+        return draws.pick(BAD_LINES)
+    root = draws.pick(OTHER_ROOTS) if draws.one_in(40) else draws.pick(ROOTS)
+    if draws.one_in(15):
+        options = json_object(draws, [("sync_timeout", draws.pick(ANY_VALUES + ["0", "5000"]))])
+        return array(draws, ['"clock"', root] + draws.pick([[], [options]])).encode()
+    asked = array(draws, ['"query"', root, query(draws, world)]).encode()
+    return damage(draws, asked) if draws.one_in(20) else asked
+
+
+def damage(draws: Draws, text: bytes) -> bytes:
+    """The text with a byte left out, put in or changed."""
+    place = draws.below(len(text))
+    byte = bytes([draws.pick(b'"\\[]{},:0-+.eE \t\r\x00\x1f\xff\xc3/ut1')])
+    return text[:place] + draws.pick([b"", byte]) + text[place + draws.below(2):]
+
+
+def query(draws: Draws, world: World) -> str:
+    members: List[Tuple[str, str]] = []
+    if not draws.one_in(6):
+        members.append(("expression", expression(draws, world)))
+    if not draws.one_in(4):
+        members.append(("fields", fields(draws)))
+    if draws.one_in(2):
+        members.append(("since", clock_spec(draws, world)))
+    if draws.one_in(6):
+        members.append(("empty_on_fresh_instance", draws.pick(["true"] * 4 + ["false"] * 3 + ["null", "1", '"true"'])))
+    if draws.one_in(6):
+        members.append(("sync_timeout", draws.pick(WRONG_NUMBERS + ["0", "5000", "-1", str(MAX), str(-MAX)] * 8)))
+    if draws.one_in(10):
+        members.append(("case_sensitive", draws.pick(["true"] * 6 + ["false", "null", "1"])))
+    if draws.one_in(10):
+        members.append((draws.pick(IGNORED_KEYS), draws.pick(ANY_VALUES)))
+    if draws.one_in(40):
+        members.append((draws.pick(LEFT_OUT_KEYS), draws.pick(ANY_VALUES)))
+    if members and draws.one_in(15):
+        again = draws.pick(members)[0]
+        members.append((again, draws.pick(ANY_VALUES + ['"exists"', '["name"]', '"c:7:9:1:1"', "0"])))
+    return json_object(draws, members)
+
+
+def fields(draws: Draws) -> str:
+    if draws.one_in(25):
+        return draws.pick(WRONG_FIELDS)
+    if draws.one_in(3):
+        return '["name"]'
+    return array(draws, [f'"{draws.pick(FIELDS)}"' for _ in range(draws.between(1, 5))])
+
+
+if __name__ == "__main__":
+    sys.stdout.buffer.write(script(int(sys.argv[1])))

@@ -1,0 +1,102 @@
+"""Queries over one view, and their replies."""
+
+from typing import Any, Callable, Dict, List, NamedTuple
+
+import clocks
+from clocks import FRESH, Bound, clock_id
+from errors import BAD_CLOCK_SPEC, LEFT_OUT_KEY, UNKNOWN_FIELD, WRONG_QUERY_VALUE, Refused
+from json_values import is_whole_number
+from terms import Test, read_term
+from views import Record, View
+
+LEFT_OUT_KEYS = [
+    "suffix", "path", "glob", "glob_includedotfiles", "program", "relative_root", "settle_period", "settle_timeout",
+]
+DEFAULT_FIELDS = ["name", "exists", "new", "size"]
+
+# What a field says of a record. Of `new` the bound decides.
+FIELDS: Dict[str, Callable[[Record, Bound], Any]] = {
+    "name": lambda record, bound: record.name.decode(),
+    "exists": lambda record, bound: record.exists,
+    "new": lambda record, bound: is_new(record, bound),
+    "size": lambda record, bound: record.size,
+    "type": lambda record, bound: record.kind,
+    "cclock": lambda record, bound: clock_id(record.ctick),
+    "oclock": lambda record, bound: clock_id(record.otick),
+    "mtime": lambda record, bound: record.mtime,
+    "mtime_ms": lambda record, bound: record.mtime_ms,
+}
+
+
+class Query(NamedTuple):
+    matches: Test
+    fields: List[str]
+    bound: Bound
+    is_empty_on_fresh: bool
+
+
+def read_query(asked: Dict[str, Any]) -> Query:
+    """What the object of a query asks, or the refusal of its first fault."""
+    if any(key in asked for key in LEFT_OUT_KEYS) or asked.get("case_sensitive", True) is not True:
+        raise Refused(LEFT_OUT_KEY)
+    matches = read_term(asked.get("expression", "true"))
+    fields = read_fields(asked.get("fields", DEFAULT_FIELDS))
+    bound = read_since(asked["since"]) if "since" in asked else FRESH
+    is_empty_on_fresh = asked.get("empty_on_fresh_instance", False)
+    if not isinstance(is_empty_on_fresh, bool) or not is_whole_number(asked.get("sync_timeout", 0)):
+        raise Refused(WRONG_QUERY_VALUE)
+    return Query(matches, fields, bound, is_empty_on_fresh)
+
+
+def read_fields(value: Any) -> List[str]:
+    if not isinstance(value, list) or not value:
+        raise Refused(UNKNOWN_FIELD)
+    if not all(isinstance(field, str) and field in FIELDS for field in value):
+        raise Refused(UNKNOWN_FIELD)
+    return value
+
+
+def read_since(value: Any) -> Bound:
+    """No cursors are kept yet, so one is refused."""
+    try:
+        return clocks.bound_of(value)
+    except (clocks.BadClockSpec, clocks.NamedCursor):
+        raise Refused(BAD_CLOCK_SPEC) from None
+
+
+def reply_to(query: Query, view: View) -> Dict[str, Any]:
+    return {
+        "clock": clock_id(view.tick),
+        "files": [file_of(record, query) for record in listed_records(query, view)],
+        "is_fresh_instance": query.bound.kind == "fresh",
+        "version": "wq-1",
+    }
+
+
+def listed_records(query: Query, view: View) -> List[Record]:
+    if query.bound.kind == "fresh" and query.is_empty_on_fresh:
+        return []
+    return [record for record in view.records if is_candidate(record, query.bound) and query.matches(record)]
+
+
+def is_candidate(record: Record, bound: Bound) -> bool:
+    if bound.kind == "tick":
+        return record.otick > bound.number
+    if bound.kind == "second":
+        return record.osec >= bound.number
+    return record.exists
+
+
+def is_new(record: Record, bound: Bound) -> bool:
+    if bound.kind == "tick":
+        return record.ctick > bound.number
+    if bound.kind == "second":
+        return record.csec > bound.number
+    return True
+
+
+def file_of(record: Record, query: Query) -> Any:
+    """The bare value of one field, or an object of several."""
+    if len(query.fields) == 1:
+        return FIELDS[query.fields[0]](record, query.bound)
+    return {field: FIELDS[field](record, query.bound) for field in query.fields}

@@ -1,0 +1,162 @@
+"""The plain program: reads a script on standard input and writes what each client is sent.
+
+    python3 tests/plain/replay.py < SCRIPT
+
+It follows docs/PROTOCOL.md and docs/DEFINITIONS.md in words, and takes no care to be fast.
+"""
+
+import re
+import sys
+from typing import Iterator, List, NamedTuple, Optional, Tuple, Union
+
+from commands import answer
+from limits import MAX_SCRIPT, MAX_SCRIPT_LINE
+from views import History, ListingFault, Row, Sight, View, pass_of
+
+LETTERS = [b"f", b"d", b"l", b"b", b"c", b"p", b"s", b"D", b"?"]
+NUMBER = re.compile(rb"0|-?[1-9][0-9]{0,18}")
+MAX_CLIENT = 32
+
+
+class PassBegins(NamedTuple):
+    second: int
+
+
+class PassEnds(NamedTuple):
+    pass
+
+
+class Ask(NamedTuple):
+    client: int
+    line: bytes
+
+
+class Turn(NamedTuple):
+    """A client's line, the view that it met, and the reply."""
+
+    client: int
+    line: bytes
+    view: View
+    reply: bytes
+
+
+class Malformed(Exception):
+    """The script ends at this line, counted from 1."""
+
+    def __init__(self, number: int, reason: str) -> None:
+        super().__init__(f"script line {number}")
+        self.number = number
+        self.reason = reason
+
+
+class TooLong(Exception):
+    """The script cannot be read further."""
+
+
+class NotALine(Exception):
+    """No line of a script is written so."""
+
+
+def replay(script: bytes) -> Tuple[bytes, bytes, int]:
+    """What a script writes to standard output and to standard error, and the status that it ends with."""
+    written: List[bytes] = []
+    try:
+        for turn in turns(script):
+            written.append(b"%d %s\n" % (turn.client, turn.reply))
+    except Malformed as malformed:
+        return b"".join(written), b"script line %d\n" % malformed.number, 1
+    except TooLong:
+        return b"".join(written), b"replay failed\n", 1
+    return b"".join(written), b"", 0
+
+
+def turns(script: bytes) -> Iterator[Turn]:
+    """Plays the script, and gives each client's line with its reply."""
+    history = History()
+    view = history.view()
+    second = 0
+    rows: Optional[List[Row]] = None
+    for number, line in lines_of(script):
+        said = line_said(number, line)
+        is_inside = rows is not None
+        if is_inside != isinstance(said, (Row, PassEnds)):
+            raise Malformed(number, "in a pass" if is_inside else "outside of a pass")
+        if isinstance(said, PassBegins):
+            second, rows = said.second, []
+        elif isinstance(said, Row):
+            rows.append(said)
+        elif isinstance(said, PassEnds):
+            try:
+                history.add(pass_of(second, rows))
+            except ListingFault as fault:
+                raise Malformed(number, str(fault)) from None
+            view, rows = history.view(), None
+        else:
+            yield Turn(said.client, said.line, view, answer(said.line, view))
+
+
+def lines_of(script: bytes) -> Iterator[Tuple[int, bytes]]:
+    """The lines with their numbers. The last one may have no newline."""
+    start = 0
+    number = 1
+    while start < len(script):
+        newline = script.find(b"\n", start)
+        end = newline if newline >= 0 else len(script)
+        if min(end + 1, len(script)) > MAX_SCRIPT:
+            raise TooLong
+        yield number, script[start:end]
+        start = end + 1
+        number += 1
+
+
+def line_said(number: int, line: bytes) -> Union[PassBegins, Row, PassEnds, Ask]:
+    if len(line) > MAX_SCRIPT_LINE:
+        raise Malformed(number, "line too long")
+    try:
+        return read_line(line)
+    except NotALine:
+        raise Malformed(number, "not a line") from None
+
+
+def read_line(line: bytes) -> Union[PassBegins, Row, PassEnds, Ask]:
+    """What a line says. One space separates two words, and the last word of a row and of an ask is the rest."""
+    if line == b"end":
+        return PassEnds()
+    word, rest = split_word(line)
+    if word == b"pass":
+        return PassBegins(number_of(rest))
+    if word == b"ask":
+        client, asked = split_word(rest)
+        if not 1 <= number_of(client) <= MAX_CLIENT:
+            raise NotALine
+        return Ask(number_of(client), asked)
+    if word in LETTERS:
+        size, rest = split_word(rest)
+        mtime_ms, name = split_word(rest)
+        return Row(name, Sight(word.decode(), number_of(size), number_of(mtime_ms)))
+    raise NotALine
+
+
+def split_word(line: bytes) -> Tuple[bytes, bytes]:
+    word, space, rest = line.partition(b" ")
+    if not space:
+        raise NotALine
+    return word, rest
+
+
+def number_of(word: bytes) -> int:
+    """A number from -2^63 to 2^63 - 1, which is written in one way."""
+    if NUMBER.fullmatch(word) is None or not -2**63 <= int(word) < 2**63:
+        raise NotALine
+    return int(word)
+
+
+def main() -> None:
+    output, errors, status = replay(sys.stdin.buffer.read())
+    sys.stdout.buffer.write(output)
+    sys.stderr.buffer.write(errors)
+    sys.exit(status)
+
+
+if __name__ == "__main__":
+    main()

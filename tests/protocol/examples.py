@@ -1,0 +1,299 @@
+"""How each kind of block and table of the user's reference is run: as scripts, with what they have to write."""
+
+import json
+import re
+from typing import Any, Callable, Dict, Iterator, List, NamedTuple, Tuple
+
+from document import Cell, Element, Page, Table
+
+
+class Example(NamedTuple):
+    """A script, what it has to write in words, and the test of what it wrote."""
+
+    name: str
+    script: str
+    expected: str
+    is_right: Callable[[str], bool]
+
+
+Examples = Iterator[Example]
+
+
+def writes(name: str, script: str, output: str) -> Example:
+    return Example(name, script, output, lambda written: written == output)
+
+
+def is_refused(name: str, script: str, words: str, page: Page) -> Example:
+    """The script's one question is refused with these words, behind the number that the page gives them."""
+    return writes(name, script, f"1 {error_reply(page.errors[words])}\n")
+
+
+def error_reply(error: str) -> str:
+    return text_of({"error": error, "version": "wq-1"})
+
+
+def is_taken(name: str, script: str) -> Example:
+    return Example(name, script, "an answer", lambda written: "files" in json.loads(written[2:]))
+
+
+def ask(line: str) -> str:
+    return f"ask 1 {line}\n"
+
+
+def query(members: str) -> str:
+    return ask(f'["query","/r",{members}]')
+
+
+def by_expression(expression: str, since: str = "") -> str:
+    return query(f'{{{since}"expression":{expression},"fields":["name"]}}')
+
+
+def text_of(value: Any) -> str:
+    return json.dumps(value, ensure_ascii=False, separators=(",", ":"))
+
+
+def reply(tick: int, files: str, is_fresh: bool) -> str:
+    fresh = "true" if is_fresh else "false"
+    return f'1 {{"clock":"c:7:9:1:{tick}","files":{files},"is_fresh_instance":{fresh},"version":"wq-1"}}\n'
+
+
+def script_named(element: Element, page: Page) -> Tuple[str, int]:
+    """The script whose name ends the mark, and the number of its passes, of which each changes something."""
+    lines = page.scripts[element.mark.rsplit(" ", 1)[1]]
+    return "".join(line + "\n" for line in lines), sum(line.startswith("pass ") for line in lines)
+
+
+# Blocks.
+
+def keep_script(element: Element, page: Page) -> Examples:
+    """`script NAME` only gives the block a name."""
+    page.scripts[element.mark.rsplit(" ", 1)[1]] = element.lines
+    return iter(())
+
+
+def output_of(element: Element, page: Page) -> Examples:
+    """`output of NAME`: what the script writes."""
+    yield writes("the script before it", script_named(element, page)[0], "\n".join(element.lines) + "\n")
+
+
+def output_of_last_line(element: Element, page: Page) -> Examples:
+    """`output of the last line of NAME`: what that line alone writes."""
+    last_line = script_named(element, page)[0].rstrip("\n").rsplit("\n", 1)[1]
+    yield writes(last_line, last_line, "\n".join(element.lines) + "\n")
+
+
+def line_with_answer(element: Element, page: Page) -> Examples:
+    """`line`: what a client sends, and is answered."""
+    for line in element.lines:
+        yield is_taken(line, ask(line))
+
+
+def reply_to_line(element: Element, page: Page) -> Examples:
+    """`reply to LINE`: what this line is answered."""
+    line = element.mark.split("reply to ", 1)[1]
+    yield writes(line, ask(line), f"1 {element.lines[0]}\n")
+
+
+# Tables of queries and lines.
+
+def queries_after(element: Element, page: Page) -> Examples:
+    """`queries after NAME`: the files of a reply, and whether it is fresh (which it is without a column for it)."""
+    script, passes = script_named(element, page)
+    for row in Table(element.lines).examples():
+        is_fresh = "fresh" not in row or row["fresh"].shown == "yes"
+        for asked in row["query"].json_examples():
+            yield writes(asked, script + query(asked), reply(passes, row["files"].codes()[0], is_fresh))
+
+
+def lines_after(element: Element, page: Page) -> Examples:
+    """`lines` or `lines after NAME`: a whole line, and its reply or its error."""
+    script = script_named(element, page)[0] if " after " in element.mark else ""
+    for row in Table(element.lines).examples():
+        line, answer = row.values()
+        said = answer.codes()[0]
+        if not said.startswith("{"):
+            said = error_reply(said)
+        for asked in line.json_examples():
+            yield writes(asked, script + ask(asked), f"1 {said}\n")
+
+
+# Tables of expressions.
+
+def names_in(cell: Cell) -> str:
+    assert bool(cell.codes()) != (cell.shown == "none"), f"neither names nor `none`: {cell.shown}"
+    return text_of(cell.codes())
+
+
+def expressions_after(element: Element, page: Page) -> Examples:
+    """`expressions after NAME`: the files that a fresh answer lists."""
+    script, passes = script_named(element, page)
+    for row in Table(element.lines).examples():
+        for expression in row["expression"].json_examples():
+            yield writes(expression, script + by_expression(expression), reply(passes, names_in(row["matches"]), True))
+
+
+def records_after(element: Element, page: Page) -> Examples:
+    """`records after NAME`: the records that match, those of deleted files too, as all changed after tick 0."""
+    script, passes = script_named(element, page)
+    for row in Table(element.lines).examples():
+        for expression in row["expression"].json_examples():
+            asked = by_expression(expression, since='"since":"c:7:9:1:0",')
+            yield writes(expression, script + asked, reply(passes, names_in(row["matches"]), False))
+
+
+def expressions_on_files(element: Element, page: Page) -> Examples:
+    """`expressions on files`: each row tells the files that exist, or that they are the same."""
+    script = ""
+    for row in Table(element.lines).examples():
+        if row["files that exist"].shown != "the same":
+            script = pass_of(row["files that exist"].shown)
+        for expression in row["expression"].json_examples():
+            yield writes(expression, script + by_expression(expression), reply(1, names_in(row["matches"]), True))
+
+
+def pass_of(shown: str) -> str:
+    """The pass that sees the files in code, a directory where these words follow, changed when the cell says."""
+    changed = re.search(r"changed at ([0-9,]+) milliseconds", shown)
+    mtime_ms = changed.group(1).replace(",", "") if changed else "0"
+    found = re.findall(r"`([^`]+)`( \(a directory\))?", shown)
+    return listing(("d" if directory else "f", mtime_ms, name) for name, directory in found)
+
+
+def listing(rows) -> str:
+    return "pass 1\n" + "".join(f"{letter} 1 {mtime_ms} {name}\n" for letter, mtime_ms, name in rows) + "end\n"
+
+
+# Tables of faults. The column of the words may be the first or the second.
+
+def words_and_examples(row: Dict[str, Cell]) -> Tuple[str, Cell]:
+    words = next(name for name in ("fault", "words", "is refused with") if name in row)
+    examples = next(cell for name, cell in row.items() if name != words)
+    return row[words].codes()[0], examples
+
+
+def faults_of_expressions(element: Element, page: Page) -> Examples:
+    """`faults of expressions`: the expressions that are refused with these words."""
+    for row in Table(element.lines).examples():
+        words, examples = words_and_examples(row)
+        for expression in examples.json_examples():
+            yield is_refused(expression, by_expression(expression), words, page)
+        for expression in examples.marks_of("taken"):
+            yield is_taken(expression, by_expression(expression))
+
+
+def faults_of_queries(element: Element, page: Page) -> Examples:
+    """`faults of queries`: the objects of queries that are refused with these words."""
+    for row in Table(element.lines).examples():
+        words, examples = words_and_examples(row)
+        for asked in examples.json_examples():
+            yield is_refused(asked, query(asked), words, page)
+
+
+# Tables of patterns.
+
+def patterns_on_basenames(element: Element, page: Page) -> Examples:
+    return patterns_on(element, lambda pattern: text_of(["match", pattern]))
+
+
+def patterns_on_whole_names(element: Element, page: Page) -> Examples:
+    return patterns_on(element, lambda pattern: text_of(["match", pattern, "wholename"]))
+
+
+def terms_on_names(element: Element, page: Page) -> Examples:
+    return patterns_on(element, lambda term: term)
+
+
+def patterns_on(element: Element, expression_of: Callable[[str], str]) -> Examples:
+    """In a tree of all names of a row, a pattern fits those of the column `fits` alone."""
+    for row in Table(element.lines).examples():
+        fitting, other = row["fits"].codes(), row["does not fit"].codes()
+        assert fitting or other, "a pattern without a name"
+        script = listing(("f", 0, name) for name in fitting + other)
+        files = text_of(sorted(fitting, key=str.encode))
+        for pattern in next(iter(row.values())).codes():
+            yield writes(pattern, script + by_expression(expression_of(pattern)), reply(1, files, True))
+
+
+# Tables of clock specs, and of what passes saw.
+
+THREE_PASSES = "".join(
+    f"pass {number}\n" + "".join(f"f 1 1 {name}\n" for name in "abc"[:number]) + "end\n" for number in (1, 2, 3)
+)
+
+
+def clock_specs(element: Element, page: Page) -> Examples:
+    """`clock specs`: what a text is in the key and in the term, at passes of which each sees one more of a, b, c."""
+    for row in Table(element.lines).examples():
+        for text in row["text"].text_examples():
+            spec = text_of(text)
+            in_key = THREE_PASSES + query(f'{{"since":{spec},"fields":["name"]}}')
+            in_term = THREE_PASSES + by_expression(f'["since",{spec}]')
+            yield from clock_spec(text, row["is"].shown, in_key, in_term, page)
+
+
+def clock_spec(text: str, meaning: str, in_key: str, in_term: str, page: Page) -> Examples:
+    if meaning.startswith("tick "):
+        bound = int(meaning[5:].replace("2^62", str(2**62)))
+        after = text_of([name for tick, name in enumerate("abc", 1) if tick > bound])
+        yield writes(f"{text}, in the key", in_key, reply(3, after, False))
+        yield writes(f"{text}, in the term", in_term, reply(3, after, True))
+    elif meaning.startswith("fresh"):
+        yield writes(f"{text}, in the key", in_key, reply(3, '["a","b","c"]', True))
+        yield writes(f"{text}, in the term", in_term, reply(3, '["a","b","c"]', True))
+    else:
+        assert meaning.startswith(("the cursor", "refused")), meaning
+        yield is_refused(f"{text}, in the key", in_key, "bad clockspec", page)
+        words = "cursor in a term" if meaning.startswith("the cursor") else "bad clockspec"
+        yield is_refused(f"{text}, in the term", in_term, words, page)
+
+
+def what_passes_saw(element: Element, page: Page) -> Examples:
+    """`what passes saw`: one file at the seconds 10, 20 and 30, and what its record tells."""
+    for row in Table(element.lines).examples():
+        seen, exists, created, changed = (cell.shown for cell in row.values())
+        (ctick, csec), (otick, osec) = moment(created), moment(changed)
+        script = script_of_sizes(seen)
+        passes = len(seen.split(", then "))
+        tells = text_of([{"cclock": f"c:7:9:1:{ctick}", "exists": exists == "yes", "oclock": f"c:7:9:1:{otick}"}])
+        asked = query('{"since":"c:7:9:1:0","fields":["exists","cclock","oclock"]}')
+        yield writes(seen, script + asked, reply(passes, tells, False))
+        for field, second in (("cclock", csec), ("oclock", osec)):
+            for bound, files in ((second - 1, '["x"]'), (second, "[]")):
+                asked = by_expression(f'["since",{bound},"{field}"]', since='"since":"c:7:9:1:0",')
+                yield writes(f"{seen}: {field} after {bound}", script + asked, reply(passes, files, False))
+
+
+def moment(shown: str) -> Tuple[int, int]:
+    tick, second = re.fullmatch(r"tick ([0-9]+), second ([0-9]+)", shown).groups()
+    return int(tick), int(second)
+
+
+def script_of_sizes(seen: str) -> str:
+    """The passes that see a file so. Where the row says nothing more, a pass sees what the one before it saw."""
+    sights: List[str] = []
+    for step in seen.split(", then "):
+        size = re.search("[0-9]+", step)
+        sights.append(f"f {size.group()} 0 x\n" if size else "")
+    sights += sights[-1:] * (3 - len(sights))
+    return "".join(f"pass {second}\n{sight}end\n" for second, sight in zip((10, 20, 30), sights))
+
+
+RULES: List[Tuple[str, Callable[[Element, Page], Examples]]] = [
+    ("script ", keep_script),
+    ("output of the last line of ", output_of_last_line),
+    ("output of ", output_of),
+    ("reply to ", reply_to_line),
+    ("queries after ", queries_after),
+    ("lines", lines_after),
+    ("line", line_with_answer),
+    ("expressions after ", expressions_after),
+    ("expressions on files", expressions_on_files),
+    ("records after ", records_after),
+    ("faults of expressions", faults_of_expressions),
+    ("faults of queries", faults_of_queries),
+    ("patterns on basenames", patterns_on_basenames),
+    ("patterns on whole names", patterns_on_whole_names),
+    ("terms on names", terms_on_names),
+    ("clock specs", clock_specs),
+    ("what passes saw", what_passes_saw),
+]
