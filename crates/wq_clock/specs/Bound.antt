@@ -10,7 +10,8 @@ use Rattle.wq_clock.specs.declared.bound.Bound.TheVariants.{Fresh, Tick}
 -- fresh; a cursor has none of its own
 abbrev pub bound_of : SpecData → InstanceData → Option Bound
 bound_of (clock_id other tick) instance =
-    if (other.start == instance.start) && (other.pid == instance.pid) && (other.root == instance.root)
+    if (other.start == instance.start) && (other.pid == instance.pid)
+    && (other.root == instance.root)
     then Some (Tick tick) else Some Fresh
 bound_of old_clock_id instance = Some Fresh
 bound_of (named_cursor name) instance = None

@@ -1,11 +1,8 @@
 -- What a text says as a clock spec: a clock id, an old clock id or a named cursor, or nothing.
 -- From Watchman's documentation of clockspecs; the limits are this server's own.
-use Rattle.std.specs.Prelude.{ℕ, ◌≤◌, List, [], ◌∷◌, Option, Some, None, ◌&&◌, ◌==◌, nat_le, nat_eq, length, drop, codes, if◌then◌else◌}
+use Rattle.std.specs.Prelude.{ℕ, ◌≤◌, List, [], ◌∷◌, Option, Some, None, ◌&&◌, nat_le, nat_eq, length, drop, codes, if◌then◌else◌}
 use Rattle.std.specs.Option.{option_and_then}
 use Rattle.std.specs.List.{slice_split, starts_with}
-use Rattle.std.specs.Str.{bytes_eq}
-use Rattle.std.specs.Str.Parse.{digits_value}
-use Rattle.std.specs.Fmt.{decimal}
 use Rattle.wq_base.specs.Limit.{max_number}
 use Rattle.wq_base.specs.Byte.{is_colon}
 use Rattle.wq_base.specs.Decimal.{unsigned_of}
@@ -48,7 +45,8 @@ id_of text = option_and_then id_from_numbers (numbers_of (parts_of text))
 -- what the text behind `n:` says: a cursor's name of 1 to 255 bytes
 abbrev pub cursor_of : List ℕ → Option SpecData
 cursor_of name =
-    if nat_le 1 (length name) && nat_le (length name) max_name_length then Some (named_cursor name) else None
+    if nat_le 1 (length name) && nat_le (length name) max_name_length
+    then Some (named_cursor name) else None
 
 -- what a text says as a clock spec
 abbrev pub clock_spec_of : List ℕ → Option SpecData

@@ -1,4 +1,4 @@
--- The texts of clock ids, `c:<start>:<pid>:<root>:<tick>`, and of clock ids in the old form, `c:<pid>:<tick>`.
+-- The texts of clock ids, of today's form and of the old one, `c:<pid>:<tick>`.
 -- From Watchman's documentation of clockspecs (clock ids).
 use Rattle.std.specs.Prelude.{ℕ, List, ◌++◌, codes}
 use Rattle.std.specs.Fmt.{decimal}

@@ -20,4 +20,5 @@ PrintedIdsReadBack = (instance : InstanceData) (tick : ℕ) → IsInRange instan
 abbrev pub SameTextSameId : Type 0
 SameTextSameId = (instance other : InstanceData) (tick other_tick : ℕ)
     → IsInRange instance → IsInRange other → tick ≤ max_number → other_tick ≤ max_number
-    → clock_text instance tick ≡ clock_text other other_tick → (instance ≡ other) × (tick ≡ other_tick)
+    → clock_text instance tick ≡ clock_text other other_tick
+    → (instance ≡ other) × (tick ≡ other_tick)

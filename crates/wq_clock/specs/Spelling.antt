@@ -12,6 +12,7 @@ abbrev pub IsSpelling : SpecData → List ℕ → Type 0
 IsSpelling (clock_id instance tick) text =
     IsInRange instance × (tick ≤ max_number) × (text ≡ clock_text instance tick)
 IsSpelling old_clock_id text =
-    (pid : ℕ) × (tick : ℕ) × (pid ≤ max_number) × (tick ≤ max_number) × (text ≡ old_clock_text pid tick)
+    (pid : ℕ) × (tick : ℕ) × (pid ≤ max_number) × (tick ≤ max_number)
+    × (text ≡ old_clock_text pid tick)
 IsSpelling (named_cursor name) text =
     (1 ≤ length name) × (length name ≤ max_name_length) × (text ≡ codes "n:" ++ name)

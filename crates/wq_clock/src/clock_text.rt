@@ -62,7 +62,8 @@ fn push_number(text: &mut ArrayString<MAX_CLOCK_TEXT>, mark: &str, number: u64)
     requires small { number ≤ MAX_NUMBER }
     requires room { array_string_len text.old + length mark.now + MAX_DIGITS ≤ MAX_CLOCK_TEXT }
     ensures bytes { text.new.bytes ≡ text.old.bytes ++ (mark.now ++ decimal number) }
-    ensures len { array_string_len text.new ≤ array_string_len text.old + length mark.now + MAX_DIGITS }
+    ensures len { array_string_len text.new
+        ≤ array_string_len text.old + length mark.now + MAX_DIGITS }
 {
     text.push_str(mark);
     text.push_str(Buffer::new().format(number));

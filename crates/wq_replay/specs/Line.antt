@@ -11,4 +11,5 @@ put_first byte (line ∷ lines) = (byte ∷ line) ∷ lines
 -- the lines of some bytes, without their newlines
 abbrev pub lines_of : List ℕ → List (List ℕ)
 lines_of [] = []
-lines_of (byte ∷ bytes) = if byte == newline then [] ∷ lines_of bytes else put_first byte (lines_of bytes)
+lines_of (byte ∷ bytes) =
+    if byte == newline then [] ∷ lines_of bytes else put_first byte (lines_of bytes)

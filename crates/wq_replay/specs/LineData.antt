@@ -1,12 +1,18 @@
 -- What a `Line` of the code stands for.
 -- No public document is behind it.
 use Rattle.wq_replay.specs.Script.{LineData, pass, row, end, ask}
+use Rattle.wq_view.specs.Seen.{SeenData}
 use Rattle.wq_replay.specs.declared.script.Line.{Line}
+use Rattle.wq_replay.specs.declared.script.RowLine.{RowLine}
 use Rattle.wq_replay.specs.declared.script.Line.TheVariants.{Pass, Row, End, Ask}
+
+-- what a row says was seen
+abbrev pub seen_data : RowLine → SeenData
+seen_data r = record { name = r.name.now; kind = r.kind; size = r.size; mtime_ms = r.mtime_ms }
 
 -- the line of a script that it is
 abbrev pub line_data : Line → LineData
 line_data (Pass second) = pass second
-line_data (Row r) = row (record { name = r.name.now; kind = r.kind; size = r.size; mtime_ms = r.mtime_ms })
+line_data (Row r) = row (seen_data r)
 line_data End = end
 line_data (Ask client line) = ask client line.now

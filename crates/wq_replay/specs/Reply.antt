@@ -1,5 +1,5 @@
 -- What a client's line is answered with, at a view of the one root that is watched.
--- Commands are those of Watchman's documentation; the refusals and their order are this server's own.
+-- Commands are those of Watchman's documentation; the refusals are this server's own.
 use Rattle.std.specs.Prelude.{ℕ, Bool, false, not, ◌==◌, nat_le, if◌then◌else◌, List, [], ◌∷◌, length, codes, Option, Some, None, Result, Ok, Err}
 use Rattle.std.specs.Str.{is_utf8}
 use Rattle.serde_json.specs.Data.{Data, string, array, object, Items, item, no_members, member}
@@ -21,7 +21,8 @@ pub record WordsData : Type 0 where
 
 -- the words of a value: an array headed by a text
 abbrev pub words_of : Data → Option WordsData
-words_of (array (item (string name) arguments)) = Some (record { name = name; arguments = arguments })
+words_of (array (item (string name) arguments)) =
+    Some (record { name = name; arguments = arguments })
 words_of _ = None
 
 -- the line begins with byte 0, as binary messages do

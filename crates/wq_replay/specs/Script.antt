@@ -1,5 +1,5 @@
--- What a line of a script says. Words are separated by a single space; a name and a client's line are the rest of
--- their line. The letters of kinds are those of Watchman's field `type`; the rest is this server's own.
+-- What a line of a script says: words between single spaces, of which the last may have spaces.
+-- The letters of kinds are those of Watchman's field `type`; the rest is this server's own.
 use Rattle.std.specs.Prelude.{ℕ, ℤ, pos, Bool, ◌&&◌, ◌==◌, int_le, List, [], ◌∷◌, codes, bytes_eq, if◌then◌else◌, Option, Some, None, option_map, option_and_then}
 use Rattle.std.specs.Str.{byte}
 use Rattle.wq_base.specs.Decimal.{signed_of}
@@ -7,6 +7,7 @@ use Rattle.wq_view.specs.Kind.{kind_with}
 use Rattle.wq_view.specs.Seen.{SeenData}
 use Rattle.wq_view.specs.declared.kind.Kind.{Kind}
 
+-- a line by its word
 pub data LineData : Type 0 where
   -- a listing begins, seen at this second
   pass : ℤ → LineData
@@ -17,6 +18,7 @@ pub data LineData : Type 0 where
   -- a client sends a line
   ask : ℤ → List ℕ → LineData
 
+-- the byte between words
 abbrev pub is_space : ℕ → Bool
 is_space b = b == byte " "
 
@@ -27,7 +29,8 @@ before_word b (word, rest) = (b ∷ word, rest)
 -- the word before the first space, and what follows that space
 abbrev pub first_word : List ℕ → Option (List ℕ × List ℕ)
 first_word [] = None
-first_word (b ∷ bs) = if is_space b then Some ([], bs) else option_map (before_word b) (first_word bs)
+first_word (b ∷ bs) =
+    if is_space b then Some ([], bs) else option_map (before_word b) (first_word bs)
 
 -- a word that is a number, and what follows it
 abbrev pub number_before : List ℕ × List ℕ → Option (ℤ × List ℕ)
@@ -57,7 +60,8 @@ row_of kind text = option_and_then (row_sized kind) (number_then text)
 
 -- a client's line, where the number is one of a client: 1 to 32
 abbrev pub ask_from : ℤ × List ℕ → Option LineData
-ask_from (client, line) = if int_le (pos 1) client && int_le client (pos 32) then Some (ask client line) else None
+ask_from (client, line) =
+    if int_le (pos 1) client && int_le client (pos 32) then Some (ask client line) else None
 
 -- a client's line
 abbrev pub ask_of : List ℕ → Option LineData
@@ -72,4 +76,6 @@ line_worded (word, rest) =
 
 -- what a line says, unless it is malformed
 abbrev pub line_of : List ℕ → Option LineData
-line_of text = if bytes_eq text (codes "end") then Some end else option_and_then line_worded (first_word text)
+line_of text =
+    if bytes_eq text (codes "end") then Some end
+    else option_and_then line_worded (first_word text)

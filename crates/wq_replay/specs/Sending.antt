@@ -8,7 +8,8 @@ use Rattle.wq_replay.specs.declared.fault.StepFault.{StepFault}
 use Rattle.wq_replay.specs.declared.fault.StepFault.TheVariants.{Malformed, Write, NoMemory}
 
 -- its line was written whole, or the writer failed behind a front of it
-abbrev pub Sends : History → ℤ → List ℕ → Option (List ℕ) → Option (List ℕ) → Result (Unit {0}) StepFault → Type 0
+abbrev pub Sends : History → ℤ → List ℕ → Option (List ℕ) → Option (List ℕ)
+    → Result (Unit {0}) StepFault → Type 0
 Sends history client line before after (Ok _) =
     (sent : List ℕ) × IsSent history client line sent × Appends before after sent
 Sends history client line before after (Err Write) =

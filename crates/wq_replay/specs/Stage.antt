@@ -42,7 +42,8 @@ turn_outside _ = malformed
 -- the end of a listing, which passes over the root unless the listing has a fault
 abbrev pub turn_at_end : DraftData → Turn
 turn_at_end draft =
-    if is_none (listing_fault draft.rows draft.second) then passes (listing_of draft.rows draft.second) else malformed
+    if is_none (listing_fault draft.rows draft.second)
+    then passes (listing_of draft.rows draft.second) else malformed
 
 -- a line of a listing
 abbrev pub turn_inside : DraftData → LineData → Turn
@@ -62,12 +63,14 @@ turn_at draft (Some line) = turn_in draft line
 
 -- what a line does at a stage; one over the limit is malformed
 abbrev pub turn_of : StageData → List ℕ → Turn
-turn_of stage line = if nat_le (length line) max_script_line then turn_at stage.draft (line_of line) else malformed
+turn_of stage line =
+    if nat_le (length line) max_script_line then turn_at stage.draft (line_of line) else malformed
 
--- The history after a pass. One that saw what the last pass saw adds nothing; any other is added, unless the ticks
--- are spent.
+-- the history after a pass: one that saw what the last pass saw adds nothing; any other is added,
+-- unless the ticks are spent
 abbrev pub Passed : History → PassData → History → Type 0
 Passed history seen next =
     ((last_stats history ≡ seen.stats) × (next ≡ history))
-    ⊎ ((last_stats history ≢ seen.stats) × (length history < max_tick) × (next ≡ history ++ seen ∷ []))
+    ⊎ ((last_stats history ≢ seen.stats) × (length history < max_tick)
+    × (next ≡ history ++ seen ∷ []))
     ⊎ ((last_stats history ≢ seen.stats) × (length history ≡ max_tick) × (next ≡ history))

@@ -27,9 +27,10 @@ StopsWriting at (answers client text) before after =
     (sent : List ℕ) × IsSent at.history client text sent × AppendsFront before after sent
 StopsWriting _ _ _ _ = ⊥
 
--- what a turn at a stage came to: it was taken, with this written and the code where it leads; or the line is
--- malformed, or its reply was not written whole, or memory ran out before it did anything
-abbrev pub Takes : StageData → Turn → Option (List ℕ) → Option (List ℕ) → Result (Unit {0}) StepFault → Stage → Type 0
+-- what a turn at a stage came to: it was taken, with this written and the code where it leads; or
+-- the line is malformed, or its reply was not written whole, or memory ran out before anything
+abbrev pub Takes : StageData → Turn → Option (List ℕ) → Option (List ℕ)
+    → Result (Unit {0}) StepFault → Stage → Type 0
 Takes at turn before after (Ok _) code = (written : List ℕ) × (next : StageData)
     × Appends before after written × Does at turn written next × IsAt code next
 Takes at turn before after (Err Malformed) code = (turn ≡ malformed) × Appends before after []
@@ -43,8 +44,8 @@ TakesIn history seen (Err NoMemory) view = Unit {0}
 TakesIn history seen (Err Malformed) view = ⊥
 TakesIn history seen (Err Write) view = ⊥
 
--- what passing over the root with a listing came to: the view is that of the history after it; or the listing has a
--- fault; or memory ran out over one that has none
+-- what passing over the root with a listing came to: the view is that of the history after it; or
+-- the listing has a fault; or memory ran out over one that has none
 abbrev pub PassesOver : History → DraftData → Result (Unit {0}) StepFault → ViewData → Type 0
 PassesOver history draft (Ok _) view = (listing_fault draft.rows draft.second ≡ None)
     × TakesIn history (listing_of draft.rows draft.second) (Ok tt) view

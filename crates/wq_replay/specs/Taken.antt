@@ -6,11 +6,11 @@ use Rattle.wq_base.specs.Byte.{newline}
 use Rattle.wq_replay.specs.Limit.{max_script_line}
 use Rattle.wq_replay.specs.Line.{lines_of}
 
--- how many bytes of a line are kept, its newline counted: one over the limit shows that a line is too long
+-- how many bytes of a line are kept, its newline counted: one over the limit shows a line too long
 abbrev pub max_kept : ℕ
 max_kept = max_script_line + 1
 
--- what is kept of the first line of some bytes, where there is room for so many: with its newline, or a front of it
+-- what is kept of the first line of some bytes, with room for so many: the line, or a front of it
 abbrev pub kept : ℕ → List ℕ → List ℕ
 kept room bytes = take_through newline (take room bytes)
 
@@ -24,17 +24,18 @@ stops (suc room) (byte ∷ bytes) = byte == newline || stops room bytes
 abbrev pub is_last : ℕ → List ℕ → Bool
 is_last room bytes = stops room bytes || length bytes == 0
 
--- the front of these bytes went from the reader behind what was taken before; if the line stops there, all is taken
--- that is kept of it, and else the same is still to come that was
+-- a front of these bytes was taken behind what was taken before; if the line stops there, that is
+-- all that is kept of it, and else as much is still to come
 abbrev pub TakesPart : List ℕ → List ℕ → Bool → List ℕ → Option (List ℕ) → Type 0
 TakesPart bytes before true after rest =
     (left : List ℕ) × (rest ≡ Some left) × (before ++ bytes ≡ after ++ left)
     × (before ++ kept (max_kept - length before) bytes ≡ after)
 TakesPart bytes before false after rest =
     (left : List ℕ) × (rest ≡ Some left) × (before ++ bytes ≡ after ++ left)
-    × (before ++ kept (max_kept - length before) bytes ≡ after ++ kept (max_kept - length after) left)
+    × (before ++ kept (max_kept - length before) bytes
+    ≡ after ++ kept (max_kept - length after) left)
 
--- some bytes begin with this line, and those are behind it; or both their first line and this one are over the limit
+-- some bytes begin with this line, and those are behind it; or their first line is too long, as this is
 abbrev pub BeginsWith : List ℕ → List ℕ → List ℕ → Type 0
 BeginsWith bytes line left =
     (lines_of bytes ≡ line ∷ lines_of left)
@@ -45,4 +46,5 @@ BeginsWith bytes line left =
 abbrev pub TakesLine : List ℕ → ℕ → List ℕ → Option (List ℕ) → Type 0
 TakesLine bytes zero line rest = bytes ≡ []
 TakesLine bytes (suc taken) line rest =
-    (left : List ℕ) × (rest ≡ Some left) × (length bytes ≡ suc taken + length left) × BeginsWith bytes line left
+    (left : List ℕ) × (rest ≡ Some left) × (length bytes ≡ suc taken + length left)
+    × BeginsWith bytes line left

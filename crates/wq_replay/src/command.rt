@@ -47,7 +47,8 @@ pub fn reply(
     view: &View,
     line: &[u8],
 ) -> Result<Vec<u8>, AllocError>
-    ensures { IfOk result (λ text. text.items ≡ compact_text (reply_to (instance_data instance.now) view.now line.now)) }
+    ensures { IfOk result (λ text.
+        text.items ≡ compact_text (reply_to (instance_data instance.now) view.now line.now)) }
 {
     reply_value(alloc, instance, view, line)?.to_vec(alloc)
 }
@@ -113,7 +114,8 @@ impl Command {
         view: &View,
         arguments: &[Value],
     ) -> Result<Value, Refusal>
-        ensures { Gives result (answer_command (instance_data instance.now) view.now self (items_view arguments.now)) }
+        ensures { Gives result
+            (answer_command (instance_data instance.now) view.now self (items_view arguments.now)) }
     {
         match self {
             Command::Query => query::answer_query(alloc, instance, view, arguments),

@@ -10,8 +10,10 @@ use std::io::{ErrorKind, Write};
 
 /// Writes a line to a client: its number, a space, a text and a newline.
 pub(crate) fn send_line<W: Write>(writer: &mut W, client: i64, text: &[u8]) -> Result<(), StepFault>
-    ensures done { OnOk result (Appends (W.contents writer.old) (W.contents writer.new) (sent_line client text.now)) }
-    ensures front { OnErr result (AppendsFront (W.contents writer.old) (W.contents writer.new) (sent_line client text.now)) }
+    ensures done { OnOk result
+        (Appends (W.contents writer.old) (W.contents writer.new) (sent_line client text.now)) }
+    ensures front { OnErr result
+        (AppendsFront (W.contents writer.old) (W.contents writer.new) (sent_line client text.now)) }
     ensures fault { IfErr result (λ fault. fault ≡ NotWritten) }
 {
     write_all(writer, Buffer::new().format(client).as_bytes())?;
@@ -23,7 +25,8 @@ pub(crate) fn send_line<W: Write>(writer: &mut W, client: i64, text: &[u8]) -> R
 /// Writes all bytes. The standard library's `write_all` says nothing of what was written before a fault.
 fn write_all<W: Write>(writer: &mut W, bytes: &[u8]) -> Result<(), StepFault>
     ensures done { OnOk result (Appends (W.contents writer.old) (W.contents writer.new) bytes.now) }
-    ensures front { OnErr result (AppendsFront (W.contents writer.old) (W.contents writer.new) bytes.now) }
+    ensures front { OnErr result
+        (AppendsFront (W.contents writer.old) (W.contents writer.new) bytes.now) }
     ensures fault { IfErr result (λ fault. fault ≡ NotWritten) }
 {
     let mut written = 0usize;
@@ -39,7 +42,8 @@ fn write_all<W: Write>(writer: &mut W, bytes: &[u8]) -> Result<(), StepFault>
 /// Writes some of the bytes, which are at least one, and says how many; none where the writer was interrupted.
 fn write_some<W: Write>(writer: &mut W, bytes: &[u8]) -> Result<usize, StepFault>
     ensures within { IfOk result (λ count. count ≤ length bytes.now) }
-    ensures done { IfOk result (λ count. Appends (W.contents writer.old) (W.contents writer.new) (take count bytes.now)) }
+    ensures done { IfOk result (λ count.
+        Appends (W.contents writer.old) (W.contents writer.new) (take count bytes.now)) }
     ensures kept { OnErr result (Keeps (W.contents writer.old) (W.contents writer.new)) }
     ensures fault { IfErr result (λ fault. fault ≡ NotWritten) }
 {

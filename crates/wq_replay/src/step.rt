@@ -2,7 +2,7 @@
 ghost use Rattle.std.specs.Prelude.{◌≡◌, ℕ, List, Option, None, Some, IfOk};
 ghost use Rattle.wq_view.specs.History.{History};
 ghost use Rattle.wq_view.specs.View.{IsViewOf};
-ghost use Rattle.wq_replay.specs.LineData.{line_data};
+ghost use Rattle.wq_replay.specs.LineData.{line_data, seen_data};
 ghost use Rattle.wq_replay.specs.Sending.{Sends};
 ghost use Rattle.wq_replay.specs.Stage.{StageData, turn_inside, turn_of, turn_outside};
 ghost use Rattle.wq_replay.specs.Step.{IsAt, PassesOver, Takes, TakesIn, draft_data};
@@ -37,7 +37,8 @@ pub(crate) fn step<W: Write>(
     text: &[u8],
 ) -> Result<(), StepFault>
     ensures { (at : StageData) → IsAt stage.old at
-        → Takes at (turn_of at text.now) (W.contents writer.old) (W.contents writer.new) result stage.new }
+        → Takes at (turn_of at text.now)
+        (W.contents writer.old) (W.contents writer.new) result stage.new }
 {
     if text.len() > MAX_SCRIPT_LINE {
         return Err(StepFault::Malformed);
@@ -60,7 +61,8 @@ fn step_outside<W: Write>(
 ) -> Result<(), StepFault>
     requires { stage.old.draft ≡ None }
     ensures { (at : StageData) → IsAt stage.old at
-        → Takes at (turn_outside (line_data line.entry)) (W.contents writer.old) (W.contents writer.new) result stage.new }
+        → Takes at (turn_outside (line_data line.entry))
+        (W.contents writer.old) (W.contents writer.new) result stage.new }
 {
     match line {
         Line::Pass(second) => {
@@ -83,9 +85,10 @@ fn step_inside(
     line: Line<'_>,
 ) -> Result<(), StepFault>
     requires { stage.old.draft ≡ None }
-    ensures { (at : StageData) → IsViewOf at.history stage.old.view → at.draft ≡ Some (draft_data draft)
-        → (known : Option (List ℕ))
-        → Takes at (turn_inside (draft_data draft) (line_data line.entry)) known known result stage.new }
+    ensures { (at : StageData) → IsViewOf at.history stage.old.view
+        → at.draft ≡ Some (draft_data draft) → (known : Option (List ℕ))
+        → Takes at (turn_inside (draft_data draft) (line_data line.entry))
+        known known result stage.new }
 {
     match line {
         Line::Row(row) => {
@@ -117,7 +120,7 @@ fn send<W: Write>(
 
 /// A row as a walker would have seen it.
 fn seen(alloc: Global, row: RowLine<'_>) -> Result<Seen, AllocError>
-    ensures { IfOk result (λ seen. seen ≡ record { name = row.entry.name.now; kind = row.entry.kind; size = row.entry.size; mtime_ms = row.entry.mtime_ms }) }
+    ensures { IfOk result (λ seen. seen ≡ seen_data row.entry) }
 {
     Ok(Seen {
         name: ArcSlice::from_slice(alloc, row.name)?,
@@ -129,7 +132,8 @@ fn seen(alloc: Global, row: RowLine<'_>) -> Result<Seen, AllocError>
 
 /// Takes the pass of a listing into the view.
 fn pass_over(view: &mut View, draft: Draft) -> Result<(), StepFault>
-    ensures { (history : History) → IsViewOf history view.old → PassesOver history (draft_data draft) result view.new }
+    ensures { (history : History) → IsViewOf history view.old
+        → PassesOver history (draft_data draft) result view.new }
 {
     let Ok(pass) = Pass::new(draft.rows, draft.second) else {
         return Err(StepFault::Malformed);
@@ -139,7 +143,8 @@ fn pass_over(view: &mut View, draft: Draft) -> Result<(), StepFault>
 
 /// Takes a pass into the view; one that comes when the ticks are spent is left out.
 fn take_in(view: &mut View, pass: &Pass) -> Result<(), StepFault>
-    ensures { (history : History) → IsViewOf history view.old → TakesIn history pass.now result view.new }
+    ensures { (history : History) → IsViewOf history view.old
+        → TakesIn history pass.now result view.new }
 {
     match view.absorb(pass) {
         Ok(_) | Err(ViewFault::TicksSpent) => Ok(()),

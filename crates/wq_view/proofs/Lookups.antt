@@ -1,5 +1,5 @@
 -- Where a name stands among records in order.
-use Rattle.std.proofs.Common.{◌≡◌, ℕ, zero, suc, ◌<◌, ◌≢◌, true, false, cond, List, [], ◌∷◌, length, get_or, slice_get, Some, None, Result, Ok, Err, MatchOption, inl, inr, sym, refl, ap, subst, ◌∙◌, arith}
+use Rattle.std.proofs.Common.{Option, IfNone, IfSome, ◌≡◌, ℕ, zero, suc, ◌<◌, ◌≢◌, true, false, cond, List, [], ◌∷◌, length, get_or, slice_get, Some, None, Result, Ok, Err, MatchOption, inl, inr, sym, refl, ap, subst, ◌∙◌, arith}
 use mathlib.Core.Bool.{false≢true}
 use Rattle.std.specs.declared.cmp.Ordering.{Ordering}
 use Rattle.std.specs.declared.cmp.Ordering.TheVariants.{Less, Equal, Greater}
@@ -73,3 +73,13 @@ searched q rs (Err at) sorted in_range parted =
       | inl low ↦ cc (parts.0 k nobody (omega arith) low)
       | inr high ↦ cc (parts.1 k nobody high h)
     ])
+
+-- of two cases the one without a value
+pub absent_from : {A : Type 0} (P : Type 0) (Q : A → Type 0) (o : Option A) → MatchOption o P Q → IfNone o P
+absent_from P Q None holds = holds
+absent_from P Q (Some a) holds = tt
+
+-- and the one with a value
+pub found_from : {A : Type 0} (P : Type 0) (Q : A → Type 0) (o : Option A) → MatchOption o P Q → IfSome o Q
+found_from P Q None holds = tt
+found_from P Q (Some a) holds = holds

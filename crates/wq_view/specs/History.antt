@@ -1,5 +1,5 @@
--- A history is the list of the passes over one root, the first pass first; nothing here asks that neighbours differ.
--- What each pass saw of a name, and the record of a name that follows from them, each name by itself.
+-- Histories: the passes over one root, and the record of each name that follows from what they saw.
+-- The fields of a record are those of Watchman's documentation of file queries.
 use Rattle.std.specs.Prelude.{◌≢◌, ℕ, zero, suc, ℤ, pos, Bool, true, false, not, ◌&&◌, is_some, is_none, if◌then◌else◌, List, [], ◌∷◌, length, slice_get, Option, Some, None, option_map, option_and_then}
 use Rattle.std.specs.Option.{option_map_or}
 use Rattle.std.specs.FinMap.{FinMap, empty, get}
@@ -7,6 +7,7 @@ use Rattle.wq_view.specs.Seen.{Stat, same_stat}
 use Rattle.wq_view.specs.Listing.{PassData, name_cmp}
 use Rattle.wq_view.specs.RecordData.{RecordData}
 
+-- the list of the passes over one root, the first pass first; neighbours need not differ
 abbrev pub History : Type 0
 History = List PassData
 
@@ -46,7 +47,8 @@ abbrev pub has_changed : (ℕ → Option Stat) → ℕ → Bool
 has_changed stats zero = false
 has_changed stats (suc i) = not (same_observation (stats i) (stats (suc i)))
 
--- the record of a name after n passes that saw this of it, at these seconds: none where no pass saw it
+-- the record of a name after n passes that saw this of it, at these seconds;
+-- none where no pass saw it
 abbrev pub record_from : List ℕ → (ℕ → Option Stat) → (ℕ → ℤ) → ℕ → Option RecordData
 record_from name stats seconds n =
     option_map (λ last. record {
@@ -63,7 +65,8 @@ record_from name stats seconds n =
 
 -- the record that a history gives a name
 abbrev pub record_of : History → List ℕ → Option RecordData
-record_of history name = record_from name (stat_at history name) (second_of history) (length history)
+record_of history name =
+    record_from name (stat_at history name) (second_of history) (length history)
 
 -- each pass saw something else than the one before it, and the first something else than this
 abbrev pub DifferFrom : FinMap name_cmp Stat → History → Type 0

@@ -17,6 +17,7 @@ use Rattle.wq_view.specs.Seen.{SeenData, Stat, stat_code, stat_of, entry_of, is_
 abbrev pub name_cmp : List ℕ → List ℕ → Ordering
 name_cmp = slice_cmp nat_cmp
 
+-- what a pass saw, by name
 pub record PassData : Type 0 where
   pub stats : FinMap name_cmp Stat
   -- in seconds of the Unix epoch
@@ -24,7 +25,9 @@ pub record PassData : Type 0 where
 
 -- a listing as the pair of its parts
 abbrev pub pass_code : Coded PassData
-pass_code = code_by (FinMap name_cmp Stat × ℤ) (coded× (code (coded_list coded_ℕ) stat_code) coded_ℤ) (λ l. (l.stats, l.second)) (λ p. record { stats = p.0; second = p.1 }) (λ _. refl)
+pass_code =
+    code_by (FinMap name_cmp Stat × ℤ) (coded× (code (coded_list coded_ℕ) stat_code) coded_ℤ)
+    (λ pass. (pass.stats, pass.second)) (λ (stats, second). record { stats = stats; second = second }) (λ _. refl)
 
 -- what rows list, where no name stands twice
 abbrev pub listing_of : List SeenData → ℤ → PassData

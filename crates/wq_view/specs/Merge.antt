@@ -9,7 +9,8 @@ use Rattle.wq_view.specs.RecordData.{RecordData, last_stat, unseen, observed}
 -- the first row is that of a record which exists, and the later rows pass the test
 abbrev pub shows_next : RecordData → (List SeenData → Bool) → List SeenData → Bool
 shows_next r later [] = false
-shows_next r later (row ∷ rows) = bytes_eq r.name row.name && same_stat (last_stat r) (stat_of row) && later rows
+shows_next r later (row ∷ rows) =
+    bytes_eq r.name row.name && same_stat (last_stat r) (stat_of row) && later rows
 
 -- whether the rows say what the records say of the files that exist
 abbrev pub shows : List RecordData → List SeenData → Bool
@@ -18,10 +19,14 @@ shows [] (row ∷ rows) = false
 shows (r ∷ rs) rows = if r.exists then shows_next r (shows rs) rows else shows rs rows
 
 -- a record with the unseen records of the rows before it
-abbrev pub put_before : RecordData → (List SeenData → List RecordData) → List SeenData → List RecordData
+abbrev pub put_before : RecordData → (List SeenData → List RecordData) → List SeenData
+    → List RecordData
 put_before r later [] = r ∷ later []
 put_before r later (row ∷ rows) =
-    by_order (name_cmp r.name row.name) (r ∷ later (row ∷ rows)) (r ∷ later rows) (unseen row.name ∷ put_before r later rows)
+    by_order (name_cmp r.name row.name)
+    (r ∷ later (row ∷ rows))
+    (r ∷ later rows)
+    (unseen row.name ∷ put_before r later rows)
 
 -- the records, with an unseen one for each row whose name has none
 abbrev pub with_names : List RecordData → List SeenData → List RecordData
@@ -29,7 +34,8 @@ with_names [] rows = map (λ row. unseen row.name) rows
 with_names (r ∷ rs) rows = put_before r (with_names rs) rows
 
 -- a record as the first row shows it if that row has its name, and the later records after it
-abbrev pub observe_next : RecordData → (List SeenData → List RecordData) → List SeenData → ℕ → ℤ → List RecordData
+abbrev pub observe_next : RecordData → (List SeenData → List RecordData) → List SeenData → ℕ → ℤ
+    → List RecordData
 observe_next r later [] tick second = observed r None tick second ∷ later []
 observe_next r later (row ∷ rows) tick second =
     if bytes_eq r.name row.name
@@ -39,7 +45,8 @@ observe_next r later (row ∷ rows) tick second =
 -- the records after a pass with these rows, each of which has its record
 abbrev pub observed_all : ℕ → ℤ → List RecordData → List SeenData → List RecordData
 observed_all tick second [] rows = []
-observed_all tick second (r ∷ rs) rows = observe_next r (observed_all tick second rs) rows tick second
+observed_all tick second (r ∷ rs) rows =
+    observe_next r (observed_all tick second rs) rows tick second
 
 -- the records after a pass with these rows
 abbrev pub absorbed : ℕ → ℤ → List RecordData → List SeenData → List RecordData

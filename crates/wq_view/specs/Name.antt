@@ -8,12 +8,14 @@ use Rattle.wq_view.specs.Limit.{max_name_length}
 
 -- a part between slashes that names something: not empty, not `.` and not `..`
 abbrev pub is_plain_part : List ℕ → Bool
-is_plain_part part = not (bytes_eq part []) && not (bytes_eq part (codes ".")) && not (bytes_eq part (codes ".."))
+is_plain_part part =
+    not (bytes_eq part []) && not (bytes_eq part (codes ".")) && not (bytes_eq part (codes ".."))
 
 -- a name is UTF-8 of 1 to 4,096 bytes without byte 0, each of whose parts is plain
 unfoldable pub is_valid_name : List ℕ → Bool
 is_valid_name bytes =
-    nat_le 1 (length bytes) && nat_le (length bytes) max_name_length && not (list_any (λ b. b == 0) bytes)
+    nat_le 1 (length bytes) && nat_le (length bytes) max_name_length
+    && not (list_any (λ b. b == 0) bytes)
     && list_all is_plain_part (slice_split is_slash bytes) && is_utf8 bytes
 
 -- what follows the last slash
@@ -22,4 +24,5 @@ basename_of name = after_last is_slash name
 
 -- what follows the last dot of the basename, or nothing where it has no dot
 abbrev pub suffix_of : List ℕ → List ℕ
-suffix_of name = if list_any is_dot (basename_of name) then after_last is_dot (basename_of name) else []
+suffix_of name =
+    if list_any is_dot (basename_of name) then after_last is_dot (basename_of name) else []

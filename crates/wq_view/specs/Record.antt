@@ -1,6 +1,18 @@
--- What the fields of the Rust type `Record` stand for.
+-- What the fields of the type `Record` stand for.
+-- No public document is behind it.
 use Rattle.wq_view.specs.declared.file_record.Record.TheInside.{Inside}
 use Rattle.wq_view.specs.RecordData.{RecordData}
 
+-- the record that they make
 abbrev pub record_data : Inside → RecordData
-record_data r = record { name = r.name; kind = r.kind; size = r.size; mtime_ms = r.mtime_ms; exists = r.exists; ctick = r.ctick; otick = r.otick; csec = r.csec; osec = r.osec }
+record_data r = record {
+  name = r.name;
+  kind = r.kind;
+  size = r.size;
+  mtime_ms = r.mtime_ms;
+  exists = r.exists;
+  ctick = r.ctick;
+  otick = r.otick;
+  csec = r.csec;
+  osec = r.osec;
+}

@@ -1,5 +1,5 @@
--- The record that a view keeps of one file: what was last seen of it, whether it exists,
--- and when it was created and last observed to change, as ticks (numbers of passes) and as seconds of the Unix epoch.
+-- The record that a view keeps of one file: what was last seen of it, and when it came and changed.
+-- Its fields are those of Watchman's documentation of file queries; a tick is the number of a pass.
 use Rattle.std.specs.Prelude.{ℕ, ℤ, pos, ◌≤◌, Bool, false, true, IsTrue, if◌then◌else◌, List, map, Option, Some, None, refl}
 use Rattle.std.specs.Coded.{Coded, code_by, coded×, coded_ℕ, coded_ℤ, coded_bool, coded_list}
 use Rattle.std.specs.FinMap.{find}
@@ -12,6 +12,7 @@ use Rattle.wq_view.specs.Name.{is_valid_name}
 use Rattle.wq_view.specs.Seen.{Stat, is_count, is_in_range, same_stat}
 use Rattle.wq_view.specs.Listing.{name_cmp}
 
+-- what is kept of one file, deleted or not
 pub record RecordData : Type 0 where
   pub name : List ℕ
   pub kind : Kind
@@ -30,9 +31,32 @@ pub record RecordData : Type 0 where
 abbrev pub record_code : Coded RecordData
 record_code =
     code_by (List ℕ × (Kind × (ℤ × (ℤ × (Bool × (ℕ × (ℕ × (ℤ × ℤ))))))))
-    (coded× (coded_list coded_ℕ) (coded× the_row.coded (coded× coded_ℤ (coded× coded_ℤ (coded× coded_bool (coded× coded_ℕ (coded× coded_ℕ (coded× coded_ℤ coded_ℤ))))))))
-    (λ r. (r.name, (r.kind, (r.size, (r.mtime_ms, (r.exists, (r.ctick, (r.otick, (r.csec, r.osec)))))))))
-    (λ p. record { name = p.0; kind = p.1.0; size = p.1.1.0; mtime_ms = p.1.1.1.0; exists = p.1.1.1.1.0; ctick = p.1.1.1.1.1.0; otick = p.1.1.1.1.1.1.0; csec = p.1.1.1.1.1.1.1.0; osec = p.1.1.1.1.1.1.1.1 })
+    (coded× (coded_list coded_ℕ) (coded× the_row.coded (coded× coded_ℤ (coded× coded_ℤ
+    (coded× coded_bool (coded× coded_ℕ (coded× coded_ℕ (coded× coded_ℤ coded_ℤ))))))))
+    (λ r. (
+      r.name,
+      (
+        r.kind,
+        (
+          r.size,
+          (
+            r.mtime_ms,
+            (r.exists, (r.ctick, (r.otick, (r.csec, r.osec)))),
+          ),
+        ),
+      ),
+    ))
+    (λ (name, (kind, (size, (mtime_ms, (exists, (ctick, (otick, (csec, osec)))))))). record {
+      name = name;
+      kind = kind;
+      size = size;
+      mtime_ms = mtime_ms;
+      exists = exists;
+      ctick = ctick;
+      otick = otick;
+      csec = csec;
+      osec = osec;
+    })
     (λ _. refl)
 
 -- milliseconds as whole seconds, rounded down: -1 ms lies in second -1
@@ -54,15 +78,27 @@ pub record IsLawful (r : RecordData) : Type 0 where
 
 -- the record of a name that no pass has seen yet
 abbrev pub unseen : List ℕ → RecordData
-unseen name = record { name = name; kind = Unknown; size = pos 0; mtime_ms = pos 0; exists = false; ctick = 0; otick = 0; csec = pos 0; osec = pos 0 }
+unseen name = record {
+  name = name;
+  kind = Unknown;
+  size = pos 0;
+  mtime_ms = pos 0;
+  exists = false;
+  ctick = 0;
+  otick = 0;
+  csec = pos 0;
+  osec = pos 0;
+}
 
 -- the record after a pass that saw the file otherwise than it was
 abbrev pub changed : RecordData → Stat → ℕ → ℤ → RecordData
-changed r s tick second = record r { kind = s.kind; size = s.size; mtime_ms = s.mtime_ms; otick = tick; osec = second }
+changed r s tick second =
+    record r { kind = s.kind; size = s.size; mtime_ms = s.mtime_ms; otick = tick; osec = second }
 
 -- the record after a pass that saw the file come
 abbrev pub come : RecordData → Stat → ℕ → ℤ → RecordData
-come r s tick second = changed (record r { exists = true; ctick = tick; csec = second }) s tick second
+come r s tick second =
+    changed (record r { exists = true; ctick = tick; csec = second }) s tick second
 
 -- the record after a pass that saw the file go
 abbrev pub gone : RecordData → ℕ → ℤ → RecordData
@@ -72,7 +108,8 @@ gone r tick second = record r { exists = false; otick = tick; osec = second }
 abbrev pub observed : RecordData → Option Stat → ℕ → ℤ → RecordData
 observed r None tick second = if r.exists then gone r tick second else r
 observed r (Some s) tick second =
-    if r.exists then (if same_stat (last_stat r) s then r else changed r s tick second) else come r s tick second
+    if r.exists then (if same_stat (last_stat r) s then r else changed r s tick second)
+    else come r s tick second
 
 -- records as entries by their names
 abbrev pub keyed : List RecordData → List (List ℕ × RecordData)

@@ -1,4 +1,4 @@
--- What is seen of one file: its kind, its size in bytes, and its time of change in milliseconds of the Unix epoch.
+-- What a pass sees of one file: its kind, its size, and its modification time in milliseconds.
 -- A row of a listing is a name with what was seen of it.
 use Rattle.std.specs.Prelude.{refl, ℕ, ℤ, pos, neg_ℤ, Bool, ◌&&◌, ◌==◌, int_le, List}
 use Rattle.std.specs.Coded.{Coded, code_by, coded×, coded_ℤ}
@@ -9,6 +9,7 @@ use Rattle.wq_base.specs.Limit.{max_number}
 use Rattle.wq_view.specs.Kind.{letter_of}
 use Rattle.wq_view.specs.Name.{is_valid_name}
 
+-- what a pass saw of a name
 pub record Stat : Type 0 where
   pub kind : Kind
   pub size : ℤ
@@ -16,8 +17,13 @@ pub record Stat : Type 0 where
 
 -- a stat as the tuple of its parts
 abbrev pub stat_code : Coded Stat
-stat_code = code_by (Kind × (ℤ × ℤ)) (coded× the_row.coded (coded× coded_ℤ coded_ℤ)) (λ s. (s.kind, (s.size, s.mtime_ms))) (λ p. record { kind = p.0; size = p.1.0; mtime_ms = p.1.1 }) (λ _. refl)
+stat_code =
+    code_by (Kind × (ℤ × ℤ)) (coded× the_row.coded (coded× coded_ℤ coded_ℤ))
+    (λ s. (s.kind, (s.size, s.mtime_ms)))
+    (λ (kind, (size, mtime_ms)). record { kind = kind; size = size; mtime_ms = mtime_ms })
+    (λ _. refl)
 
+-- a name with what was seen of it
 pub record SeenData : Type 0 where
   pub name : List ℕ
   pub kind : Kind
@@ -34,7 +40,8 @@ entry_of row = (row.name, stat_of row)
 
 -- whether two stats are one
 abbrev pub same_stat : Stat → Stat → Bool
-same_stat a b = (letter_of a.kind == letter_of b.kind) && int_eq a.size b.size && int_eq a.mtime_ms b.mtime_ms
+same_stat a b =
+    (letter_of a.kind == letter_of b.kind) && int_eq a.size b.size && int_eq a.mtime_ms b.mtime_ms
 
 -- a size in bytes, or a second of the Unix epoch: from 0 to 2^62
 abbrev pub is_count : ℤ → Bool

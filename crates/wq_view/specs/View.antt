@@ -1,4 +1,5 @@
--- The view of a history: the records of all names that its passes saw, and how many passes there were.
+-- The view of a history: the records of all names that its passes saw, and how many there were.
+-- It is this server's own.
 use Rattle.std.specs.Prelude.{◌≡◌, ℕ, IsTrue, List, length, refl}
 use Rattle.std.specs.Coded.{Coded, code_by, coded×, coded_ℕ, coded_list}
 use Rattle.std.specs.FinMap.{is_sorted}
@@ -6,6 +7,7 @@ use Rattle.wq_view.specs.Listing.{name_cmp}
 use Rattle.wq_view.specs.RecordData.{RecordData, record_code, keyed, record_named}
 use Rattle.wq_view.specs.History.{History, record_of}
 
+-- what is known of a root
 pub record ViewData : Type 0 where
   -- the number of the last pass
   pub tick : ℕ
@@ -13,13 +15,16 @@ pub record ViewData : Type 0 where
 
 -- a view as the pair of its parts
 abbrev pub view_code : Coded ViewData
-view_code = code_by (ℕ × List RecordData) (coded× coded_ℕ (coded_list record_code)) (λ v. (v.tick, v.records)) (λ p. record { tick = p.0; records = p.1 }) (λ _. refl)
+view_code =
+    code_by (ℕ × List RecordData) (coded× coded_ℕ (coded_list record_code))
+    (λ view. (view.tick, view.records)) (λ (tick, records). record { tick = tick; records = records }) (λ _. refl)
 
 -- the names strictly rise in byte order
 abbrev pub NamesRise : List RecordData → Type 0
 NamesRise records = IsTrue (is_sorted name_cmp (keyed records))
 
--- the view of a history: its tick is the number of passes, its names rise, and each name has the record that the history gives it
+-- the view of a history: its tick is the number of passes, its names rise, and each name has the
+-- record that the history gives it
 pub record IsViewOf (history : History) (view : ViewData) : Type 0 where
   pub tick : view.tick ≡ length history
   pub ordered : NamesRise view.records

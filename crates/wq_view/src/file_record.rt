@@ -23,7 +23,7 @@ pub struct Record {
     pub name: Name,
     /// In bytes, from 0 to 2^62.
     pub size: i64,
-    /// The time of the last change, in milliseconds of the Unix epoch, from -2^62 to 2^62.
+    /// The modification time, in milliseconds of the Unix epoch, from -2^62 to 2^62.
     pub mtime_ms: i64,
     /// The tick of the pass that saw the file come.
     pub ctick: u64,

@@ -39,7 +39,9 @@ impl Kind {
     #[tactic(auto, unfolding(crate::specs::Kind::kind_with))]
     pub fn from_letter(letter: u8) -> Option<Kind>
         ensures table { result ≡ kind_with letter }
-        ensures letter { MatchOption result ((kind : Kind) → letter_of kind ≢ letter) (λ kind. letter_of kind ≡ letter) }
+        ensures letter { MatchOption result
+            ((kind : Kind) → letter_of kind ≢ letter)
+            (λ kind. letter_of kind ≡ letter) }
     {
         match letter {
             b'f' => Some(Kind::File),

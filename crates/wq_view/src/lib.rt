@@ -12,19 +12,19 @@
 //! ```
 #![tactic(auto)]
 
+mod file_record;
 mod kind;
 mod law;
 mod limit;
 mod listing;
 mod merging;
 mod name;
-mod file_record;
 mod view;
 
+pub use file_record::Record;
 pub use kind::Kind;
 pub use law::history_has_one_view;
 pub use limit::{MAX_RECORDS, MAX_ROWS, MAX_TICK};
 pub use listing::{Pass, PassFault, Seen};
 pub use name::{MAX_NAME, Name, is_valid_name};
-pub use file_record::Record;
 pub use view::{View, ViewFault};

@@ -22,7 +22,7 @@ pub struct Seen {
     pub kind: Kind,
     /// In bytes.
     pub size: i64,
-    /// The time of the last change, in milliseconds of the Unix epoch.
+    /// The modification time, in milliseconds of the Unix epoch.
     pub mtime_ms: i64,
 }
 
@@ -83,7 +83,9 @@ impl Pass {
     /// The first fault refuses them: too many rows, then the second, and then row by row a name that is
     /// not valid, a number out of range, a name that an earlier row has. It takes no memory.
     pub fn new(mut rows: Vec<Seen>, second: i64) -> Result<Pass, PassFault>
-        ensures fault { MatchResult result (λ _. listing_fault rows.items second ≡ None) (λ fault. listing_fault rows.items second ≡ Some fault) }
+        ensures fault { MatchResult result
+            (λ _. listing_fault rows.items second ≡ None)
+            (λ fault. listing_fault rows.items second ≡ Some fault) }
         ensures pass { IfOk result (λ pass. pass ≡ listing_of rows.items second) }
     {
         if rows.len() > MAX_ROWS {
@@ -134,7 +136,8 @@ fn first_unlawful(rows: &[Seen]) -> Option<usize>
     ensures none { IfNone result (IsTrue (list_all is_lawful_row rows.now)) }
     ensures bound { IfSome result (λ at. at < length rows.now) }
     ensures before { IfSome result (λ at. IsTrue (list_all is_lawful_row (take at rows.now))) }
-    ensures here { IfSome result (λ at. IfSome (slice_get rows.now at) (λ row. is_lawful_row row ≡ false)) }
+    ensures here { IfSome result (λ at.
+        IfSome (slice_get rows.now at) (λ row. is_lawful_row row ≡ false)) }
 {
     for (at, row) in rows.iter().enumerate() {
         if !row.is_lawful() {

@@ -6,9 +6,9 @@ ghost use Rattle.wq_view.specs.Seen.{is_lawful_row, is_count};
 ghost use Rattle.wq_view.specs.RecordData.{unseen};
 ghost use Rattle.wq_view.specs.Merge.{shows, with_names, observed_all};
 
+use crate::file_record::Record;
 use crate::limit::{MAX_RECORDS, MAX_TICK};
 use crate::listing::Seen;
-use crate::file_record::Record;
 use std::alloc::{AllocError, Global};
 use std::cmp::Ordering;
 
@@ -131,7 +131,8 @@ pub(crate) fn push_copies(merged: &mut Vec<Record>, records: &[Record]) -> Resul
 /// Adds an unseen record for each row.
 fn push_unseen(merged: &mut Vec<Record>, rows: &[Seen]) -> Result<(), AllocError>
     requires { IsTrue (list_all is_lawful_row rows.now) }
-    ensures { OnOk result (merged.new.items ≡ merged.old.items ++ map (λ row. unseen row.name) rows.now) }
+    ensures { OnOk result
+        (merged.new.items ≡ merged.old.items ++ map (λ row. unseen row.name) rows.now) }
 {
     for row in rows {
         merged.push(Record::unseen(row)?)?;

@@ -101,8 +101,10 @@ fn is_utf8(bytes: &[u8]) -> bool
 /// What follows the last such byte, if there is one.
 pub(crate) fn after_last(byte: u8, bytes: &[u8]) -> Option<&[u8]>
     ensures { MatchOption result
-        ((list_any (λ b. b == byte) bytes.now ≡ false) × (after_last (λ b. b == byte) bytes.now ≡ bytes.now))
-        (λ rest. (list_any (λ b. b == byte) bytes.now ≡ true) × (rest.now ≡ after_last (λ b. b == byte) bytes.now)) }
+        ((list_any (λ b. b == byte) bytes.now ≡ false)
+        × (after_last (λ b. b == byte) bytes.now ≡ bytes.now))
+        (λ rest. (list_any (λ b. b == byte) bytes.now ≡ true)
+        × (rest.now ≡ after_last (λ b. b == byte) bytes.now)) }
 {
     let Some(at) = memrchr(byte, bytes) else {
         return None;

@@ -1,15 +1,15 @@
 //! The view of a root: the records of all files that its passes saw, in the byte order of their names.
 //! Lookups take no memory; only a pass that sees new names, and a copy, do.
-ghost use Rattle.std.specs.Prelude.{◌≡◌, ◌≢◌, ◌+◌, ◌≤◌, ◌<◌, ◌↔◌, List, [], ◌∷◌, ◌++◌, Ok, Err, Some, None, true, false, length, IfOk, OnOk, OnErr, IfErr, MatchOption, IsTrue, slice_get};
+ghost use Rattle.std.specs.Prelude.{◌≡◌, ◌≢◌, ◌+◌, ◌≤◌, ◌<◌, ◌↔◌, List, [], ◌∷◌, ◌++◌, Ok, Err, Some, None, true, false, length, IfOk, OnOk, OnErr, IfErr, IfNone, IfSome, IsTrue, slice_get};
 ghost use Rattle.wq_view.specs.RecordData.{record_named};
 ghost use Rattle.wq_view.specs.History.{History, last_stats};
 ghost use Rattle.wq_view.specs.Limit.{max_records, max_tick};
 ghost use Rattle.wq_view.specs.View.{IsViewOf, NamesRise};
 
+use crate::file_record::Record;
 use crate::limit::{MAX_RECORDS, MAX_TICK};
 use crate::listing::Pass;
 use crate::merging::{add_names, observe_all, push_copies, shows};
-use crate::file_record::Record;
 use std::alloc::{AllocError, Global};
 use std::marker::Model;
 use thiserror::Error;
@@ -54,7 +54,8 @@ impl Model for View {
 
     ghost view = { λ v. record { tick = v.tick; records = v.records.items } };
 
-    ghost invariant = { λ v. (v.tick ≤ max_tick) × (vec_len v.records ≤ max_records) × NamesRise v.records.items };
+    ghost invariant = { λ v. (v.tick ≤ max_tick) × (vec_len v.records ≤ max_records)
+        × NamesRise v.records.items };
 }
 
 impl View {
@@ -74,9 +75,13 @@ impl View {
     /// In O(n + m) for n records and m rows. Only a pass that sees new names takes memory.
     pub fn absorb(&mut self, pass: &Pass) -> Result<bool, ViewFault>
         // For every history of which this is the view:
-        ensures moved { (history : History) → IsViewOf history self.old → result ≡ Ok true → IsViewOf (history ++ pass.now ∷ []) self.new }
-        ensures still { (history : History) → IsViewOf history self.old → ((result ≡ Ok false) ↔ (last_stats history ≡ pass.now.stats)) }
-        ensures spent { (history : History) → IsViewOf history self.old → ((result ≡ Err ViewFault.TicksSpent) ↔ ((self.old.tick ≡ max_tick) × (last_stats history ≢ pass.now.stats))) }
+        ensures moved { (history : History) → IsViewOf history self.old
+            → result ≡ Ok true → IsViewOf (history ++ pass.now ∷ []) self.new }
+        ensures still { (history : History) → IsViewOf history self.old
+            → ((result ≡ Ok false) ↔ (last_stats history ≡ pass.now.stats)) }
+        ensures spent { (history : History) → IsViewOf history self.old
+            → ((result ≡ Err ViewFault.TicksSpent)
+            ↔ ((self.old.tick ≡ max_tick) × (last_stats history ≢ pass.now.stats))) }
         // And for any:
         ensures room { result ≡ Ok true → self.old.tick < max_tick }
         ensures kept { result ≢ Ok true → self.new ≡ self.old }
@@ -93,7 +98,8 @@ impl View {
 
     /// Whether the pass saw just what the last one saw.
     fn shows(&self, pass: &Pass) -> bool
-        ensures { (history : History) → IsViewOf history self.now → (IsTrue result ↔ (last_stats history ≡ pass.now.stats)) }
+        ensures { (history : History) → IsViewOf history self.now
+            → (IsTrue result ↔ (last_stats history ≡ pass.now.stats)) }
     {
         shows(&self.records, pass.rows())
     }
@@ -101,7 +107,8 @@ impl View {
     /// Takes in a pass that saw something else than the one before it.
     fn take_in(&mut self, pass: &Pass) -> Result<(), AllocError>
         requires { self.old.tick < max_tick }
-        ensures ok { (history : History) → IsViewOf history self.old → OnOk result (IsViewOf (history ++ pass.now ∷ []) self.new) }
+        ensures ok { (history : History) → IsViewOf history self.old
+            → OnOk result (IsViewOf (history ++ pass.now ∷ []) self.new) }
         ensures err { OnErr result (self.new ≡ self.old) }
     {
         let rows = pass.rows();
@@ -153,7 +160,9 @@ impl View {
 
     /// The place of the record of this name, which need be no valid one.
     pub fn find(&self, name: &str) -> Option<usize>
-        ensures { MatchOption result (record_named name.now self.now.records ≡ None) (λ i. (i < length self.now.records) × (slice_get self.now.records i ≡ record_named name.now self.now.records)) }
+        ensures absent { IfNone result (record_named name.now self.now.records ≡ None) }
+        ensures found { IfSome result (λ i. (i < length self.now.records)
+            × (slice_get self.now.records i ≡ record_named name.now self.now.records)) }
     {
         let name = name.as_bytes();
         self.records

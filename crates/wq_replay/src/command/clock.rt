@@ -20,7 +20,8 @@ pub(crate) fn answer_clock(
     view: &View,
     arguments: &[Value],
 ) -> Result<Value, Refusal>
-    ensures { Gives result (answer_clock (instance_data instance.now) view.now (items_view arguments.now)) }
+    ensures { Gives result
+        (answer_clock (instance_data instance.now) view.now (items_view arguments.now)) }
 {
     let Some(root) = root_of(arguments) else {
         return Err(Refusal::WrongArguments);

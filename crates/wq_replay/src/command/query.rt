@@ -21,7 +21,8 @@ pub(crate) fn answer_query(
     view: &View,
     arguments: &[Value],
 ) -> Result<Value, Refusal>
-    ensures { Gives result (answer_query (instance_data instance.now) view.now (items_view arguments.now)) }
+    ensures { Gives result
+        (answer_query (instance_data instance.now) view.now (items_view arguments.now)) }
 {
     let Some((root, query)) = arguments_of(arguments) else {
         return Err(Refusal::WrongArguments);
@@ -43,7 +44,8 @@ fn answer_read(
     instance: &Instance,
     view: &View,
 ) -> Result<Value, AllocError>
-    ensures { IfOk result (IsReply (answer_asked (instance_data instance.now) view.now (asked_of query))) }
+    ensures { IfOk result
+        (IsReply (answer_asked (instance_data instance.now) view.now (asked_of query))) }
 {
     let bound = query.bound();
     let plan = query.plan_plain(bound);
@@ -52,7 +54,8 @@ fn answer_read(
 
 /// The root and the object that `query` takes.
 fn arguments_of(arguments: &[Value]) -> Option<(&str, &Value)>
-    ensures { option_map (λ (root, query). (root.now, data_of query.now)) result ≡ arguments_of (items_view arguments.now) }
+    ensures { option_map (λ (root, query). (root.now, data_of query.now)) result
+        ≡ arguments_of (items_view arguments.now) }
 {
     let (root, behind) = arguments.split_first()?;
     let query = only_object(behind)?;
