@@ -6,7 +6,8 @@ use crate::word::{signed, text, unsigned};
 use anyhow::{Result, bail};
 use percent_encoding::{CONTROLS, percent_encode};
 use std::alloc::{AllocError, Global};
-use wq_clock::{Bound, Instance, MAX_NUMBER, Spec, parse, print, resolve};
+use wq_base::MAX_NUMBER;
+use wq_clock::{Bound, Instance, Spec, parse, print, resolve};
 
 /// `parse TEXT`: what a text is as a clock spec.
 pub(crate) fn parsed(alloc: Global, words: &[Vec<u8>]) -> Result<String> {
