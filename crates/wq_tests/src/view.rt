@@ -3,6 +3,7 @@
 use crate::tree::{file, pass};
 use itoa::Buffer;
 use std::alloc::{AllocError, Global};
+use std::process::Abort;
 use std::sync::ArcSlice;
 use std::test::Fail;
 use wq_view::{Kind, MAX_ROWS, Pass, PassFault, Record, Seen, View};
@@ -109,20 +110,61 @@ fn takes_in_a_million_rows(rt: HostRuntime) -> Result<(), Fail> {
     Ok(())
 }
 
-/// Too many rows are told before all that is wrong with the second and with each row: its name, its numbers, and that
-/// the name stands twice.
-#[test]
-fn tells_a_row_too_many_first(rt: HostRuntime) -> Result<(), Fail> {
-    let name = ArcSlice::from_slice(rt.alloc(), b"/")?;
-    let mut rows = Vec::with_capacity(rt.alloc(), 1_000_001)?;
+/// One row too many, each of them with this name and size.
+fn too_many_rows(alloc: Global, name: &[u8], size: i64) -> Result<Vec<Seen>, AllocError> {
+    let name = ArcSlice::from_slice(alloc, name)?;
+    let mut rows = Vec::with_capacity(alloc, 1_000_001)?;
     for _ in 0..1_000_001 {
         rows.push(Seen {
             name: name.clone()?,
             kind: Kind::Dir,
-            size: -1,
+            size,
             mtime_ms: 0,
         })?;
     }
-    assert_eq!(rt; Pass::new(rows, -1).err(), Some(PassFault::TooManyRows));
+    Ok(rows)
+}
+
+/// Asserts that rows of this name and size, at this second, are refused as too many.
+fn check_too_many(rt: &impl Abort, alloc: Global, table: &[(&[u8], i64, i64)]) -> Result<(), Fail> {
+    for (name, size, second) in table {
+        let rows = too_many_rows(alloc, name, *size)?;
+        let fault = Pass::new(rows, *second).err();
+        assert_eq!(rt; fault, Some(PassFault::TooManyRows), "at {size}, {second}");
+    }
+    Ok(())
+}
+
+/// Too many rows are told before a name that stands twice, a name that is not valid, a size and a second out of range.
+#[test]
+fn tells_a_row_too_many_first(rt: HostRuntime) -> Result<(), Fail> {
+    check_too_many(
+        &rt,
+        rt.alloc(),
+        &[(b"a", 1, 1), (b"/", 1, 1), (b"a", -1, 1), (b"a", 1, -1)],
+    )
+}
+
+/// The fault of a pass that sees one file of this name.
+fn fault_of_name(alloc: Global, name: &[u8]) -> Result<Option<PassFault>, Fail> {
+    let row = file(alloc, name, 0)?;
+    Ok(Pass::new(vec![in alloc; row]?, 0).err())
+}
+
+#[test]
+fn names_have_1_to_4096_bytes(rt: HostRuntime) -> Result<(), Fail> {
+    let name = vec![in rt.alloc(); b'n'; 5000]?;
+    for length in 0..=name.len() {
+        let want = if 1 <= length && length <= 4096 {
+            None
+        } else {
+            Some(PassFault::BadName)
+        };
+        assert_eq!(rt;
+            fault_of_name(rt.alloc(), &name[..length])?,
+            want,
+            "at {length} bytes"
+        );
+    }
     Ok(())
 }
