@@ -10,7 +10,7 @@ use wq_base::MAX_NUMBER;
 use wq_clock::{Bound, Instance, Spec, parse, print, resolve};
 
 /// `parse TEXT`: what a text is as a clock spec.
-pub(crate) fn parsed(alloc: Global, words: &[Vec<u8>]) -> Result<String> {
+pub(crate) fn parse_case(alloc: Global, words: &[Vec<u8>]) -> Result<String> {
     match parse(text(words, 1)?) {
         Ok(spec) => Ok(spec_text(alloc, &spec)?),
         Err(fault) => Ok(fault.to_string(alloc)?),
@@ -58,21 +58,21 @@ fn instance(words: &[Vec<u8>], start: u64, at: usize) -> Result<Instance>
 }
 
 /// `print START PID ROOT TICK`: the clock id of a tick at an instance.
-pub(crate) fn printed(alloc: Global, words: &[Vec<u8>]) -> Result<String> {
+pub(crate) fn print_case(alloc: Global, words: &[Vec<u8>]) -> Result<String> {
     let instance = instance(words, number(words, 1)?, 2)?;
     let id = print(&instance, number(words, 4)?);
     Ok(String::from_str(alloc, id.as_str())?)
 }
 
 /// `resolve TEXT START PID ROOT`: the bound that a clock spec sets at an instance.
-pub(crate) fn resolved(alloc: Global, words: &[Vec<u8>]) -> Result<String> {
+pub(crate) fn resolve_case(alloc: Global, words: &[Vec<u8>]) -> Result<String> {
     let instance = instance(words, number(words, 2)?, 3)?;
     let spec = parse(text(words, 1)?)?;
     Ok(bound_text(alloc, resolve(&spec, &instance))?)
 }
 
 /// `second NUMBER`: the bound of a second.
-pub(crate) fn second(alloc: Global, words: &[Vec<u8>]) -> Result<String> {
+pub(crate) fn second_case(alloc: Global, words: &[Vec<u8>]) -> Result<String> {
     Ok(bound_text(alloc, Bound::second(signed(words, 1)?))?)
 }
 

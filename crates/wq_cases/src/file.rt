@@ -7,7 +7,7 @@ use std::alloc::Global;
 use wq_view::{Kind, Pass, PassFault, ViewFault, is_valid_name};
 
 /// `name BYTES`: whether the bytes are a name, and what a pass says that has one row of this name.
-pub(crate) fn name(alloc: Global, words: &[Vec<u8>]) -> Result<String> {
+pub(crate) fn name_case(alloc: Global, words: &[Vec<u8>]) -> Result<String> {
     let name = bytes(words, 1)?;
     let is_valid = if is_valid_name(name) { "yes" } else { "no" };
     let row = empty_file(alloc, name)?;
@@ -18,7 +18,7 @@ pub(crate) fn name(alloc: Global, words: &[Vec<u8>]) -> Result<String> {
 }
 
 /// `parts NAME`: the basename and the suffix of a record.
-pub(crate) fn parts(alloc: Global, words: &[Vec<u8>]) -> Result<String> {
+pub(crate) fn parts_case(alloc: Global, words: &[Vec<u8>]) -> Result<String> {
     let view = view_of_one(alloc, bytes(words, 1)?)?;
     let record = view.records().first().context("no record")?;
     let basename = str::from_utf8(record.basename())?;
@@ -27,7 +27,7 @@ pub(crate) fn parts(alloc: Global, words: &[Vec<u8>]) -> Result<String> {
 }
 
 /// `kind LETTER`: the kind of a letter, and its letter.
-pub(crate) fn kind(alloc: Global, words: &[Vec<u8>]) -> Result<String> {
+pub(crate) fn kind_case(alloc: Global, words: &[Vec<u8>]) -> Result<String> {
     let letter = bytes(words, 1)?.first().context("no letter")?;
     match Kind::from_letter(*letter) {
         None => Ok(String::from_str(alloc, "none")?),
@@ -39,7 +39,7 @@ pub(crate) fn kind(alloc: Global, words: &[Vec<u8>]) -> Result<String> {
 }
 
 /// `kinds`: all bytes that are letters of kinds.
-pub(crate) fn kinds(alloc: Global) -> Result<String> {
+pub(crate) fn kinds_case(alloc: Global) -> Result<String> {
     let mut letters = String::new(alloc);
     for letter in 0..=255 {
         if Kind::from_letter(letter).is_some() {
@@ -50,7 +50,7 @@ pub(crate) fn kinds(alloc: Global) -> Result<String> {
 }
 
 /// `fault NAME`: the words of a fault.
-pub(crate) fn fault(alloc: Global, words: &[Vec<u8>]) -> Result<String> {
+pub(crate) fn fault_case(alloc: Global, words: &[Vec<u8>]) -> Result<String> {
     match text(words, 1)? {
         "TooManyRows" => Ok(PassFault::TooManyRows.to_string(alloc)?),
         "PassFault::NoMemory" => Ok(PassFault::NoMemory.to_string(alloc)?),

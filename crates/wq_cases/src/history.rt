@@ -48,7 +48,7 @@ fn rows(alloc: Global, text: &str) -> Result<Vec<Seen>> {
 }
 
 /// `pass SECOND ROWS`: whether the rows make a pass, or their first fault.
-pub(crate) fn pass(alloc: Global, words: &[Vec<u8>]) -> Result<String> {
+pub(crate) fn pass_case(alloc: Global, words: &[Vec<u8>]) -> Result<String> {
     let rows = rows(alloc, text(words, 2)?)?;
     match Pass::new(rows, signed(words, 1)?) {
         Ok(pass) => Ok(format!(in alloc; "a pass at second {}", pass.second())?),
@@ -84,7 +84,7 @@ pub(crate) fn view_of_one(alloc: Global, name: &[u8]) -> Result<View> {
 }
 
 /// `history HISTORY`: whether each pass moved the tick, the tick after them, how many records there are, and these.
-pub(crate) fn history(alloc: Global, words: &[Vec<u8>]) -> Result<String> {
+pub(crate) fn history_case(alloc: Global, words: &[Vec<u8>]) -> Result<String> {
     let mut answer = String::new(alloc);
     let view = view_of(alloc, text(words, 1)?, &mut answer)?;
     let head = format!(in alloc; "tick {}, records {}", view.tick(), view.len())?;
@@ -118,7 +118,7 @@ fn moments_text(alloc: Global, record: &Record) -> Result<String, AllocError> {
 }
 
 /// `find HISTORY NAME`: the place of the record of this name in the view after the history, and the name there.
-pub(crate) fn find(alloc: Global, words: &[Vec<u8>]) -> Result<String> {
+pub(crate) fn find_case(alloc: Global, words: &[Vec<u8>]) -> Result<String> {
     let mut moves = String::new(alloc);
     let view = view_of(alloc, text(words, 1)?, &mut moves)?;
     match view.find(str::from_utf8(bytes(words, 2)?)?) {

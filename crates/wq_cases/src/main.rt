@@ -24,14 +24,14 @@ use std::io::{BufRead, BufReader};
 fn answer(alloc: Global, line: &str) -> Result<String> {
     let words = word::words_of(alloc, line)?;
     match word::text(&words, 0)? {
-        "parse" => clock::parsed(alloc, &words),
-        "print" => clock::printed(alloc, &words),
-        "resolve" => clock::resolved(alloc, &words),
-        "second" => clock::second(alloc, &words),
-        "pattern" => pattern::fitting(alloc, &words),
-        "cells" => pattern::cells(alloc, &words),
-        "bounded" => pattern::bounded(alloc, &words),
-        "atoms" => pattern::atoms(alloc, &words),
+        "parse" => clock::parse_case(alloc, &words),
+        "print" => clock::print_case(alloc, &words),
+        "resolve" => clock::resolve_case(alloc, &words),
+        "second" => clock::second_case(alloc, &words),
+        "pattern" => pattern::pattern_case(alloc, &words),
+        "cells" => pattern::cells_case(alloc, &words),
+        "bounded" => pattern::bounded_case(alloc, &words),
+        "atoms" => pattern::atoms_case(alloc, &words),
         other => file_answer(alloc, other, &words),
     }
 }
@@ -39,14 +39,14 @@ fn answer(alloc: Global, line: &str) -> Result<String> {
 /// What a case's call on files and views answers.
 fn file_answer(alloc: Global, call: &str, words: &[Vec<u8>]) -> Result<String> {
     match call {
-        "name" => file::name(alloc, words),
-        "parts" => file::parts(alloc, words),
-        "kind" => file::kind(alloc, words),
-        "kinds" => file::kinds(alloc),
-        "fault" => file::fault(alloc, words),
-        "pass" => history::pass(alloc, words),
-        "history" => history::history(alloc, words),
-        "find" => history::find(alloc, words),
+        "name" => file::name_case(alloc, words),
+        "parts" => file::parts_case(alloc, words),
+        "kind" => file::kind_case(alloc, words),
+        "kinds" => file::kinds_case(alloc),
+        "fault" => file::fault_case(alloc, words),
+        "pass" => history::pass_case(alloc, words),
+        "history" => history::history_case(alloc, words),
+        "find" => history::find_case(alloc, words),
         _ => bail!("no such call"),
     }
 }

@@ -46,24 +46,24 @@ fn word_of(is_so: bool) -> &'static str {
 }
 
 /// `pattern FLAGS PATTERN TEXT`: whether the pattern fits the text.
-pub(crate) fn fitting(alloc: Global, words: &[Vec<u8>]) -> Result<String> {
+pub(crate) fn pattern_case(alloc: Global, words: &[Vec<u8>]) -> Result<String> {
     let is_fitting = hit(alloc, words)?.yes;
     Ok(String::from_str(alloc, word_of(is_fitting))?)
 }
 
 /// `cells FLAGS PATTERN TEXT`: how many cells were looked at.
-pub(crate) fn cells(alloc: Global, words: &[Vec<u8>]) -> Result<String> {
+pub(crate) fn cells_case(alloc: Global, words: &[Vec<u8>]) -> Result<String> {
     Ok(number_text(alloc, hit(alloc, words)?.cells)?)
 }
 
 /// `bounded FLAGS PATTERN TEXT CELLS`: whether at most so many cells were looked at.
-pub(crate) fn bounded(alloc: Global, words: &[Vec<u8>]) -> Result<String> {
+pub(crate) fn bounded_case(alloc: Global, words: &[Vec<u8>]) -> Result<String> {
     let is_bounded = hit(alloc, words)?.cells <= unsigned(words, 4)?;
     Ok(String::from_str(alloc, word_of(is_bounded))?)
 }
 
 /// `atoms FLAGS PATTERN`: how many atoms the pattern has.
-pub(crate) fn atoms(alloc: Global, words: &[Vec<u8>]) -> Result<String> {
+pub(crate) fn atoms_case(alloc: Global, words: &[Vec<u8>]) -> Result<String> {
     match pattern(alloc, words)? {
         Ok(pattern) => Ok(number_text(alloc, pattern.atoms() as u64)?),
         Err(fault) => Ok(fault.to_string(alloc)?),

@@ -34,7 +34,7 @@ pub(crate) fn words_of(alloc: Global, line: &str) -> Result<Vec<Vec<u8>>> {
 impl Reading {
     /// Takes a text in quotes, as a word or as more of the last one.
     fn take_text(&mut self, alloc: Global, piece: &str) -> Result<(), AllocError> {
-        let mut word = self.joined_word(alloc);
+        let mut word = self.word_to_continue(alloc);
         self.text_at = word.len();
         percent_decode(piece.as_bytes()).append_to(&mut word)?;
         self.words.push(word)?;
@@ -42,7 +42,7 @@ impl Reading {
     }
 
     /// The word that a text continues: the last one behind a `+`, and else a new one.
-    fn joined_word(&mut self, alloc: Global) -> Vec<u8> {
+    fn word_to_continue(&mut self, alloc: Global) -> Vec<u8> {
         if self.is_joined {
             self.is_joined = false;
             if let Some(word) = self.words.pop() {

@@ -68,7 +68,7 @@ impl Write for Full {
 
 /// A replay of the script: how it ended, what was written, and how often each device was called.
 #[derive(Drop)]
-struct Played {
+struct Outcome {
     ended: Result<(), ReplayFault>,
     written: Vec<u8>,
     reads: usize,
@@ -76,7 +76,7 @@ struct Played {
 }
 
 /// Replays the script with a reader that fails so at one call, and a writer that fails at another.
-fn play(alloc: Global, read_fails: usize, fault: ErrorKind, write_fails: usize) -> Played {
+fn play(alloc: Global, read_fails: usize, fault: ErrorKind, write_fails: usize) -> Outcome {
     let mut reader = Broken {
         left: SCRIPT,
         calls: 0,
@@ -89,7 +89,7 @@ fn play(alloc: Global, read_fails: usize, fault: ErrorKind, write_fails: usize) 
         fails_at: write_fails,
     };
     let ended = replay(alloc, &mut reader, &mut writer);
-    Played {
+    Outcome {
         ended,
         written: writer.kept,
         reads: reader.calls,
@@ -98,26 +98,26 @@ fn play(alloc: Global, read_fails: usize, fault: ErrorKind, write_fails: usize) 
 }
 
 /// Asserts how a replay ended, and that all that it wrote is the front of what it would write.
-fn check(rt: &impl Abort, played: &Played, ended: Result<(), ReplayFault>, call: usize) {
-    assert_eq!(rt; played.ended, ended, "at call {call}");
-    assert!(rt; WRITTEN.starts_with(&played.written), "at call {call}");
+fn check(rt: &impl Abort, outcome: &Outcome, ended: Result<(), ReplayFault>, call: usize) {
+    assert_eq!(rt; outcome.ended, ended, "at call {call}");
+    assert!(rt; WRITTEN.starts_with(&outcome.written), "at call {call}");
 }
 
 #[test]
 fn devices_that_work_give_each_reply(rt: HostRuntime) {
-    let played = play(rt.alloc(), NEVER, ErrorKind::BrokenPipe, NEVER);
-    check(&rt, &played, Ok(()), NEVER);
-    assert_eq!(rt; played.written.as_slice(), WRITTEN);
+    let outcome = play(rt.alloc(), NEVER, ErrorKind::BrokenPipe, NEVER);
+    check(&rt, &outcome, Ok(()), NEVER);
+    assert_eq!(rt; outcome.written.as_slice(), WRITTEN);
     // Each byte of the script, and each written one, takes a part of a call.
-    assert!(rt; played.reads > SCRIPT.len() / 4 && played.writes > WRITTEN.len() / 3);
+    assert!(rt; outcome.reads > SCRIPT.len() / 4 && outcome.writes > WRITTEN.len() / 3);
 }
 
 #[test]
 fn tells_a_reader_that_fails_at_any_call(rt: HostRuntime) {
     let calls = play(rt.alloc(), NEVER, ErrorKind::BrokenPipe, NEVER).reads;
     for call in 1..=calls {
-        let played = play(rt.alloc(), call, ErrorKind::BrokenPipe, NEVER);
-        check(&rt, &played, Err(ReplayFault::Read), call);
+        let outcome = play(rt.alloc(), call, ErrorKind::BrokenPipe, NEVER);
+        check(&rt, &outcome, Err(ReplayFault::Read), call);
     }
 }
 
@@ -125,8 +125,8 @@ fn tells_a_reader_that_fails_at_any_call(rt: HostRuntime) {
 fn tells_a_writer_that_fails_at_any_call(rt: HostRuntime) {
     let calls = play(rt.alloc(), NEVER, ErrorKind::BrokenPipe, NEVER).writes;
     for call in 1..=calls {
-        let played = play(rt.alloc(), NEVER, ErrorKind::BrokenPipe, call);
-        check(&rt, &played, Err(ReplayFault::Write), call);
+        let outcome = play(rt.alloc(), NEVER, ErrorKind::BrokenPipe, call);
+        check(&rt, &outcome, Err(ReplayFault::Write), call);
     }
 }
 
@@ -135,9 +135,9 @@ fn tells_a_writer_that_fails_at_any_call(rt: HostRuntime) {
 fn reads_on_where_a_read_is_interrupted(rt: HostRuntime) {
     let calls = play(rt.alloc(), NEVER, ErrorKind::Interrupted, NEVER).reads;
     for call in 1..=calls {
-        let played = play(rt.alloc(), call, ErrorKind::Interrupted, NEVER);
-        check(&rt, &played, Ok(()), call);
-        assert_eq!(rt; played.written.as_slice(), WRITTEN, "at call {call}");
+        let outcome = play(rt.alloc(), call, ErrorKind::Interrupted, NEVER);
+        check(&rt, &outcome, Ok(()), call);
+        assert_eq!(rt; outcome.written.as_slice(), WRITTEN, "at call {call}");
     }
 }
 
