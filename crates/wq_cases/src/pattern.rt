@@ -1,0 +1,75 @@
+//! Calls on patterns.
+
+use crate::word::{bytes, text, unsigned};
+use anyhow::{Result, bail};
+use std::alloc::{AllocError, Global};
+use wq_glob::{Flags, Hit, MAX_TEXT, Pattern, PatternFault};
+
+/// The flags that a word names, with a comma between two; `plain` is none.
+fn flags(word: &str) -> Result<Flags> {
+    let mut flags = Flags {
+        wholename: false,
+        dotfiles: false,
+        noescape: false,
+        fold: false,
+    };
+    for flag in word.split(',') {
+        match flag {
+            "plain" => {}
+            "wholename" => flags.wholename = true,
+            "dotfiles" => flags.dotfiles = true,
+            "noescape" => flags.noescape = true,
+            "fold" => flags.fold = true,
+            _ => bail!("no such flag"),
+        }
+    }
+    Ok(flags)
+}
+
+/// The pattern of a case: its flags and its text.
+fn pattern(alloc: Global, words: &[Vec<u8>]) -> Result<Result<Pattern, PatternFault>> {
+    let flags = flags(text(words, 1)?)?;
+    Ok(Pattern::parse(alloc, bytes(words, 2)?, flags))
+}
+
+/// How the case's pattern fits its text, the word behind it.
+fn hit(alloc: Global, words: &[Vec<u8>]) -> Result<Hit> {
+    let name = bytes(words, 3)?;
+    if name.len() > MAX_TEXT {
+        bail!("the text is too long");
+    }
+    Ok(pattern(alloc, words)??.matches(name))
+}
+
+fn word_of(is_so: bool) -> &'static str {
+    if is_so { "yes" } else { "no" }
+}
+
+/// `pattern FLAGS PATTERN TEXT`: whether the pattern fits the text.
+pub(crate) fn pattern_case(alloc: Global, words: &[Vec<u8>]) -> Result<String> {
+    let is_fitting = hit(alloc, words)?.yes;
+    Ok(String::from_str(alloc, word_of(is_fitting))?)
+}
+
+/// `cells FLAGS PATTERN TEXT`: how many cells were looked at.
+pub(crate) fn cells_case(alloc: Global, words: &[Vec<u8>]) -> Result<String> {
+    Ok(number_text(alloc, hit(alloc, words)?.cells)?)
+}
+
+/// `bounded FLAGS PATTERN TEXT CELLS`: whether at most so many cells were looked at.
+pub(crate) fn bounded_case(alloc: Global, words: &[Vec<u8>]) -> Result<String> {
+    let is_bounded = hit(alloc, words)?.cells <= unsigned(words, 4)?;
+    Ok(String::from_str(alloc, word_of(is_bounded))?)
+}
+
+/// `atoms FLAGS PATTERN`: how many atoms the pattern has.
+pub(crate) fn atoms_case(alloc: Global, words: &[Vec<u8>]) -> Result<String> {
+    match pattern(alloc, words)? {
+        Ok(pattern) => Ok(number_text(alloc, pattern.atoms() as u64)?),
+        Err(fault) => Ok(fault.to_string(alloc)?),
+    }
+}
+
+fn number_text(alloc: Global, number: u64) -> Result<String, AllocError> {
+    number.to_string(alloc)
+}

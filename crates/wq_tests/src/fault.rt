@@ -1,0 +1,50 @@
+//! The words of faults that replies do not give as they are.
+
+use std::alloc::Global;
+use std::fmt::Display;
+use std::process::Abort;
+use std::test::Fail;
+use wq_query::QueryFault::{self, Expression, LeftOutKey, UnknownField, WrongValue};
+use wq_term::TermFault;
+
+/// Asserts the words of each fault.
+fn check_words<F: Display>(rt: &impl Abort, alloc: Global, rows: &[(F, &str)]) -> Result<(), Fail> {
+    for (fault, words) in rows {
+        assert_eq!(rt; fault.to_string(alloc)?.as_str(), *words);
+    }
+    Ok(())
+}
+
+#[test]
+fn faults_of_expressions_have_words(rt: HostRuntime) -> Result<(), Fail> {
+    check_words(
+        &rt,
+        rt.alloc(),
+        &[
+            (TermFault::UnknownTerm, "unknown term"),
+            (TermFault::WrongArguments, "wrong term arguments"),
+            (TermFault::TooDeep, "expression too deep"),
+            (TermFault::BadClockSpec, "bad clockspec"),
+            (TermFault::CursorInTerm, "cursor in a term"),
+            (TermFault::PatternTooLong, "pattern too long"),
+            (TermFault::NoMemory, "no memory"),
+        ],
+    )
+}
+
+#[test]
+fn faults_of_queries_have_words(rt: HostRuntime) -> Result<(), Fail> {
+    check_words(
+        &rt,
+        rt.alloc(),
+        &[
+            (LeftOutKey, "query key is left out"),
+            (Expression(TermFault::UnknownTerm), "unknown term"),
+            (Expression(TermFault::TooDeep), "expression too deep"),
+            (UnknownField, "unknown field"),
+            (QueryFault::BadClockSpec, "bad clockspec"),
+            (WrongValue, "wrong query value"),
+            (QueryFault::NoMemory, "no memory"),
+        ],
+    )
+}

@@ -1,0 +1,118 @@
+//! Queries as they are read: their bound, their expression and their fields; and a reply as a value.
+
+use crate::tree::pass;
+use serde_json::Value;
+use std::alloc::Global;
+use std::process::Abort;
+use std::test::Fail;
+use wq_base::{MAX_NUMBER, MAX_SIGNED};
+use wq_clock::Bound::{self, Fresh, Second, Tick};
+use wq_clock::Instance;
+use wq_query::{Field, Query, answer};
+use wq_term::Expr;
+use wq_view::{Kind, View};
+
+/// The instance of all examples.
+pub(crate) const INSTANCE: Instance = Instance {
+    start: 7,
+    pid: 9,
+    root: 1,
+};
+
+/// What a JSON text asks.
+fn read(alloc: Global, text: &str) -> Result<Query, Fail> {
+    let value = Value::from_str(alloc, text)?;
+    Ok(Query::read(alloc, &value, &INSTANCE)?)
+}
+
+/// Asserts the bound that each query sets.
+fn check_bounds(rt: &impl Abort, alloc: Global, rows: &[(&str, Bound)]) -> Result<(), Fail> {
+    for (text, bound) in rows {
+        assert_eq!(rt; read(alloc, text)?.bound(), *bound, "at {text}");
+    }
+    Ok(())
+}
+
+#[test]
+fn since_sets_a_bound(rt: HostRuntime) -> Result<(), Fail> {
+    check_bounds(
+        &rt,
+        rt.alloc(),
+        &[
+            ("{}", Fresh),
+            (r#"{"since":"c:7:9:1:1"}"#, Tick(1)),
+            (r#"{"since":"c:7:9:1:0"}"#, Tick(0)),
+            // A tick beyond the view's is kept as it is.
+            (
+                r#"{"since":"c:7:9:1:4611686018427387904"}"#,
+                Tick(MAX_NUMBER),
+            ),
+            (r#"{"since":0}"#, Second(0)),
+            (r#"{"since":100}"#, Second(100)),
+            (r#"{"since":4611686018427387904}"#, Second(MAX_SIGNED)),
+        ],
+    )
+}
+
+/// Ids of other instances, and of the older form, say nothing of this one.
+#[test]
+fn since_of_another_instance_is_fresh(rt: HostRuntime) -> Result<(), Fail> {
+    check_bounds(
+        &rt,
+        rt.alloc(),
+        &[
+            (r#"{"since":"c:6:9:1:1"}"#, Fresh),
+            (r#"{"since":"c:7:8:1:1"}"#, Fresh),
+            (r#"{"since":"c:7:9:2:1"}"#, Fresh),
+            (r#"{"since":"c:9:1"}"#, Fresh),
+        ],
+    )
+}
+
+#[test]
+fn a_query_shows_its_expression(rt: HostRuntime) -> Result<(), Fail> {
+    let asks_all = read(rt.alloc(), "{}")?;
+    let asks_files = read(rt.alloc(), r#"{"expression":["type","f"]}"#)?;
+    assert!(rt; matches!(asks_all.expr(), Expr::True));
+    assert!(rt; matches!(asks_files.expr(), Expr::KindIs(Kind::File)));
+    Ok(())
+}
+
+/// Asserts the name of each field, and that it names the field.
+fn check_fields(rt: &impl Abort, rows: &[(&str, Field)]) {
+    for (name, field) in rows {
+        let is_named = field.name() == *name && Field::named(name) == Some(*field);
+        assert!(rt; is_named, "at {name}");
+    }
+}
+
+#[test]
+fn fields_have_names(rt: HostRuntime) {
+    check_fields(
+        &rt,
+        &[
+            ("name", Field::Name),
+            ("exists", Field::Exists),
+            ("new", Field::New),
+            ("size", Field::Size),
+            ("type", Field::Kind),
+            ("cclock", Field::Cclock),
+            ("oclock", Field::Oclock),
+            ("mtime", Field::Mtime),
+            ("mtime_ms", Field::MtimeMs),
+        ],
+    );
+    assert_eq!(rt; Field::named("kind"), None);
+}
+
+#[test]
+fn answers_the_value_of_the_reply(rt: HostRuntime) -> Result<(), Fail> {
+    let mut view = View::new(rt.alloc());
+    view.absorb(&pass(rt.alloc(), &[b"src/a.c", b"b.txt"], 100)?)?;
+    let plan = read(rt.alloc(), r#"{"fields":["name"]}"#)?.plan_plain(Fresh);
+    let value = answer(rt.alloc(), &plan, &INSTANCE, &view)?;
+    let want =
+        r#"{"version":"wq-1","is_fresh_instance":true,"files":["b.txt","src/a.c"],"clock":"c:7:9:1:1"}"#;
+    assert!(rt; value == Value::from_str(rt.alloc(), want)?);
+    Ok(())
+}
