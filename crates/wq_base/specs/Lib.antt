@@ -2,3 +2,4 @@ pub mod Limit
 pub mod Byte
 pub mod Decimal
 pub mod Fault
+pub mod Table
