@@ -11,15 +11,14 @@ use Rattle.serde_json.specs.View.{items_of}
 use Rattle.serde_json.specs.Written.{has_float, items_have_float, members_have_float}
 use Rattle.wq_clock.specs.Instance.{InstanceData}
 use Rattle.wq_clock.specs.declared.bound.Bound.{Bound}
-use Rattle.wq_view.specs.RecordData.{RecordData}
+use Rattle.wq_view.specs.RecordData.{RecordData, seconds_of}
 use Rattle.wq_view.specs.View.{ViewData}
 use Rattle.wq_query.specs.declared.field.Field.{Field}
 use Rattle.wq_query.specs.declared.field.Field.TheVariants.{Name, Exists, New, Size, Kind, Cclock, Oclock, Mtime, MtimeMs}
-use Rattle.wq_term.specs.Number.{seconds_of}
 use Rattle.wq_query.specs.Field.{field_name}
-use Rattle.wq_query.specs.Asked.{QueryData}
-use Rattle.wq_query.specs.Listed.{listed}
-use Rattle.wq_query.specs.Reply.{field_data, members_with, file_data, reply_of}
+use Rattle.wq_query.specs.Query.{PlanData}
+use Rattle.wq_query.specs.Listing.{files_of}
+use Rattle.wq_query.specs.Reply.{field_data, members_with, file_data, files_data, reply_of}
 
 integer : (n : ℤ) → has_float (number (of_integer n)) ≡ false
 integer (pos n) = refl
@@ -61,5 +60,9 @@ files : (fields : List Field) (instance : InstanceData) (bound : Bound) (rs : Li
 files fields instance bound [] = refl
 files fields instance bound (r ∷ rs) = both (has_float (file_data fields instance bound r)) _ (file fields instance bound r) (files fields instance bound rs)
 
-pub reply : (query : QueryData) (bound : Bound) (instance : InstanceData) (view : ViewData) → has_float (reply_of query bound instance view) ≡ false
-reply query bound instance view = both (items_have_float (items_of (map (file_data query.fields instance bound) (listed query bound view.records)))) false (files query.fields instance bound (listed query bound view.records)) refl
+-- no reply has one
+pub reply : (plan : PlanData) (instance : InstanceData) (view : ViewData)
+    → has_float (reply_of plan instance view) ≡ false
+reply plan instance view =
+    both (items_have_float (items_of (files_data plan instance view.records))) false
+    (files (plan.query).fields instance plan.bound (files_of plan view.records)) refl

@@ -1,6 +1,6 @@
 pub mod Field
-pub mod Asked
-pub mod Listed
-pub mod Reply
 pub mod Query
-pub mod Key
+pub mod Reading
+pub mod Gives
+pub mod Listing
+pub mod Reply

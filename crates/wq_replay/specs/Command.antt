@@ -7,7 +7,8 @@ use Rattle.serde_json.specs.Data.{Data, string, array, object, Items, no_items, 
 use Rattle.serde_json.specs.Read.{read as read_text}
 use Rattle.wq_clock.specs.Instance.{InstanceData}
 use Rattle.wq_view.specs.View.{ViewData}
-use Rattle.wq_query.specs.Asked.{QueryData, asks}
+use Rattle.wq_query.specs.Query.{QueryData, plan_of}
+use Rattle.wq_query.specs.Reading.{asks}
 use Rattle.wq_query.specs.Reply.{reply_of}
 use Rattle.wq_query.specs.declared.fault.QueryFault.{QueryFault}
 use Rattle.wq_replay.specs.Clock.{clock_data, clock_root}
@@ -27,7 +28,7 @@ command_of _ = None
 
 -- what is answered to a query that was read
 abbrev pub answer_asked : InstanceData → ViewData → Result QueryData QueryFault → Result Data Refusal
-answer_asked instance view (Ok query) = Ok (reply_of query query.bound instance view)
+answer_asked instance view (Ok query) = Ok (reply_of (plan_of query) instance view)
 answer_asked instance view (Err fault) = Err (Query fault)
 
 -- the argument, where there is just one

@@ -1,2 +1,3 @@
-mod Lists
+pub mod Lists
 mod Texts
+mod Arguments

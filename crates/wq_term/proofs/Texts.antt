@@ -13,6 +13,7 @@ use Rattle.wq_term.specs.declared.expr.Scope.TheVariants.{Basename, Wholename}
 use Rattle.wq_term.specs.Text.{part_of}
 use Rattle.wq_term.specs.declared.fault.TermFault.{TermFault}
 use Rattle.wq_base.specs.Fault.{with_first}
+use Rattle.wq_base.proofs.Fault.{before, before-push, before-none}
 use Rattle.wq_term.specs.Argument.{text_of, all_texts_of}
 use Rattle.wq_term.specs.Expr.{texts_in}
 
@@ -29,37 +30,23 @@ part_is_short Basename name h =
     let rest = length-drop (length name - suffix_len (λ b. not (is_slash b)) name) name in
     omega (arith, short, rest)
 
--- texts that are read before the rest of a list
-abbrev pub texts_before : List (List ℕ) → Option (List (List ℕ)) → Option (List (List ℕ))
-texts_before [] rest = rest
-texts_before (t ∷ ts) rest = with_first (Some t) (texts_before ts rest)
-
-pub texts_before-push : (ts : List (List ℕ)) (t : List ℕ) (rest : Option (List (List ℕ))) → texts_before (ts ++ t ∷ []) rest ≡ texts_before ts (with_first (Some t) rest)
-texts_before-push [] t rest = refl
-texts_before-push (u ∷ ts) t rest = ap (with_first (Some u)) (texts_before-push ts t rest)
-
--- at the end the texts are those read
-pub texts_before-end : (ts : List (List ℕ)) → texts_before ts (Some []) ≡ Some ts
-texts_before-end [] = refl
-texts_before-end (t ∷ ts) = ap (with_first (Some t)) (texts_before-end ts)
-
--- what is no text makes the list none
-pub texts_before-none : (ts : List (List ℕ)) → texts_before ts None ≡ None
-texts_before-none [] = refl
-texts_before-none (t ∷ ts) = ap (with_first (Some t)) (texts_before-none ts)
-
 -- what is right where it is there
 pub was_some : {A E : Type 0} (o : Option A) (fault : E) (x : A) → ok_or o fault ≡ Ok x → o ≡ Some x
 was_some None fault x e = cc
 was_some (Some y) fault x e = cc
 
 -- one more text is read
-pub text_more : (ts : List (List ℕ)) (d : Data) (ds : Items) (t : List ℕ) (all : Option (List (List ℕ))) → text_of d ≡ Some t → texts_before ts (all_texts_of (item d ds)) ≡ all → texts_before (ts ++ t ∷ []) (all_texts_of ds) ≡ all
-text_more ts d ds t all is so_far = texts_before-push ts t (all_texts_of ds) ∙ ap (λ o. texts_before ts (with_first o (all_texts_of ds))) (sym is) ∙ so_far
+pub text_more : (ts : List (List ℕ)) (d : Data) (ds : Items) (t : List ℕ) (all : Option (List (List ℕ)))
+    → text_of d ≡ Some t → before ts (all_texts_of (item d ds)) ≡ all
+    → before (ts ++ t ∷ []) (all_texts_of ds) ≡ all
+text_more ts d ds t all is so_far =
+    before-push ts t (all_texts_of ds) ∙ ap (λ o. before ts (with_first o (all_texts_of ds))) (sym is) ∙ so_far
 
 -- one more item is no text
-pub text_none : (ts : List (List ℕ)) (d : Data) (ds : Items) (all : Option (List (List ℕ))) → text_of d ≡ None → texts_before ts (all_texts_of (item d ds)) ≡ all → all ≡ None
-text_none ts d ds all is so_far = sym so_far ∙ ap (λ o. texts_before ts (with_first o (all_texts_of ds))) is ∙ texts_before-none ts
+pub text_none : (ts : List (List ℕ)) (d : Data) (ds : Items) (all : Option (List (List ℕ)))
+    → text_of d ≡ None → before ts (all_texts_of (item d ds)) ≡ all → all ≡ None
+text_none ts d ds all is so_far =
+    sym so_far ∙ ap (λ o. before ts (with_first o (all_texts_of ds))) is ∙ before-none ts
 
 -- the texts of vectors, with one more
 pub texts_in-push : (vs : List (Vec ℕ Global)) (v : Vec ℕ Global) → texts_in (vs ++ v ∷ []) ≡ texts_in vs ++ v.items ∷ []

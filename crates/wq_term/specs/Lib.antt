@@ -8,3 +8,4 @@ pub mod Word
 pub mod Argument
 pub mod PatternArgument
 pub mod Reading
+pub mod Gives

@@ -1,4 +1,4 @@
-//! The expressions, one variant for each term. ExprsData that differ in letter case alone are one variant.
+//! The expressions, one variant for each term. Terms that differ in letter case alone are one variant.
 
 use wq_clock::Bound;
 use wq_glob::Pattern;

@@ -11,4 +11,4 @@ mod reading;
 pub use expr::{Case, Depth, Expr, Relation, Scope, Since};
 pub use fault::TermFault;
 pub use meaning::holds;
-pub use reading::{MAX_DEPTH, MAX_NUMBER, MAX_TEXT, read_bound, read_expr};
+pub use reading::{MAX_DEPTH, MAX_TEXT, read_bound, read_expr, whole_number};
