@@ -1,6 +1,7 @@
 -- What a chain of faults says of its parts where it comes to its end.
 use Rattle.std.proofs.Common.{◌≡◌, Bool, true, false, List, [], ◌∷◌, ◌++◌, Option, Some, None, Result, Ok, Err}
 use Rattle.std.proofs.Common.{refl, ap}
+use Rattle.std.proofs.lemmas.Option.{same_Some}
 use Rattle.wq_base.specs.Fault.{or_fault, unless_fault, or_its_fault, or_own_fault, with_first}
 
 -- the value was there
@@ -47,3 +48,11 @@ before-end (x ∷ xs) = ap (with_first (Some x)) (before-end xs)
 pub before-none : {A : Type 0} (xs : List A) → before xs None ≡ None
 before-none [] = refl
 before-none (x ∷ xs) = ap (with_first (Some x)) (before-none xs)
+
+-- a list that is there has a first value and others
+pub with_first-some : {A P : Type 0} (o : Option A) (rest : Option (List A)) (all : List A)
+    → with_first o rest ≡ Some all
+    → ((x : A) (xs : List A) → o ≡ Some x → rest ≡ Some xs → x ∷ xs ≡ all → P) → P
+with_first-some None rest all e goal = cc
+with_first-some (Some x) None all e goal = cc
+with_first-some (Some x) (Some xs) all e goal = goal x xs refl refl (same_Some (x ∷ xs) all e)

@@ -1,3 +1,4 @@
 mod Names
 mod Keys
 mod NoFloat
+mod Written

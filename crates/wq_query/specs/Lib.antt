@@ -4,3 +4,5 @@ pub mod Reading
 pub mod Gives
 pub mod Listing
 pub mod Reply
+pub mod Written
+pub mod Law

@@ -30,9 +30,13 @@ abbrev pub scope_name : Scope → List ℕ
 scope_name Basename = codes "basename"
 scope_name Wholename = codes "wholename"
 
+-- all scopes
+abbrev pub scopes : List Scope
+scopes = Basename ∷ Wholename ∷ []
+
 -- the part of a name that a word names
 unfoldable pub scope_named : List ℕ → Option Scope
-scope_named word = named scope_name (Basename ∷ Wholename ∷ []) word
+scope_named word = named scope_name scopes word
 
 -- the name of a relation
 abbrev pub relation_name : Relation → List ℕ
@@ -43,9 +47,13 @@ relation_name Ge = codes "ge"
 relation_name Lt = codes "lt"
 relation_name Le = codes "le"
 
+-- all relations
+abbrev pub relations : List Relation
+relations = Eq ∷ Ne ∷ Gt ∷ Ge ∷ Lt ∷ Le ∷ []
+
 -- the relation of two numbers that a word names
 unfoldable pub relation_named : List ℕ → Option Relation
-relation_named word = named relation_name (Eq ∷ Ne ∷ Gt ∷ Ge ∷ Lt ∷ Le ∷ []) word
+relation_named word = named relation_name relations word
 
 -- the name of what `since` compares
 abbrev pub field_name : Field → List ℕ
@@ -53,6 +61,10 @@ field_name Oclock = codes "oclock"
 field_name Cclock = codes "cclock"
 field_name Mtime = codes "mtime"
 
+-- all that `since` compares
+abbrev pub fields : List Field
+fields = Oclock ∷ Cclock ∷ Mtime ∷ []
+
 -- what `since` compares, by the word that names it
 unfoldable pub field_named : List ℕ → Option Field
-field_named word = named field_name (Oclock ∷ Cclock ∷ Mtime ∷ []) word
+field_named word = named field_name fields word
