@@ -1,18 +1,17 @@
 -- What a value asks is what the grammar has written by it.
-use Rattle.std.proofs.Common.{◌≡◌, ◌↔◌, ℕ, ℤ, Bool, true, false, not, ◌||◌, List, [], ◌∷◌, codes, Option, Some, None, Result, Ok, Err, refl, sym, ap, subst, ◌∙◌}
+use Rattle.std.proofs.Common.{◌≡◌, ℕ, ℤ, Bool, true, false, not, ◌||◌, List, [], ◌∷◌, codes, Option, Some, None, Result, Ok, Err, refl, sym, ap, subst, ◌∙◌}
 use Rattle.std.specs.Option.{MatchOption, is_some}
 use Rattle.std.specs.Result.{result_ok}
 use Rattle.std.specs.List.{AllByRecursion}
 use Rattle.std.proofs.lemmas.Option.{same_Some}
-use Rattle.serde_json.specs.Data.{Data, null, boolean, number, string, array, object, Items, no_items, item}
+use Rattle.serde_json.specs.Data.{Data, boolean, string, array, Items, no_items, item}
 use Rattle.serde_json.specs.Find.{get, as_bool}
-use Rattle.wq_base.specs.Fault.{is_true, or_fault, or_its_fault, unless_fault, with_first}
+use Rattle.wq_base.specs.Fault.{is_true, or_fault, or_its_fault, unless_fault}
 use Rattle.wq_base.proofs.Fault.{or_fault-ok, or_its_fault-ok, unless_fault-ok, with_first-some}
 use Rattle.wq_base.proofs.Table.{named-name}
 use Rattle.wq_clock.specs.Instance.{InstanceData}
 use Rattle.wq_clock.specs.declared.bound.Bound.{Bound}
 use Rattle.wq_clock.specs.declared.bound.Bound.TheVariants.{Fresh}
-use Rattle.wq_term.specs.declared.fault.TermFault.{TermFault}
 use Rattle.wq_term.specs.Argument.{bound_in, whole_number_of}
 use Rattle.wq_term.specs.Expr.{ExprData, always}
 use Rattle.wq_term.specs.Law.{BoundsSayWhatTheyWrite, NumbersSayWhatTheyWrite, ValuesSayWhatTheyWrite}

@@ -1,7 +1,7 @@
 -- What a JSON object asks as a query, or its first fault.
 -- The keys are those of Watchman's documentation of file queries.
 use Rattle.std.specs.Prelude.{ℕ, Bool, true, false, not, ◌||◌, List, [], ◌∷◌, codes}
-use Rattle.std.specs.Prelude.{Option, Some, None, is_some, Result, Ok, Err}
+use Rattle.std.specs.Prelude.{Option, Some, None, is_some, Result, Ok}
 use Rattle.std.specs.Result.{result_ok}
 use Rattle.std.specs.List.{list_any}
 use Rattle.serde_json.specs.Data.{Data, string, array, Items, no_items, item}

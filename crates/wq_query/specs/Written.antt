@@ -3,7 +3,7 @@
 use Rattle.std.specs.Prelude.{ℤ, ◌≡◌, ◌≤◌, false, true, List, [], ◌∷◌, codes, None}
 use Rattle.std.specs.Option.{MatchOption}
 use Rattle.std.specs.List.{AllByRecursion}
-use Rattle.serde_json.specs.Data.{Data, boolean, string, array, Items, no_items, item}
+use Rattle.serde_json.specs.Data.{Data, boolean, array, Items, no_items, item}
 use Rattle.serde_json.specs.Find.{get}
 use Rattle.wq_clock.specs.Instance.{InstanceData}
 use Rattle.wq_clock.specs.declared.bound.Bound.TheVariants.{Fresh}

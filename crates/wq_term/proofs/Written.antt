@@ -1,6 +1,6 @@
 -- What a value says as an expression is what the grammar has written by it.
-use Rattle.std.proofs.Common.{◌≡◌, ℕ, ℤ, zero, suc, ◌≤◌, Bool, true, false, List, Option, Some, None, Ok, Err, Result, refl, sym, ap, subst, ◌∙◌, arith}
-use Rattle.std.specs.Prelude.{if◌then◌else◌, max}
+use Rattle.std.proofs.Common.{◌≡◌, ℕ, zero, suc, ◌≤◌, Bool, true, false, List, Option, Some, Ok, refl, sym, ap, subst, ◌∙◌, arith}
+use Rattle.std.specs.Prelude.{if◌then◌else◌}
 use Rattle.std.proofs.lemmas.Option.{same_Some}
 use Rattle.serde_json.specs.Data.{Data, string, array, Items, no_items, item}
 use Rattle.wq_base.specs.Fault.{or_fault, or_own_fault}
@@ -11,9 +11,6 @@ use Rattle.wq_clock.specs.Law.{TextsSayWhatTheySpell}
 use Rattle.wq_glob.specs.Pattern.{PatternData}
 use Rattle.wq_term.specs.declared.expr.Case.{Case}
 use Rattle.wq_term.specs.declared.expr.Case.TheVariants.{Exact, Folded}
-use Rattle.wq_term.specs.declared.expr.Depth.TheVariants.{Any}
-use Rattle.wq_term.specs.declared.expr.Scope.TheVariants.{Basename}
-use Rattle.wq_term.specs.declared.fault.TermFault.{TermFault}
 use Rattle.wq_term.specs.declared.fault.TermFault.TheVariants.{UnknownTerm, WrongArguments}
 use Rattle.wq_term.specs.declared.head.Head.{Head}
 use Rattle.wq_term.specs.declared.head.Head.TheVariants.{True, False, Exists, Empty, KindIs, Name, Iname, Match, Imatch, Suffix, Size, Since, Dirname, Idirname, Not, AllOf, AnyOf}
@@ -21,10 +18,9 @@ use Rattle.wq_term.specs.Argument.{parts_of}
 use Rattle.wq_term.specs.Expr.{ExprData, always, never, exists, empty, kind_is, name_is, matches, suffix_is, size_is, since, below, negation, all_of, any_of, ExprsData, no_terms, term, depth_of, greatest_depth}
 use Rattle.wq_term.specs.Head.{head_name, heads, head_named}
 use Rattle.wq_term.specs.PatternArgument.{is_folded}
-use Rattle.wq_term.specs.Word.{scope_name}
-use Rattle.wq_term.specs.Reading.{Answer, read_plain, read_kind, read_name, read_match, read_suffix, read_size, read_dirname, read_since, read_negation, read_all, read_named, reads_as}
-use Rattle.wq_term.specs.WrittenArgument.{IsWord, AreTexts, IsKind, IsComparison, IsDepth, IsDirectory, IsPattern}
-use Rattle.wq_term.specs.Written.{IsTerm, IsNothing, IsOnly, IsOneOrTwo, IsSince, in_case, IsWrittenBy, AreWrittenBy}
+use Rattle.wq_term.specs.Reading.{Answer, read_plain, read_name, read_dirname, read_negation, read_all, read_named, reads_as}
+use Rattle.wq_term.specs.WrittenArgument.{AreTexts, IsKind, IsComparison, IsPattern}
+use Rattle.wq_term.specs.Written.{IsTerm, IsNothing, IsOnly, IsSince, in_case, IsWrittenBy, AreWrittenBy}
 use Rattle.wq_term.specs.Law.{ValuesSayWhatTheyWrite, ReadExpressionsAreShallow, BoundsSayWhatTheyWrite, NumbersSayWhatTheyWrite}
 use Rattle.wq_term.specs.Limit.{max_depth}
 use Rattle.wq_term.proofs.WrittenArguments.{same_Ok, bound-found, bound-reads, between-found, between-reads}

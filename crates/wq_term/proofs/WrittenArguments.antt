@@ -1,13 +1,13 @@
 -- What an argument says is what the grammar has written by it.
-use Rattle.std.proofs.Common.{◌≡◌, ◌≢◌, ℕ, ℤ, pos, negsuc, ◌≤◌, ◌<◌, ◌^◌, ◌≤ℤ◌, ◌↔◌, ◌⊎◌, inl, inr, T, Bool, true, false, cond, ◌&&◌, ◌||◌, List, [], ◌∷◌, length}
-use Rattle.std.proofs.Common.{Option, Some, None, option_map, option_and_then, Ok, Err, Result, refl, sym, ap, subst, ◌∙◌, arith}
-use Rattle.std.specs.Prelude.{codes, nat_lt, nat_le, int_le, neg_ℤ, bytes_eq}
+use Rattle.std.proofs.Common.{◌≡◌, ◌≢◌, ℕ, ℤ, pos, ◌≤◌, ◌<◌, ◌^◌, ◌≤ℤ◌, T, Bool, true, false, cond, ◌&&◌, List, [], ◌∷◌, length}
+use Rattle.std.proofs.Common.{Option, Some, None, option_map, option_and_then, Ok, Result, refl, sym, ap, subst, ◌∙◌, arith}
+use Rattle.std.specs.Prelude.{codes, nat_le, int_le, neg_ℤ, bytes_eq}
 use lib.Signed.{le_z_yes}
 use Rattle.std.specs.Option.{option_zip}
 use Rattle.std.proofs.lemmas.Bool.{and_parts, and_from, le-leb, leb-true, lt-ltb, cond-true}
 use Rattle.std.proofs.lemmas.Option.{cond_some, none-some, same_Some, option_and_then_some, some_pair_parts}
 use Rattle.std.proofs.lemmas.Slice.Eq.{bytes_eq-Decides}
-use Rattle.serde_json.specs.Data.{Data, null, boolean, number, string, array, object}
+use Rattle.serde_json.specs.Data.{Data, number, string, array}
 use Rattle.serde_json.specs.Data.{Num, unsigned, negative, float, Items, no_items, item}
 use Rattle.serde_json.specs.Find.{as_i64, as_integer}
 use Rattle.wq_base.specs.Limit.{max_number}
@@ -19,7 +19,7 @@ use Rattle.wq_clock.specs.ClockSpec.{clock_spec_of}
 use Rattle.wq_clock.specs.Bound.{bound_of}
 use Rattle.wq_clock.specs.Law.{TextsSayWhatTheySpell}
 use Rattle.wq_clock.specs.declared.bound.Bound.{Bound}
-use Rattle.wq_clock.specs.declared.bound.Bound.TheVariants.{Fresh, Tick, Second}
+use Rattle.wq_clock.specs.declared.bound.Bound.TheVariants.{Second}
 use Rattle.wq_view.specs.declared.kind.Kind.{Kind}
 use Rattle.wq_view.specs.declared.kind.Kind.TheVariants.{File, Dir, Link, Block, Char, Fifo, Socket, Door, Unknown}
 use Rattle.wq_term.specs.declared.expr.Relation.{Relation}
@@ -27,15 +27,14 @@ use Rattle.wq_term.specs.declared.expr.Relation.TheVariants.{Eq, Ne, Gt, Ge, Lt,
 use Rattle.wq_term.specs.declared.expr.Scope.{Scope}
 use Rattle.wq_term.specs.declared.expr.Scope.TheVariants.{Basename, Wholename}
 use Rattle.wq_term.specs.declared.expr.Depth.{Depth}
-use Rattle.wq_term.specs.declared.expr.Depth.TheVariants.{Any, Is}
+use Rattle.wq_term.specs.declared.expr.Depth.TheVariants.{Is}
 use Rattle.wq_term.specs.declared.reading.word.Field.{Field}
 use Rattle.wq_term.specs.declared.reading.word.Field.TheVariants.{Oclock, Cclock, Mtime}
-use Rattle.wq_term.specs.declared.fault.TermFault.{TermFault}
 use Rattle.wq_term.specs.declared.fault.TermFault.TheVariants.{BadClockSpec, CursorInTerm}
 use Rattle.wq_term.specs.Limit.{max_text_length}
 use Rattle.wq_term.specs.Word.{kind_name, kinds, kind_named, scope_name, scopes, scope_named, relation_name, relations, relation_named, field_name, fields, field_named}
 use Rattle.wq_term.specs.Argument.{text_of, all_texts_of, texts_of, integer_between, whole_number_of, second_of, kind_of, scope_of, field_of, relation_of, comparison_of, depth_argument, bound_in}
-use Rattle.wq_term.specs.WrittenArgument.{IsWord, IsText, AreListed, AreTexts, IsBetween, IsKind, IsComparison, IsDepth, IsBound}
+use Rattle.wq_term.specs.WrittenArgument.{IsText, AreListed, AreTexts, IsBetween, IsKind, IsComparison, IsDepth, IsBound}
 
 -- what is right is one value
 pub same_Ok : {A E : Type 0} (x y : A) → ◌≡◌ {A = Result A E} (Ok x) (Ok y) → x ≡ y

@@ -1,11 +1,11 @@
 -- What the arguments of `match` say is what the grammar has written by them.
-use Rattle.std.proofs.Common.{◌≡◌, ℕ, ◌≤◌, ◌↔◌, ◌⊎◌, inl, inr, Bool, true, false, cond, ◌&&◌, ◌||◌, List, length}
+use Rattle.std.proofs.Common.{◌≡◌, ◌↔◌, ◌⊎◌, inl, inr, Bool, true, false, ◌||◌, length}
 use Rattle.std.proofs.Common.{Option, Some, None, option_and_then, Ok, refl, sym, ap, subst, ◌∙◌}
 use Rattle.std.specs.Prelude.{codes, bytes_eq, nat_le, if◌then◌else◌}
-use Rattle.std.proofs.lemmas.Bool.{and_parts, and_from, or_parts, le-leb, leb-true, cond-true}
-use Rattle.std.proofs.lemmas.Option.{cond_some, none-some, same_Some}
+use Rattle.std.proofs.lemmas.Bool.{and_parts, and_from, le-leb, leb-true, cond-true}
+use Rattle.std.proofs.lemmas.Option.{cond_some, same_Some}
 use Rattle.std.proofs.lemmas.Slice.Eq.{bytes_eq-Decides}
-use Rattle.serde_json.specs.Data.{Data, null, boolean, number, string, array, object}
+use Rattle.serde_json.specs.Data.{Data, boolean, string, object}
 use Rattle.serde_json.specs.Data.{Members, no_members, member}
 use Rattle.serde_json.specs.Find.{as_bool, get_member}
 use Rattle.wq_base.specs.Fault.{is_true, unless_fault}
@@ -16,13 +16,12 @@ use Rattle.wq_glob.specs.declared.flag.Flags.{Flags}
 use Rattle.wq_term.specs.declared.expr.Case.{Case}
 use Rattle.wq_term.specs.declared.expr.Scope.{Scope}
 use Rattle.wq_term.specs.declared.expr.Scope.TheVariants.{Basename, Wholename}
-use Rattle.wq_term.specs.declared.fault.TermFault.{TermFault}
 use Rattle.wq_term.specs.declared.fault.TermFault.TheVariants.{PatternTooLong}
 use Rattle.wq_term.specs.Expr.{ExprData, matches}
 use Rattle.wq_term.specs.NameFit.{scope_with}
-use Rattle.wq_term.specs.PatternArgument.{is_flag, are_flags, is_set, is_folded, is_whole_name, plain_flags, with_flags, flags_of}
+use Rattle.wq_term.specs.PatternArgument.{is_flag, are_flags, is_folded, is_whole_name, plain_flags, flags_of}
 use Rattle.wq_term.specs.Reading.{match_with}
-use Rattle.wq_term.specs.WrittenArgument.{AreFlagMembers, IsFlag, AreFlags, IsPlain, IsPatternText}
+use Rattle.wq_term.specs.WrittenArgument.{AreFlagMembers, AreFlags, IsPlain, IsPatternText}
 use Rattle.wq_term.proofs.WrittenArguments.{same_Ok}
 
 -- members that pass the test are flags

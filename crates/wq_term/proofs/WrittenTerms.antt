@@ -1,16 +1,14 @@
 -- What the arguments of a term say is what the grammar has written by them.
-use Rattle.std.proofs.Common.{◌≡◌, ℕ, ℤ, suc, Bool, true, false, List, ◌++◌, Option, Some, None, Ok, Err, Result, refl, sym, ap, subst, ◌∙◌}
-use Rattle.std.specs.Prelude.{if◌then◌else◌, pos}
-use Rattle.serde_json.specs.Data.{Data, string, array, Items, no_items, item}
-use Rattle.wq_base.specs.Limit.{max_number}
-use Rattle.wq_base.specs.Fault.{or_fault, or_own_fault}
+use Rattle.std.proofs.Common.{◌≡◌, ℕ, ℤ, List, ◌++◌, Some, Ok, refl, sym, ap, subst, ◌∙◌}
+use Rattle.std.specs.Prelude.{pos}
+use Rattle.serde_json.specs.Data.{Data, string, Items, no_items, item}
+use Rattle.wq_base.specs.Fault.{or_fault}
 use Rattle.wq_base.proofs.Fault.{or_fault-ok, or_own_fault-ok}
 use Rattle.wq_clock.specs.Instance.{InstanceData}
 use Rattle.wq_clock.specs.Law.{TextsSayWhatTheySpell}
 use Rattle.wq_glob.specs.Pattern.{PatternData}
 use Rattle.wq_view.specs.declared.kind.Kind.{Kind}
 use Rattle.wq_term.specs.declared.expr.Case.{Case}
-use Rattle.wq_term.specs.declared.expr.Case.TheVariants.{Exact, Folded}
 use Rattle.wq_term.specs.declared.expr.Depth.{Depth}
 use Rattle.wq_term.specs.declared.expr.Depth.TheVariants.{Any}
 use Rattle.wq_term.specs.declared.expr.Relation.{Relation}
@@ -18,9 +16,6 @@ use Rattle.wq_term.specs.declared.expr.Scope.{Scope}
 use Rattle.wq_term.specs.declared.expr.Scope.TheVariants.{Basename}
 use Rattle.wq_term.specs.declared.expr.Since.{Since as SinceData}
 use Rattle.wq_term.specs.declared.expr.Since.TheVariants.{Observed, Created, Modified}
-use Rattle.wq_term.specs.declared.head.Head.{Head}
-use Rattle.wq_term.specs.declared.head.Head.TheVariants.{Match, Imatch}
-use Rattle.wq_term.specs.declared.fault.TermFault.{TermFault}
 use Rattle.wq_term.specs.declared.fault.TermFault.TheVariants.{WrongArguments, BadClockSpec}
 use Rattle.wq_term.specs.declared.reading.word.Field.{Field}
 use Rattle.wq_term.specs.declared.reading.word.Field.TheVariants.{Oclock, Cclock, Mtime}
@@ -32,7 +27,7 @@ use Rattle.wq_term.specs.Word.{scope_name, field_name}
 use Rattle.wq_term.specs.Expr.{ExprData, kind_is, name_is, matches, suffix_is, size_is, since, below}
 use Rattle.wq_term.specs.Reading.{read_plain, read_kind, name_in, read_name, match_with, read_match, read_suffix, read_size, below_at, read_dirname, since_by, read_since}
 use Rattle.wq_term.specs.WrittenArgument.{IsWord, IsText, AreTexts, IsSecond, IsKind, IsComparison, IsDepth, IsDirectory, IsBound, IsPattern, AreFlags}
-use Rattle.wq_term.specs.Written.{IsNothing, IsOnly, IsOneOrTwo, IsSinceBy, IsSince, in_case}
+use Rattle.wq_term.specs.Written.{IsNothing, IsOnly, IsOneOrTwo, IsSinceBy, IsSince}
 use Rattle.wq_term.proofs.Slashes.{slashes, drops, dropped}
 use Rattle.wq_term.proofs.WrittenArguments.{same_Ok, text-found, text-reads, texts-found, texts-reads, kind-found, kind-reads, scope-found, scope-reads, field-found, field-reads, comparison-found, comparison-reads, depth-found, depth-reads, bound-found, bound-reads, between-found, between-reads}
 use Rattle.wq_term.proofs.WrittenPatterns.{IsOf, scope_plain, flags-found, flags-reads, plain-reads, pattern-found, pattern-reads}

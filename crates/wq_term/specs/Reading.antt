@@ -1,6 +1,6 @@
 -- What a JSON value says as an expression, or its first fault: depth first, from left to right.
 -- The forms of the terms are those of Watchman's documentation of file queries.
-use Rattle.std.specs.Prelude.{ℕ, zero, suc, nat_le, length, List, Result, Ok, Err}
+use Rattle.std.specs.Prelude.{ℕ, zero, suc, nat_le, length, Result, Ok, Err}
 use Rattle.serde_json.specs.Data.{Data, string, Items, no_items, item}
 use Rattle.wq_base.specs.Fault.{or_fault, or_own_fault, unless_fault}
 use Rattle.wq_clock.specs.Instance.{InstanceData}
