@@ -1,5 +1,6 @@
 -- What a chain of faults says of its parts where it comes to its end.
-use Rattle.std.proofs.Common.{◌≡◌, Bool, true, false, List, [], ◌∷◌, ◌++◌, Option, Some, None, Result, Ok, Err}
+use Rattle.std.proofs.Common.{◌≡◌, Bool, true, false, List, [], ◌∷◌, ◌++◌, Option, Some, None}
+use Rattle.std.proofs.Common.{Result, Ok, Err}
 use Rattle.std.proofs.Common.{refl, ap}
 use Rattle.std.proofs.lemmas.Option.{same_Some}
 use Rattle.wq_base.specs.Fault.{or_fault, unless_fault, or_its_fault, or_own_fault, with_first}

@@ -14,7 +14,8 @@ use Rattle.wq_clock.specs.declared.bound.Bound.{Bound}
 use Rattle.wq_view.specs.RecordData.{RecordData, seconds_of}
 use Rattle.wq_view.specs.View.{ViewData}
 use Rattle.wq_query.specs.declared.field.Field.{Field}
-use Rattle.wq_query.specs.declared.field.Field.TheVariants.{Name, Exists, New, Size, Kind, Cclock, Oclock, Mtime, MtimeMs}
+use Rattle.wq_query.specs.declared.field.Field.TheVariants.{Name, Exists, New, Size, Kind, Cclock}
+use Rattle.wq_query.specs.declared.field.Field.TheVariants.{Oclock, Mtime, MtimeMs}
 use Rattle.wq_query.specs.Field.{field_name}
 use Rattle.wq_query.specs.Query.{PlanData}
 use Rattle.wq_query.specs.Listing.{files_of}

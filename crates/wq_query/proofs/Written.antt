@@ -1,5 +1,6 @@
 -- What a value asks is what the grammar has written by it.
-use Rattle.std.proofs.Common.{◌≡◌, ℕ, ℤ, Bool, true, false, not, ◌||◌, List, [], ◌∷◌, codes, Option, Some, None, Result, Ok, Err, refl, sym, ap, subst, ◌∙◌}
+use Rattle.std.proofs.Common.{◌≡◌, ℕ, ℤ, Bool, true, false, not, ◌||◌, List, [], ◌∷◌, codes, Option}
+use Rattle.std.proofs.Common.{Some, None, Result, Ok, Err, refl, sym, ap, subst, ◌∙◌}
 use Rattle.std.specs.Option.{MatchOption, is_some}
 use Rattle.std.specs.Result.{result_ok}
 use Rattle.std.specs.List.{AllByRecursion}
@@ -14,15 +15,21 @@ use Rattle.wq_clock.specs.declared.bound.Bound.{Bound}
 use Rattle.wq_clock.specs.declared.bound.Bound.TheVariants.{Fresh}
 use Rattle.wq_term.specs.Argument.{bound_in, whole_number_of}
 use Rattle.wq_term.specs.Expr.{ExprData, always}
-use Rattle.wq_term.specs.Law.{BoundsSayWhatTheyWrite, NumbersSayWhatTheyWrite, ValuesSayWhatTheyWrite}
+use Rattle.wq_term.specs.Law.{BoundsSayWhatTheyWrite, NumbersSayWhatTheyWrite}
+use Rattle.wq_term.specs.Law.{ValuesSayWhatTheyWrite}
 use Rattle.wq_term.specs.WrittenArgument.{IsWhole, IsBound}
 use Rattle.wq_query.specs.declared.fault.QueryFault.{QueryFault}
-use Rattle.wq_query.specs.declared.fault.QueryFault.TheVariants.{LeftOutKey, Expression, UnknownField, BadClockSpec, WrongValue}
+use Rattle.wq_query.specs.declared.fault.QueryFault.TheVariants.{LeftOutKey, Expression}
+use Rattle.wq_query.specs.declared.fault.QueryFault.TheVariants.{UnknownField, BadClockSpec}
+use Rattle.wq_query.specs.declared.fault.QueryFault.TheVariants.{WrongValue}
 use Rattle.wq_query.specs.declared.field.Field.{Field}
-use Rattle.wq_query.specs.declared.field.Field.TheVariants.{Name, Exists, New, Size, Kind, Cclock, Oclock, Mtime, MtimeMs}
+use Rattle.wq_query.specs.declared.field.Field.TheVariants.{Name, Exists, New, Size, Kind, Cclock}
+use Rattle.wq_query.specs.declared.field.Field.TheVariants.{Oclock, Mtime, MtimeMs}
 use Rattle.wq_query.specs.Field.{field_name, field_named, fields, default_fields}
 use Rattle.wq_query.specs.Query.{QueryData}
-use Rattle.wq_query.specs.Reading.{asks, left_out_keys, has_key_of, has_left_out_key, is_plain_case, expression_of, field_of, fields_in, fields_of, since_of, flag_of, is_whole}
+use Rattle.wq_query.specs.Reading.{asks, left_out_keys, has_key_of, has_left_out_key, is_plain_case}
+use Rattle.wq_query.specs.Reading.{expression_of, field_of, fields_in, fields_of, since_of, flag_of}
+use Rattle.wq_query.specs.Reading.{is_whole}
 use Rattle.wq_query.specs.Written.{IsExpression, AreNamed, AreFields, IsWrittenBy}
 use Rattle.wq_query.specs.Law.{ValuesAskWhatTheyWrite}
 
@@ -157,20 +164,24 @@ whole-reads : NumbersSayWhatTheyWrite → (o : Option Data) → MatchOption o (U
 whole-reads law None h = refl
 whole-reads law (Some d) h = ap is_some ((law h.0 d).1 h.1)
 
--- the chain from each of its places on
+-- the chain of faults from `sync_timeout` on
 abbrev pub from_whole : Data → QueryData → Result QueryData QueryFault
 from_whole d query = unless_fault WrongValue (is_whole (get (codes "sync_timeout") d)) (Ok query)
 
+-- from `empty_on_fresh_instance` on
 abbrev pub from_flag : Data → ExprData → List Field → Bound → Result QueryData QueryFault
 from_flag d t fs bound = or_fault WrongValue (flag_of (get (codes "empty_on_fresh_instance") d)) (λ flag.
     from_whole d (record { expression = t; fields = fs; bound = bound; empty_on_fresh_instance = flag }))
 
+-- from `since` on
 abbrev pub from_since : InstanceData → Data → ExprData → List Field → Result QueryData QueryFault
 from_since instance d t fs = or_fault BadClockSpec (since_of instance (get (codes "since") d)) (λ bound. from_flag d t fs bound)
 
+-- from `fields` on
 abbrev pub from_fields : InstanceData → Data → ExprData → Result QueryData QueryFault
 from_fields instance d t = or_fault UnknownField (fields_of (get (codes "fields") d)) (λ fs. from_since instance d t fs)
 
+-- from `expression` on
 abbrev pub from_expression : InstanceData → Data → Result QueryData QueryFault
 from_expression instance d =
     or_its_fault Expression (expression_of instance (get (codes "expression") d)) (λ t. from_fields instance d t)
@@ -210,7 +221,7 @@ reads values bounds numbers instance query d h =
     let on = flag-reads (get (codes "empty_on_fresh_instance") d) query.empty_on_fresh_instance h.empty_on_fresh_instance in
     let whole = whole-reads numbers (get (codes "sync_timeout") d) h.sync_timeout in
     let allowed : has_left_out_key d ≡ false =
-        ap (λ b. b || not (is_plain_case (get (codes "case_sensitive") d))) none ∙ ap not plain in
+    ap (λ b. b || not (is_plain_case (get (codes "case_sensitive") d))) none ∙ ap not plain in
     rw (allowed, said, named, sets, on, whole) refl
 
 -- both ways

@@ -17,7 +17,8 @@ use Rattle.wq_term.specs.Expr.{ExprData, always}
 use Rattle.wq_term.specs.Reading.{reads_as}
 use Rattle.wq_query.specs.declared.fault.QueryFault.{QueryFault}
 use Rattle.wq_query.specs.declared.fault.QueryFault.TheVariants.{LeftOutKey, Expression}
-use Rattle.wq_query.specs.declared.fault.QueryFault.TheVariants.{UnknownField, BadClockSpec, WrongValue}
+use Rattle.wq_query.specs.declared.fault.QueryFault.TheVariants.{UnknownField, BadClockSpec}
+use Rattle.wq_query.specs.declared.fault.QueryFault.TheVariants.{WrongValue}
 use Rattle.wq_query.specs.declared.field.Field.{Field}
 use Rattle.wq_query.specs.Field.{field_named, default_fields}
 use Rattle.wq_query.specs.Query.{QueryData}

@@ -1,4 +1,4 @@
--- The reply to a query, as data. Its text is the compact text of that data, with keys in byte order.
+-- The reply to a query, as data; its text is the compact text of that data, keys in byte order.
 -- From Watchman's documentation of file queries; the texts are those of RFC 8259.
 use Rattle.std.specs.Prelude.{List, [], ◌∷◌, map, codes}
 use Rattle.serde_json.specs.Data.{Data, boolean, number, string, array, object}

@@ -32,10 +32,12 @@ pub struct Plan {
 }
 
 impl Query {
-    /// What a JSON object asks, at this instance of the server. The first fault refuses it: see [`QueryFault`].
+    /// What a JSON object asks, at this instance of the server. The first fault refuses it: see
+    /// [`QueryFault`].
     ///
-    /// Keys that are not known are ignored, and so are `dedup_results`, `defer` and `drop`. The value of
-    /// `sync_timeout` is tested here, and used by who crawls. A value that is no object has no keys.
+    /// Keys that are not known are ignored, and so are `dedup_results`, `defer` and `drop`. The
+    /// value of `sync_timeout` is tested here, and used by who crawls. A value that is no object
+    /// has no keys.
     pub fn read(alloc: Global, value: &Value, instance: &Instance) -> Result<Query, QueryFault>
         ensures { Gives result (asks (instance_data instance.now) (data_of value.now)) }
     {

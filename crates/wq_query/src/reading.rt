@@ -3,7 +3,9 @@ ghost use Rattle.std.specs.Prelude.{◌≡◌, map, option_map};
 ghost use Rattle.serde_json.specs.View.{view as data_of, items_view};
 ghost use Rattle.wq_clock.specs.Instance.{instance_data};
 ghost use Rattle.wq_query.specs.Gives.{GivesExpression, GivesFields};
-ghost use Rattle.wq_query.specs.Reading.{has_key_of, has_left_out_key, is_plain_case, expression_of, field_of, fields_in, fields_of, since_of, flag_of, is_whole};
+ghost use Rattle.wq_query.specs.Reading.{has_key_of, has_left_out_key, is_plain_case};
+ghost use Rattle.wq_query.specs.Reading.{expression_of, field_of, fields_in, fields_of, since_of};
+ghost use Rattle.wq_query.specs.Reading.{flag_of, is_whole};
 
 use crate::fault::QueryFault;
 use crate::field::Field;
@@ -62,7 +64,8 @@ pub(crate) fn expression(
     }
 }
 
-/// The bound that `since` sets: fresh where it is not there, and none where it is no clock spec or a cursor.
+/// The bound that `since` sets: fresh where it is not there, and none where it is no clock spec or
+/// a cursor.
 pub(crate) fn since(value: Option<&Value>, instance: &Instance) -> Option<Bound>
     ensures { result ≡ since_of (instance_data instance.now)
         (option_map (λ v. data_of v.now) value.entry) }

@@ -18,7 +18,8 @@ use wq_base::MAX_NUMBER;
 use wq_clock::{Bound, Instance, print};
 use wq_view::{Kind, Record, View};
 
-/// The reply to a query at a view: its clock, the listed files in the view's order, and whether the bound is fresh.
+/// The reply to a query at a view: its clock, the listed files in the view's order, and whether the
+/// bound is fresh.
 pub fn answer(
     alloc: Global,
     plan: &Plan,

@@ -1,5 +1,6 @@
 -- A text is what is left without the slashes at its end, and those slashes.
-use Rattle.std.proofs.Common.{◌≡◌, ℕ, zero, suc, ◌+◌, ◌-◌, Bool, true, false, cond, List, [], ◌∷◌, ◌++◌}
+use Rattle.std.proofs.Common.{◌≡◌, ℕ, zero, suc, ◌+◌, ◌-◌, Bool, true, false, cond, List, [], ◌∷◌}
+use Rattle.std.proofs.Common.{◌++◌}
 use Rattle.std.proofs.Common.{length, take, drop, refl, sym, ap, ◌∙◌, arith, subst}
 use Rattle.std.specs.Prelude.{codes, reverse}
 use Rattle.std.specs.Str.{byte}
@@ -89,8 +90,8 @@ dropped text dir e =
     let front = reverse (drop n (reverse text)) in
     let whole : text ≡ front ++ slashes n = cut text in
     let same : without_end_slashes text ≡ front =
-        ap without_end_slashes whole ∙ left front n (ap (suffix_len is_slash) (sym whole)) in
+    ap without_end_slashes whole ∙ left front n (ap (suffix_len is_slash) (sym whole)) in
     let none : suffix_len is_slash front ≡ 0 =
-        ap (prefix_len is_slash) (reverse-reverse (drop n (reverse text))) ∙ behind (reverse text) in
+    ap (prefix_len is_slash) (reverse-reverse (drop n (reverse text))) ∙ behind (reverse text) in
     let is : front ≡ dir = sym same ∙ e in
     (subst (λ f. suffix_len is_slash f ≡ 0) is none, (n, subst (λ f. text ≡ f ++ slashes n) is whole))

@@ -1,5 +1,7 @@
 -- Texts that are compared byte by byte, and lists of texts that are read from the front.
-use Rattle.std.proofs.Common.{◌≡◌, ◌≤◌, ℕ, ◌-◌, ◌++◌, not, IsTrue, List, [], ◌∷◌, length, Vec, Option, Some, None, ok_or, Ok, Err, refl, sym, ap, ◌∙◌, arith, length-drop}
+use Rattle.std.proofs.Common.{◌≡◌, ◌≤◌, ℕ, ◌-◌, ◌++◌, not, IsTrue, List, [], ◌∷◌, length, Vec}
+use Rattle.std.proofs.Common.{Option, Some, None, ok_or, Ok, Err, refl, sym, ap, ◌∙◌, arith}
+use Rattle.std.proofs.Common.{length-drop}
 use Rattle.std.specs.List.{suffix_len}
 use Rattle.std.proofs.lemmas.Bool.{and_parts}
 use Rattle.std.proofs.lemmas.Bool.Decides.{nat_tests}

@@ -1,5 +1,6 @@
 -- What a value says as an expression is what the grammar has written by it.
-use Rattle.std.proofs.Common.{◌≡◌, ℕ, zero, suc, ◌≤◌, Bool, true, false, List, Option, Some, Ok, refl, sym, ap, subst, ◌∙◌, arith}
+use Rattle.std.proofs.Common.{◌≡◌, ℕ, zero, suc, ◌≤◌, Bool, true, false, List, Option, Some, Ok}
+use Rattle.std.proofs.Common.{refl, sym, ap, subst, ◌∙◌, arith}
 use Rattle.std.specs.Prelude.{if◌then◌else◌}
 use Rattle.std.proofs.lemmas.Option.{same_Some}
 use Rattle.serde_json.specs.Data.{Data, string, array, Items, no_items, item}
@@ -13,18 +14,30 @@ use Rattle.wq_term.specs.declared.expr.Case.{Case}
 use Rattle.wq_term.specs.declared.expr.Case.TheVariants.{Exact, Folded}
 use Rattle.wq_term.specs.declared.fault.TermFault.TheVariants.{UnknownTerm, WrongArguments}
 use Rattle.wq_term.specs.declared.head.Head.{Head}
-use Rattle.wq_term.specs.declared.head.Head.TheVariants.{True, False, Exists, Empty, KindIs, Name, Iname, Match, Imatch, Suffix, Size, Since, Dirname, Idirname, Not, AllOf, AnyOf}
+use Rattle.wq_term.specs.declared.head.Head.TheVariants.{True, False, Exists, Empty, KindIs, Name}
+use Rattle.wq_term.specs.declared.head.Head.TheVariants.{Iname, Match, Imatch, Suffix, Size, Since}
+use Rattle.wq_term.specs.declared.head.Head.TheVariants.{Dirname, Idirname, Not, AllOf, AnyOf}
 use Rattle.wq_term.specs.Argument.{parts_of}
-use Rattle.wq_term.specs.Expr.{ExprData, always, never, exists, empty, kind_is, name_is, matches, suffix_is, size_is, since, below, negation, all_of, any_of, ExprsData, no_terms, term, depth_of, greatest_depth}
+use Rattle.wq_term.specs.Expr.{ExprData, always, never, exists, empty, kind_is, name_is, matches}
+use Rattle.wq_term.specs.Expr.{suffix_is, size_is, since, below, negation, all_of, any_of}
+use Rattle.wq_term.specs.Expr.{ExprsData, no_terms, term, depth_of, greatest_depth}
 use Rattle.wq_term.specs.Head.{head_name, heads, head_named}
 use Rattle.wq_term.specs.PatternArgument.{is_folded}
-use Rattle.wq_term.specs.Reading.{Answer, read_plain, read_name, read_dirname, read_negation, read_all, read_named, reads_as}
+use Rattle.wq_term.specs.Reading.{Answer, read_plain, read_name, read_dirname, read_negation}
+use Rattle.wq_term.specs.Reading.{read_all, read_named, reads_as}
 use Rattle.wq_term.specs.WrittenArgument.{AreTexts, IsKind, IsComparison, IsPattern}
-use Rattle.wq_term.specs.Written.{IsTerm, IsNothing, IsOnly, IsSince, in_case, IsWrittenBy, AreWrittenBy}
-use Rattle.wq_term.specs.Law.{ValuesSayWhatTheyWrite, ReadExpressionsAreShallow, BoundsSayWhatTheyWrite, NumbersSayWhatTheyWrite}
+use Rattle.wq_term.specs.Written.{IsTerm, IsNothing, IsOnly, IsSince, in_case, IsWrittenBy}
+use Rattle.wq_term.specs.Written.{AreWrittenBy}
+use Rattle.wq_term.specs.Law.{ValuesSayWhatTheyWrite, ReadExpressionsAreShallow}
+use Rattle.wq_term.specs.Law.{BoundsSayWhatTheyWrite, NumbersSayWhatTheyWrite}
 use Rattle.wq_term.specs.Limit.{max_depth}
-use Rattle.wq_term.proofs.WrittenArguments.{same_Ok, bound-found, bound-reads, between-found, between-reads}
-use Rattle.wq_term.proofs.WrittenTerms.{plain-found, plain_term-reads, type-found, type-reads, suffix-found, suffix-reads, size-found, size-reads, IsNames, name-found, name-reads, IsBelow, dirname-found, dirname-reads, since-found, since-reads, match-found, match-reads}
+use Rattle.wq_term.proofs.WrittenArguments.{same_Ok, bound-found, bound-reads, between-found}
+use Rattle.wq_term.proofs.WrittenArguments.{between-reads}
+use Rattle.wq_term.proofs.WrittenTerms.{plain-found, plain_term-reads, type-found, type-reads}
+use Rattle.wq_term.proofs.WrittenTerms.{suffix-found, suffix-reads, size-found, size-reads, IsNames}
+use Rattle.wq_term.proofs.WrittenTerms.{name-found, name-reads, IsBelow, dirname-found}
+use Rattle.wq_term.proofs.WrittenTerms.{dirname-reads, since-found, since-reads, match-found}
+use Rattle.wq_term.proofs.WrittenTerms.{match-reads}
 
 -- a name names its term
 head-reads : (head : Head) → head_named (head_name head) ≡ Some head

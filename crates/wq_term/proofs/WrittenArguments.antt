@@ -1,11 +1,14 @@
 -- What an argument says is what the grammar has written by it.
-use Rattle.std.proofs.Common.{◌≡◌, ◌≢◌, ℕ, ℤ, pos, ◌≤◌, ◌<◌, ◌^◌, ◌≤ℤ◌, T, Bool, true, false, cond, ◌&&◌, List, [], ◌∷◌, length}
-use Rattle.std.proofs.Common.{Option, Some, None, option_map, option_and_then, Ok, Result, refl, sym, ap, subst, ◌∙◌, arith}
+use Rattle.std.proofs.Common.{◌≡◌, ◌≢◌, ℕ, ℤ, pos, ◌≤◌, ◌<◌, ◌^◌, ◌≤ℤ◌, T, Bool, true, false, cond}
+use Rattle.std.proofs.Common.{◌&&◌, List, [], ◌∷◌, length}
+use Rattle.std.proofs.Common.{Option, Some, None, option_map, option_and_then, Ok, Result, refl}
+use Rattle.std.proofs.Common.{sym, ap, subst, ◌∙◌, arith}
 use Rattle.std.specs.Prelude.{codes, nat_le, int_le, neg_ℤ, bytes_eq}
 use lib.Signed.{le_z_yes}
 use Rattle.std.specs.Option.{option_zip}
 use Rattle.std.proofs.lemmas.Bool.{and_parts, and_from, le-leb, leb-true, lt-ltb, cond-true}
-use Rattle.std.proofs.lemmas.Option.{cond_some, none-some, same_Some, option_and_then_some, some_pair_parts}
+use Rattle.std.proofs.lemmas.Option.{cond_some, none-some, same_Some, option_and_then_some}
+use Rattle.std.proofs.lemmas.Option.{some_pair_parts}
 use Rattle.std.proofs.lemmas.Slice.Eq.{bytes_eq-Decides}
 use Rattle.serde_json.specs.Data.{Data, number, string, array}
 use Rattle.serde_json.specs.Data.{Num, unsigned, negative, float, Items, no_items, item}
@@ -21,7 +24,8 @@ use Rattle.wq_clock.specs.Law.{TextsSayWhatTheySpell}
 use Rattle.wq_clock.specs.declared.bound.Bound.{Bound}
 use Rattle.wq_clock.specs.declared.bound.Bound.TheVariants.{Second}
 use Rattle.wq_view.specs.declared.kind.Kind.{Kind}
-use Rattle.wq_view.specs.declared.kind.Kind.TheVariants.{File, Dir, Link, Block, Char, Fifo, Socket, Door, Unknown}
+use Rattle.wq_view.specs.declared.kind.Kind.TheVariants.{File, Dir, Link, Block, Char, Fifo, Socket}
+use Rattle.wq_view.specs.declared.kind.Kind.TheVariants.{Door, Unknown}
 use Rattle.wq_term.specs.declared.expr.Relation.{Relation}
 use Rattle.wq_term.specs.declared.expr.Relation.TheVariants.{Eq, Ne, Gt, Ge, Lt, Le}
 use Rattle.wq_term.specs.declared.expr.Scope.{Scope}
@@ -32,9 +36,14 @@ use Rattle.wq_term.specs.declared.reading.word.Field.{Field}
 use Rattle.wq_term.specs.declared.reading.word.Field.TheVariants.{Oclock, Cclock, Mtime}
 use Rattle.wq_term.specs.declared.fault.TermFault.TheVariants.{BadClockSpec, CursorInTerm}
 use Rattle.wq_term.specs.Limit.{max_text_length}
-use Rattle.wq_term.specs.Word.{kind_name, kinds, kind_named, scope_name, scopes, scope_named, relation_name, relations, relation_named, field_name, fields, field_named}
-use Rattle.wq_term.specs.Argument.{text_of, all_texts_of, texts_of, integer_between, whole_number_of, second_of, kind_of, scope_of, field_of, relation_of, comparison_of, depth_argument, bound_in}
-use Rattle.wq_term.specs.WrittenArgument.{IsText, AreListed, AreTexts, IsBetween, IsKind, IsComparison, IsDepth, IsBound}
+use Rattle.wq_term.specs.Word.{kind_name, kinds, kind_named, scope_name, scopes, scope_named}
+use Rattle.wq_term.specs.Word.{relation_name, relations, relation_named, field_name, fields}
+use Rattle.wq_term.specs.Word.{field_named}
+use Rattle.wq_term.specs.Argument.{text_of, all_texts_of, texts_of, integer_between}
+use Rattle.wq_term.specs.Argument.{whole_number_of, second_of, kind_of, scope_of, field_of}
+use Rattle.wq_term.specs.Argument.{relation_of, comparison_of, depth_argument, bound_in}
+use Rattle.wq_term.specs.WrittenArgument.{IsText, AreListed, AreTexts, IsBetween, IsKind}
+use Rattle.wq_term.specs.WrittenArgument.{IsComparison, IsDepth, IsBound}
 
 -- what is right is one value
 pub same_Ok : {A E : Type 0} (x y : A) → ◌≡◌ {A = Result A E} (Ok x) (Ok y) → x ≡ y
@@ -62,6 +71,7 @@ text-found (string s) text e =
     (ap string p.1, subst (λ t. length t ≤ max_text_length) p.1 (leb-true _ _ p.0))
 text-found _ text e = cc
 
+-- and a text written so is read
 pub text-reads : (d : Data) (text : List ℕ) → IsText text d → text_of d ≡ Some text
 text-reads d text h = subst (λ x. text_of x ≡ Some text) (sym h.0) (cond-true _ _ _ (le-leb _ _ h.1))
 
@@ -84,6 +94,7 @@ texts-found (string s) texts e = mapped (λ (text : List ℕ). text ∷ []) (tex
     subst (λ ts. AreTexts ts (string s)) is (text-found (string s) t some))
 texts-found _ texts e = cc
 
+-- and texts written so are read
 pub texts-reads : (d : Data) (texts : List (List ℕ)) → AreTexts texts d → texts_of d ≡ Some texts
 texts-reads (array ds) texts h = all-reads ds texts h
 texts-reads (string s) (t ∷ []) h = ap (option_map (λ (text : List ℕ). text ∷ [])) (text-reads (string s) t h)
@@ -117,11 +128,12 @@ between-found low high z (number n) e =
     (word_integer n y some, le_z_yes (subst T (sym parts.0) tt), le_z_yes (subst T (sym parts.1) tt)))
 between-found low high z _ e = cc
 
+-- and an integer written so is read
 pub between-reads : (low z : ℤ) (d : Data) → IsBetween low (pos max_number) z d
     → integer_between low (pos max_number) d ≡ Some z
 between-reads low z (number n) h =
     let test : (int_le low z && int_le z (pos max_number)) ≡ true =
-        and_from _ _ (holds_true _ (h.1).le) (holds_true _ (h.2).le) in
+    and_from _ _ (holds_true _ (h.1).le) (holds_true _ (h.2).le) in
     ap (option_and_then (λ (y : ℤ). cond (int_le low y && int_le y (pos max_number)) (Some y) None)) (integer_word n z h.0 h.2)
     ∙ cond-true _ _ _ test
 between-reads low z _ h = absurd h
@@ -132,6 +144,7 @@ unfolding scope_named
 scope-found (string w) scope e = ap string (named-name scope_name scopes w scope e)
 scope-found _ scope e = cc
 
+-- and a scope written so is read
 pub scope-reads : (scope : Scope) → scope_of (string (scope_name scope)) ≡ Some scope
 unfolding scope_named
 scope-reads Basename = refl
@@ -143,6 +156,7 @@ unfolding field_named
 field-found (string w) field e = ap string (named-name field_name fields w field e)
 field-found _ field e = cc
 
+-- and a field written so is read
 pub field-reads : (field : Field) → field_of (string (field_name field)) ≡ Some field
 unfolding field_named
 field-reads Oclock = refl
@@ -155,6 +169,7 @@ unfolding relation_named
 relation-found (string w) relation e = ap string (named-name relation_name relations w relation e)
 relation-found _ relation e = cc
 
+-- and a relation written so is read
 pub relation-reads : (relation : Relation) → relation_of (string (relation_name relation)) ≡ Some relation
 unfolding relation_named
 relation-reads Eq = refl
@@ -168,10 +183,12 @@ relation-reads Le = refl
 pub kind-found : (d : Data) (kind : Kind) → kind_of d ≡ Some kind → IsKind kind d
 unfolding kind_named
 kind-found (string w) kind e =
-    let is : w ≡ kind_name kind = named-name kind_name kinds w kind e in
-    (ap string is, λ unknown.
-    let none : None ≡ Some Unknown = subst (λ k. kind_named (kind_name k) ≡ Some k) unknown (subst (λ x. kind_named x ≡ Some kind) is e) in
-    none-some Unknown none)
+    let is : w ≡ kind_name kind = named-name kind_name kinds w kind e in (
+      ap string is,
+      λ unknown.
+          let none : None ≡ Some Unknown = subst (λ k. kind_named (kind_name k) ≡ Some k) unknown (subst (λ x. kind_named x ≡ Some kind) is e) in
+          none-some Unknown none,
+    )
 kind-found _ kind e = cc
 
 known_kind : (kind : Kind) → kind ≢ Unknown → kind_named (kind_name kind) ≡ Some kind
@@ -186,6 +203,7 @@ known_kind Socket e = refl
 known_kind Door e = refl
 known_kind Unknown e = absurd (e refl)
 
+-- and a kind written so is read
 pub kind-reads : (kind : Kind) (d : Data) → IsKind kind d → kind_of d ≡ Some kind
 kind-reads kind d h = subst (λ x. kind_of x ≡ Some kind) (sym h.0) (known_kind kind h.1)
 
@@ -203,6 +221,7 @@ comparison-found (item d (item e no_items)) relation n is =
     (relation-found d relation p.0, between-found _ _ n e p.1)
 comparison-found _ relation n is = cc
 
+-- and a comparison written so is read
 pub comparison-reads : (ds : Items) (relation : Relation) (n : ℤ) → IsComparison relation n ds
     → ◌≡◌ {A = Option (Relation × ℤ)} (comparison_of ds) (Some (relation, n))
 comparison-reads (item d (item e no_items)) relation n h =
@@ -219,6 +238,7 @@ depth-found (array (item (string w) ds)) depth e =
     (ap string ((bytes_eq-Decides w (codes "depth")).0 p.0), comparison-found ds c.0 c.1 some))
 depth-found _ depth e = cc
 
+-- and a depth written so is read
 pub depth-reads : (depth : Depth) (d : Data) → IsDepth depth d → depth_argument d ≡ Some depth
 depth-reads (Is relation n) (array (item d ds)) h =
     subst (λ x. depth_argument (array (item x ds)) ≡ Some (Is relation n)) (sym h.0)
@@ -237,6 +257,7 @@ bound-found law instance (number n) bound e =
     subst (λ b. IsBound instance b (number n)) (same_Ok (Second second) bound is) (between-found _ _ second (number n) some))
 bound-found law instance _ bound e = cc
 
+-- and a bound written so is read
 pub bound-reads : TextsSayWhatTheySpell → (instance : InstanceData) (bound : Bound) (d : Data)
     → IsBound instance bound d → bound_in instance d ≡ Ok bound
 bound-reads law instance (Second second) (number n) h =

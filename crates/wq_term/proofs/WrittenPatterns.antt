@@ -19,7 +19,8 @@ use Rattle.wq_term.specs.declared.expr.Scope.TheVariants.{Basename, Wholename}
 use Rattle.wq_term.specs.declared.fault.TermFault.TheVariants.{PatternTooLong}
 use Rattle.wq_term.specs.Expr.{ExprData, matches}
 use Rattle.wq_term.specs.NameFit.{scope_with}
-use Rattle.wq_term.specs.PatternArgument.{is_flag, are_flags, is_folded, is_whole_name, plain_flags, flags_of}
+use Rattle.wq_term.specs.PatternArgument.{is_flag, are_flags, is_folded, is_whole_name, plain_flags}
+use Rattle.wq_term.specs.PatternArgument.{flags_of}
 use Rattle.wq_term.specs.Reading.{match_with}
 use Rattle.wq_term.specs.WrittenArgument.{AreFlagMembers, AreFlags, IsPlain, IsPatternText}
 use Rattle.wq_term.proofs.WrittenArguments.{same_Ok}
@@ -28,10 +29,11 @@ use Rattle.wq_term.proofs.WrittenArguments.{same_Ok}
 members-found : (ms : Members) → are_flags ms ≡ true → AreFlagMembers ms
 members-found no_members e = tt
 members-found (member key (boolean b) ms) e =
-    let parts = and_parts _ _ e in
-    (either (bytes_eq key (codes "includedotfiles")) (bytes_eq key (codes "noescape"))
-    (bytes_eq-Decides key (codes "includedotfiles")).0 (bytes_eq-Decides key (codes "noescape")).0 parts.0,
-    members-found ms parts.1)
+    let parts = and_parts _ _ e in (
+      either (bytes_eq key (codes "includedotfiles")) (bytes_eq key (codes "noescape"))
+          (bytes_eq-Decides key (codes "includedotfiles")).0 (bytes_eq-Decides key (codes "noescape")).0 parts.0,
+      members-found ms parts.1,
+    )
   where
     either : {P Q : Type 0} (a b : Bool) → (a ≡ true → P) → (b ≡ true → Q) → (a || b) ≡ true → P ⊎ Q
     either true b p q e = inl (p refl)
@@ -73,6 +75,7 @@ whole_name scope flags is = ap is_whole_name (sym is) ∙ at flags.wholename
     at true = refl
     at false = refl
 
+-- and plain flags have it
 pub scope_plain : (case : Case) (scope : Scope) → scope_with (plain_flags case scope) ≡ scope
 scope_plain case Basename = refl
 scope_plain case Wholename = refl
@@ -86,11 +89,13 @@ pub flags-found : (case : Case) (scope : Scope) (d : Data) (flags : Flags)
     → flags_of (plain_flags case scope) d ≡ Some flags → IsOf case scope flags × AreFlags flags d
 flags-found case scope (object ms) flags e =
     let p = cond_some _ _ _ e in
-    subst (λ f. IsOf case scope f × AreFlags f (object ms)) p.1
-    ((scope_plain case scope, refl),
-    (members-found ms p.0, said_true (get_member (codes "includedotfiles") ms), said_true (get_member (codes "noescape") ms)))
+    subst (λ f. IsOf case scope f × AreFlags f (object ms)) p.1 (
+      (scope_plain case scope, refl),
+      (members-found ms p.0, said_true (get_member (codes "includedotfiles") ms), said_true (get_member (codes "noescape") ms)),
+    )
 flags-found case scope _ flags e = cc
 
+-- and an object of flags written so are read
 pub flags-reads : (case : Case) (scope : Scope) (d : Data) (flags : Flags) → IsOf case scope flags
     → AreFlags flags d → flags_of (plain_flags case scope) d ≡ Some flags
 flags-reads case scope (object ms) flags is h =
@@ -115,6 +120,7 @@ pattern-found (string text) flags t e goal =
     goal (record { text = text; flags = flags }) (sym (same_Ok _ t is)) refl (refl, leb-true _ _ short))
 pattern-found _ flags t e goal = cc
 
+-- and a text written so is read
 pub pattern-reads : (d : Data) (pattern : PatternData) → IsPatternText pattern d
     → match_with d pattern.flags ≡ Ok (matches pattern)
 pattern-reads d pattern h =

@@ -19,24 +19,35 @@ use Rattle.wq_term.specs.declared.expr.Since.TheVariants.{Observed, Created, Mod
 use Rattle.wq_term.specs.declared.fault.TermFault.TheVariants.{WrongArguments, BadClockSpec}
 use Rattle.wq_term.specs.declared.reading.word.Field.{Field}
 use Rattle.wq_term.specs.declared.reading.word.Field.TheVariants.{Oclock, Cclock, Mtime}
-use Rattle.wq_term.specs.Argument.{text_of, texts_of, kind_of, scope_of, field_of, comparison_of, depth_argument, bound_in, second_of}
+use Rattle.wq_term.specs.Argument.{text_of, texts_of, kind_of, scope_of, field_of, comparison_of}
+use Rattle.wq_term.specs.Argument.{depth_argument, bound_in, second_of}
 use Rattle.wq_term.specs.PatternArgument.{plain_flags, flags_of, is_folded}
 use Rattle.wq_term.specs.NameFit.{scope_with}
 use Rattle.wq_term.specs.Text.{without_end_slashes}
 use Rattle.wq_term.specs.Word.{scope_name, field_name}
-use Rattle.wq_term.specs.Expr.{ExprData, kind_is, name_is, matches, suffix_is, size_is, since, below}
-use Rattle.wq_term.specs.Reading.{read_plain, read_kind, name_in, read_name, match_with, read_match, read_suffix, read_size, below_at, read_dirname, since_by, read_since}
-use Rattle.wq_term.specs.WrittenArgument.{IsWord, IsText, AreTexts, IsSecond, IsKind, IsComparison, IsDepth, IsDirectory, IsBound, IsPattern, AreFlags}
+use Rattle.wq_term.specs.Expr.{ExprData, kind_is, name_is, matches, suffix_is, size_is, since}
+use Rattle.wq_term.specs.Expr.{below}
+use Rattle.wq_term.specs.Reading.{read_plain, read_kind, name_in, read_name, match_with, read_match}
+use Rattle.wq_term.specs.Reading.{read_suffix, read_size, below_at, read_dirname, since_by}
+use Rattle.wq_term.specs.Reading.{read_since}
+use Rattle.wq_term.specs.WrittenArgument.{IsWord, IsText, AreTexts, IsSecond, IsKind, IsComparison}
+use Rattle.wq_term.specs.WrittenArgument.{IsDepth, IsDirectory, IsBound, IsPattern, AreFlags}
 use Rattle.wq_term.specs.Written.{IsNothing, IsOnly, IsOneOrTwo, IsSinceBy, IsSince}
 use Rattle.wq_term.proofs.Slashes.{slashes, drops, dropped}
-use Rattle.wq_term.proofs.WrittenArguments.{same_Ok, text-found, text-reads, texts-found, texts-reads, kind-found, kind-reads, scope-found, scope-reads, field-found, field-reads, comparison-found, comparison-reads, depth-found, depth-reads, bound-found, bound-reads, between-found, between-reads}
-use Rattle.wq_term.proofs.WrittenPatterns.{IsOf, scope_plain, flags-found, flags-reads, plain-reads, pattern-found, pattern-reads}
+use Rattle.wq_term.proofs.WrittenArguments.{same_Ok, text-found, text-reads, texts-found}
+use Rattle.wq_term.proofs.WrittenArguments.{texts-reads, kind-found, kind-reads, scope-found}
+use Rattle.wq_term.proofs.WrittenArguments.{scope-reads, field-found, field-reads, comparison-found}
+use Rattle.wq_term.proofs.WrittenArguments.{comparison-reads, depth-found, depth-reads, bound-found}
+use Rattle.wq_term.proofs.WrittenArguments.{bound-reads, between-found, between-reads}
+use Rattle.wq_term.proofs.WrittenPatterns.{IsOf, scope_plain, flags-found, flags-reads, plain-reads}
+use Rattle.wq_term.proofs.WrittenPatterns.{pattern-found, pattern-reads}
 
 -- a term without arguments
 pub plain-found : (u : ExprData) (ds : Items) (t : ExprData) → read_plain u ds ≡ Ok t → IsNothing ds × (u ≡ t)
 plain-found u no_items t e = (tt, same_Ok u t e)
 plain-found u (item d ds) t e = cc
 
+-- and no arguments are read as it
 pub plain_term-reads : (u : ExprData) (ds : Items) → IsNothing ds → read_plain u ds ≡ Ok u
 plain_term-reads u no_items h = refl
 plain_term-reads u (item d ds) h = absurd h
@@ -49,6 +60,7 @@ type-found (item d no_items) t e goal =
     goal kind (same_Ok _ t is) (kind-found d kind some))
 type-found _ t e goal = cc
 
+-- and a kind written so is read
 pub type-reads : (ds : Items) (kind : Kind) → IsOnly (IsKind kind) ds → read_kind ds ≡ Ok (kind_is kind)
 type-reads (item d no_items) kind h = rw (kind-reads kind d h) refl
 type-reads _ kind h = absurd h
@@ -61,6 +73,7 @@ suffix-found (item d no_items) t e goal =
     goal texts (same_Ok _ t is) (texts-found d texts some))
 suffix-found _ t e goal = cc
 
+-- and texts written so are read
 pub suffix-reads : (ds : Items) (texts : List (List ℕ)) → IsOnly (AreTexts texts) ds
     → read_suffix ds ≡ Ok (suffix_is texts)
 suffix-reads (item d no_items) texts h = rw (texts-reads d texts h) refl
@@ -73,15 +86,17 @@ size-found ds t e goal =
     or_fault-ok WrongArguments (comparison_of ds) (λ (c : Relation × ℤ). Ok (size_is c.0 c.1)) t e (λ c some is.
     goal c.0 c.1 (same_Ok _ t is) (comparison-found ds c.0 c.1 some))
 
+-- and a comparison written so is read
 pub size-reads : (ds : Items) (relation : Relation) (n : ℤ) → IsComparison relation n ds
     → read_size ds ≡ Ok (size_is relation n)
 size-reads ds relation n h =
     ap (λ o. or_fault WrongArguments o (λ (c : Relation × ℤ). Ok (size_is c.0 c.1))) (comparison-reads ds relation n h)
 
--- `name` and `iname`
+-- the arguments of `name` and `iname`
 abbrev pub IsNames : Scope → List (List ℕ) → Items → Type 0
 IsNames scope texts ds = IsOneOrTwo (AreTexts texts) (scope ≡ Basename) (IsWord (scope_name scope)) ds
 
+-- what `name` and `iname` are read with
 pub name-found : {P : Type 0} (case : Case) (ds : Items) (t : ExprData) → read_name case ds ≡ Ok t
     → ((scope : Scope) (texts : List (List ℕ)) → name_is case scope texts ≡ t → IsNames scope texts ds → P) → P
 name-found case (item d no_items) t e goal =
@@ -93,6 +108,7 @@ name-found case (item d (item f no_items)) t e goal =
     goal scope texts (same_Ok _ t is) (texts-found d texts some, scope-found f scope named)))
 name-found case _ t e goal = cc
 
+-- and texts and a scope written so is read
 pub name-reads : (case : Case) (ds : Items) (scope : Scope) (texts : List (List ℕ)) → IsNames scope texts ds
     → read_name case ds ≡ Ok (name_is case scope texts)
 name-reads case (item d no_items) scope texts h =
@@ -112,10 +128,11 @@ dir-reads : (d : Data) (dir : List ℕ) (case : Case) (depth : Depth) → IsDire
 dir-reads d dir case depth h =
     rw (text-reads d (dir ++ slashes h.1.0) h.1.1, drops dir h.1.0 h.0) refl
 
--- `dirname` and `idirname`
+-- the arguments of `dirname` and `idirname`
 abbrev pub IsBelow : List ℕ → Depth → Items → Type 0
 IsBelow dir depth ds = IsOneOrTwo (IsDirectory dir) (depth ≡ Any) (IsDepth depth) ds
 
+-- what `dirname` and `idirname` are read with
 pub dirname-found : {P : Type 0} (case : Case) (ds : Items) (t : ExprData) → read_dirname case ds ≡ Ok t
     → ((dir : List ℕ) (depth : Depth) → below case dir depth ≡ t → IsBelow dir depth ds → P) → P
 dirname-found case (item d no_items) t e goal =
@@ -127,6 +144,7 @@ dirname-found case (item d (item f no_items)) t e goal =
     goal (without_end_slashes text) depth (same_Ok _ t is) (dir-found d text some, depth-found f depth named)))
 dirname-found case _ t e goal = cc
 
+-- and a directory and a depth written so is read
 pub dirname-reads : (case : Case) (ds : Items) (dir : List ℕ) (depth : Depth) → IsBelow dir depth ds
     → read_dirname case ds ≡ Ok (below case dir depth)
 dirname-reads case (item d no_items) dir depth h =
@@ -179,6 +197,7 @@ by-reads instance Point field t (item d (item f no_items)) says h =
     rw (h.1, field-reads field) (says d h.0)
 by-reads instance Point field t _ says h = absurd h
 
+-- and a point and a field written so is read
 pub since-reads : TextsSayWhatTheySpell → (instance : InstanceData) (ds : Items) (point : SinceData)
     → IsSince instance point ds → read_since instance ds ≡ Ok (since point)
 since-reads law instance ds (Observed bound) h =
@@ -191,7 +210,7 @@ since-reads law instance ds (Modified second) h =
     by-reads instance (IsSecond second) Mtime (since (Modified second)) ds
     (λ d s. ap (λ o. or_fault BadClockSpec o (λ z. Ok (since (Modified z)))) (between-reads (pos 0) second d s)) h
 
--- flags of a term of this case
+-- `match` and `imatch`
 pub match-found : {P : Type 0} (case : Case) (ds : Items) (t : ExprData) → read_match case ds ≡ Ok t
     → ((pattern : PatternData) → matches pattern ≡ t → is_folded case ≡ (pattern.flags).fold → IsPattern pattern ds → P) → P
 match-found case (item d no_items) t e goal =
@@ -201,9 +220,11 @@ match-found case (item d no_items) t e goal =
 match-found case (item d (item f no_items)) t e goal =
     or_fault-ok WrongArguments (scope_of f) (λ scope. match_with d (plain_flags case scope)) t e (λ scope named e'.
     pattern-found d (plain_flags case scope) t e' (λ pattern is flags text.
-    goal pattern (sym is) (ap (λ f. f.fold) (sym flags))
-    (text, scope-found f scope named ∙ ap (λ s. string (scope_name s)) (sym (ap scope_with flags ∙ scope_plain case scope)),
-    (ap (λ f. f.dotfiles) flags, ap (λ f. f.noescape) flags))))
+    goal pattern (sym is) (ap (λ f. f.fold) (sym flags)) (
+      text,
+      scope-found f scope named ∙ ap (λ s. string (scope_name s)) (sym (ap scope_with flags ∙ scope_plain case scope)),
+      (ap (λ f. f.dotfiles) flags, ap (λ f. f.noescape) flags),
+    )))
 match-found case (item d (item f (item g no_items))) t e goal =
     or_fault-ok WrongArguments (scope_of f) (λ scope. or_fault WrongArguments (flags_of (plain_flags case scope) g) (λ flags. match_with d flags)) t e (λ scope named e'.
     or_fault-ok WrongArguments (flags_of (plain_flags case scope) g) (λ flags. match_with d flags) t e' (λ flags set e''.
@@ -213,6 +234,7 @@ match-found case (item d (item f (item g no_items))) t e goal =
     (text, scope-found f scope named ∙ ap (λ s. string (scope_name s)) (sym said.0.0), said.1))))
 match-found case _ t e goal = cc
 
+-- and a pattern written so is read
 pub match-reads : (case : Case) (ds : Items) (pattern : PatternData) → is_folded case ≡ (pattern.flags).fold
     → IsPattern pattern ds → read_match case ds ≡ Ok (matches pattern)
 match-reads case (item d no_items) pattern fold h =

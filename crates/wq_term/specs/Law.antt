@@ -11,8 +11,8 @@ use Rattle.wq_term.specs.Expr.{ExprData, depth_of}
 use Rattle.wq_term.specs.Reading.{reads_as}
 use Rattle.wq_term.specs.Written.{IsWrittenBy}
 
--- a value is read as an expression exactly where the grammar has it as a writing of that expression,
--- and that is at most 64 terms deep
+-- a value is read as an expression exactly where the grammar has it as a writing of that
+-- expression, which is at most 64 terms deep
 abbrev pub ValuesSayWhatTheyWrite : Type 0
 ValuesSayWhatTheyWrite = (instance : InstanceData) (t : ExprData) (d : Data)
     → (reads_as instance max_depth d ≡ Ok t) ↔ (IsWrittenBy instance t d × (depth_of t ≤ max_depth))

@@ -1,4 +1,4 @@
--- How numbers of a record are compared with those of a term: relations, and what lies after a bound.
+-- How numbers of a record are compared with those of a term: relations, and what is after a bound.
 -- From Watchman's documentation of the terms `size` and `since`.
 use Rattle.std.specs.Prelude.{ℕ, ℤ, Bool, not, int_lt, int_le, nat_lt}
 use Rattle.std.specs.Ordering.{int_eq}

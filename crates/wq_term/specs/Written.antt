@@ -87,5 +87,6 @@ abbrev mutual
   -- the terms are written by these values, one by each
   pub AreWrittenBy : InstanceData → ExprsData → Items → Type 0
   AreWrittenBy instance no_terms no_items = Unit {0}
-  AreWrittenBy instance (term t ts) (item d ds) = IsWrittenBy instance t d × AreWrittenBy instance ts ds
+  AreWrittenBy instance (term t ts) (item d ds) =
+      IsWrittenBy instance t d × AreWrittenBy instance ts ds
   AreWrittenBy instance _ _ = ⊥

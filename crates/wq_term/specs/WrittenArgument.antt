@@ -113,12 +113,14 @@ AreFlags flags _ = ⊥
 abbrev pub IsPlain : Flags → Type 0
 IsPlain flags = (flags.dotfiles ≡ false) × (flags.noescape ≡ false)
 
--- a pattern, its scope and its flags; flags that are off may be left out, and before them the basename
+-- a pattern, its scope and its flags: flags that are off may be left out, and with them the scope
+-- where it is the basename
 abbrev pub IsPattern : PatternData → Items → Type 0
 IsPattern pattern (item d no_items) =
     IsPatternText pattern d × (scope_with pattern.flags ≡ Basename) × IsPlain pattern.flags
 IsPattern pattern (item d (item e no_items)) =
-    IsPatternText pattern d × IsWord (scope_name (scope_with pattern.flags)) e × IsPlain pattern.flags
+    IsPatternText pattern d × IsWord (scope_name (scope_with pattern.flags)) e
+    × IsPlain pattern.flags
 IsPattern pattern (item d (item e (item f no_items))) =
     IsPatternText pattern d × IsWord (scope_name (scope_with pattern.flags)) e
     × AreFlags pattern.flags f

@@ -1,6 +1,7 @@
 //! Laws about reading expressions, each a function whose contract is the law. A proof of another
 //! crate gets a law by a call, which costs nothing.
-ghost use Rattle.wq_term.specs.Law.{BoundsSayWhatTheyWrite, NumbersSayWhatTheyWrite, ReadExpressionsAreShallow, ValuesSayWhatTheyWrite};
+ghost use Rattle.wq_term.specs.Law.{BoundsSayWhatTheyWrite, NumbersSayWhatTheyWrite};
+ghost use Rattle.wq_term.specs.Law.{ReadExpressionsAreShallow, ValuesSayWhatTheyWrite};
 
 use wq_clock::texts_say_what_they_spell;
 

@@ -1,5 +1,5 @@
-//! Reading an expression from a JSON value: the terms, their heads and how they nest. What the arguments of
-//! one term say is read in the modules below; what a term means is not said here.
+//! Reading an expression from a JSON value: the terms, their heads and how they nest. What the
+//! arguments of one term say is read in the modules below; what a term means is not said here.
 ghost use Rattle.std.specs.Prelude.{◌≡◌};
 ghost use Rattle.serde_json.specs.View.{view as data_of, items_view};
 ghost use Rattle.wq_clock.specs.Instance.{instance_data};
@@ -29,8 +29,8 @@ pub const MAX_DEPTH: u32 = 64;
 
 /// The expression that a JSON value says, at this instance of the server.
 ///
-/// A term is an array headed by its name, with its arguments behind it; the bare name stands for an array
-/// of it alone. The first fault refuses the value: see [`TermFault`].
+/// A term is an array headed by its name, with its arguments behind it; the bare name stands for an
+/// array of it alone. The first fault refuses the value: see [`TermFault`].
 pub fn read_expr(alloc: Global, value: &Value, instance: &Instance) -> Result<Expr, TermFault>
     ensures { Gives result (reads_as (instance_data instance.now) max_depth (data_of value.now)) }
 {

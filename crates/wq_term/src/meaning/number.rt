@@ -35,7 +35,8 @@ impl Since {
     }
 }
 
-/// Whether a moment lies strictly after the bound; of a client that knows nothing, whether the file exists.
+/// Whether a moment lies strictly after the bound; of a client that knows nothing, whether the file
+/// exists.
 fn is_after(bound: Bound, exists: bool, tick: u64, second: i64) -> bool
     ensures { result ≡ is_after bound exists tick second }
 {

@@ -1,7 +1,10 @@
-//! What one argument of a term, or a few of them, say. Which term has which arguments is not said here.
+//! What one argument of a term, or a few of them, say. Which term has which arguments is not said
+//! here.
 ghost use Rattle.std.specs.Prelude.{◌≡◌, ok_or, option_map};
 ghost use Rattle.serde_json.specs.View.{view as data_of, items_view};
-ghost use Rattle.wq_term.specs.Argument.{parts_of, text_of, all_texts_of, texts_of, whole_number_of, second_of, scope_of, relation_of, comparison_of};
+ghost use Rattle.wq_term.specs.Argument.{parts_of, text_of, all_texts_of, texts_of};
+ghost use Rattle.wq_term.specs.Argument.{whole_number_of, second_of, scope_of, relation_of};
+ghost use Rattle.wq_term.specs.Argument.{comparison_of};
 ghost use Rattle.wq_term.specs.Gives.{GivesAs, GivesTexts};
 ghost use Rattle.wq_term.specs.declared.fault.TermFault.TheVariants.{WrongArguments};
 

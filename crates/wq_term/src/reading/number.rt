@@ -57,10 +57,11 @@ fn field(value: &Value) -> Option<Field>
     value.as_str().and_then(field_named)
 }
 
-/// The bound of a clock spec in JSON at this instance of the server: that of a text, or a second of the Unix
-/// epoch from 0 to 2^62.
+/// The bound of a clock spec in JSON at this instance of the server: that of a text, or a second of
+/// the Unix epoch from 0 to 2^62.
 ///
-/// A malformed value is [`TermFault::BadClockSpec`], and a named cursor [`TermFault::CursorInTerm`].
+/// A malformed value is [`TermFault::BadClockSpec`], and a named cursor
+/// [`TermFault::CursorInTerm`].
 pub fn read_bound(value: &Value, instance: &Instance) -> Result<Bound, TermFault>
     ensures { result ≡ bound_in (instance_data instance.now) (data_of value.now) }
 {

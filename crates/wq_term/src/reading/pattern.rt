@@ -1,4 +1,5 @@
-//! Reading the terms over patterns: `match` and `imatch`. How the text of a pattern is read is said in `wq_glob`.
+//! Reading the terms over patterns: `match` and `imatch`. How the text of a pattern is read is said
+//! in `wq_glob`.
 ghost use Rattle.std.specs.Prelude.{◌≡◌};
 ghost use Rattle.serde_json.specs.View.{view as data_of, items_view, members_view};
 ghost use Rattle.wq_term.specs.Gives.{Gives};

@@ -9,7 +9,8 @@ use Rattle.std.specs.declared.alloc.Global.{Global}
 use Rattle.wq_term.specs.declared.expr.Expr.{Expr}
 use Rattle.wq_term.specs.Expr.{term_of, terms_of}
 use Rattle.wq_term.specs.Reading.{read_all, reads_as}
-use Rattle.wq_term.proofs.Lists.{prefixed, prefixed-end, read_more, read_fault, items_from, terms-push, all_refused}
+use Rattle.wq_term.proofs.Lists.{prefixed, prefixed-end, read_more, read_fault, items_from}
+use Rattle.wq_term.proofs.Lists.{terms-push, all_refused}
 use Rattle.wq_term.proofs.reading.+read.Goals as goal
 
 pub read_all-returns : goal.read_all-returns
