@@ -1,4 +1,4 @@
 mod Names
 mod Keys
 mod NoFloat
-mod Written
+mod Grammar

@@ -5,7 +5,7 @@ use Rattle.serde_json.specs.Data.{Data}
 use Rattle.wq_clock.specs.Instance.{InstanceData}
 use Rattle.wq_query.specs.Query.{QueryData}
 use Rattle.wq_query.specs.Reading.{asks}
-use Rattle.wq_query.specs.Written.{IsWrittenBy}
+use Rattle.wq_query.specs.Grammar.{IsWrittenBy}
 
 -- a value asks a query exactly where the grammar has it as a writing of that query
 abbrev pub ValuesAskWhatTheyWrite : Type 0

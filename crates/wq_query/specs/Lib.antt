@@ -4,5 +4,5 @@ pub mod Reading
 pub mod Gives
 pub mod Listing
 pub mod Reply
-pub mod Written
+pub mod Grammar
 pub mod Law

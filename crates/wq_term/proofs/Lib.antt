@@ -2,7 +2,7 @@ pub mod Lists
 mod Texts
 mod Arguments
 mod Slashes
-mod WrittenArguments
-mod WrittenPatterns
-mod WrittenTerms
-mod Written
+mod ArgumentGrammar
+mod PatternGrammar
+mod TermGrammar
+mod Grammar

@@ -6,10 +6,10 @@ use Rattle.wq_clock.specs.Instance.{InstanceData}
 use Rattle.wq_clock.specs.declared.bound.Bound.{Bound}
 use Rattle.wq_term.specs.Limit.{max_depth}
 use Rattle.wq_term.specs.Argument.{bound_in, whole_number_of}
-use Rattle.wq_term.specs.WrittenArgument.{IsBound, IsWhole}
+use Rattle.wq_term.specs.ArgumentGrammar.{IsBound, IsWhole}
 use Rattle.wq_term.specs.Expr.{ExprData, depth_of}
 use Rattle.wq_term.specs.Reading.{reads_as}
-use Rattle.wq_term.specs.Written.{IsWrittenBy}
+use Rattle.wq_term.specs.Grammar.{IsWrittenBy}
 
 -- a value is read as an expression exactly where the grammar has it as a writing of that
 -- expression, which is at most 64 terms deep

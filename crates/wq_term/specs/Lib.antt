@@ -9,6 +9,6 @@ pub mod Argument
 pub mod PatternArgument
 pub mod Reading
 pub mod Gives
-pub mod WrittenArgument
-pub mod Written
+pub mod ArgumentGrammar
+pub mod Grammar
 pub mod Law

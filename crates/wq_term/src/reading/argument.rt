@@ -21,7 +21,8 @@ pub const MAX_TEXT: usize = 4096;
 
 /// A name and what stands behind it.
 pub(super) fn parts(value: &Value) -> Option<(&str, &[Value])>
-    ensures { option_map (λ p. (p.0.now, items_view p.1.now)) result ≡ parts_of (data_of value.now) }
+    ensures { option_map (λ p. (p.0.now, items_view p.1.now)) result
+        ≡ parts_of (data_of value.now) }
 {
     match value {
         Value::String(name) => Some((name.as_str(), &[])),
@@ -45,7 +46,8 @@ pub(super) fn text(value: &Value) -> Option<&[u8]>
 
 /// A copy of a text.
 fn read_text(alloc: Global, value: &Value) -> Result<Vec<u8>, TermFault>
-    ensures { GivesAs (λ text. text.items) result (ok_or (text_of (data_of value.now)) WrongArguments) }
+    ensures { GivesAs (λ text. text.items) result
+        (ok_or (text_of (data_of value.now)) WrongArguments) }
 {
     match text(value) {
         Some(text) => Ok(Vec::from_slice(alloc, text)?),

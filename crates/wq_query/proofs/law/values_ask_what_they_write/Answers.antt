@@ -1,4 +1,4 @@
-use Rattle.wq_query.proofs.Written.{values_ask}
+use Rattle.wq_query.proofs.Grammar.{values_ask}
 use Rattle.wq_query.proofs.law.values_ask_what_they_write.Goals as goal
 
 pub returns : goal.returns

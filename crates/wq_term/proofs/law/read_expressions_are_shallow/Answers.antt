@@ -1,4 +1,4 @@
-use Rattle.wq_term.proofs.Written.{are_shallow}
+use Rattle.wq_term.proofs.Grammar.{are_shallow}
 use Rattle.wq_term.proofs.law.read_expressions_are_shallow.Goals as goal
 
 pub returns : goal.returns

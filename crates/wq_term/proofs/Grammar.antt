@@ -25,19 +25,19 @@ use Rattle.wq_term.specs.Head.{head_name, heads, head_named}
 use Rattle.wq_term.specs.PatternArgument.{is_folded}
 use Rattle.wq_term.specs.Reading.{Answer, read_plain, read_name, read_dirname, read_negation}
 use Rattle.wq_term.specs.Reading.{read_all, read_named, reads_as}
-use Rattle.wq_term.specs.WrittenArgument.{AreTexts, IsKind, IsComparison, IsPattern}
-use Rattle.wq_term.specs.Written.{IsTerm, IsNothing, IsOnly, IsSince, in_case, IsWrittenBy}
-use Rattle.wq_term.specs.Written.{AreWrittenBy}
+use Rattle.wq_term.specs.ArgumentGrammar.{AreTexts, IsKind, IsComparison, IsPattern}
+use Rattle.wq_term.specs.Grammar.{IsTerm, IsNothing, IsOnly, IsSince, in_case, IsWrittenBy}
+use Rattle.wq_term.specs.Grammar.{AreWrittenBy}
 use Rattle.wq_term.specs.Law.{ValuesSayWhatTheyWrite, ReadExpressionsAreShallow}
 use Rattle.wq_term.specs.Law.{BoundsSayWhatTheyWrite, NumbersSayWhatTheyWrite}
 use Rattle.wq_term.specs.Limit.{max_depth}
-use Rattle.wq_term.proofs.WrittenArguments.{same_Ok, bound-found, bound-reads, between-found}
-use Rattle.wq_term.proofs.WrittenArguments.{between-reads}
-use Rattle.wq_term.proofs.WrittenTerms.{plain-found, plain_term-reads, type-found, type-reads}
-use Rattle.wq_term.proofs.WrittenTerms.{suffix-found, suffix-reads, size-found, size-reads, IsNames}
-use Rattle.wq_term.proofs.WrittenTerms.{name-found, name-reads, IsBelow, dirname-found}
-use Rattle.wq_term.proofs.WrittenTerms.{dirname-reads, since-found, since-reads, match-found}
-use Rattle.wq_term.proofs.WrittenTerms.{match-reads}
+use Rattle.wq_term.proofs.ArgumentGrammar.{same_Ok, bound-found, bound-reads, between-found}
+use Rattle.wq_term.proofs.ArgumentGrammar.{between-reads}
+use Rattle.wq_term.proofs.TermGrammar.{plain-found, plain_term-reads, type-found, type-reads}
+use Rattle.wq_term.proofs.TermGrammar.{suffix-found, suffix-reads, size-found, size-reads, IsNames}
+use Rattle.wq_term.proofs.TermGrammar.{name-found, name-reads, IsBelow, dirname-found}
+use Rattle.wq_term.proofs.TermGrammar.{dirname-reads, since-found, since-reads, match-found}
+use Rattle.wq_term.proofs.TermGrammar.{match-reads}
 
 -- a name names its term
 head-reads : (head : Head) → head_named (head_name head) ≡ Some head

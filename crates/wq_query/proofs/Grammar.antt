@@ -17,7 +17,7 @@ use Rattle.wq_term.specs.Argument.{bound_in, whole_number_of}
 use Rattle.wq_term.specs.Expr.{ExprData, always}
 use Rattle.wq_term.specs.Law.{BoundsSayWhatTheyWrite, NumbersSayWhatTheyWrite}
 use Rattle.wq_term.specs.Law.{ValuesSayWhatTheyWrite}
-use Rattle.wq_term.specs.WrittenArgument.{IsWhole, IsBound}
+use Rattle.wq_term.specs.ArgumentGrammar.{IsWhole, IsBound}
 use Rattle.wq_query.specs.declared.fault.QueryFault.{QueryFault}
 use Rattle.wq_query.specs.declared.fault.QueryFault.TheVariants.{LeftOutKey, Expression}
 use Rattle.wq_query.specs.declared.fault.QueryFault.TheVariants.{UnknownField, BadClockSpec}
@@ -30,7 +30,7 @@ use Rattle.wq_query.specs.Query.{QueryData}
 use Rattle.wq_query.specs.Reading.{asks, left_out_keys, has_key_of, has_left_out_key, is_plain_case}
 use Rattle.wq_query.specs.Reading.{expression_of, field_of, fields_in, fields_of, since_of, flag_of}
 use Rattle.wq_query.specs.Reading.{is_whole}
-use Rattle.wq_query.specs.Written.{IsExpression, AreNamed, AreFields, IsWrittenBy}
+use Rattle.wq_query.specs.Grammar.{IsExpression, AreNamed, AreFields, IsWrittenBy}
 use Rattle.wq_query.specs.Law.{ValuesAskWhatTheyWrite}
 
 -- what is right is one value

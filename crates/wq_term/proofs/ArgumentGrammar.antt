@@ -42,8 +42,8 @@ use Rattle.wq_term.specs.Word.{field_named}
 use Rattle.wq_term.specs.Argument.{text_of, all_texts_of, texts_of, integer_between}
 use Rattle.wq_term.specs.Argument.{whole_number_of, second_of, kind_of, scope_of, field_of}
 use Rattle.wq_term.specs.Argument.{relation_of, comparison_of, depth_argument, bound_in}
-use Rattle.wq_term.specs.WrittenArgument.{IsText, AreListed, AreTexts, IsBetween, IsKind}
-use Rattle.wq_term.specs.WrittenArgument.{IsComparison, IsDepth, IsBound}
+use Rattle.wq_term.specs.ArgumentGrammar.{IsText, AreListed, AreTexts, IsBetween, IsKind}
+use Rattle.wq_term.specs.ArgumentGrammar.{IsComparison, IsDepth, IsBound}
 
 -- what is right is one value
 pub same_Ok : {A E : Type 0} (x y : A) → ◌≡◌ {A = Result A E} (Ok x) (Ok y) → x ≡ y

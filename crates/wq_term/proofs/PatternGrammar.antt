@@ -22,8 +22,8 @@ use Rattle.wq_term.specs.NameFit.{scope_with}
 use Rattle.wq_term.specs.PatternArgument.{is_flag, are_flags, is_folded, is_whole_name, plain_flags}
 use Rattle.wq_term.specs.PatternArgument.{flags_of}
 use Rattle.wq_term.specs.Reading.{match_with}
-use Rattle.wq_term.specs.WrittenArgument.{AreFlagMembers, AreFlags, IsPlain, IsPatternText}
-use Rattle.wq_term.proofs.WrittenArguments.{same_Ok}
+use Rattle.wq_term.specs.ArgumentGrammar.{AreFlagMembers, AreFlags, IsPlain, IsPatternText}
+use Rattle.wq_term.proofs.ArgumentGrammar.{same_Ok}
 
 -- members that pass the test are flags
 members-found : (ms : Members) → are_flags ms ≡ true → AreFlagMembers ms

@@ -21,8 +21,8 @@ use Rattle.wq_term.specs.Expr.{suffix_is, size_is, since, below, negation, all_o
 use Rattle.wq_term.specs.Expr.{ExprsData, no_terms, term}
 use Rattle.wq_term.specs.Head.{head_name}
 use Rattle.wq_term.specs.Word.{scope_name, field_name}
-use Rattle.wq_term.specs.WrittenArgument.{IsWord, AreTexts, IsSecond, IsKind, IsComparison, IsDepth}
-use Rattle.wq_term.specs.WrittenArgument.{IsDirectory, IsBound, IsPattern}
+use Rattle.wq_term.specs.ArgumentGrammar.{IsWord, AreTexts, IsSecond, IsKind, IsComparison, IsDepth}
+use Rattle.wq_term.specs.ArgumentGrammar.{IsDirectory, IsBound, IsPattern}
 
 -- the list of a name and such arguments behind it, or the bare name where there need be none
 abbrev pub IsTerm : Head → (Items → Type 0) → Data → Type 0

@@ -9,8 +9,8 @@ use Rattle.wq_clock.specs.Instance.{InstanceData}
 use Rattle.wq_clock.specs.declared.bound.Bound.TheVariants.{Fresh}
 use Rattle.wq_term.specs.Limit.{max_depth}
 use Rattle.wq_term.specs.Expr.{ExprData, always, depth_of}
-use Rattle.wq_term.specs.Written.{IsWrittenBy as IsTermWrittenBy}
-use Rattle.wq_term.specs.WrittenArgument.{IsWord, IsWhole, IsBound}
+use Rattle.wq_term.specs.Grammar.{IsWrittenBy as IsTermWrittenBy}
+use Rattle.wq_term.specs.ArgumentGrammar.{IsWord, IsWhole, IsBound}
 use Rattle.wq_query.specs.declared.field.Field.{Field}
 use Rattle.wq_query.specs.Field.{field_name, default_fields}
 use Rattle.wq_query.specs.Query.{QueryData}

@@ -30,17 +30,17 @@ use Rattle.wq_term.specs.Expr.{below}
 use Rattle.wq_term.specs.Reading.{read_plain, read_kind, name_in, read_name, match_with, read_match}
 use Rattle.wq_term.specs.Reading.{read_suffix, read_size, below_at, read_dirname, since_by}
 use Rattle.wq_term.specs.Reading.{read_since}
-use Rattle.wq_term.specs.WrittenArgument.{IsWord, IsText, AreTexts, IsSecond, IsKind, IsComparison}
-use Rattle.wq_term.specs.WrittenArgument.{IsDepth, IsDirectory, IsBound, IsPattern, AreFlags}
-use Rattle.wq_term.specs.Written.{IsNothing, IsOnly, IsOneOrTwo, IsSinceBy, IsSince}
+use Rattle.wq_term.specs.ArgumentGrammar.{IsWord, IsText, AreTexts, IsSecond, IsKind, IsComparison}
+use Rattle.wq_term.specs.ArgumentGrammar.{IsDepth, IsDirectory, IsBound, IsPattern, AreFlags}
+use Rattle.wq_term.specs.Grammar.{IsNothing, IsOnly, IsOneOrTwo, IsSinceBy, IsSince}
 use Rattle.wq_term.proofs.Slashes.{slashes, drops, dropped}
-use Rattle.wq_term.proofs.WrittenArguments.{same_Ok, text-found, text-reads, texts-found}
-use Rattle.wq_term.proofs.WrittenArguments.{texts-reads, kind-found, kind-reads, scope-found}
-use Rattle.wq_term.proofs.WrittenArguments.{scope-reads, field-found, field-reads, comparison-found}
-use Rattle.wq_term.proofs.WrittenArguments.{comparison-reads, depth-found, depth-reads, bound-found}
-use Rattle.wq_term.proofs.WrittenArguments.{bound-reads, between-found, between-reads}
-use Rattle.wq_term.proofs.WrittenPatterns.{IsOf, scope_plain, flags-found, flags-reads, plain-reads}
-use Rattle.wq_term.proofs.WrittenPatterns.{pattern-found, pattern-reads}
+use Rattle.wq_term.proofs.ArgumentGrammar.{same_Ok, text-found, text-reads, texts-found}
+use Rattle.wq_term.proofs.ArgumentGrammar.{texts-reads, kind-found, kind-reads, scope-found}
+use Rattle.wq_term.proofs.ArgumentGrammar.{scope-reads, field-found, field-reads, comparison-found}
+use Rattle.wq_term.proofs.ArgumentGrammar.{comparison-reads, depth-found, depth-reads, bound-found}
+use Rattle.wq_term.proofs.ArgumentGrammar.{bound-reads, between-found, between-reads}
+use Rattle.wq_term.proofs.PatternGrammar.{IsOf, scope_plain, flags-found, flags-reads, plain-reads}
+use Rattle.wq_term.proofs.PatternGrammar.{pattern-found, pattern-reads}
 
 -- a term without arguments
 pub plain-found : (u : ExprData) (ds : Items) (t : ExprData) → read_plain u ds ≡ Ok t → IsNothing ds × (u ≡ t)
