@@ -12,7 +12,8 @@ named-name name_of [] text a e = cc
 named-name {A} name_of (x ∷ all) text a e =
     at (bytes_eq text (name_of x)) (bytes_eq-Decides text (name_of x)).0 (named-name name_of all text a) e
   where
-    at : (b : Bool) → (b ≡ true → text ≡ name_of x) → (named name_of all text ≡ Some a → text ≡ name_of a)
+    at : (b : Bool) → (b ≡ true → text ≡ name_of x)
+        → (named name_of all text ≡ Some a → text ≡ name_of a)
         → cond b (Some x) (named name_of all text) ≡ Some a → text ≡ name_of a
     at true is rest e = is refl ∙ ap name_of (same_Some x a e)
     at false is rest e = rest e

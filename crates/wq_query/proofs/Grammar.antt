@@ -38,26 +38,32 @@ same_Ok : {A E : Type 0} (x y : A) → ◌≡◌ {A = Result A E} (Ok x) (Ok y) 
 same_Ok x y e = cc
 
 -- keys that are not there
-none-found : (keys : List (List ℕ)) (d : Data) → has_key_of keys d ≡ false → AllByRecursion (λ key. get key d ≡ None) keys
+none-found : (keys : List (List ℕ)) (d : Data) → has_key_of keys d ≡ false
+    → AllByRecursion (λ key. get key d ≡ None) keys
 none-found [] d e = tt
 none-found (key ∷ keys) d e = at (get key d) (none-found keys d) e
   where
-    at : (o : Option Data) → (has_key_of keys d ≡ false → AllByRecursion (λ key. get key d ≡ None) keys)
-        → (is_some o || has_key_of keys d) ≡ false → (o ≡ None) × AllByRecursion (λ key. get key d ≡ None) keys
+    at : (o : Option Data)
+        → (has_key_of keys d ≡ false → AllByRecursion (λ key. get key d ≡ None) keys)
+        → (is_some o || has_key_of keys d) ≡ false
+        → (o ≡ None) × AllByRecursion (λ key. get key d ≡ None) keys
     at None rest e = (refl, rest e)
     at (Some v) rest e = cc
 
-none-reads : (keys : List (List ℕ)) (d : Data) → AllByRecursion (λ key. get key d ≡ None) keys → has_key_of keys d ≡ false
+none-reads : (keys : List (List ℕ)) (d : Data) → AllByRecursion (λ key. get key d ≡ None) keys
+    → has_key_of keys d ≡ false
 none-reads [] d h = refl
 none-reads (key ∷ keys) d h = rw h.0 (none-reads keys d h.1)
 
 -- `case_sensitive`
-plain-found : (o : Option Data) → is_plain_case o ≡ true → MatchOption o (Unit {0}) (λ value. value ≡ boolean true)
+plain-found : (o : Option Data) → is_plain_case o ≡ true
+    → MatchOption o (Unit {0}) (λ value. value ≡ boolean true)
 plain-found None e = tt
 plain-found (Some (boolean true)) e = refl
 plain-found (Some _) e = cc
 
-plain-reads : (o : Option Data) → MatchOption o (Unit {0}) (λ value. value ≡ boolean true) → is_plain_case o ≡ true
+plain-reads : (o : Option Data) → MatchOption o (Unit {0}) (λ value. value ≡ boolean true)
+    → is_plain_case o ≡ true
 plain-reads None h = refl
 plain-reads (Some d) h = ap (λ v. is_true (as_bool v)) h
 
@@ -68,12 +74,14 @@ neither false false e = cc
 neither true b e = cc
 
 -- the expression
-expression-found : ValuesSayWhatTheyWrite → (instance : InstanceData) (o : Option Data) (t : ExprData)
+expression-found : ValuesSayWhatTheyWrite
+    → (instance : InstanceData) (o : Option Data) (t : ExprData)
     → expression_of instance o ≡ Ok t → MatchOption o (t ≡ always) (IsExpression instance t)
 expression-found law instance None t e = sym (same_Ok always t e)
 expression-found law instance (Some d) t e = (law instance t d).0 e
 
-expression-reads : ValuesSayWhatTheyWrite → (instance : InstanceData) (o : Option Data) (t : ExprData)
+expression-reads : ValuesSayWhatTheyWrite
+    → (instance : InstanceData) (o : Option Data) (t : ExprData)
     → MatchOption o (t ≡ always) (IsExpression instance t) → expression_of instance o ≡ Ok t
 expression-reads law instance None t h = ap Ok (sym h)
 expression-reads law instance (Some d) t h = (law instance t d).1 h
@@ -99,7 +107,8 @@ field-reads MtimeMs = refl
 -- the fields of a list
 named-found : (ds : Items) (fs : List Field) → fields_in ds ≡ Some fs → AreNamed fs ds
 named-found no_items fs e = subst (λ gs. AreNamed gs no_items) (same_Some [] fs e) tt
-named-found (item d ds) fs e = with_first-some (field_of d) (fields_in ds) fs e (λ g gs first rest is.
+named-found (item d ds) fs e =
+    with_first-some (field_of d) (fields_in ds) fs e (λ g gs first rest is.
     subst (λ hs. AreNamed hs (item d ds)) is (field-found d g first, named-found ds gs rest))
 
 named-reads : (ds : Items) (fs : List Field) → AreNamed fs ds → fields_in ds ≡ Some fs
@@ -109,7 +118,8 @@ named-reads no_items (f ∷ fs) h = absurd h
 named-reads (item d ds) [] h = absurd h
 
 -- the fields
-some-found : (d : Data) (ds : Items) (fs : List Field) → AreNamed fs (item d ds) → AreFields fs (array (item d ds))
+some-found : (d : Data) (ds : Items) (fs : List Field) → AreNamed fs (item d ds)
+    → AreFields fs (array (item d ds))
 some-found d ds [] h = absurd h
 some-found d ds (f ∷ fs) h = h
 
@@ -117,12 +127,14 @@ some-reads : (fs : List Field) (d : Data) → AreFields fs d → fields_of (Some
 some-reads (f ∷ fs) (array (item d ds)) h = named-reads (item d ds) (f ∷ fs) h
 some-reads _ _ h = absurd h
 
-fields-found : (o : Option Data) (fs : List Field) → fields_of o ≡ Some fs → MatchOption o (fs ≡ default_fields) (AreFields fs)
+fields-found : (o : Option Data) (fs : List Field) → fields_of o ≡ Some fs
+    → MatchOption o (fs ≡ default_fields) (AreFields fs)
 fields-found None fs e = sym (same_Some default_fields fs e)
 fields-found (Some (array (item d ds))) fs e = some-found d ds fs (named-found (item d ds) fs e)
 fields-found (Some _) fs e = cc
 
-fields-reads : (o : Option Data) (fs : List Field) → MatchOption o (fs ≡ default_fields) (AreFields fs) → fields_of o ≡ Some fs
+fields-reads : (o : Option Data) (fs : List Field)
+    → MatchOption o (fs ≡ default_fields) (AreFields fs) → fields_of o ≡ Some fs
 fields-reads None fs h = ap Some (sym h)
 fields-reads (Some d) fs h = some-reads fs d h
 
@@ -134,7 +146,8 @@ right (Err fault) a e = cc
 since-found : BoundsSayWhatTheyWrite → (instance : InstanceData) (o : Option Data) (bound : Bound)
     → since_of instance o ≡ Some bound → MatchOption o (bound ≡ Fresh) (IsBound instance bound)
 since-found law instance None bound e = sym (same_Some Fresh bound e)
-since-found law instance (Some d) bound e = (law instance bound d).0 (right (bound_in instance d) bound e)
+since-found law instance (Some d) bound e =
+    (law instance bound d).0 (right (bound_in instance d) bound e)
 
 since-reads : BoundsSayWhatTheyWrite → (instance : InstanceData) (o : Option Data) (bound : Bound)
     → MatchOption o (bound ≡ Fresh) (IsBound instance bound) → since_of instance o ≡ Some bound
@@ -142,17 +155,20 @@ since-reads law instance None bound h = ap Some (sym h)
 since-reads law instance (Some d) bound h = ap result_ok ((law instance bound d).1 h)
 
 -- `empty_on_fresh_instance`
-flag-found : (o : Option Data) (b : Bool) → flag_of o ≡ Some b → MatchOption o (b ≡ false) (λ value. value ≡ boolean b)
+flag-found : (o : Option Data) (b : Bool) → flag_of o ≡ Some b
+    → MatchOption o (b ≡ false) (λ value. value ≡ boolean b)
 flag-found None b e = sym (same_Some false b e)
 flag-found (Some (boolean a)) b e = ap boolean (same_Some a b e)
 flag-found (Some _) b e = cc
 
-flag-reads : (o : Option Data) (b : Bool) → MatchOption o (b ≡ false) (λ value. value ≡ boolean b) → flag_of o ≡ Some b
+flag-reads : (o : Option Data) (b : Bool) → MatchOption o (b ≡ false) (λ value. value ≡ boolean b)
+    → flag_of o ≡ Some b
 flag-reads None b h = ap Some (sym h)
 flag-reads (Some d) b h = ap as_bool h
 
 -- `sync_timeout`
-whole-found : NumbersSayWhatTheyWrite → (o : Option Data) → is_whole o ≡ true → MatchOption o (Unit {0}) (λ value. (n : ℤ) × IsWhole n value)
+whole-found : NumbersSayWhatTheyWrite → (o : Option Data) → is_whole o ≡ true
+    → MatchOption o (Unit {0}) (λ value. (n : ℤ) × IsWhole n value)
 whole-found law None e = tt
 whole-found law (Some d) e = at (whole_number_of d) refl e
   where
@@ -160,7 +176,8 @@ whole-found law (Some d) e = at (whole_number_of d) refl e
     at None is e = cc
     at (Some n) is e = (n, (law n d).0 is)
 
-whole-reads : NumbersSayWhatTheyWrite → (o : Option Data) → MatchOption o (Unit {0}) (λ value. (n : ℤ) × IsWhole n value) → is_whole o ≡ true
+whole-reads : NumbersSayWhatTheyWrite → (o : Option Data)
+    → MatchOption o (Unit {0}) (λ value. (n : ℤ) × IsWhole n value) → is_whole o ≡ true
 whole-reads law None h = refl
 whole-reads law (Some d) h = ap is_some ((law h.0 d).1 h.1)
 
@@ -170,16 +187,19 @@ from_whole d query = unless_fault WrongValue (is_whole (get (codes "sync_timeout
 
 -- from `empty_on_fresh_instance` on
 abbrev pub from_flag : Data → ExprData → List Field → Bound → Result QueryData QueryFault
-from_flag d t fs bound = or_fault WrongValue (flag_of (get (codes "empty_on_fresh_instance") d)) (λ flag.
+from_flag d t fs bound =
+    or_fault WrongValue (flag_of (get (codes "empty_on_fresh_instance") d)) (λ flag.
     from_whole d (record { expression = t; fields = fs; bound = bound; empty_on_fresh_instance = flag }))
 
 -- from `since` on
 abbrev pub from_since : InstanceData → Data → ExprData → List Field → Result QueryData QueryFault
-from_since instance d t fs = or_fault BadClockSpec (since_of instance (get (codes "since") d)) (λ bound. from_flag d t fs bound)
+from_since instance d t fs =
+    or_fault BadClockSpec (since_of instance (get (codes "since") d)) (λ bound. from_flag d t fs bound)
 
 -- from `fields` on
 abbrev pub from_fields : InstanceData → Data → ExprData → Result QueryData QueryFault
-from_fields instance d t = or_fault UnknownField (fields_of (get (codes "fields") d)) (λ fs. from_since instance d t fs)
+from_fields instance d t =
+    or_fault UnknownField (fields_of (get (codes "fields") d)) (λ fs. from_since instance d t fs)
 
 -- from `expression` on
 abbrev pub from_expression : InstanceData → Data → Result QueryData QueryFault
@@ -188,7 +208,8 @@ from_expression instance d =
 
 -- what is asked is written
 found : ValuesSayWhatTheyWrite → BoundsSayWhatTheyWrite → NumbersSayWhatTheyWrite
-    → (instance : InstanceData) (query : QueryData) (d : Data) → asks instance d ≡ Ok query → IsWrittenBy instance query d
+    → (instance : InstanceData) (query : QueryData) (d : Data) → asks instance d ≡ Ok query
+    → IsWrittenBy instance query d
 found values bounds numbers instance query d e =
     unless_fault-ok LeftOutKey (not (has_left_out_key d)) (from_expression instance d) query e (λ none e1.
     or_its_fault-ok Expression (expression_of instance (get (codes "expression") d)) (λ t. from_fields instance d t) query e1 (λ t said e2.
@@ -211,7 +232,8 @@ found values bounds numbers instance query d e =
 
 -- what is written is asked
 reads : ValuesSayWhatTheyWrite → BoundsSayWhatTheyWrite → NumbersSayWhatTheyWrite
-    → (instance : InstanceData) (query : QueryData) (d : Data) → IsWrittenBy instance query d → asks instance d ≡ Ok query
+    → (instance : InstanceData) (query : QueryData) (d : Data) → IsWrittenBy instance query d
+    → asks instance d ≡ Ok query
 reads values bounds numbers instance query d h =
     let none = none-reads left_out_keys d h.none_left_out in
     let plain = plain-reads (get (codes "case_sensitive") d) h.case_sensitive in
@@ -225,6 +247,7 @@ reads values bounds numbers instance query d h =
     rw (allowed, said, named, sets, on, whole) refl
 
 -- both ways
-pub values_ask : ValuesSayWhatTheyWrite → BoundsSayWhatTheyWrite → NumbersSayWhatTheyWrite → ValuesAskWhatTheyWrite
+pub values_ask : ValuesSayWhatTheyWrite → BoundsSayWhatTheyWrite → NumbersSayWhatTheyWrite
+    → ValuesAskWhatTheyWrite
 values_ask values bounds numbers instance query d =
     (found values bounds numbers instance query d, reads values bounds numbers instance query d)

@@ -55,12 +55,14 @@ holds_true true t = refl
 holds_true false t = absurd t
 
 -- what is there under a test has passed it
-pub cond_then : {A : Type 0} (b : Bool) (o : Option A) (y : A) → cond b o None ≡ Some y → (b ≡ true) × (o ≡ Some y)
+pub cond_then : {A : Type 0} (b : Bool) (o : Option A) (y : A) → cond b o None ≡ Some y
+    → (b ≡ true) × (o ≡ Some y)
 cond_then true o y e = (refl, e)
 cond_then false o y e = cc
 
 -- what a map gives is of something
-pub mapped : {A B P : Type 0} (f : A → B) (o : Option A) (y : B) → option_map f o ≡ Some y → ((x : A) → o ≡ Some x → f x ≡ y → P) → P
+pub mapped : {A B P : Type 0} (f : A → B) (o : Option A) (y : B) → option_map f o ≡ Some y
+    → ((x : A) → o ≡ Some x → f x ≡ y → P) → P
 mapped f None y e goal = cc
 mapped f (Some x) y e goal = goal x refl (same_Some (f x) y e)
 
@@ -73,12 +75,14 @@ text-found _ text e = cc
 
 -- and a text written so is read
 pub text-reads : (d : Data) (text : List ℕ) → IsText text d → text_of d ≡ Some text
-text-reads d text h = subst (λ x. text_of x ≡ Some text) (sym h.0) (cond-true _ _ _ (le-leb _ _ h.1))
+text-reads d text h =
+    subst (λ x. text_of x ≡ Some text) (sym h.0) (cond-true _ _ _ (le-leb _ _ h.1))
 
 -- the texts of a list
 all-found : (ds : Items) (texts : List (List ℕ)) → all_texts_of ds ≡ Some texts → AreListed texts ds
 all-found no_items texts e = subst (λ ts. AreListed ts no_items) (same_Some [] texts e) tt
-all-found (item d ds) texts e = with_first-some (text_of d) (all_texts_of ds) texts e (λ t ts first rest is.
+all-found (item d ds) texts e =
+    with_first-some (text_of d) (all_texts_of ds) texts e (λ t ts first rest is.
     subst (λ x. AreListed x (item d ds)) is (text-found d t first, all-found ds ts rest))
 
 all-reads : (ds : Items) (texts : List (List ℕ)) → AreListed texts ds → all_texts_of ds ≡ Some texts
@@ -90,14 +94,16 @@ all-reads (item d ds) [] h = absurd h
 -- a list of texts, or one
 pub texts-found : (d : Data) (texts : List (List ℕ)) → texts_of d ≡ Some texts → AreTexts texts d
 texts-found (array ds) texts e = all-found ds texts e
-texts-found (string s) texts e = mapped (λ (text : List ℕ). text ∷ []) (text_of (string s)) texts e (λ t some is.
+texts-found (string s) texts e =
+    mapped (λ (text : List ℕ). text ∷ []) (text_of (string s)) texts e (λ t some is.
     subst (λ ts. AreTexts ts (string s)) is (text-found (string s) t some))
 texts-found _ texts e = cc
 
 -- and texts written so are read
 pub texts-reads : (d : Data) (texts : List (List ℕ)) → AreTexts texts d → texts_of d ≡ Some texts
 texts-reads (array ds) texts h = all-reads ds texts h
-texts-reads (string s) (t ∷ []) h = ap (option_map (λ (text : List ℕ). text ∷ [])) (text-reads (string s) t h)
+texts-reads (string s) (t ∷ []) h =
+    ap (option_map (λ (text : List ℕ). text ∷ [])) (text-reads (string s) t h)
 texts-reads _ (t ∷ []) h = let e = h.0 in cc
 texts-reads _ _ h = absurd h
 
@@ -119,7 +125,8 @@ integer_word (negative y) z e h = e
 integer_word (float x) z e h = cc
 
 -- an integer between two others
-pub between-found : (low high z : ℤ) (d : Data) → integer_between low high d ≡ Some z → IsBetween low high z d
+pub between-found : (low high z : ℤ) (d : Data) → integer_between low high d ≡ Some z
+    → IsBetween low high z d
 between-found low high z (number n) e =
     option_and_then_some (λ (y : ℤ). cond (int_le low y && int_le y high) (Some y) None) (as_i64 n) z e (λ y some is.
     let p = cond_some _ _ _ is in
@@ -139,7 +146,8 @@ between-reads low z (number n) h =
 between-reads low z _ h = absurd h
 
 -- a scope
-pub scope-found : (d : Data) (scope : Scope) → scope_of d ≡ Some scope → d ≡ string (scope_name scope)
+pub scope-found : (d : Data) (scope : Scope) → scope_of d ≡ Some scope
+    → d ≡ string (scope_name scope)
 unfolding scope_named
 scope-found (string w) scope e = ap string (named-name scope_name scopes w scope e)
 scope-found _ scope e = cc
@@ -151,7 +159,8 @@ scope-reads Basename = refl
 scope-reads Wholename = refl
 
 -- a field of `since`
-pub field-found : (d : Data) (field : Field) → field_of d ≡ Some field → d ≡ string (field_name field)
+pub field-found : (d : Data) (field : Field) → field_of d ≡ Some field
+    → d ≡ string (field_name field)
 unfolding field_named
 field-found (string w) field e = ap string (named-name field_name fields w field e)
 field-found _ field e = cc
@@ -164,13 +173,15 @@ field-reads Cclock = refl
 field-reads Mtime = refl
 
 -- a relation
-pub relation-found : (d : Data) (relation : Relation) → relation_of d ≡ Some relation → d ≡ string (relation_name relation)
+pub relation-found : (d : Data) (relation : Relation) → relation_of d ≡ Some relation
+    → d ≡ string (relation_name relation)
 unfolding relation_named
 relation-found (string w) relation e = ap string (named-name relation_name relations w relation e)
 relation-found _ relation e = cc
 
 -- and a relation written so is read
-pub relation-reads : (relation : Relation) → relation_of (string (relation_name relation)) ≡ Some relation
+pub relation-reads : (relation : Relation)
+    → relation_of (string (relation_name relation)) ≡ Some relation
 unfolding relation_named
 relation-reads Eq = refl
 relation-reads Ne = refl
@@ -208,14 +219,16 @@ pub kind-reads : (kind : Kind) (d : Data) → IsKind kind d → kind_of d ≡ So
 kind-reads kind d h = subst (λ x. kind_of x ≡ Some kind) (sym h.0) (known_kind kind h.1)
 
 -- both of a pair
-both_some : {A B : Type 0} (a : Option A) (b : Option B) (x : A) (y : B) → ◌≡◌ {A = Option (A × B)} (option_zip a b) (Some (x, y)) → (a ≡ Some x) × (b ≡ Some y)
+both_some : {A B : Type 0} (a : Option A) (b : Option B) (x : A) (y : B)
+    → ◌≡◌ {A = Option (A × B)} (option_zip a b) (Some (x, y)) → (a ≡ Some x) × (b ≡ Some y)
 both_some None b x y e = cc
 both_some (Some a) None x y e = cc
 both_some (Some a) (Some b) x y e = let p = some_pair_parts a x b y e in (ap Some p.0, ap Some p.1)
 
 -- a comparison
 pub comparison-found : (ds : Items) (relation : Relation) (n : ℤ)
-    → ◌≡◌ {A = Option (Relation × ℤ)} (comparison_of ds) (Some (relation, n)) → IsComparison relation n ds
+    → ◌≡◌ {A = Option (Relation × ℤ)} (comparison_of ds) (Some (relation, n))
+    → IsComparison relation n ds
 comparison-found (item d (item e no_items)) relation n is =
     let p = both_some (relation_of d) (whole_number_of e) relation n is in
     (relation-found d relation p.0, between-found _ _ n e p.1)

@@ -19,7 +19,8 @@ not_plain t [] e = absurd (false≢true (sym e))
 not_plain t (v ∷ values) e = refl
 
 -- `type` not with one
-pub no_kind : (values : List Value) → length values ≢ 1 → read_kind (items_view values) ≡ Err WrongArguments
+pub no_kind : (values : List Value) → length values ≢ 1
+    → read_kind (items_view values) ≡ Err WrongArguments
 no_kind [] e = refl
 no_kind (v ∷ []) e = absurd (e refl)
 no_kind (v ∷ w ∷ values) e = refl
@@ -39,7 +40,8 @@ no_negation read (v ∷ []) e = absurd (e refl)
 no_negation read (v ∷ w ∷ values) e = refl
 
 -- a comparison not with two
-pub no_comparison : (values : List Value) → length values ≢ 2 → comparison_of (items_view values) ≡ None
+pub no_comparison : (values : List Value) → length values ≢ 2
+    → comparison_of (items_view values) ≡ None
 no_comparison [] f = refl
 no_comparison (v ∷ []) f = refl
 no_comparison (v ∷ w ∷ []) f = absurd (f refl)
@@ -62,7 +64,8 @@ no_dirname case (v ∷ w ∷ []) e f = absurd (f refl)
 no_dirname case (v ∷ w ∷ x ∷ values) e f = refl
 
 -- `since` neither with one nor with two
-pub no_since : (instance : InstanceData) (values : List Value) → length values ≢ 1 → length values ≢ 2
+pub no_since : (instance : InstanceData) (values : List Value) → length values ≢ 1
+    → length values ≢ 2
     → read_since instance (items_view values) ≡ Err WrongArguments
 no_since instance [] e f = refl
 no_since instance (v ∷ []) e f = absurd (e refl)

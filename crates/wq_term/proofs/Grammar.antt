@@ -65,7 +65,8 @@ unfolding head_named
 head-found text head e = named-name head_name heads text head e
 
 -- a name with arguments is a term of them
-parts-found : (head : Head) (Arguments : Items → Type 0) (d : Data) (p : List ℕ × Items) → ◌≡◌ {A = Option (List ℕ × Items)} (parts_of d) (Some p)
+parts-found : (head : Head) (Arguments : Items → Type 0) (d : Data) (p : List ℕ × Items)
+    → ◌≡◌ {A = Option (List ℕ × Items)} (parts_of d) (Some p)
     → p.0 ≡ head_name head → Arguments p.1 → IsTerm head Arguments d
 parts-found head Arguments (string s) p e named h =
     let is = same_Some {A = List ℕ × Items} (s, no_items) p e in
@@ -81,21 +82,24 @@ Writes instance levels head ds t =
     ((d : Data) → IsTerm head (λ es. es ≡ ds) d → IsWrittenBy instance t d) × (depth_of t ≤ suc levels)
 
 -- a value with this name and these arguments
-filled : (head : Head) (ds : Items) (Arguments : Items → Type 0) (d : Data) → IsTerm head (λ es. es ≡ ds) d
+filled : (head : Head) (ds : Items) (Arguments : Items → Type 0) (d : Data)
+    → IsTerm head (λ es. es ≡ ds) d
     → Arguments ds → IsTerm head Arguments d
 filled head ds Arguments (string s) has h = (has.0, subst Arguments (sym has.1) h)
 filled head ds Arguments (array (item (string s) es)) has h = (has.0, subst Arguments (sym has.1) h)
 filled head ds Arguments _ has h = absurd has
 
 -- the head of `match` for patterns that fold letters, or not
-fold_head : (case : Case) (fold : Bool) → is_folded case ≡ fold → in_case case Match Imatch ≡ (if fold then Imatch else Match)
+fold_head : (case : Case) (fold : Bool) → is_folded case ≡ fold
+    → in_case case Match Imatch ≡ (if fold then Imatch else Match)
 fold_head Exact fold e = subst (λ b. Match ≡ (if b then Imatch else Match)) e refl
 fold_head Folded fold e = subst (λ b. Imatch ≡ (if b then Imatch else Match)) e refl
 
 -- a term without arguments
 plain : (instance : InstanceData) (levels : ℕ) (head : Head) (u : ExprData) (ds : Items) (t : ExprData)
     → read_plain u ds ≡ Ok t → depth_of u ≡ 1
-    → ((d : Data) → IsTerm head IsNothing d → IsWrittenBy instance u d) → Writes instance levels head ds t
+    → ((d : Data) → IsTerm head IsNothing d → IsWrittenBy instance u d)
+    → Writes instance levels head ds t
 plain instance levels head u ds t e one writes =
     let p = plain-found u ds t e in
     subst (Writes instance levels head ds) p.1 ((λ d has. writes d (filled head ds IsNothing d has p.0)), omega (arith, one))
@@ -103,7 +107,8 @@ plain instance levels head u ds t e one writes =
 -- the terms of a list
 all-found : (instance : InstanceData) (levels : ℕ) (read : Data → Answer)
     → ((d : Data) (t : ExprData) → read d ≡ Ok t → IsWrittenBy instance t d × (depth_of t ≤ levels))
-    → (ds : Items) (ts : ExprsData) → read_all read ds ≡ Ok ts → AreWrittenBy instance ts ds × (greatest_depth ts ≤ levels)
+    → (ds : Items) (ts : ExprsData) → read_all read ds ≡ Ok ts
+    → AreWrittenBy instance ts ds × (greatest_depth ts ≤ levels)
 all-found instance levels read one no_items ts e =
     subst (λ us. AreWrittenBy instance us no_items × (greatest_depth us ≤ levels)) (same_Ok no_terms ts e) (tt, omega arith)
 all-found instance levels read one (item d ds) ts e =
@@ -119,32 +124,43 @@ all-found instance levels read one (item d ds) ts e =
 -- what a head and arguments are read as, they write
 named-found : TextsSayWhatTheySpell → (instance : InstanceData) (levels : ℕ) (read : Data → Answer)
     → ((d : Data) (t : ExprData) → read d ≡ Ok t → IsWrittenBy instance t d × (depth_of t ≤ levels))
-    → (head : Head) (ds : Items) (t : ExprData) → read_named instance read head ds ≡ Ok t → Writes instance levels head ds t
-named-found law instance levels read one True ds t e = plain instance levels True always ds t e refl (λ d h. h)
-named-found law instance levels read one False ds t e = plain instance levels False never ds t e refl (λ d h. h)
-named-found law instance levels read one Exists ds t e = plain instance levels Exists exists ds t e refl (λ d h. h)
-named-found law instance levels read one Empty ds t e = plain instance levels Empty empty ds t e refl (λ d h. h)
+    → (head : Head) (ds : Items) (t : ExprData) → read_named instance read head ds ≡ Ok t
+    → Writes instance levels head ds t
+named-found law instance levels read one True ds t e =
+    plain instance levels True always ds t e refl (λ d h. h)
+named-found law instance levels read one False ds t e =
+    plain instance levels False never ds t e refl (λ d h. h)
+named-found law instance levels read one Exists ds t e =
+    plain instance levels Exists exists ds t e refl (λ d h. h)
+named-found law instance levels read one Empty ds t e =
+    plain instance levels Empty empty ds t e refl (λ d h. h)
 named-found law instance levels read one KindIs ds t e = type-found ds t e (λ kind is h.
     subst (Writes instance levels KindIs ds) is ((λ d has. filled KindIs ds (IsOnly (IsKind kind)) d has h), omega arith))
 named-found law instance levels read one Name ds t e = name-found Exact ds t e (λ scope texts is h.
     subst (Writes instance levels Name ds) is ((λ d has. filled Name ds (IsNames scope texts) d has h), omega arith))
-named-found law instance levels read one Iname ds t e = name-found Folded ds t e (λ scope texts is h.
+named-found law instance levels read one Iname ds t e =
+    name-found Folded ds t e (λ scope texts is h.
     subst (Writes instance levels Iname ds) is ((λ d has. filled Iname ds (IsNames scope texts) d has h), omega arith))
-named-found law instance levels read one Match ds t e = match-found Exact ds t e (λ pattern is fold h.
+named-found law instance levels read one Match ds t e =
+    match-found Exact ds t e (λ pattern is fold h.
     subst (Writes instance levels Match ds) is
     ((λ d has. subst (λ head. IsTerm head (IsPattern pattern) d) (fold_head Exact _ fold) (filled Match ds (IsPattern pattern) d has h)), omega arith))
-named-found law instance levels read one Imatch ds t e = match-found Folded ds t e (λ pattern is fold h.
+named-found law instance levels read one Imatch ds t e =
+    match-found Folded ds t e (λ pattern is fold h.
     subst (Writes instance levels Imatch ds) is
     ((λ d has. subst (λ head. IsTerm head (IsPattern pattern) d) (fold_head Folded _ fold) (filled Imatch ds (IsPattern pattern) d has h)), omega arith))
 named-found law instance levels read one Suffix ds t e = suffix-found ds t e (λ texts is h.
     subst (Writes instance levels Suffix ds) is ((λ d has. filled Suffix ds (IsOnly (AreTexts texts)) d has h), omega arith))
 named-found law instance levels read one Size ds t e = size-found ds t e (λ relation n is h.
     subst (Writes instance levels Size ds) is ((λ d has. filled Size ds (IsComparison relation n) d has h), omega arith))
-named-found law instance levels read one Since ds t e = since-found law instance ds t e (λ point is h.
+named-found law instance levels read one Since ds t e =
+    since-found law instance ds t e (λ point is h.
     subst (Writes instance levels Since ds) is ((λ d has. filled Since ds (IsSince instance point) d has h), omega arith))
-named-found law instance levels read one Dirname ds t e = dirname-found Exact ds t e (λ dir depth is h.
+named-found law instance levels read one Dirname ds t e =
+    dirname-found Exact ds t e (λ dir depth is h.
     subst (Writes instance levels Dirname ds) is ((λ d has. filled Dirname ds (IsBelow dir depth) d has h), omega arith))
-named-found law instance levels read one Idirname ds t e = dirname-found Folded ds t e (λ dir depth is h.
+named-found law instance levels read one Idirname ds t e =
+    dirname-found Folded ds t e (λ dir depth is h.
     subst (Writes instance levels Idirname ds) is ((λ d has. filled Idirname ds (IsBelow dir depth) d has h), omega arith))
 named-found law instance levels read one Not (item x no_items) t e =
     or_own_fault-ok (read x) (λ u. Ok (negation u)) t e (λ u some is.
@@ -205,7 +221,8 @@ pattern-read : (instance : InstanceData) (read : Data → Answer) (ds : Items) (
     → read_named instance read (if (pattern.flags).fold then Imatch else Match) ds ≡ Ok (matches pattern)
 pattern-read instance read ds pattern h = at (pattern.flags).fold refl
   where
-    at : (b : Bool) → (pattern.flags).fold ≡ b → read_named instance read (if b then Imatch else Match) ds ≡ Ok (matches pattern)
+    at : (b : Bool) → (pattern.flags).fold ≡ b
+        → read_named instance read (if b then Imatch else Match) ds ≡ Ok (matches pattern)
     at true e = match-reads Folded ds pattern (sym e) h
     at false e = match-reads Exact ds pattern (sym e) h
 
@@ -216,7 +233,8 @@ negation-reads : (instance : InstanceData) (read : Data → Answer) (t : ExprDat
 negation-reads instance read t (item d no_items) one h = rw (one d h) refl
 negation-reads instance read t _ one h = absurd h
 
-nothing-reads : (instance : InstanceData) (levels : ℕ) (ds : Items) → AreWrittenBy instance no_terms ds
+nothing-reads : (instance : InstanceData) (levels : ℕ) (ds : Items)
+    → AreWrittenBy instance no_terms ds
     → read_all (reads_as instance levels) ds ≡ Ok no_terms
 nothing-reads instance levels no_items h = refl
 nothing-reads instance levels (item d ds) h = absurd h
@@ -230,12 +248,17 @@ both-reads instance levels t ts (item d ds) one rest h = rw (one d h.0, rest ds 
 
 mutual
   -- what is written is read, where it is not too deep
-  pub reads : TextsSayWhatTheySpell → (instance : InstanceData) (t : ExprData) (levels : ℕ) (d : Data)
+  pub reads : TextsSayWhatTheySpell
+      → (instance : InstanceData) (t : ExprData) (levels : ℕ) (d : Data)
       → IsWrittenBy instance t d → depth_of t ≤ levels → reads_as instance levels d ≡ Ok t
-  reads law instance always levels d h le = term-reads instance True IsNothing always levels d le h (λ k ds is a. plain_term-reads always ds a)
-  reads law instance never levels d h le = term-reads instance False IsNothing never levels d le h (λ k ds is a. plain_term-reads never ds a)
-  reads law instance exists levels d h le = term-reads instance Exists IsNothing exists levels d le h (λ k ds is a. plain_term-reads exists ds a)
-  reads law instance empty levels d h le = term-reads instance Empty IsNothing empty levels d le h (λ k ds is a. plain_term-reads empty ds a)
+  reads law instance always levels d h le =
+      term-reads instance True IsNothing always levels d le h (λ k ds is a. plain_term-reads always ds a)
+  reads law instance never levels d h le =
+      term-reads instance False IsNothing never levels d le h (λ k ds is a. plain_term-reads never ds a)
+  reads law instance exists levels d h le =
+      term-reads instance Exists IsNothing exists levels d le h (λ k ds is a. plain_term-reads exists ds a)
+  reads law instance empty levels d h le =
+      term-reads instance Empty IsNothing empty levels d le h (λ k ds is a. plain_term-reads empty ds a)
   reads law instance (kind_is kind) levels d h le =
       term-reads instance KindIs (IsOnly (IsKind kind)) (kind_is kind) levels d le h (λ k ds is a. type-reads ds kind a)
   reads law instance (name_is case scope texts) levels d h le =
@@ -263,8 +286,10 @@ mutual
       term-reads instance AnyOf (AreWrittenBy instance ts) (any_of ts) levels d (omega (arith, le)) h
       (λ k ds is a. ap (λ r. or_own_fault r (λ us. Ok (any_of us))) (all-reads law instance ts k ds a (omega (arith, le, is))))
 
-  all-reads : TextsSayWhatTheySpell → (instance : InstanceData) (ts : ExprsData) (levels : ℕ) (ds : Items)
-      → AreWrittenBy instance ts ds → greatest_depth ts ≤ levels → read_all (reads_as instance levels) ds ≡ Ok ts
+  all-reads : TextsSayWhatTheySpell
+      → (instance : InstanceData) (ts : ExprsData) (levels : ℕ) (ds : Items)
+      → AreWrittenBy instance ts ds → greatest_depth ts ≤ levels
+      → read_all (reads_as instance levels) ds ≡ Ok ts
   all-reads law instance no_terms levels ds h le = nothing-reads instance levels ds h
   all-reads law instance (term t ts) levels ds h le =
       both-reads instance levels t ts ds
@@ -273,7 +298,8 @@ mutual
 
 -- both ways
 pub values_say : TextsSayWhatTheySpell → ValuesSayWhatTheyWrite
-values_say law instance t d = (found law instance max_depth d t, λ h. reads law instance t max_depth d h.0 h.1)
+values_say law instance t d =
+    (found law instance max_depth d t, λ h. reads law instance t max_depth d h.0 h.1)
 
 -- so what is read is shallow
 pub are_shallow : TextsSayWhatTheySpell → ReadExpressionsAreShallow
@@ -281,7 +307,8 @@ are_shallow law instance t d e = (found law instance max_depth d t e).1
 
 -- the same of a bound
 pub bounds_say : TextsSayWhatTheySpell → BoundsSayWhatTheyWrite
-bounds_say law instance bound d = (bound-found law instance d bound, bound-reads law instance bound d)
+bounds_say law instance bound d =
+    (bound-found law instance d bound, bound-reads law instance bound d)
 
 -- and of a whole number
 pub numbers_say : NumbersSayWhatTheyWrite

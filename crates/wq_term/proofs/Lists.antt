@@ -43,7 +43,8 @@ prefixed-fault (t ∷ ts) fault = ap (with_term t) (prefixed-fault ts fault)
 -- one more term is read
 pub read_more : (read : Data → Answer) (ts : List ExprData) (d : Data) (ds : Items) (t : ExprData)
     (all : Result ExprsData TermFault) → read d ≡ Ok t
-    → prefixed ts (read_all read (item d ds)) ≡ all → prefixed (ts ++ t ∷ []) (read_all read ds) ≡ all
+    → prefixed ts (read_all read (item d ds)) ≡ all
+    → prefixed (ts ++ t ∷ []) (read_all read ds) ≡ all
 read_more read ts d ds t all is so_far =
     prefixed-push ts t (read_all read ds)
     ∙ ap (λ r. prefixed ts (or_own_fault r (λ u. with_term u (read_all read ds)))) (sym is) ∙ so_far
@@ -57,7 +58,8 @@ read_fault read ts d ds fault all is so_far =
     ∙ prefixed-fault ts fault
 
 -- the items from a place on are the item there and those behind it
-pub items_from : (values : List Value) (i : ℕ) (v : Value) → i < length values → v ≡ get_or values i v
+pub items_from : (values : List Value) (i : ℕ) (v : Value) → i < length values
+    → v ≡ get_or values i v
     → items_view (drop i values) ≡ item (data_of v) (items_view (drop (i + 1) values))
 items_from values i v h is =
     ap items_view (drop-cons values i v h)
@@ -65,7 +67,8 @@ items_from values i v h is =
     ∙ ap (λ n. item (data_of v) (items_view (drop n values))) (sym (add-one i))
 
 -- the terms of read expressions, with one more
-pub terms-push : (es : List Expr) (e : Expr) → map term_of (es ++ e ∷ []) ≡ map term_of es ++ term_of e ∷ []
+pub terms-push : (es : List Expr) (e : Expr)
+    → map term_of (es ++ e ∷ []) ≡ map term_of es ++ term_of e ∷ []
 terms-push [] e = refl
 terms-push (x ∷ es) e = ap (λ ts. term_of x ∷ ts) (terms-push es e)
 

@@ -44,13 +44,15 @@ members-pass : (ms : Members) → AreFlagMembers ms → are_flags ms ≡ true
 members-pass no_members h = refl
 members-pass (member key (boolean b) ms) h = and_from _ _ (one h.0) (members-pass ms h.1)
   where
-    one : ((key ≡ codes "includedotfiles") ⊎ (key ≡ codes "noescape")) → is_flag key (boolean b) ≡ true
+    one : ((key ≡ codes "includedotfiles") ⊎ (key ≡ codes "noescape"))
+        → is_flag key (boolean b) ≡ true
     one (inl is) = subst (λ k. is_flag k (boolean b) ≡ true) (sym is) refl
     one (inr is) = subst (λ k. is_flag k (boolean b) ≡ true) (sym is) refl
 members-pass (member key _ ms) h = absurd h
 
 -- a flag that is set is a member that is true
-said_true : (o : Option Data) → (is_true (option_and_then as_bool o) ≡ true) ↔ (o ≡ Some (boolean true))
+said_true : (o : Option Data)
+    → (is_true (option_and_then as_bool o) ≡ true) ↔ (o ≡ Some (boolean true))
 said_true None = ((λ e. cc), (λ e. cc))
 said_true (Some (boolean true)) = ((λ e. refl), (λ e. refl))
 said_true (Some (boolean false)) = ((λ e. cc), (λ e. let same : boolean false ≡ boolean true = same_Some _ _ e in cc))
@@ -63,12 +65,15 @@ same_test false true f g = f.1 (g.0 refl)
 same_test false false f g = refl
 
 -- flags by their parts
-same_flags : (w d n f : Bool) (flags : Flags) → w ≡ flags.wholename → d ≡ flags.dotfiles → n ≡ flags.noescape
-    → f ≡ flags.fold → ◌≡◌ {A = Flags} (record { wholename = w; dotfiles = d; noescape = n; fold = f }) flags
+same_flags : (w d n f : Bool) (flags : Flags) → w ≡ flags.wholename → d ≡ flags.dotfiles
+    → n ≡ flags.noescape
+    → f ≡ flags.fold
+    → ◌≡◌ {A = Flags} (record { wholename = w; dotfiles = d; noescape = n; fold = f }) flags
 same_flags w d n f flags ew ed en ef = rw (ew, ed, en, ef) refl
 
 -- the scope of flags is that of the term
-whole_name : (scope : Scope) (flags : Flags) → scope_with flags ≡ scope → is_whole_name scope ≡ flags.wholename
+whole_name : (scope : Scope) (flags : Flags) → scope_with flags ≡ scope
+    → is_whole_name scope ≡ flags.wholename
 whole_name scope flags is = ap is_whole_name (sym is) ∙ at flags.wholename
   where
     at : (w : Bool) → is_whole_name (if w then Wholename else Basename) ≡ w
@@ -106,14 +111,17 @@ flags-reads case scope (object ms) flags is h =
 flags-reads case scope _ flags is h = absurd h
 
 -- those of a term that gives none
-pub plain-reads : (case : Case) (scope : Scope) (flags : Flags) → IsOf case scope flags → IsPlain flags
+pub plain-reads : (case : Case) (scope : Scope) (flags : Flags) → IsOf case scope flags
+    → IsPlain flags
     → plain_flags case scope ≡ flags
 plain-reads case scope flags is h =
     same_flags _ _ _ _ flags (whole_name scope flags is.0) (sym h.0) (sym h.1) is.1
 
 -- a pattern of these flags
-pub pattern-found : {P : Type 0} (d : Data) (flags : Flags) (t : ExprData) → match_with d flags ≡ Ok t
-    → ((pattern : PatternData) → t ≡ matches pattern → pattern.flags ≡ flags → IsPatternText pattern d → P) → P
+pub pattern-found : {P : Type 0} (d : Data) (flags : Flags) (t : ExprData)
+    → match_with d flags ≡ Ok t
+    → ((pattern : PatternData) → t ≡ matches pattern → pattern.flags ≡ flags → IsPatternText pattern d → P)
+    → P
 pattern-found (string text) flags t e goal =
     unless_fault-ok PatternTooLong (nat_le (length text) max_pattern_length)
     (Ok (matches (record { text = text; flags = flags }))) t e (λ short is.

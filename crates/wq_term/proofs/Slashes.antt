@@ -38,7 +38,8 @@ prefix (b ∷ bs) = at (is_slash b) (eqb-true b (byte "/")) (prefix bs)
         → take (prefix_len is_slash bs) bs ≡ slashes (prefix_len is_slash bs)
         → take (cond s (1 + prefix_len is_slash bs) 0) (b ∷ bs)
         ≡ slashes (cond s (1 + prefix_len is_slash bs) 0)
-    at true is rest = rw (one_more (prefix_len is_slash bs)) (ap (λ x. x ∷ take (prefix_len is_slash bs) bs) (is refl) ∙ ap (λ cs. byte "/" ∷ cs) rest)
+    at true is rest =
+        rw (one_more (prefix_len is_slash bs)) (ap (λ x. x ∷ take (prefix_len is_slash bs) bs) (is refl) ∙ ap (λ cs. byte "/" ∷ cs) rest)
     at false is rest = refl
 
 -- behind them stands none
@@ -61,7 +62,8 @@ length_slashes zero = refl
 length_slashes (suc n) = ap suc (length_slashes n)
 
 -- a text, cut before the slashes at its end
-cut : (text : List ℕ) → (text ≡ reverse (drop (suffix_len is_slash text) (reverse text)) ++ slashes (suffix_len is_slash text))
+cut : (text : List ℕ)
+    → (text ≡ reverse (drop (suffix_len is_slash text) (reverse text)) ++ slashes (suffix_len is_slash text))
 cut text =
     let bs = reverse text in
     let n = prefix_len is_slash bs in
@@ -70,14 +72,16 @@ cut text =
     ∙ ap (λ s. reverse (drop n bs) ++ s) (ap reverse (prefix bs) ∙ turned n)
 
 -- what is left without them, where the text is cut
-left : (dir : List ℕ) (n : ℕ) → suffix_len is_slash (dir ++ slashes n) ≡ n → without_end_slashes (dir ++ slashes n) ≡ dir
+left : (dir : List ℕ) (n : ℕ) → suffix_len is_slash (dir ++ slashes n) ≡ n
+    → without_end_slashes (dir ++ slashes n) ≡ dir
 left dir n is =
     let long : length (dir ++ slashes n) ≡ length dir + n = length-append dir (slashes n) ∙ ap (λ k. length dir + k) (length_slashes n) in
     let rest : length (dir ++ slashes n) - suffix_len is_slash (dir ++ slashes n) ≡ length dir = omega (arith, long, is) in
     ap (λ k. take k (dir ++ slashes n)) rest ∙ take-append_seam dir (slashes n)
 
 -- a directory without slashes at its end is what is left of it with some
-pub drops : (dir : List ℕ) (n : ℕ) → suffix_len is_slash dir ≡ 0 → without_end_slashes (dir ++ slashes n) ≡ dir
+pub drops : (dir : List ℕ) (n : ℕ) → suffix_len is_slash dir ≡ 0
+    → without_end_slashes (dir ++ slashes n) ≡ dir
 drops dir n none =
     left dir n (ap (prefix_len is_slash) (reverse-append dir (slashes n) ∙ ap (λ s. s ++ reverse dir) (turned n))
     ∙ counted n (reverse dir) ∙ (let sum : n + suffix_len is_slash dir ≡ n = omega (arith, none) in sum))

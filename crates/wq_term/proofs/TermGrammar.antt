@@ -43,7 +43,8 @@ use Rattle.wq_term.proofs.PatternGrammar.{IsOf, scope_plain, flags-found, flags-
 use Rattle.wq_term.proofs.PatternGrammar.{pattern-found, pattern-reads}
 
 -- a term without arguments
-pub plain-found : (u : ExprData) (ds : Items) (t : ExprData) → read_plain u ds ≡ Ok t → IsNothing ds × (u ≡ t)
+pub plain-found : (u : ExprData) (ds : Items) (t : ExprData) → read_plain u ds ≡ Ok t
+    → IsNothing ds × (u ≡ t)
 plain-found u no_items t e = (tt, same_Ok u t e)
 plain-found u (item d ds) t e = cc
 
@@ -61,7 +62,8 @@ type-found (item d no_items) t e goal =
 type-found _ t e goal = cc
 
 -- and a kind written so is read
-pub type-reads : (ds : Items) (kind : Kind) → IsOnly (IsKind kind) ds → read_kind ds ≡ Ok (kind_is kind)
+pub type-reads : (ds : Items) (kind : Kind) → IsOnly (IsKind kind) ds
+    → read_kind ds ≡ Ok (kind_is kind)
 type-reads (item d no_items) kind h = rw (kind-reads kind d h) refl
 type-reads _ kind h = absurd h
 
@@ -94,11 +96,13 @@ size-reads ds relation n h =
 
 -- the arguments of `name` and `iname`
 abbrev pub IsNames : Scope → List (List ℕ) → Items → Type 0
-IsNames scope texts ds = IsOneOrTwo (AreTexts texts) (scope ≡ Basename) (IsWord (scope_name scope)) ds
+IsNames scope texts ds =
+    IsOneOrTwo (AreTexts texts) (scope ≡ Basename) (IsWord (scope_name scope)) ds
 
 -- what `name` and `iname` are read with
 pub name-found : {P : Type 0} (case : Case) (ds : Items) (t : ExprData) → read_name case ds ≡ Ok t
-    → ((scope : Scope) (texts : List (List ℕ)) → name_is case scope texts ≡ t → IsNames scope texts ds → P) → P
+    → ((scope : Scope) (texts : List (List ℕ)) → name_is case scope texts ≡ t → IsNames scope texts ds → P)
+    → P
 name-found case (item d no_items) t e goal =
     or_fault-ok WrongArguments (texts_of d) (λ texts. Ok (name_is case Basename texts)) t e (λ texts some is.
     goal Basename texts (same_Ok _ t is) (texts-found d texts some, refl))
@@ -109,7 +113,8 @@ name-found case (item d (item f no_items)) t e goal =
 name-found case _ t e goal = cc
 
 -- and texts and a scope written so is read
-pub name-reads : (case : Case) (ds : Items) (scope : Scope) (texts : List (List ℕ)) → IsNames scope texts ds
+pub name-reads : (case : Case) (ds : Items) (scope : Scope) (texts : List (List ℕ))
+    → IsNames scope texts ds
     → read_name case ds ≡ Ok (name_is case scope texts)
 name-reads case (item d no_items) scope texts h =
     subst (λ s. name_in case Basename d ≡ Ok (name_is case s texts)) (sym h.1) (rw (texts-reads d texts h.0) refl)
@@ -118,7 +123,8 @@ name-reads case (item d (item f no_items)) scope texts h =
 name-reads case _ scope texts h = absurd h
 
 -- a directory
-dir-found : (d : Data) (text : List ℕ) → text_of d ≡ Some text → IsDirectory (without_end_slashes text) d
+dir-found : (d : Data) (text : List ℕ) → text_of d ≡ Some text
+    → IsDirectory (without_end_slashes text) d
 dir-found d text some =
     let p = dropped text (without_end_slashes text) refl in
     (p.0, (p.1.0, subst (λ x. IsText x d) p.1.1 (text-found d text some)))
@@ -133,7 +139,8 @@ abbrev pub IsBelow : List ℕ → Depth → Items → Type 0
 IsBelow dir depth ds = IsOneOrTwo (IsDirectory dir) (depth ≡ Any) (IsDepth depth) ds
 
 -- what `dirname` and `idirname` are read with
-pub dirname-found : {P : Type 0} (case : Case) (ds : Items) (t : ExprData) → read_dirname case ds ≡ Ok t
+pub dirname-found : {P : Type 0} (case : Case) (ds : Items) (t : ExprData)
+    → read_dirname case ds ≡ Ok t
     → ((dir : List ℕ) (depth : Depth) → below case dir depth ≡ t → IsBelow dir depth ds → P) → P
 dirname-found case (item d no_items) t e goal =
     or_fault-ok WrongArguments (text_of d) (λ text. Ok (below case (without_end_slashes text) Any)) t e (λ text some is.
@@ -155,16 +162,19 @@ dirname-reads case _ dir depth h = absurd h
 
 -- a point that is the first argument
 placed : (field : Field) (Point : Data → Type 0) (d : Data) → Point d → (ds : Items)
-    → IsOneOrTwo (λ x. x ≡ d) (field ≡ Oclock) (IsWord (field_name field)) ds → IsSinceBy field Point ds
+    → IsOneOrTwo (λ x. x ≡ d) (field ≡ Oclock) (IsWord (field_name field)) ds
+    → IsSinceBy field Point ds
 placed field Point d point (item x no_items) h = (subst Point (sym h.0) point, h.1)
 placed field Point d point (item x (item f no_items)) h = (subst Point (sym h.0) point, h.1)
 placed field Point d point _ h = absurd h
 
 -- what `since` says by its field
-by-found : {P : Type 0} → TextsSayWhatTheySpell → (instance : InstanceData) (d : Data) (field : Field) (t : ExprData)
+by-found : {P : Type 0} → TextsSayWhatTheySpell
+    → (instance : InstanceData) (d : Data) (field : Field) (t : ExprData)
     → since_by instance d field ≡ Ok t
     → ((point : SinceData) → since point ≡ t
-    → ((ds : Items) → IsOneOrTwo (λ x. x ≡ d) (field ≡ Oclock) (IsWord (field_name field)) ds → IsSince instance point ds) → P) → P
+    → ((ds : Items) → IsOneOrTwo (λ x. x ≡ d) (field ≡ Oclock) (IsWord (field_name field)) ds → IsSince instance point ds)
+    → P) → P
 by-found law instance d Oclock t e goal =
     or_own_fault-ok (bound_in instance d) (λ bound. Ok (since (Observed bound))) t e (λ bound some is.
     goal (Observed bound) (same_Ok _ t is) (placed Oclock (IsBound instance bound) d (bound-found law instance d bound some)))
@@ -176,7 +186,8 @@ by-found law instance d Mtime t e goal =
     goal (Modified second) (same_Ok _ t is) (placed Mtime (IsSecond second) d (between-found _ _ second d some)))
 
 -- `since`
-pub since-found : {P : Type 0} → TextsSayWhatTheySpell → (instance : InstanceData) (ds : Items) (t : ExprData)
+pub since-found : {P : Type 0} → TextsSayWhatTheySpell
+    → (instance : InstanceData) (ds : Items) (t : ExprData)
     → read_since instance ds ≡ Ok t
     → ((point : SinceData) → since point ≡ t → IsSince instance point ds → P) → P
 since-found law instance (item d no_items) t e goal =
@@ -212,7 +223,8 @@ since-reads law instance ds (Modified second) h =
 
 -- `match` and `imatch`
 pub match-found : {P : Type 0} (case : Case) (ds : Items) (t : ExprData) → read_match case ds ≡ Ok t
-    → ((pattern : PatternData) → matches pattern ≡ t → is_folded case ≡ (pattern.flags).fold → IsPattern pattern ds → P) → P
+    → ((pattern : PatternData) → matches pattern ≡ t → is_folded case ≡ (pattern.flags).fold → IsPattern pattern ds → P)
+    → P
 match-found case (item d no_items) t e goal =
     pattern-found d (plain_flags case Basename) t e (λ pattern is flags text.
     goal pattern (sym is) (ap (λ f. f.fold) (sym flags))
@@ -235,7 +247,8 @@ match-found case (item d (item f (item g no_items))) t e goal =
 match-found case _ t e goal = cc
 
 -- and a pattern written so is read
-pub match-reads : (case : Case) (ds : Items) (pattern : PatternData) → is_folded case ≡ (pattern.flags).fold
+pub match-reads : (case : Case) (ds : Items) (pattern : PatternData)
+    → is_folded case ≡ (pattern.flags).fold
     → IsPattern pattern ds → read_match case ds ≡ Ok (matches pattern)
 match-reads case (item d no_items) pattern fold h =
     rw (plain-reads case Basename pattern.flags (h.1, fold) h.2) (pattern-reads d pattern h.0)

@@ -25,7 +25,8 @@ unfolding is_valid_name
 name_is_short name h = grind (arith, nat_tests, and_parts)
 
 -- and so has each part of it that a scope asks for
-pub part_is_short : (scope : Scope) (name : List ℕ) → IsTrue (is_valid_name name) → length (part_of scope name) ≤ MAX_NAME
+pub part_is_short : (scope : Scope) (name : List ℕ) → IsTrue (is_valid_name name)
+    → length (part_of scope name) ≤ MAX_NAME
 part_is_short Wholename name h = name_is_short name h
 part_is_short Basename name h =
     let short = name_is_short name h in
@@ -51,11 +52,13 @@ text_none ts d ds all is so_far =
     sym so_far ∙ ap (λ o. before ts (with_first o (all_texts_of ds))) is ∙ before-none ts
 
 -- the texts of vectors, with one more
-pub texts_in-push : (vs : List (Vec ℕ Global)) (v : Vec ℕ Global) → texts_in (vs ++ v ∷ []) ≡ texts_in vs ++ v.items ∷ []
+pub texts_in-push : (vs : List (Vec ℕ Global)) (v : Vec ℕ Global)
+    → texts_in (vs ++ v ∷ []) ≡ texts_in vs ++ v.items ∷ []
 texts_in-push [] v = refl
 texts_in-push (u ∷ vs) v = ap (λ ts. u.items ∷ ts) (texts_in-push vs v)
 
 -- a part that is none makes the whole none, with one fault
-pub none_fault : {A B : Type 0} (one : Option A) (all : Option B) (wrong fault : TermFault) → ok_or one wrong ≡ Err fault → (one ≡ None → all ≡ None) → ok_or all wrong ≡ Err fault
+pub none_fault : {A B : Type 0} (one : Option A) (all : Option B) (wrong fault : TermFault)
+    → ok_or one wrong ≡ Err fault → (one ≡ None → all ≡ None) → ok_or all wrong ≡ Err fault
 none_fault None all wrong fault is next = ap (λ o. ok_or o wrong) (next refl) ∙ let e : wrong ≡ fault = cc in ap Err e
 none_fault (Some x) all wrong fault is next = cc
