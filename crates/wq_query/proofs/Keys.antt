@@ -15,7 +15,7 @@ use Rattle.wq_term.specs.Expr.{ExprData}
 use Rattle.wq_query.specs.declared.fault.QueryFault.{QueryFault}
 use Rattle.wq_query.specs.declared.fault.QueryFault.TheVariants.{WrongValue}
 use Rattle.wq_query.specs.declared.field.Field.{Field}
-use Rattle.wq_query.specs.Gives.{GivesFields}
+use Rattle.wq_query.specs.Outcome.{GivesFields}
 use Rattle.wq_query.specs.Reading.{asks, has_left_out_key, expression_of, fields_in, fields_of}
 use Rattle.wq_query.specs.Reading.{since_of, flag_of, is_whole}
 

@@ -31,20 +31,27 @@ abbrev pub AreFields : List Field → Data → Type 0
 AreFields (field ∷ fields) (array ds) = AreNamed (field ∷ fields) ds
 AreFields _ _ = ⊥
 
--- the query is written by this value, at this instance; where a key may be missing, what then holds
--- stands before what holds of its value
+-- the query is written by this value, at this instance: each key is missing, and then the first
+-- thing holds, or it is there, and the second holds of its value
 pub record IsWrittenBy (instance : InstanceData) (query : QueryData) (d : Data) : Type 0 where
+  -- no key that would change the answer otherwise
   pub none_left_out : AllByRecursion (λ key. get key d ≡ None) left_out_keys
+  -- names are compared byte by byte
   pub case_sensitive : MatchOption (get (codes "case_sensitive") d)
       (Unit {0}) (λ value. value ≡ boolean true)
+  -- every file, or those that an expression matches
   pub expression : MatchOption (get (codes "expression") d)
       (query.expression ≡ always) (IsExpression instance query.expression)
+  -- the default fields, or others
   pub fields : MatchOption (get (codes "fields") d)
       (query.fields ≡ default_fields) (AreFields query.fields)
+  -- nothing is known to the client, or a bound
   pub since : MatchOption (get (codes "since") d)
       (query.bound ≡ Fresh) (IsBound instance query.bound)
+  -- a fresh list has all files, or is empty
   pub empty_on_fresh_instance : MatchOption (get (codes "empty_on_fresh_instance") d)
       (query.empty_on_fresh_instance ≡ false)
       (λ value. value ≡ boolean query.empty_on_fresh_instance)
+  -- any whole number, which changes nothing here
   pub sync_timeout : MatchOption (get (codes "sync_timeout") d)
       (Unit {0}) (λ value. (n : ℤ) × IsWhole n value)

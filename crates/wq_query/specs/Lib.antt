@@ -1,7 +1,7 @@
 pub mod Field
 pub mod Query
 pub mod Reading
-pub mod Gives
+pub mod Outcome
 pub mod Listing
 pub mod Reply
 pub mod Grammar

@@ -3,7 +3,7 @@ ghost use Rattle.std.specs.Prelude.{◌≡◌};
 ghost use Rattle.serde_json.specs.View.{view as data_of};
 ghost use Rattle.wq_clock.specs.Instance.{instance_data};
 ghost use Rattle.wq_term.specs.Expr.{term_of};
-ghost use Rattle.wq_query.specs.Gives.{Gives};
+ghost use Rattle.wq_query.specs.Outcome.{Gives};
 ghost use Rattle.wq_query.specs.Query.{asked_of, planned};
 ghost use Rattle.wq_query.specs.Reading.{asks};
 

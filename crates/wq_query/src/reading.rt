@@ -2,7 +2,7 @@
 ghost use Rattle.std.specs.Prelude.{◌≡◌, map, option_map};
 ghost use Rattle.serde_json.specs.View.{view as data_of, items_view};
 ghost use Rattle.wq_clock.specs.Instance.{instance_data};
-ghost use Rattle.wq_query.specs.Gives.{GivesExpression, GivesFields};
+ghost use Rattle.wq_query.specs.Outcome.{GivesExpression, GivesFields};
 ghost use Rattle.wq_query.specs.Reading.{has_key_of, has_left_out_key, is_plain_case};
 ghost use Rattle.wq_query.specs.Reading.{expression_of, field_of, fields_in, fields_of, since_of};
 ghost use Rattle.wq_query.specs.Reading.{flag_of, is_whole};

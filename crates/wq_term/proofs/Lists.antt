@@ -12,7 +12,7 @@ use Rattle.wq_term.specs.declared.fault.TermFault.TheVariants.{BadClockSpec, Cur
 use Rattle.wq_term.specs.declared.fault.TermFault.TheVariants.{PatternTooLong, NoMemory}
 use Rattle.wq_term.specs.Expr.{ExprData, ExprsData, no_terms, term, term_of, terms_of}
 use Rattle.wq_term.specs.declared.expr.Expr.{Expr}
-use Rattle.wq_term.specs.Gives.{GivesAs}
+use Rattle.wq_term.specs.Outcome.{GivesAs}
 use Rattle.wq_term.specs.Reading.{Answer, read_all}
 
 -- a term before others, unless they have a fault

@@ -8,7 +8,7 @@ pub mod Word
 pub mod Argument
 pub mod PatternArgument
 pub mod Reading
-pub mod Gives
+pub mod Outcome
 pub mod ArgumentGrammar
 pub mod Grammar
 pub mod Law

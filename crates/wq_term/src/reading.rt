@@ -3,7 +3,7 @@
 ghost use Rattle.std.specs.Prelude.{◌≡◌};
 ghost use Rattle.serde_json.specs.View.{view as data_of, items_view};
 ghost use Rattle.wq_clock.specs.Instance.{instance_data};
-ghost use Rattle.wq_term.specs.Gives.{Gives, GivesAll};
+ghost use Rattle.wq_term.specs.Outcome.{Gives, GivesAll};
 ghost use Rattle.wq_term.specs.Limit.{max_depth};
 ghost use Rattle.wq_term.specs.Reading.{read_plain, read_negation, read_all, read_named, reads_as};
 ghost use Rattle.wq_term.specs.Expr.{term_of};

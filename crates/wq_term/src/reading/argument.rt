@@ -5,7 +5,7 @@ ghost use Rattle.serde_json.specs.View.{view as data_of, items_view};
 ghost use Rattle.wq_term.specs.Argument.{parts_of, text_of, all_texts_of, texts_of};
 ghost use Rattle.wq_term.specs.Argument.{whole_number_of, second_of, scope_of, relation_of};
 ghost use Rattle.wq_term.specs.Argument.{comparison_of};
-ghost use Rattle.wq_term.specs.Gives.{GivesAs, GivesTexts};
+ghost use Rattle.wq_term.specs.Outcome.{GivesAs, GivesTexts};
 ghost use Rattle.wq_term.specs.declared.fault.TermFault.TheVariants.{WrongArguments};
 
 use crate::expr::{Relation, Scope};

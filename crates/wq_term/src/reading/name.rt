@@ -2,7 +2,7 @@
 ghost use Rattle.std.specs.Prelude.{◌≡◌};
 ghost use Rattle.serde_json.specs.View.{view as data_of, items_view};
 ghost use Rattle.wq_term.specs.Argument.{depth_argument, kind_of};
-ghost use Rattle.wq_term.specs.Gives.{Gives};
+ghost use Rattle.wq_term.specs.Outcome.{Gives};
 ghost use Rattle.wq_term.specs.Reading.{below_at, name_in, read_dirname, read_kind, read_name};
 ghost use Rattle.wq_term.specs.Reading.{read_suffix};
 ghost use Rattle.wq_term.specs.Text.{without_end_slashes};

@@ -4,7 +4,7 @@ ghost use Rattle.serde_json.specs.Data.{string};
 ghost use Rattle.serde_json.specs.View.{view as data_of, items_view};
 ghost use Rattle.wq_clock.specs.Instance.{instance_data};
 ghost use Rattle.wq_term.specs.Argument.{bound_in, field_of};
-ghost use Rattle.wq_term.specs.Gives.{Gives};
+ghost use Rattle.wq_term.specs.Outcome.{Gives};
 ghost use Rattle.wq_term.specs.Reading.{read_since, read_size, since_by};
 
 use crate::expr::{Expr, Since};

@@ -2,7 +2,7 @@
 //! in `wq_glob`.
 ghost use Rattle.std.specs.Prelude.{◌≡◌};
 ghost use Rattle.serde_json.specs.View.{view as data_of, items_view, members_view};
-ghost use Rattle.wq_term.specs.Gives.{Gives};
+ghost use Rattle.wq_term.specs.Outcome.{Gives};
 ghost use Rattle.wq_term.specs.PatternArgument.{are_flags, flags_of, is_flag, is_set, plain_flags};
 ghost use Rattle.wq_term.specs.Reading.{match_with, read_match};
 
