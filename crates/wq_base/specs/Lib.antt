@@ -2,4 +2,5 @@ pub mod Limit
 pub mod Byte
 pub mod Decimal
 pub mod Fault
+pub mod Table
 pub mod Version
