@@ -11,3 +11,4 @@ pub mod ByteSet
 pub mod Step
 pub mod Cell
 pub mod Member
+pub mod Law

@@ -15,6 +15,7 @@
 mod byte_set;
 mod byte;
 mod class;
+mod law;
 mod limit;
 mod matching;
 mod flag;
@@ -26,4 +27,5 @@ mod step;
 pub use limit::{MAX_PATTERN, MAX_TEXT};
 pub use matching::Hit;
 pub use flag::Flags;
+pub use law::fits_where_it_can_be_cut;
 pub use pattern::{Pattern, PatternFault};
