@@ -1,6 +1,6 @@
 -- The row at the end of the text.
 use Rattle.std.proofs.Common.{◌≡◌, ◌≢◌, ℕ, zero, suc, ◌+◌, ◌-◌, ◌<◌, ◌≤◌, Bool, true, false, ◌&&◌, ◌||◌, List, [], ◌∷◌, ◌⊎◌, length, drop, get_or, set, refl, sym, ◌∙◌, ap, subst, inl, inr, arith, get_or-set_same, get_or-set_other, drop-cons}
-use Rattle.std.proofs.lemmas.Bool.{cases_lt, cases_eq, and_right}
+use Rattle.std.proofs.lemmas.Bool.{cases_lt, cases_eq, and_right, or_left}
 use Rattle.std.proofs.lemmas.List.{get_or-replicate, get_or_past}
 use Rattle.std.proofs.Math.ListN.{replicate, length-replicate}
 use Rattle.wq_glob.specs.Step.{step_reach}
@@ -57,6 +57,7 @@ pub record IsEndRow (f : Flags) (steps : List Step) (row : List Cell) (low : ℕ
   pub filled : (j : ℕ) → low ≤ j → j ≤ length steps → get_or row j dead ≡ cell_of f (drop j steps) []
   pub fitting : step_fits f (drop low steps) [] ≡ true
   pub blank : (j : ℕ) → j < low → get_or row j dead ≡ dead
+  pub each : (j : ℕ) → low ≤ j → j ≤ length steps → step_fits f (drop j steps) [] ≡ true
 
 module _ (f : Flags) (steps : List Step) where
   -- the last cell of a row that was blank
@@ -68,6 +69,7 @@ module _ (f : Flags) (steps : List Step) where
         filled = λ j from at. let e : j ≡ length steps = omega arith in rw (e, get_or-set_same, nothing) last_is;
         fitting = rw nothing refl;
         blank = λ j before. let other : j ≢ length steps = omega arith in get_or-set_other row (length steps) j last dead other ∙ blank j;
+        each = λ j from at. let e : j ≡ length steps = omega arith in rw (e, nothing) refl;
       }
 
   -- and one cell more
@@ -83,9 +85,15 @@ module _ (f : Flags) (steps : List Step) where
             ];
         fitting = fits;
         blank = λ j before. let other : j ≢ n = omega arith in get_or-set_other row n j cell dead other ∙ was.blank j (omega arith);
+        each = λ j from at.
+            elim (cases_eq j n) [
+              | inl same ↦ ap (λ (i : ℕ). step_fits f (drop i steps) []) same ∙ fits
+              | inr other ↦ was.each j (omega arith) at
+            ];
       }
 
-  low_none : (low : ℕ) → low ≤ length steps → (low ≡ 0) ⊎ (step_fits f (drop (low - 1) steps) [] ≡ false) → (j : ℕ) → j < low → cell_of f (drop j steps) [] ≡ dead
+  -- before the first cell that fits all are dead
+  pub low_none : (low : ℕ) → low ≤ length steps → (low ≡ 0) ⊎ (step_fits f (drop (low - 1) steps) [] ≡ false) → (j : ℕ) → j < low → cell_of f (drop j steps) [] ≡ dead
   low_none low within (inl start) j before = absurd (omega arith)
   low_none low within (inr not_here) j before =
       end_cell f (drop j steps)
@@ -105,6 +113,8 @@ module _ (f : Flags) (steps : List Step) where
     within = omega arith;
     below = λ j from before at. low_none w.low was.within stop j before;
     above = λ j after at. absurd (omega arith);
+    first = or_left _ _ (was.each w.low (omega arith) was.within);
+    last = or_left _ _ (was.each w.high (omega (arith, was.within)) (omega arith));
   }
 
 -- a row of dead cells is blank

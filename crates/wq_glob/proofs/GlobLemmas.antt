@@ -13,11 +13,11 @@ use Rattle.wq_glob.proofs.FitsLaws.{cuts_from_test, test_from_cuts}
 use Rattle.wq_glob.proofs.AtomLemmas.{atoms_few}
 
 -- each mark is of a byte
-abbrev AreBytes : List Mark → Type 0
+abbrev pub AreBytes : List Mark → Type 0
 AreBytes [] = Unit {0}
 AreBytes (x ∷ xs) = (x.byte < 256) × AreBytes xs
 
-marks_are_bytes : (dotfiles front : Bool) (text : List ℕ) → ((i : ℕ) → get_or text i 0 < 256) → AreBytes (marks_from dotfiles front text)
+pub marks_are_bytes : (dotfiles front : Bool) (text : List ℕ) → ((i : ℕ) → get_or text i 0 < 256) → AreBytes (marks_from dotfiles front text)
 marks_are_bytes dotfiles front [] small = tt
 marks_are_bytes dotfiles front (b ∷ bs) small = (small 0, marks_are_bytes dotfiles (is_slash b) bs (λ i. small (suc i)))
 
@@ -30,7 +30,7 @@ module _ (test other : Mark → Bool) (fit like : List Mark → Bool) (same_test
   same_many [] bytes = same_fit [] bytes
   same_many (x ∷ xs) bytes = rw (same_fit (x ∷ xs) bytes, same_test x bytes.0, same_many xs bytes.1) refl
 
-  same_folders : (xs : List Mark) → AreBytes xs → folders test fit xs ≡ folders other like xs
+  pub same_folders : (xs : List Mark) → AreBytes xs → folders test fit xs ≡ folders other like xs
   same_folders [] bytes = refl
   same_folders (x ∷ xs) bytes = rw (same_test x bytes.0, same_folders xs bytes.1, same_fit xs bytes.1) refl
 
@@ -40,7 +40,7 @@ module _ (test other : Mark → Bool) (fit like : List Mark → Bool) (same_test
   same_part Folders xs bytes = rw (same_fit xs bytes, same_folders xs bytes) refl
 
 -- steps that stand for atoms fit what these fit
-same_fits : (f : Flags) (steps : List Step) (atoms : List Atom) → AllStand f steps atoms → (xs : List Mark) → AreBytes xs → step_fits f steps xs ≡ fits_by reach (admits f) atoms xs
+pub same_fits : (f : Flags) (steps : List Step) (atoms : List Atom) → AllStand f steps atoms → (xs : List Mark) → AreBytes xs → step_fits f steps xs ≡ fits_by reach (admits f) atoms xs
 same_fits f [] [] all xs bytes = refl
 same_fits f [] (a ∷ atoms) all xs bytes = absurd all
 same_fits f (s ∷ steps) [] all xs bytes = absurd all
@@ -48,7 +48,7 @@ same_fits f (s ∷ steps) (a ∷ atoms) (stands, all) xs bytes =
     ap (λ (r : Reach). part_of r (step_admits f s) (step_fits f steps) xs) stands.same_reach
     ∙ same_part (step_admits f s) (admits f a) (step_fits f steps) (fits_by reach (admits f) atoms) stands.same_bytes (same_fits f steps atoms all) (reach a) xs bytes
 
-same_length : (f : Flags) (steps : List Step) (atoms : List Atom) → AllStand f steps atoms → length steps ≡ length atoms
+pub same_length : (f : Flags) (steps : List Step) (atoms : List Atom) → AllStand f steps atoms → length steps ≡ length atoms
 same_length f [] [] all = refl
 same_length f [] (a ∷ atoms) all = absurd all
 same_length f (s ∷ steps) [] all = absurd all

@@ -12,3 +12,6 @@ pub mod StepLemmas
 pub mod AtomLemmas
 pub mod GlobLemmas
 pub mod BackLemmas
+pub mod CountLemmas
+pub mod SeenLemmas
+pub mod CostLemmas

@@ -31,10 +31,10 @@ slash_folded true b = at (is_upper b) refl
         ne_eqb (b + 32) 47 high ∙ sym (ne_eqb b 47 here)
 
 pub stands_byte : (f : Flags) (b : ℕ) → StandsFor f (Byte (folded f.fold b)) (Literal b)
-stands_byte f b = record { same_reach = refl; same_bytes = λ x small. refl; same_opening = slash_folded f.fold b }
+stands_byte f b = record { same_reach = refl; same_bytes = λ x small. refl; same_opening = slash_folded f.fold b; same_literal = refl }
 
 stands_set : (f : Flags) (set : ByteSet) (c : Class) → ((b : ℕ) → b < 256 → has_byte set b ≡ in_class f.fold c b) → StandsFor f (Set set) (OneOf c)
-stands_set f set c holds = record { same_reach = refl; same_bytes = λ x small. ap (λ (h : Bool). is_wild f x && h) (holds x.byte small); same_opening = refl }
+stands_set f set c holds = record { same_reach = refl; same_bytes = λ x small. ap (λ (h : Bool). is_wild f x && h) (holds x.byte small); same_opening = refl; same_literal = refl }
 
 -- a class whose names are all known
 pub stands_class : (f : Flags) (set : ByteSet) (c : Class) (known : Bool) → known ≡ not (list_any is_unknown c.items) → known ≡ true → ((b : ℕ) → b < 256 → has_byte set b ≡ in_class f.fold c b) → StandsFor f (Set set) (known_class c)
@@ -52,4 +52,4 @@ unfolding one_of_at class_at
 one_of_none noescape text is = rw is refl
 
 pub stands_never : (f : Flags) → StandsFor f Never Nothing
-stands_never f = record { same_reach = refl; same_bytes = λ x small. refl; same_opening = refl }
+stands_never f = record { same_reach = refl; same_bytes = λ x small. refl; same_opening = refl; same_literal = refl }

@@ -78,4 +78,6 @@ module _ (f : Flags) (steps : List Step) (x : Mark) (text : List Mark) where
     within = some.within;
     below = λ j from low within. elim (cases_lt j k) [ inl lower ↦ before j lower | inr higher ↦ some.below j higher low within ];
     above = some.above;
+    first = some.first;
+    last = some.last;
   }

@@ -1,10 +1,12 @@
 -- The table that the matcher fills from the end of the text to its start, and from the last step to the first:
 -- what is known of each tail of the pattern at each tail of the text.
-use Rattle.std.specs.Prelude.{◌≡◌, ℕ, ◌-◌, ◌<◌, ◌≤◌, Bool, true, false, not, ◌==◌, ◌&&◌, ◌||◌, List, [], ◌∷◌, length, drop, slice_index, slice_index_or, Option, MatchOption}
+use Rattle.std.specs.Prelude.{◌≡◌, ℕ, ◌-◌, ◌<◌, ◌≤◌, Bool, true, false, not, ◌==◌, ◌&&◌, ◌||◌, List, length, drop, slice_index, slice_index_or, Option, MatchOption, IsTrue}
 use Rattle.wq_base.specs.Byte.{is_slash, is_dot}
 use Rattle.wq_glob.specs.Mark.{Mark, marks}
-use Rattle.wq_glob.specs.FitsTest.{Reach, Single, Many, Folders, fits_by, folders}
-use Rattle.wq_glob.specs.Step.{step_reach, step_admits}
+use Rattle.wq_glob.specs.FitsTest.{Reach, Single, Many, Folders, fits_by}
+use Rattle.wq_glob.specs.Cost.{is_live}
+use Rattle.wq_glob.specs.Table.{Row, cell_by, row_by}
+use Rattle.wq_glob.specs.Step.{step_reach, step_admits, step_form}
 use Rattle.wq_glob.specs.declared.flag.Flags.{Flags}
 use Rattle.wq_glob.specs.declared.row.Cell.{Cell}
 use Rattle.wq_glob.specs.declared.row.Window.{Window}
@@ -14,18 +16,13 @@ use Rattle.wq_glob.specs.declared.step.Step.{Step}
 abbrev pub step_fits : Flags → List Step → List Mark → Bool
 step_fits f steps text = fits_by step_reach (step_admits f) steps text
 
--- the part of a `**/` has begun, and some front of the text ends it, so that the rest fits
-abbrev pub begun_at : Reach → (Mark → Bool) → (List Mark → Bool) → List Mark → Bool
-begun_at Folders test fit text = folders test fit text
-begun_at _ test fit text = false
-
-abbrev pub begun : Flags → List Step → List Mark → Bool
-begun f [] text = false
-begun f (s ∷ later) text = begun_at (step_reach s) (step_admits f s) (step_fits f later) text
-
 -- the cell of the steps at the text
 abbrev pub cell_of : Flags → List Step → List Mark → Cell
-cell_of f steps text = record { fits = step_fits f steps text; begun = begun f steps text }
+cell_of f steps text = cell_by (step_form f) steps text
+
+-- the row of the steps at the text
+abbrev pub row_of : Flags → List Step → List Mark → Row
+row_of f steps text = row_by (step_form f) steps text
 
 abbrev pub dead : Cell
 dead = record { fits = false; begun = false }
@@ -58,6 +55,8 @@ pub record IsWindow (f : Flags) (steps : List Step) (text : List Mark) (k : ℕ)
   pub within : w.high ≤ length steps
   pub below : (j : ℕ) → k ≤ j → j < w.low → j ≤ length steps → cell_of f (drop j steps) text ≡ dead
   pub above : (j : ℕ) → w.high < j → j ≤ length steps → cell_of f (drop j steps) text ≡ dead
+  pub first : IsTrue (is_live (cell_of f (drop w.low steps) text))
+  pub last : IsTrue (is_live (cell_of f (drop w.high steps) text))
 
 -- the window of the cells from `k` on, or none where all of them are dead
 abbrev pub Bounds : Flags → List Step → List Mark → ℕ → Option Window → Type 0

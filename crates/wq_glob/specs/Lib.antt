@@ -6,6 +6,8 @@ pub mod Atom
 pub mod Mark
 pub mod Fits
 pub mod FitsTest
+pub mod Table
+pub mod Cost
 pub mod Pattern
 pub mod ByteSet
 pub mod Step

@@ -8,6 +8,8 @@ use Rattle.wq_glob.specs.Atom.{Atom, atoms_from}
 use Rattle.wq_glob.specs.Mark.{marks}
 use Rattle.wq_glob.specs.Fits.{Cuts}
 use Rattle.wq_glob.specs.FitsTest.{fits_by, reach, admits}
+use Rattle.wq_glob.specs.Table.{atom_form}
+use Rattle.wq_glob.specs.Cost.{cost}
 use Rattle.wq_glob.specs.declared.flag.Flags.{Flags}
 
 -- the text and the flags of a pattern
@@ -26,6 +28,10 @@ Fits g text = Cuts g.flags (atoms_of g) (marks (g.flags).dotfiles text)
 -- the same as a test
 unfoldable pub fits : PatternData → List ℕ → Bool
 fits g text = fits_by reach (admits g.flags) (atoms_of g) (marks (g.flags).dotfiles text)
+
+-- how many cells of the table of its atoms and of the text a match looks at
+unfoldable pub cells_of : PatternData → List ℕ → ℕ
+cells_of g text = cost (atom_form g.flags) (atoms_of g) (marks (g.flags).dotfiles text)
 
 -- two patterns are equal where their texts and flags are
 abbrev pub same_flags : Flags → Flags → Bool

@@ -7,6 +7,7 @@ use Rattle.wq_glob.specs.Atom.{Atom, opens, atoms_from}
 use Rattle.wq_glob.specs.Mark.{Mark}
 use Rattle.wq_glob.specs.Fits.{is_shown, is_wild}
 use Rattle.wq_glob.specs.FitsTest.{Reach, Single, Many, Folders, reach, admits}
+use Rattle.wq_glob.specs.Table.{Form, is_literal}
 use Rattle.wq_glob.specs.declared.flag.Flags.{Flags}
 use Rattle.wq_glob.specs.Limit.{max_pattern_length}
 use Rattle.wq_glob.specs.declared.row.Seen.{Seen}
@@ -36,6 +37,15 @@ step_takes Never s = false
 abbrev pub step_admits : Flags → Step → Mark → Bool
 step_admits f step x = step_takes step (seen_of f x)
 
+-- the step is of a literal
+abbrev pub is_byte : Step → Bool
+is_byte (Byte b) = true
+is_byte _ = false
+
+-- steps as a form of atoms
+abbrev pub step_form : Flags → Form Step
+step_form f = record { reach_of = step_reach; admits_of = step_admits f; is_literal = is_byte }
+
 abbrev pub step_opens : Step → Bool
 step_opens (Byte b) = is_slash b
 step_opens Below = true
@@ -46,6 +56,7 @@ pub record StandsFor (f : Flags) (step : Step) (atom : Atom) : Type 0 where
   pub same_reach : step_reach step ≡ reach atom
   pub same_bytes : (x : Mark) → x.byte < 256 → step_admits f step x ≡ admits f atom x
   pub same_opening : step_opens step ≡ opens atom
+  pub same_literal : is_byte step ≡ is_literal atom
 
 -- the steps stand for the atoms, one for each in order
 abbrev pub AllStand : Flags → List Step → List Atom → Type 0

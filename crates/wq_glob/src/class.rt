@@ -8,8 +8,8 @@ ghost use Rattle.wq_glob.specs.Class.{in_item, in_items, in_name, in_class, in_e
 ghost use Rattle.wq_glob.specs.Member.{AreMembers, HasItems, Holds};
 ghost use Rattle.wq_glob.specs.Reading.{begins, letter, item_named, named_item, range_end, plain_item, first_item, class_items};
 
-use crate::byte_set::ByteSet;
 use crate::byte::{begins, behind, lower, upper};
+use crate::byte_set::ByteSet;
 
 /// A named class of POSIX, in ASCII.
 #[derive(Clone, Copy)]
@@ -200,7 +200,7 @@ fn first_item(text: &[u8], noescape: bool) -> Option<(Item, &[u8])>
 fn insert_item(set: &mut ByteSet, item: Item)
     ensures { (b : ℕ) → b < 256 → has_byte set.new b ≡ (has_byte set.old b || in_item b item) }
 {
-    'bytes: for n in 0..256usize {
+    for n in 0..256usize {
         let byte = n as u8;
         if in_item(item, byte) {
             set.insert(byte);
@@ -237,7 +237,7 @@ pub fn read_items(text: &[u8], noescape: bool) -> Option<(Members, &[u8])>
         return None;
     };
     members.add(first);
-    'items: while !begins(rest, b']') {
+    while !begins(rest, b']') {
         let Some((item, after)) = first_item(rest, noescape) else {
             return None;
         };
@@ -268,7 +268,7 @@ pub fn closed(set: &ByteSet, negated: bool, fold: bool) -> ByteSet
         → has_byte result b ≡ in_class fold record { negated = negated; items = items } b }
 {
     let mut held = ByteSet::empty();
-    'bytes: for n in 0..256usize {
+    for n in 0..256usize {
         let byte = n as u8;
         if is_member(set, byte, negated, fold) {
             held.insert(byte);

@@ -12,20 +12,20 @@
 //! knows no files: a caller hands in a basename or a whole name.
 #![tactic(auto)]
 
-mod byte_set;
 mod byte;
+mod byte_set;
 mod class;
+mod flag;
 mod law;
 mod limit;
 mod matching;
-mod flag;
 mod pattern;
 mod reading;
 mod row;
 mod step;
 
-pub use limit::{MAX_PATTERN, MAX_TEXT};
-pub use matching::Hit;
 pub use flag::Flags;
 pub use law::fits_where_it_can_be_cut;
+pub use limit::{MAX_PATTERN, MAX_TEXT};
+pub use matching::Hit;
 pub use pattern::{Pattern, PatternFault};

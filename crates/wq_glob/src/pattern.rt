@@ -1,12 +1,12 @@
 //! Patterns: a text with flags, read once and then tried on paths. How it is read stands in `reading`, how it is tried
 //! in `matching`; which paths are tried, and whether by their last part or whole, is for others to say.
 ghost use Rattle.std.specs.Prelude.{◌≡◌, ◌<◌, ◌≤◌, ◌↔◌, ◌+◌, ◌*◌, IfOk, IsTrue, length, IsErrOf};
-ghost use Rattle.wq_glob.specs.Pattern.{atoms_of, fits, Fits};
+ghost use Rattle.wq_glob.specs.Pattern.{atoms_of, cells_of, fits, Fits};
 ghost use Rattle.wq_glob.specs.Limit.{max_pattern_length, max_text_length};
 
+use crate::flag::Flags;
 use crate::limit::MAX_PATTERN;
 use crate::matching::{Hit, hit_of};
-use crate::flag::Flags;
 use crate::reading::read_steps;
 use crate::step::Step;
 use std::alloc::{AllocError, Global};
@@ -144,6 +144,7 @@ impl Pattern {
         ensures test { result.yes ≡ fits self.now text.now }
         ensures cuts { IsTrue result.yes ↔ Fits self.now text.now }
 
+        ensures cells { result.cells ≡ cells_of self.now text.now }
         ensures bounded { result.cells ≤ (length (atoms_of self.now) + 1) * (length text.now + 1) }
         // A yes has looked at each byte, and no answer comes for nothing.
         ensures counted { IsTrue result.yes → length text.now + 1 ≤ result.cells }

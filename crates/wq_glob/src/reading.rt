@@ -127,7 +127,7 @@ pub fn read_steps(alloc: Global, text: &[u8], flags: Flags) -> Result<Vec<Step>,
     let mut steps = Vec::new(alloc);
     let mut rest = text;
     let mut at_start = true;
-    'atoms: while !rest.is_empty() {
+    while !rest.is_empty() {
         let (step, after) = first_step(rest, at_start, flags);
         steps.push(step)?;
         at_start = opens(&step);

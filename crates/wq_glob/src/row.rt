@@ -1,9 +1,10 @@
 //! The matcher: a row of cells over the steps of a pattern, filled from the end of the text to its start. It cuts
 //! nothing, goes back nowhere and takes no memory.
-ghost use Rattle.std.specs.Prelude.{◌≡◌, ◌<◌, ◌≤◌, ℕ, ◌+◌, length, drop, List, ◌∷◌, [], true, false, ◌⊎◌, ◌-◌, IsTrue};
+ghost use Rattle.std.specs.Prelude.{◌≡◌, ◌<◌, ◌≤◌, ℕ, ◌+◌, length, drop, List, ◌∷◌, [], true, false, ◌⊎◌, ◌-◌, IsTrue, nat_lt, ◌&&◌, ◌||◌};
 ghost use Rattle.std.specs.Bool.{MatchBool};
 ghost use Rattle.wq_glob.specs.Cell.{next_cell, mark_at, cell_of, dead, IsRow, IsWindow, Bounds, marks_at, step_fits, IsBlank};
-ghost use Rattle.wq_glob.specs.Step.{step_reach, step_takes, seen_of};
+ghost use Rattle.wq_glob.specs.Cost.{row_cells};
+ghost use Rattle.wq_glob.specs.Step.{step_reach, step_takes, step_form, seen_of};
 ghost use Rattle.wq_glob.specs.Mark.{Mark};
 
 use crate::byte::lower_if;
@@ -132,6 +133,8 @@ pub fn renew(
 
     ensures row { IsRow flags steps.now (marks_at flags text.now at) row.new }
     ensures window { Bounds flags steps.now (marks_at flags text.now at) 0 result.window }
+    ensures cells { row_cells (step_form flags) steps.now (marks_at flags text.now at)
+        ≡ row_cells (step_form flags) steps.now (marks_at flags text.now (at + 1)) + result.cells }
     ensures counted { 1 ≤ result.cells }
     ensures bounded { result.cells ≤ length steps.now + 1 }
 {
@@ -140,7 +143,7 @@ pub fn renew(
     let mut old_next = false;
     let mut new_next = false;
     let mut live: Option<Window> = None;
-    'cells: while is_open(k, window.low, old_next, new_next) {
+    while is_open(k, window.low, old_next, new_next) {
         k -= 1;
         let old = row[k];
         let new = cell_at(steps, k, &seen, old, old_next, new_next);
@@ -157,7 +160,7 @@ pub fn renew(
 
 /// Whether the cell before `k` may live at a byte: one that lived behind it, or one before a cell that fits.
 fn is_open(k: usize, low: usize, old_next: bool, new_next: bool) -> bool
-    ensures { MatchBool result (0 < k) ((k ≡ 0) ⊎ ((k ≤ low) × (old_next ≡ false) × (new_next ≡ false))) }
+    ensures { result ≡ (nat_lt 0 k && (nat_lt low k || old_next || new_next)) }
 {
     k > 0 && (k > low || old_next || new_next)
 }
@@ -197,10 +200,11 @@ pub fn fill_end(row: &mut [Cell], steps: &[Step]) -> Window
     ensures lives { (f : Flags) → IsWindow f steps.now [] 0 result }
     ensures ordered { result.low ≤ result.high }
     ensures last { result.high ≡ length steps.now }
+    ensures cells { (f : Flags) → row_cells (step_form f) steps.now [] ≡ result.high + 1 - (result.low - 1) }
 {
     let mut low = steps.len();
     row[low] = Cell::fitting(true);
-    'tails: while is_skipped(steps, low) {
+    while is_skipped(steps, low) {
         low -= 1;
         row[low] = Cell::fitting(true);
     }

@@ -1,0 +1,85 @@
+-- What a match costs: how many cells it looks at in the table of the pattern and the text.
+-- This library's own; what fits is defined without it.
+use Rattle.std.specs.Prelude.{ℕ, ◌+◌, ◌-◌, Bool, false, not, ◌&&◌, ◌||◌, nat_le, if◌then◌else◌}
+use Rattle.std.specs.Prelude.{List, [], ◌∷◌, length, drop}
+use Rattle.std.specs.List.{count_by, list_any, range_with_len}
+use Rattle.wq_glob.specs.Mark.{Mark}
+use Rattle.wq_glob.specs.Table.{Form, Row, row_by}
+use Rattle.wq_glob.specs.declared.row.Cell.{Cell}
+
+-- a cell lives: its tail of the pattern fits, or has begun its `**/`
+abbrev pub is_live : Cell → Bool
+is_live cell = cell.fits || cell.begun
+
+-- how many atoms may be left out of a pattern of so many: none of them, up to all
+abbrev pub places : ℕ → List ℕ
+places atoms = range_with_len 0 (atoms + 1)
+
+-- the cell at `k`, or one behind it in the row, lives
+abbrev pub lives_from : ℕ → Row → ℕ → Bool
+lives_from atoms row k = list_any (λ j. nat_le k j && is_live (row j)) (places atoms)
+
+-- the cell at `k`, or one before it in the row, lives
+abbrev pub lives_to : ℕ → Row → ℕ → Bool
+lives_to atoms row k = list_any (λ j. nat_le j k && is_live (row j)) (places atoms)
+
+-- the next cell fits
+abbrev pub next_fits : Row → ℕ → Bool
+next_fits row k = (row (k + 1)).fits
+
+-- The cells of a new row that are looked at: those from the first to the last that lived in the old
+-- row, and before these each whose next cell fits in one of the two rows.
+abbrev pub is_seen : ℕ → Row → Row → ℕ → Bool
+is_seen atoms old new k =
+    lives_from atoms old k && (lives_to atoms old k || next_fits old k || next_fits new k)
+
+-- at the end of the text: the cells that fit, and the one before them
+abbrev pub is_seen_at_end : Row → ℕ → Bool
+is_seen_at_end row k = (row k).fits || next_fits row k
+
+-- how many cells of a new row are looked at, and how many of the row at the end of the text
+abbrev pub new_cells : ℕ → Row → Row → ℕ
+new_cells atoms old new = count_by (is_seen atoms old new) (places atoms)
+
+abbrev pub end_cells : ℕ → Row → ℕ
+end_cells atoms row = count_by (is_seen_at_end row) (places atoms)
+
+-- the cells of all rows, one for each byte of the text and one at its end
+abbrev pub row_cells : {A : Type 0} → Form A → List A → List Mark → ℕ
+row_cells form atoms [] = end_cells (length atoms) (row_by form atoms [])
+row_cells form atoms (x ∷ text) =
+    row_cells form atoms text
+    + new_cells (length atoms) (row_by form atoms text) (row_by form atoms (x ∷ text))
+
+-- the first atom is a literal
+abbrev pub begins_literal : {A : Type 0} → Form A → List A → Bool
+begins_literal form [] = false
+begins_literal form (a ∷ later) = form.is_literal a
+
+-- the first atom is a literal, and the text begins with it
+abbrev pub agrees : {A : Type 0} → Form A → List A → List Mark → Bool
+agrees form (a ∷ later) (x ∷ text) = form.is_literal a && form.admits_of a x
+agrees form _ _ = false
+
+-- the first atom is a literal, and the text does not begin with it
+abbrev pub differs : {A : Type 0} → Form A → List A → List Mark → Bool
+differs form atoms text = begins_literal form atoms && not (agrees form atoms text)
+
+-- how many literals at the front of the pattern the text begins with, one by one
+abbrev pub front : {A : Type 0} → Form A → List A → List Mark → ℕ
+front form (a ∷ later) (x ∷ text) =
+    if agrees form (a ∷ later) (x ∷ text) then 1 + front form later text else 0
+front form _ _ = 0
+
+-- the last of a list, alone
+abbrev pub last_alone : {A : Type 0} → List A → List A
+last_alone xs = drop (length xs - 1) xs
+
+-- The cells of a match. A last byte that differs costs one, and ends it. Then come the literals at the
+-- front, one cell each; a byte that differs behind them ends it too. The rest is done by rows.
+unfoldable pub cost : {A : Type 0} → Form A → List A → List Mark → ℕ
+cost form atoms text =
+    let same : ℕ = front form atoms text in
+    if differs form (last_alone atoms) (last_alone text) then 1
+    else if differs form (drop same atoms) (drop same text) then same + 2
+    else same + row_cells form (drop same atoms) (drop same text)
