@@ -3,7 +3,7 @@ use Rattle.std.proofs.Common.{◌≡◌, ℕ, suc, ◌<◌, ◌≤◌, Bool, tru
 use Rattle.wq_base.specs.Byte.{is_slash}
 use Rattle.wq_glob.specs.Atom.{Atom}
 use Rattle.wq_glob.specs.Mark.{Mark, marks, marks_from}
-use Rattle.wq_glob.specs.FitsTest.{Reach, Single, Many, Folders, reach, admits, folders, many, single, part_of, fits_by}
+use Rattle.wq_glob.specs.FitsTest.{Reach, Single, Many, Folders, reach, admits, folders, many, single, part_of, atom_form, fits_by}
 use Rattle.wq_glob.specs.Pattern.{PatternData, atoms_of, fits, Fits}
 use Rattle.wq_glob.specs.Step.{AllStand, IsCompiled, step_admits}
 use Rattle.wq_glob.specs.Cell.{step_fits}
@@ -40,13 +40,13 @@ module _ (test other : Mark → Bool) (fit like : List Mark → Bool) (same_test
   same_part Folders xs bytes = rw (same_fit xs bytes, same_folders xs bytes) refl
 
 -- steps that stand for atoms fit what these fit
-pub same_fits : (f : Flags) (steps : List Step) (atoms : List Atom) → AllStand f steps atoms → (xs : List Mark) → AreBytes xs → step_fits f steps xs ≡ fits_by reach (admits f) atoms xs
+pub same_fits : (f : Flags) (steps : List Step) (atoms : List Atom) → AllStand f steps atoms → (xs : List Mark) → AreBytes xs → step_fits f steps xs ≡ fits_by (atom_form f) atoms xs
 same_fits f [] [] all xs bytes = refl
 same_fits f [] (a ∷ atoms) all xs bytes = absurd all
 same_fits f (s ∷ steps) [] all xs bytes = absurd all
 same_fits f (s ∷ steps) (a ∷ atoms) (stands, all) xs bytes =
     ap (λ (r : Reach). part_of r (step_admits f s) (step_fits f steps) xs) stands.same_reach
-    ∙ same_part (step_admits f s) (admits f a) (step_fits f steps) (fits_by reach (admits f) atoms) stands.same_bytes (same_fits f steps atoms all) (reach a) xs bytes
+    ∙ same_part (step_admits f s) (admits f a) (step_fits f steps) (fits_by (atom_form f) atoms) stands.same_bytes (same_fits f steps atoms all) (reach a) xs bytes
 
 pub same_length : (f : Flags) (steps : List Step) (atoms : List Atom) → AllStand f steps atoms → length steps ≡ length atoms
 same_length f [] [] all = refl

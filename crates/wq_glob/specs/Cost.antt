@@ -4,22 +4,23 @@ use Rattle.std.specs.Prelude.{ℕ, ◌+◌, ◌-◌, Bool, false, not, ◌&&◌,
 use Rattle.std.specs.Prelude.{List, [], ◌∷◌, length, drop}
 use Rattle.std.specs.List.{count_by, list_any, range_with_len}
 use Rattle.wq_glob.specs.Mark.{Mark}
-use Rattle.wq_glob.specs.Table.{Form, Row, row_by}
+use Rattle.wq_glob.specs.FitsTest.{Form}
+use Rattle.wq_glob.specs.Table.{Row, row_by}
 use Rattle.wq_glob.specs.declared.row.Cell.{Cell}
 
 -- a cell lives: its tail of the pattern fits, or has begun its `**/`
 abbrev pub is_live : Cell → Bool
 is_live cell = cell.fits || cell.begun
 
--- how many atoms may be left out of a pattern of so many: none of them, up to all
+-- the cells of a row of so many atoms: none is left out, up to all
 abbrev pub places : ℕ → List ℕ
 places atoms = range_with_len 0 (atoms + 1)
 
--- the cell at `k`, or one behind it in the row, lives
+-- the cell at `k`, or one behind it, lives
 abbrev pub lives_from : ℕ → Row → ℕ → Bool
 lives_from atoms row k = list_any (λ j. nat_le k j && is_live (row j)) (places atoms)
 
--- the cell at `k`, or one before it in the row, lives
+-- the cell at `k`, or one before it, lives
 abbrev pub lives_to : ℕ → Row → ℕ → Bool
 lives_to atoms row k = list_any (λ j. nat_le j k && is_live (row j)) (places atoms)
 
@@ -27,24 +28,25 @@ lives_to atoms row k = list_any (λ j. nat_le j k && is_live (row j)) (places at
 abbrev pub next_fits : Row → ℕ → Bool
 next_fits row k = (row (k + 1)).fits
 
--- The cells of a new row that are looked at: those from the first to the last that lived in the old
--- row, and before these each whose next cell fits in one of the two rows.
+-- A cell of a new row is looked at from the last down to the first that lived in the old row, and
+-- before these where the next cell fits in one of the two rows.
 abbrev pub is_seen : ℕ → Row → Row → ℕ → Bool
 is_seen atoms old new k =
     lives_from atoms old k && (lives_to atoms old k || next_fits old k || next_fits new k)
 
--- at the end of the text: the cells that fit, and the one before them
+-- at the end of the text it is looked at where it or the next one fits
 abbrev pub is_seen_at_end : Row → ℕ → Bool
 is_seen_at_end row k = (row k).fits || next_fits row k
 
--- how many cells of a new row are looked at, and how many of the row at the end of the text
+-- how many cells of a new row are looked at
 abbrev pub new_cells : ℕ → Row → Row → ℕ
 new_cells atoms old new = count_by (is_seen atoms old new) (places atoms)
 
+-- how many cells of the row at the end of the text are looked at
 abbrev pub end_cells : ℕ → Row → ℕ
 end_cells atoms row = count_by (is_seen_at_end row) (places atoms)
 
--- the cells of all rows, one for each byte of the text and one at its end
+-- the cells of all rows: one row at the end of the text, and then one for each byte
 abbrev pub row_cells : {A : Type 0} → Form A → List A → List Mark → ℕ
 row_cells form atoms [] = end_cells (length atoms) (row_by form atoms [])
 row_cells form atoms (x ∷ text) =
@@ -54,18 +56,18 @@ row_cells form atoms (x ∷ text) =
 -- the first atom is a literal
 abbrev pub begins_literal : {A : Type 0} → Form A → List A → Bool
 begins_literal form [] = false
-begins_literal form (a ∷ later) = form.is_literal a
+begins_literal form (a ∷ _) = form.is_literal a
 
 -- the first atom is a literal, and the text begins with it
 abbrev pub agrees : {A : Type 0} → Form A → List A → List Mark → Bool
-agrees form (a ∷ later) (x ∷ text) = form.is_literal a && form.admits_of a x
+agrees form (a ∷ _) (x ∷ _) = form.is_literal a && form.admits_of a x
 agrees form _ _ = false
 
 -- the first atom is a literal, and the text does not begin with it
 abbrev pub differs : {A : Type 0} → Form A → List A → List Mark → Bool
 differs form atoms text = begins_literal form atoms && not (agrees form atoms text)
 
--- how many literals at the front of the pattern the text begins with, one by one
+-- how many literals at the front of the pattern the text begins with, one after the other
 abbrev pub front : {A : Type 0} → Form A → List A → List Mark → ℕ
 front form (a ∷ later) (x ∷ text) =
     if agrees form (a ∷ later) (x ∷ text) then 1 + front form later text else 0
@@ -75,8 +77,9 @@ front form _ _ = 0
 abbrev pub last_alone : {A : Type 0} → List A → List A
 last_alone xs = drop (length xs - 1) xs
 
--- The cells of a match. A last byte that differs costs one, and ends it. Then come the literals at the
--- front, one cell each; a byte that differs behind them ends it too. The rest is done by rows.
+-- The cells of a match. A last byte that differs ends it with one cell. The literals at the front
+-- cost one each; a byte that differs behind them ends it, with its cell and the last byte's. The
+-- rest is done by rows.
 unfoldable pub cost : {A : Type 0} → Form A → List A → List Mark → ℕ
 cost form atoms text =
     let same : ℕ = front form atoms text in

@@ -81,32 +81,20 @@ fn in_item(item: Item, byte: u8) -> bool
 fn item_named(name: &[u8]) -> Item
     ensures { result ≡ item_named name.now }
 {
-    if name == b"alnum".as_slice() {
-        Item::Named(ClassName::Alnum)
-    } else if name == b"alpha".as_slice() {
-        Item::Named(ClassName::Alpha)
-    } else if name == b"blank".as_slice() {
-        Item::Named(ClassName::Blank)
-    } else if name == b"cntrl".as_slice() {
-        Item::Named(ClassName::Cntrl)
-    } else if name == b"digit".as_slice() {
-        Item::Named(ClassName::Digit)
-    } else if name == b"graph".as_slice() {
-        Item::Named(ClassName::Graph)
-    } else if name == b"lower".as_slice() {
-        Item::Named(ClassName::Lower)
-    } else if name == b"print".as_slice() {
-        Item::Named(ClassName::Print)
-    } else if name == b"punct".as_slice() {
-        Item::Named(ClassName::Punct)
-    } else if name == b"space".as_slice() {
-        Item::Named(ClassName::Space)
-    } else if name == b"upper".as_slice() {
-        Item::Named(ClassName::Upper)
-    } else if name == b"xdigit".as_slice() {
-        Item::Named(ClassName::Xdigit)
-    } else {
-        Item::Unknown
+    match name {
+        b"alnum" => Item::Named(ClassName::Alnum),
+        b"alpha" => Item::Named(ClassName::Alpha),
+        b"blank" => Item::Named(ClassName::Blank),
+        b"cntrl" => Item::Named(ClassName::Cntrl),
+        b"digit" => Item::Named(ClassName::Digit),
+        b"graph" => Item::Named(ClassName::Graph),
+        b"lower" => Item::Named(ClassName::Lower),
+        b"print" => Item::Named(ClassName::Print),
+        b"punct" => Item::Named(ClassName::Punct),
+        b"space" => Item::Named(ClassName::Space),
+        b"upper" => Item::Named(ClassName::Upper),
+        b"xdigit" => Item::Named(ClassName::Xdigit),
+        _ => Item::Unknown,
     }
 }
 

@@ -2,7 +2,7 @@
 //! nothing, goes back nowhere and takes no memory.
 ghost use Rattle.std.specs.Prelude.{◌≡◌, ◌<◌, ◌≤◌, ℕ, ◌+◌, length, drop, List, ◌∷◌, [], true, false, ◌⊎◌, ◌-◌, IsTrue, nat_lt, ◌&&◌, ◌||◌};
 ghost use Rattle.std.specs.Bool.{MatchBool};
-ghost use Rattle.wq_glob.specs.Cell.{next_cell, mark_at, cell_of, dead, IsRow, IsWindow, Bounds, marks_at, step_fits, IsBlank};
+ghost use Rattle.wq_glob.specs.Cell.{step_cell, fitting, fits_at_end, mark_at, cell_of, marks_at, AreRound, Bounds, IsBlank, IsRow, IsWindow, Widens};
 ghost use Rattle.wq_glob.specs.Cost.{row_cells};
 ghost use Rattle.wq_glob.specs.Step.{step_reach, step_takes, step_form, seen_of};
 ghost use Rattle.wq_glob.specs.Mark.{Mark};
@@ -29,7 +29,7 @@ impl Cell {
 
     /// The cell of a tail that does not begin with `**/`.
     fn fitting(fits: bool) -> Cell
-        ensures { result ≡ record { fits = fits; begun = false } }
+        ensures { result ≡ fitting fits }
     {
         Cell { fits, begun: false }
     }
@@ -74,7 +74,7 @@ fn seen_at(text: &[u8], at: usize, flags: Flags) -> Seen
 
 /// A cell, from the cell of the same step and from those of the next step, behind the byte and at it.
 fn next_cell(step: &Step, seen: &Seen, old: Cell, old_next: bool, new_next: bool) -> Cell
-    ensures { result ≡ next_cell (step_reach step.now) (step_takes step.now seen.now) seen.now.slash old old_next new_next }
+    ensures { result ≡ step_cell step.now seen.now old old_next new_next }
 {
     match step {
         Step::Byte(byte) => Cell::fitting(old_next && seen.folded == *byte),
@@ -97,9 +97,7 @@ fn next_cell(step: &Step, seen: &Seen, old: Cell, old_next: bool, new_next: bool
 fn cell_at(steps: &[Step], k: usize, seen: &Seen, old: Cell, old_next: bool, new_next: bool) -> Cell
     requires { k ≤ length steps.now }
     ensures { (f : Flags) (x : Mark) (text : List Mark) → seen.now ≡ seen_of f x
-        → old ≡ cell_of f (drop k steps.now) text
-        → (k < length steps.now → old_next ≡ step_fits f (drop (k + 1) steps.now) text)
-        → (k < length steps.now → new_next ≡ step_fits f (drop (k + 1) steps.now) (x ∷ text))
+        → AreRound f steps.now k x text old old_next new_next
         → result ≡ cell_of f (drop k steps.now) (x ∷ text) }
 {
     if k < steps.len() {
@@ -167,8 +165,7 @@ fn is_open(k: usize, low: usize, old_next: bool, new_next: bool) -> bool
 
 /// The window with the cell at `k`, which stands before it, where that cell lives.
 fn widened(window: Option<Window>, k: usize, cell: Cell) -> Option<Window>
-    ensures { (f : Flags) (steps : List Step) (text : List Mark) → k ≤ length steps → Bounds f steps text (k + 1) window
-        → cell ≡ cell_of f (drop k steps) text → Bounds f steps text k result }
+    ensures { Widens k cell window result }
 {
     if !cell.fits && !cell.begun {
         return window;
@@ -186,8 +183,9 @@ fn widened(window: Option<Window>, k: usize, cell: Cell) -> Option<Window>
 fn is_skipped(steps: &[Step], low: usize) -> bool
     requires { low ≤ length steps.now }
     ensures later { IsTrue result → 0 < low }
-    ensures skipped { (f : Flags) → step_fits f (drop low steps.now) [] ≡ true → MatchBool result
-        (step_fits f (drop (low - 1) steps.now) [] ≡ true) ((low ≡ 0) ⊎ (step_fits f (drop (low - 1) steps.now) [] ≡ false)) }
+    ensures skipped { (f : Flags) → fits_at_end f steps.now low ≡ true → MatchBool result
+        (fits_at_end f steps.now (low - 1) ≡ true)
+        ((low ≡ 0) ⊎ (fits_at_end f steps.now (low - 1) ≡ false)) }
 {
     low > 0 && may_take_nothing(&steps[low - 1])
 }

@@ -21,12 +21,19 @@ loop-seen-init c =
 -- the cell before `k` is the one of its tail at the byte
 renewed : (c : After-widened-live) → c.cell_at-new.result ≡ cell_of c.args.flags (drop (c.loop-seen.k - 1) c.args.steps.now) (mark_at c.args.flags c.args.text.now c.args.at ∷ marks_at c.args.flags c.args.text.now (c.args.at + 1))
 renewed c =
+    let f = c.args.flags in
+    let steps = c.args.steps.now in
+    let x = mark_at f c.args.text.now c.args.at in
+    let later = marks_at f c.args.text.now (c.args.at + 1) in
     let n : ℕ = c.loop-seen.k - 1 in
     let e : n + 1 ≡ c.loop-seen.k = omega (arith, goes_on c.loop-seen.k c.args.window.low c.loop-seen.old_next c.loop-seen.new_next c.loop-seen-test.ensures) in
     let swept = c.loop-seen.invariant.swept in
-    c.cell_at-new.ensures c.args.flags (mark_at c.args.flags c.args.text.now c.args.at) _ c.seen_at-seen.ensures (swept.left n (omega arith) (omega (arith, c.requires.lives.within, c.loop-seen.invariant.in_range)))
-    (λ within. subst (λ (k : ℕ). c.loop-seen.old_next ≡ step_fits c.args.flags (drop k c.args.steps.now) (marks_at c.args.flags c.args.text.now (c.args.at + 1))) (sym e) (swept.old_fits (omega arith)))
-    (λ within. subst (λ (k : ℕ). c.loop-seen.new_next ≡ step_fits c.args.flags (drop k c.args.steps.now) (mark_at c.args.flags c.args.text.now c.args.at ∷ marks_at c.args.flags c.args.text.now (c.args.at + 1))) (sym e) (swept.new_fits (omega arith)))
+    c.cell_at-new.ensures f x later c.seen_at-seen.ensures
+    record {
+      own = swept.left n (omega arith) (omega (arith, c.requires.lives.within, c.loop-seen.invariant.in_range));
+      behind = λ within. subst (λ (k : ℕ). c.loop-seen.old_next ≡ step_fits f (drop k steps) later) (sym e) (swept.old_fits (omega arith));
+      here = λ within. subst (λ (k : ℕ). c.loop-seen.new_next ≡ step_fits f (drop k steps) (x ∷ later)) (sym e) (swept.new_fits (omega arith));
+    }
 
 pub loop-seen-preserved : goal.loop-seen-preserved
 loop-seen-preserved c =
