@@ -120,6 +120,7 @@ atoms_step f start (x ∷ xs) some =
     let r : Atom × List ℕ = first_atom f start (x ∷ xs) in
     ap (λ (l : List Atom). r.0 ∷ l) (atoms_enough f (length xs) (length r.1) (opens r.0) r.1 (atom_shorter f start x xs) (omega arith))
 
+-- the first atom takes at least one byte off the text
 pub atom_less : (f : Flags) (start : Bool) (text : List ℕ) → 0 < length text → length (first_atom f start text).1 < length text
 atom_less f start [] some = absurd (omega arith)
 atom_less f start (x ∷ xs) some = let h = atom_shorter f start x xs in omega arith

@@ -5,29 +5,29 @@ use Rattle.wq_glob.specs.Atom.{Atom}
 use Rattle.wq_glob.specs.FitsTest.{Reach, Single, Many, Folders, Form, reach, admits, atom_form, fits_by}
 use Rattle.wq_glob.specs.Pattern.{PatternData, atoms_of, cells_of}
 use Rattle.wq_glob.specs.Table.{Row, begun_at, begun_by, cell_by, row_by}
-use Rattle.wq_glob.specs.Cost.{agrees, begins_literal, cost, differs, end_cells, front, is_live, is_seen, is_seen_at_end, last_alone, new_cells, next_fits, row_cells}
+use Rattle.wq_glob.specs.Cost.{agrees, begins_literal, cost, differs, end_cells, front, is_live, is_seen, is_seen_at_end, last_part, new_cells, next_fits, row_cells}
 use Rattle.wq_glob.specs.Cell.{step_fits}
 use Rattle.wq_glob.specs.Step.{AllStand, IsCompiled, step_admits, step_form}
 use Rattle.wq_glob.specs.declared.flag.Flags.{Flags}
 use Rattle.wq_glob.specs.declared.row.Cell.{Cell}
 use Rattle.wq_glob.specs.declared.step.Step.{Step}
 use Rattle.wq_glob.proofs.CountLemmas.{count_same, any_same}
-use Rattle.wq_glob.proofs.GlobLemmas.{AreBytes, marks_are_bytes, same_fits, same_folders, same_length}
+use Rattle.wq_glob.proofs.PatternLemmas.{AreBytes, marks_are_bytes, same_fits, same_folders, same_length}
 
 module _ {A : Type 0} (form : Form A) (atoms : List A) (text : List Mark) where
   -- a last byte that differs costs one cell
-  pub cost_end : differs form (last_alone atoms) (last_alone text) ≡ true → 1 ≡ cost form atoms text
+  pub cost_end : differs form (last_part atoms) (last_part text) ≡ true → 1 ≡ cost form atoms text
   unfolding cost
   cost_end is = rw is refl
 
   -- one behind the front costs the front, itself and the last byte
-  pub cost_front : (same : ℕ) → differs form (last_alone atoms) (last_alone text) ≡ false → same ≡ front form atoms text →
+  pub cost_front : (same : ℕ) → differs form (last_part atoms) (last_part text) ≡ false → same ≡ front form atoms text →
       begins_literal form (drop same atoms) ≡ true → agrees form (drop same atoms) (drop same text) ≡ false → same + 2 ≡ cost form atoms text
   unfolding cost
   cost_front same end same_is first other = rw (← same_is, end, first, other) refl
 
   -- and what is left is done by rows
-  pub cost_rows : (same : ℕ) → differs form (last_alone atoms) (last_alone text) ≡ false → same ≡ front form atoms text →
+  pub cost_rows : (same : ℕ) → differs form (last_part atoms) (last_part text) ≡ false → same ≡ front form atoms text →
       begins_literal form (drop same atoms) ≡ false → same + row_cells form (drop same atoms) (drop same text) ≡ cost form atoms text
   unfolding cost
   cost_rows same end same_is first = rw (← same_is, end, first) refl
@@ -124,7 +124,7 @@ module _ (f : Flags) where
       rw (
         same_front steps atoms all xs bytes,
         same_length f steps atoms all,
-        same_differs (drop (length atoms - 1) steps) (drop (length atoms - 1) atoms) (all_stand_from f (length atoms - 1) steps atoms all) (last_alone xs) (bytes_from (length xs - 1) xs bytes),
+        same_differs (drop (length atoms - 1) steps) (drop (length atoms - 1) atoms) (all_stand_from f (length atoms - 1) steps atoms all) (last_part xs) (bytes_from (length xs - 1) xs bytes),
         same_differs (drop same steps) (drop same atoms) (all_stand_from f same steps atoms all) (drop same xs) (bytes_from same xs bytes),
         same_rows (drop same steps) (drop same atoms) (all_stand_from f same steps atoms all) (drop same xs) (bytes_from same xs bytes),
       ) refl

@@ -12,14 +12,6 @@ use Rattle.wq_glob.specs.declared.flag.Flags.{Flags}
 use Rattle.wq_glob.specs.declared.step.Step.{Step}
 use Rattle.wq_glob.specs.declared.step.Step.TheVariants.{Byte, AnyByte, Set, Stars, Below, Tail, Never}
 
--- the first step is a byte, where a step is left
-pub literal_here : (f : Flags) (steps : List Step) (at : ℕ) (d : Step) → at < length steps → is_byte (get_or steps at d) ≡ begins_literal (step_form f) (drop at steps)
-literal_here f steps at d within = sym (ap (begins_literal (step_form f)) (drop_step steps at d within))
-
--- and none is where all are read
-pub literal_past : (f : Flags) (steps : List Step) (at : ℕ) → length steps ≤ at → false ≡ begins_literal (step_form f) (drop at steps)
-literal_past f steps at past = sym (ap (begins_literal (step_form f)) (drop_all steps at past))
-
 -- a step agrees with the byte at its place
 pub agrees_here : (f : Flags) (steps : List Step) (text : List ℕ) (at : ℕ) (d : Step) → at < length steps → at < length text →
     (is_byte (get_or steps at d) && step_admits f (get_or steps at d) (mark_at f text at)) ≡ agrees (step_form f) (drop at steps) (marks_at f text at)
@@ -36,6 +28,7 @@ agrees_nothing f (s ∷ steps) = refl
 pub agrees_past : (f : Flags) (steps : List Step) (text : List ℕ) (at : ℕ) → length steps ≤ at → false ≡ agrees (step_form f) (drop at steps) (marks_at f text at)
 agrees_past f steps text at past = sym (ap (λ (l : List Step). agrees (step_form f) l (marks_at f text at)) (drop_all steps at past))
 
+-- nor does a step agree with the end of the text
 pub agrees_end : (f : Flags) (steps : List Step) (text : List ℕ) (at : ℕ) → at ≤ length text → length text ≤ at → false ≡ agrees (step_form f) (drop at steps) (marks_at f text at)
 agrees_end f steps text at within past =
     let e : at ≡ length text = omega arith in
@@ -60,12 +53,14 @@ module _ (f : Flags) (steps : List Step) (text : List ℕ) (n : ℕ) (within : n
   here : agrees (step_form f) (get_or steps n Never ∷ drop (n + 1) steps) (mark_at f text n ∷ marks_at f text (n + 1)) ≡ true
   here = agrees_here f steps text n Never within inside ∙ is
 
+  -- at a place where step and byte agree the front goes on behind both
   pub front_more : front (step_form f) (drop n steps) (marks_at f text n) ≡ 1 + front (step_form f) (drop (n + 1) steps) (marks_at f text (n + 1))
   front_more =
       ap (λ (l : List Step). front (step_form f) l (marks_at f text n)) (drop_step steps n Never within)
       ∙ ap (front (step_form f) (get_or steps n Never ∷ drop (n + 1) steps)) (marks_step f text n inside)
       ∙ front_cons f (get_or steps n Never) (drop (n + 1) steps) (mark_at f text n) (marks_at f text (n + 1)) here
 
+  -- and the steps fit where those behind it do
   pub fits_more : step_fits f (drop n steps) (marks_at f text n) ≡ step_fits f (drop (n + 1) steps) (marks_at f text (n + 1))
   fits_more =
       ap (λ (l : List Step). step_fits f l (marks_at f text n)) (drop_step steps n Never within)

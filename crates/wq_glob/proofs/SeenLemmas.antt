@@ -3,7 +3,7 @@ use Rattle.std.proofs.Common.{◌≡◌, ℕ, zero, suc, ◌+◌, ◌-◌, ◌<�
 use Rattle.std.proofs.lemmas.Bool.{cases_lt, cases_eq, le-leb, lt-leb, lt-ltb, le-ltb, and_from, and_left, and_right, or_from, or_left, or_right, or_cases, or_parts, and_parts, and_cases, ltb-true, ltb-false}
 use Rattle.wq_glob.specs.Mark.{Mark}
 use Rattle.wq_glob.specs.Cost.{is_live, is_seen, is_seen_at_end, lives_from, lives_to, next_fits, new_cells, row_cells}
-use Rattle.wq_glob.specs.Cell.{cell_of, dead, row_of, step_fits, marks_at, mark_at, IsWindow}
+use Rattle.wq_glob.specs.Cell.{cell_of, dead_cell, row_of, step_fits, marks_at, mark_at, IsWindow}
 use Rattle.wq_glob.specs.Step.{step_form}
 use Rattle.wq_glob.specs.declared.flag.Flags.{Flags}
 use Rattle.wq_glob.specs.declared.row.Cell.{Cell}
@@ -53,7 +53,7 @@ module _ (f : Flags) (steps : List Step) (text : List Mark) where
       ]
 
   -- where the row has no live cell, no cell of the next one is looked at
-  pub dead_cells : (x : Mark) → ((j : ℕ) → 0 ≤ j → j ≤ length steps → cell_of f (drop j steps) text ≡ dead) →
+  pub dead_cells : (x : Mark) → ((j : ℕ) → 0 ≤ j → j ≤ length steps → cell_of f (drop j steps) text ≡ dead_cell) →
       new_cells (length steps) (row_of f steps text) (row_of f steps (x ∷ text)) ≡ 0
   dead_cells x none =
       count_within _ (length steps + 1) 0 0 (omega arith)
@@ -136,10 +136,11 @@ module _ (f : Flags) (steps : List Step) (text : List Mark) where
               (low_dead f steps x text row w k old_next new_next lives swept (inr (low, old_none, new_none)) (j + 1) (omega arith))
         ]
 
--- what the test of a sweep says where it goes on and where it stops
+-- where a sweep goes on a cell is left
 pub goes_on : (k low : ℕ) (old_next new_next : Bool) → true ≡ (nat_lt 0 k && (nat_lt low k || old_next || new_next)) → 0 < k
 goes_on k low old_next new_next is = ltb-true 0 k (and_parts _ _ (sym is)).0
 
+-- and where it stops none is, or none that may live
 pub stops : (k low : ℕ) (old_next new_next : Bool) → false ≡ (nat_lt 0 k && (nat_lt low k || old_next || new_next)) → (k ≡ 0) ⊎ ((k ≤ low) × (old_next ≡ false) × (new_next ≡ false))
 stops k low old_next new_next is =
     elim (and_cases (nat_lt 0 k) _ (sym is)) [
@@ -174,20 +175,20 @@ ended_cells f steps low within fits none =
 
 -- row after row without a live cell costs nothing
 pub nothing_more : (f : Flags) (steps : List Step) (text : List ℕ) (d at from : ℕ) → from + d ≡ at → at ≤ length text →
-    ((j : ℕ) → 0 ≤ j → j ≤ length steps → cell_of f (drop j steps) (marks_at f text at) ≡ dead) →
+    ((j : ℕ) → 0 ≤ j → j ≤ length steps → cell_of f (drop j steps) (marks_at f text at) ≡ dead_cell) →
     row_cells (step_form f) steps (marks_at f text from) ≡ row_cells (step_form f) steps (marks_at f text at)
 nothing_more f steps text zero at from ends within none = ap (λ (i : ℕ). row_cells (step_form f) steps (marks_at f text i)) (let e : from ≡ at = omega arith in e)
 nothing_more f steps text (suc d) at from ends within none =
     let n : ℕ = from + d in
     let e : at ≡ n + 1 = omega arith in
-    let here : (j : ℕ) → 0 ≤ j → j ≤ length steps → cell_of f (drop j steps) (marks_at f text (n + 1)) ≡ dead =
-    subst (λ (i : ℕ). (j : ℕ) → 0 ≤ j → j ≤ length steps → cell_of f (drop j steps) (marks_at f text i) ≡ dead) e none in
+    let here : (j : ℕ) → 0 ≤ j → j ≤ length steps → cell_of f (drop j steps) (marks_at f text (n + 1)) ≡ dead_cell =
+    subst (λ (i : ℕ). (j : ℕ) → 0 ≤ j → j ≤ length steps → cell_of f (drop j steps) (marks_at f text i) ≡ dead_cell) e none in
     let row : row_cells (step_form f) steps (marks_at f text n) ≡ row_cells (step_form f) steps (marks_at f text (n + 1)) =
     ap (row_cells (step_form f) steps) (marks_step f text n (omega arith))
     ∙ ap (λ (c : ℕ). row_cells (step_form f) steps (marks_at f text (n + 1)) + c) (dead_cells f steps (marks_at f text (n + 1)) (mark_at f text n) here)
     ∙ (let z : row_cells (step_form f) steps (marks_at f text (n + 1)) + 0 ≡ row_cells (step_form f) steps (marks_at f text (n + 1)) = omega arith in z) in
     nothing_more f steps text d n from refl (omega arith)
-    (subst (λ (t : List Mark). (j : ℕ) → 0 ≤ j → j ≤ length steps → cell_of f (drop j steps) t ≡ dead) (sym (marks_step f text n (omega arith)))
+    (subst (λ (t : List Mark). (j : ℕ) → 0 ≤ j → j ≤ length steps → cell_of f (drop j steps) t ≡ dead_cell) (sym (marks_step f text n (omega arith)))
     (dead_above f steps (mark_at f text n) (marks_at f text (n + 1)) 0 here))
     ∙ row
     ∙ ap (λ (i : ℕ). row_cells (step_form f) steps (marks_at f text i)) (sym e)

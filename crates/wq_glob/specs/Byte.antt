@@ -48,5 +48,5 @@ unfoldable pub upper_of : ℕ → ℕ
 upper_of b = if is_lower b then b - case_distance else b
 
 -- a byte as it is compared: without its case where `fold` says so
-abbrev pub folded : Bool → ℕ → ℕ
-folded fold b = if fold then lower_of b else b
+abbrev pub lower_if : Bool → ℕ → ℕ
+lower_if fold b = if fold then lower_of b else b

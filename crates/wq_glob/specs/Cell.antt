@@ -1,12 +1,12 @@
--- The table of a compiled pattern, as the matcher fills it: from the end of the text to its start, and
--- in each row from the last step to the first. This library's own.
+-- The table of a compiled pattern, as the matcher fills it: from the end of the text to its start,
+-- and in each row from the last step to the first. This library's own.
 use Rattle.std.specs.Prelude.{◌≡◌, ℕ, ◌+◌, ◌-◌, ◌<◌, ◌≤◌, Bool, true, false, ◌==◌, ◌&&◌, ◌||◌}
 use Rattle.std.specs.Prelude.{List, [], ◌∷◌, length, drop, slice_index, slice_index_or}
 use Rattle.std.specs.Prelude.{Option, MatchOption, IsTrue}
 use Rattle.wq_base.specs.Byte.{is_slash}
 use Rattle.wq_glob.specs.Mark.{Mark, mark, marks}
 use Rattle.wq_glob.specs.FitsTest.{Reach, Single, Many, Folders, fits_by}
-use Rattle.wq_glob.specs.Cost.{is_live}
+use Rattle.wq_glob.specs.Cost.{agrees, is_live, row_cells}
 use Rattle.wq_glob.specs.Table.{Row, cell_by, row_by}
 use Rattle.wq_glob.specs.Step.{step_reach, step_takes, step_form}
 use Rattle.wq_glob.specs.declared.flag.Flags.{Flags}
@@ -32,17 +32,17 @@ abbrev pub row_of : Flags → List Step → List Mark → Row
 row_of f steps text = row_by (step_form f) steps text
 
 -- the cell of a tail that has begun no `**/`
-abbrev pub fitting : Bool → Cell
-fitting fits = record { fits = fits; begun = false }
+abbrev pub fit_cell : Bool → Cell
+fit_cell fits = record { fits = fits; begun = false }
 
 -- the cell of a tail that neither fits nor has begun
-abbrev pub dead : Cell
-dead = fitting false
+abbrev pub dead_cell : Cell
+dead_cell = fit_cell false
 
--- a cell from those round it: its own and the next one behind the byte, and the next one at the byte
+-- a cell, from those round it: its own and the next one behind the byte, the next one at the byte
 abbrev pub next_cell : Reach → Bool → Bool → Cell → Bool → Bool → Cell
-next_cell Single takes slash old old_next new_next = fitting (takes && old_next)
-next_cell Many takes slash old old_next new_next = fitting (new_next || (takes && old.fits))
+next_cell Single takes slash old old_next new_next = fit_cell (takes && old_next)
+next_cell Many takes slash old old_next new_next = fit_cell (new_next || (takes && old.fits))
 next_cell Folders takes slash old old_next new_next =
     let begins = takes && (old.begun || (slash && old_next)) in
     record { fits = new_next || begins; begun = begins }
@@ -71,18 +71,26 @@ mark_at f text at = mark f.dotfiles (is_front text at) (slice_index text at)
 abbrev pub marks_at : Flags → List ℕ → ℕ → List Mark
 marks_at f text at = drop at (marks f.dotfiles text)
 
+-- the step at a place is a byte that the text has there
+abbrev pub step_agrees : Flags → List Step → List ℕ → ℕ → Bool
+step_agrees f steps text at = agrees (step_form f) (drop at steps) (marks_at f text at)
+
+-- how many cells the rows of the steps cost
+abbrev pub step_cells : Flags → List Step → List Mark → ℕ
+step_cells f steps text = row_cells (step_form f) steps text
+
 -- the row has no live cell
 abbrev pub IsBlank : List Cell → Type 0
-IsBlank row = (j : ℕ) → slice_index_or row j dead ≡ dead
+IsBlank row = (j : ℕ) → slice_index_or row j dead_cell ≡ dead_cell
 
 -- the row holds the cell of each tail of the steps
 abbrev pub IsRow : Flags → List Step → List Mark → List Cell → Type 0
 IsRow f steps text row =
-    (j : ℕ) → j ≤ length steps → slice_index_or row j dead ≡ row_of f steps text j
+    (j : ℕ) → j ≤ length steps → slice_index_or row j dead_cell ≡ row_of f steps text j
 
 -- the cells of the steps from `k` on are dead
 abbrev pub AreDead : Flags → List Step → List Mark → ℕ → Type 0
-AreDead f steps text k = (j : ℕ) → k ≤ j → j ≤ length steps → row_of f steps text j ≡ dead
+AreDead f steps text k = (j : ℕ) → k ≤ j → j ≤ length steps → row_of f steps text j ≡ dead_cell
 
 -- of the cells from `k` on, the first that lives and the last
 pub record IsWindow (f : Flags) (steps : List Step) (text : List Mark) (k : ℕ)
@@ -90,8 +98,8 @@ pub record IsWindow (f : Flags) (steps : List Step) (text : List Mark) (k : ℕ)
   pub from : k ≤ w.low
   pub ordered : w.low ≤ w.high
   pub within : w.high ≤ length steps
-  pub below : (j : ℕ) → k ≤ j → j < w.low → j ≤ length steps → row_of f steps text j ≡ dead
-  pub above : (j : ℕ) → w.high < j → j ≤ length steps → row_of f steps text j ≡ dead
+  pub below : (j : ℕ) → k ≤ j → j < w.low → j ≤ length steps → row_of f steps text j ≡ dead_cell
+  pub above : (j : ℕ) → w.high < j → j ≤ length steps → row_of f steps text j ≡ dead_cell
   pub first : IsTrue (is_live (row_of f steps text w.low))
   pub last : IsTrue (is_live (row_of f steps text w.high))
 

@@ -74,8 +74,12 @@ front form (a ∷ later) (x ∷ text) =
 front form _ _ = 0
 
 -- the last of a list, alone
-abbrev pub last_alone : {A : Type 0} → List A → List A
-last_alone xs = drop (length xs - 1) xs
+abbrev pub last_part : {A : Type 0} → List A → List A
+last_part xs = drop (length xs - 1) xs
+
+-- the last atom is a literal, and the text does not end in it
+abbrev pub differs_at_end : {A : Type 0} → Form A → List A → List Mark → Bool
+differs_at_end form atoms text = differs form (last_part atoms) (last_part text)
 
 -- The cells of a match. A last byte that differs ends it with one cell. The literals at the front
 -- cost one each; a byte that differs behind them ends it, with its cell and the last byte's. The
@@ -83,6 +87,6 @@ last_alone xs = drop (length xs - 1) xs
 unfoldable pub cost : {A : Type 0} → Form A → List A → List Mark → ℕ
 cost form atoms text =
     let same : ℕ = front form atoms text in
-    if differs form (last_alone atoms) (last_alone text) then 1
+    if differs_at_end form atoms text then 1
     else if differs form (drop same atoms) (drop same text) then same + 2
     else same + row_cells form (drop same atoms) (drop same text)

@@ -3,7 +3,7 @@
 use Rattle.std.specs.Prelude.{◌≡◌, Bool, not, ◌==◌, ◌&&◌, IsTrue, ◌⊎◌, List, [], ◌∷◌, ◌++◌}
 use Rattle.std.specs.List.{list_all}
 use Rattle.wq_base.specs.Byte.{is_slash}
-use Rattle.wq_glob.specs.Byte.{folded}
+use Rattle.wq_glob.specs.Byte.{lower_if}
 use Rattle.wq_glob.specs.Class.{in_class}
 use Rattle.wq_glob.specs.Atom.{Atom, Literal, One, OneOf, Star, Dirs, Rest, Nothing}
 use Rattle.wq_glob.specs.Mark.{Mark}
@@ -32,7 +32,7 @@ EndsInSlash part =
 
 -- the atom takes the part
 abbrev pub Takes : Flags → Atom → List Mark → Type 0
-Takes f (Literal b) part = IsOne (λ x. folded f.fold x.byte == folded f.fold b) part
+Takes f (Literal b) part = IsOne (λ x. lower_if f.fold x.byte == lower_if f.fold b) part
 Takes f One part = IsOne (is_wild f) part
 Takes f (OneOf c) part = IsOne (λ x. is_wild f x && in_class f.fold c x.byte) part
 Takes f Star part = IsEach (is_wild f) part

@@ -2,7 +2,7 @@
 -- This library's own.
 use Rattle.std.specs.Prelude.{Bool, true, false, ◌==◌, ◌&&◌, ◌||◌, List, [], ◌∷◌}
 use Rattle.wq_base.specs.Byte.{is_slash}
-use Rattle.wq_glob.specs.Byte.{folded}
+use Rattle.wq_glob.specs.Byte.{lower_if}
 use Rattle.wq_glob.specs.Class.{in_class}
 use Rattle.wq_glob.specs.Atom.{Atom, Literal, One, OneOf, Star, Dirs, Rest, Nothing}
 use Rattle.wq_glob.specs.Mark.{Mark}
@@ -24,7 +24,7 @@ reach _ = Single
 
 -- the bytes that an atom's part may hold
 abbrev pub admits : Flags → Atom → Mark → Bool
-admits f (Literal b) x = folded f.fold x.byte == folded f.fold b
+admits f (Literal b) x = lower_if f.fold x.byte == lower_if f.fold b
 admits f One x = is_wild f x
 admits f (OneOf c) x = is_wild f x && in_class f.fold c x.byte
 admits f Star x = is_wild f x

@@ -51,10 +51,10 @@ flag_equiv flag = on_equiv flag bool_eq_equiv
 same_flags_equiv : IsEquivalence same_flags
 same_flags_equiv =
     and_equiv (and_equiv (and_equiv (flag_equiv (λ f. f.wholename)) (flag_equiv (λ f. f.dotfiles)))
-        (flag_equiv (λ f. f.noescape))) (flag_equiv (λ f. f.fold))
+    (flag_equiv (λ f. f.noescape))) (flag_equiv (λ f. f.fold))
 
 -- and being the same pattern
 pub same_pattern_equiv : IsEquivalence same_pattern
 same_pattern_equiv =
     and_equiv (on_equiv (λ (g : PatternData). g.text) nat_list_eq_equiv)
-        (on_equiv (λ (g : PatternData). g.flags) same_flags_equiv)
+    (on_equiv (λ (g : PatternData). g.flags) same_flags_equiv)

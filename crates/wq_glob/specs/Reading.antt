@@ -38,14 +38,14 @@ abbrev pub is_behind_colon : List ℕ → ℕ → Bool
 is_behind_colon text place = nat_le 1 place && is_colon (slice_index text (place - 1))
 
 -- the name before the `:` before a place, and what follows the place; none where no `:` is there
-abbrev pub named_to : List ℕ → ℕ → Option (Item × List ℕ)
-named_to text end =
+abbrev pub name_to : List ℕ → ℕ → Option (Item × List ℕ)
+name_to text end =
     if is_behind_colon text end
     then Some (item_named (take (end - 1) text), drop (end + 1) text) else None
 
 -- behind `[:`, the named class and what follows its `:]`, whose `]` is the first in the text
 unfoldable pub named_item : List ℕ → Option (Item × List ℕ)
-named_item text = option_and_then (named_to text) (position is_close text)
+named_item text = option_and_then (name_to text) (position is_close text)
 
 -- behind the first byte of a range, the byte that ends it and what follows: after a dash, any byte
 -- but an unescaped `]`

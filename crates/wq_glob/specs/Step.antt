@@ -3,7 +3,7 @@
 use Rattle.std.specs.Prelude.{◌≡◌, ℕ, ◌<◌, Bool, true, false, ◌==◌, ◌&&◌, ◌≤◌}
 use Rattle.std.specs.Prelude.{List, [], ◌∷◌, length}
 use Rattle.wq_base.specs.Byte.{is_slash}
-use Rattle.wq_glob.specs.Byte.{folded}
+use Rattle.wq_glob.specs.Byte.{lower_if}
 use Rattle.wq_glob.specs.ByteSet.{has_byte}
 use Rattle.wq_glob.specs.Atom.{Atom, opens, atoms_from}
 use Rattle.wq_glob.specs.Mark.{Mark}
@@ -27,7 +27,7 @@ step_reach _ = Single
 abbrev pub seen_of : Flags → Mark → Seen
 seen_of f x = record {
   byte = x.byte;
-  folded = folded f.fold x.byte;
+  folded = lower_if f.fold x.byte;
   slash = is_slash x.byte;
   shown = is_shown x;
   wild = is_wild f x;

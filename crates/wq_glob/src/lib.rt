@@ -1,5 +1,5 @@
-//! Wildmatch: patterns for paths, as of git's `.gitignore` and Watchman's expression term `match`, with an exact
-//! meaning and a bounded cost.
+//! Wildmatch: patterns for paths, as of git's `.gitignore` and Watchman's expression term `match`,
+//! with an exact meaning and a bounded cost.
 //!
 //! ```text
 //! *.c                  any name that ends in .c, but for a hidden one
@@ -7,9 +7,10 @@
 //! [![:digit:]]?        two bytes, of which the first is no digit
 //! ```
 //!
-//! A [`Pattern`] is read once from its text and its [`Flags`] and then tried on texts. What it fits is defined by cuts
-//! of the text (`specs/Fits.antt`), and how a text is read by `specs/Reading.antt` and `specs/Atoms.antt`. This crate
-//! knows no files: a caller hands in a basename or a whole name.
+//! A [`Pattern`] is read once from its text and its [`Flags`] and then tried on texts. What it fits
+//! is defined by cuts of the text (`specs/Fits.antt`), how its own text is read by
+//! `specs/Reading.antt` and `specs/Atom.antt`, and what a trial costs by `specs/Cost.antt`. This
+//! crate knows no files: a caller hands in a basename or a whole name.
 #![tactic(auto)]
 
 mod byte;

@@ -1,9 +1,10 @@
-//! Whether a compiled pattern fits a text: its leading bytes first, one by one, and then row by row from the end
-//! of the text. What a row is stands in `rows`.
-ghost use Rattle.std.specs.Prelude.{◌≡◌, ◌<◌, ◌≤◌, ◌+◌, ◌-◌, ◌*◌, ◌&&◌, ℕ, List, ◌∷◌, [], length, drop, true, false, IsTrue, MatchOption, ⊤};
+//! Whether a compiled pattern fits a text: its last byte first, then its leading bytes, one by one,
+//! and then row by row from the end of the text. What a row is stands in `row`.
+ghost use Rattle.std.specs.Prelude.{◌≡◌, ◌<◌, ◌≤◌, ◌+◌, ◌-◌, ◌*◌, ◌&&◌, ℕ, List, ◌∷◌, [], length};
+ghost use Rattle.std.specs.Prelude.{drop, true, false, IsTrue, MatchOption, ⊤};
 ghost use Rattle.std.specs.Bool.{MatchBool};
-ghost use Rattle.wq_glob.specs.Cell.{IsBlank, step_fits, marks_at};
-ghost use Rattle.wq_glob.specs.Cost.{agrees, begins_literal, cost, differs, front, last_alone, row_cells};
+ghost use Rattle.wq_glob.specs.Cell.{IsBlank, marks_at, step_agrees, step_cells, step_fits};
+ghost use Rattle.wq_glob.specs.Cost.{begins_literal, cost, differs_at_end, front};
 ghost use Rattle.wq_glob.specs.Mark.{marks};
 ghost use Rattle.wq_glob.specs.Step.{step_form};
 
@@ -18,7 +19,8 @@ use crate::step::Step;
 pub struct Hit {
     /// The pattern fits the text.
     pub yes: bool,
-    /// How many cells of the table of atoms and places were looked at, each counted once: the cost of the answer.
+    /// The cost of the answer: how many cells of the table of atoms and places it counts, as the
+    /// definition `cells_of` says.
     pub cells: u64,
 }
 
@@ -31,7 +33,7 @@ fn run(row: &mut [Cell], steps: &[Step], text: &[u8], from: usize, flags: Flags)
     requires place { from ≤ length text.now }
 
     ensures yes { result.yes ≡ step_fits flags steps.now (marks_at flags text.now from) }
-    ensures cells { result.cells ≡ row_cells (step_form flags) steps.now (marks_at flags text.now from) }
+    ensures cells { result.cells ≡ step_cells flags steps.now (marks_at flags text.now from) }
     ensures bounded { result.cells ≤ (length steps.now + 1) * (length text.now - from + 1) }
     ensures counted { IsTrue result.yes → length text.now - from + 1 ≤ result.cells }
     ensures looked { 1 ≤ result.cells }
@@ -66,7 +68,7 @@ fn is_byte_at(steps: &[Step], at: usize) -> bool
 fn agrees_at(steps: &[Step], text: &[u8], at: usize, flags: Flags) -> bool
     ensures within { IsTrue result → (at < length steps.now) × (at < length text.now) }
     ensures value { at ≤ length text.now
-        → result ≡ agrees (step_form flags) (drop at steps.now) (marks_at flags text.now at) }
+        → result ≡ step_agrees flags steps.now text.now at }
 {
     if at >= steps.len() || at >= text.len() {
         return false;
@@ -82,7 +84,7 @@ fn front_of(steps: &[Step], text: &[u8], flags: Flags) -> usize
     ensures steps { result ≤ length steps.now }
     ensures text { result ≤ length text.now }
     ensures front { result ≡ front (step_form flags) steps.now (marks_at flags text.now 0) }
-    ensures stops { agrees (step_form flags) (drop result steps.now) (marks_at flags text.now result) ≡ false }
+    ensures stops { step_agrees flags steps.now text.now result ≡ false }
     ensures same { step_fits flags steps.now (marks_at flags text.now 0)
         ≡ step_fits flags (drop result steps.now) (marks_at flags text.now result) }
 {
@@ -95,8 +97,10 @@ fn front_of(steps: &[Step], text: &[u8], flags: Flags) -> usize
 
 /// Whether a pattern ends in a byte that the text does not end in.
 fn differs_at_end(steps: &[Step], text: &[u8], flags: Flags) -> bool
-    ensures answer { IsTrue result → step_fits flags steps.now (marks flags.dotfiles text.now) ≡ false }
-    ensures value { result ≡ differs (step_form flags) (last_alone steps.now) (last_alone (marks flags.dotfiles text.now)) }
+    ensures answer { IsTrue result
+        → step_fits flags steps.now (marks flags.dotfiles text.now) ≡ false }
+    ensures value { result
+        ≡ differs_at_end (step_form flags) steps.now (marks flags.dotfiles text.now) }
 {
     if steps.is_empty() {
         return false;
@@ -126,14 +130,14 @@ fn long_row() -> [Cell; LONG_ROW]
     [Cell::DEAD; LONG_ROW]
 }
 
-/// Fills rows for steps of which no front is left, in as much room as these take.
+/// Fills rows for the steps behind the front, in as much room as these take.
 fn hit_by_rows(steps: &[Step], text: &[u8], from: usize, flags: Flags) -> Hit
     requires small { length steps.now ≤ MAX_PATTERN }
     requires short { length text.now ≤ MAX_TEXT }
     requires place { from ≤ length text.now }
 
     ensures yes { result.yes ≡ step_fits flags steps.now (marks_at flags text.now from) }
-    ensures cells { result.cells ≡ row_cells (step_form flags) steps.now (marks_at flags text.now from) }
+    ensures cells { result.cells ≡ step_cells flags steps.now (marks_at flags text.now from) }
     ensures bounded { result.cells ≤ (length steps.now + 1) * (length text.now - from + 1) }
     ensures counted { IsTrue result.yes → length text.now - from + 1 ≤ result.cells }
     ensures looked { 1 ≤ result.cells }
@@ -146,12 +150,13 @@ fn hit_by_rows(steps: &[Step], text: &[u8], from: usize, flags: Flags) -> Hit
 }
 
 /// Whether the steps fit the text, and at what cost.
-pub fn hit_of(steps: &[Step], text: &[u8], flags: Flags) -> Hit
+pub(crate) fn hit_of(steps: &[Step], text: &[u8], flags: Flags) -> Hit
     requires small { length steps.now ≤ MAX_PATTERN }
     requires short { length text.now ≤ MAX_TEXT }
 
     ensures yes { result.yes ≡ step_fits flags steps.now (marks flags.dotfiles text.now) }
-    ensures cells { result.cells ≡ cost (step_form flags) steps.now (marks flags.dotfiles text.now) }
+    ensures cells { result.cells
+        ≡ cost (step_form flags) steps.now (marks flags.dotfiles text.now) }
     ensures bounded { result.cells ≤ (length steps.now + 1) * (length text.now + 1) }
     ensures counted { IsTrue result.yes → length text.now + 1 ≤ result.cells }
     ensures looked { 1 ≤ result.cells }

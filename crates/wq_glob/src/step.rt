@@ -7,7 +7,7 @@ use crate::byte_set::ByteSet;
 
 /// What an atom takes of a text.
 #[derive(Clone, Copy, Debug)]
-pub enum Step {
+pub(crate) enum Step {
     /// One byte, this one; without case where the pattern is, and then kept in lower case.
     Byte(u8),
     /// `?`: one byte.
@@ -25,7 +25,7 @@ pub enum Step {
 }
 
 /// Whether the part of a step may be empty.
-pub fn may_take_nothing(step: &Step) -> bool
+pub(crate) fn may_take_nothing(step: &Step) -> bool
     ensures { result ≡ may_be_empty (step_reach step.now) }
 {
     matches!(step, Step::Stars | Step::Below | Step::Tail)

@@ -7,7 +7,7 @@ use Rattle.wq_glob.proofs.row.fill_end.Goals as goal
 pub loop-low-init : goal.loop-low-init
 loop-low-init c = record {
   within = omega arith;
-  ends = λ f. end_none f _ _ _ c.fitting.ensures c.requires.room c.requires.blank;
+  ends = λ f. end_none f _ _ _ c.fit.ensures c.requires.room c.requires.blank;
 }
 
 pub loop-low-preserved : goal.loop-low-preserved
@@ -17,7 +17,7 @@ loop-low-preserved c =
       within = omega arith;
       ends = λ f.
           let was = c.loop-low.invariant.ends f in
-          end_more f _ _ c.loop-low.low _ _ next c.fitting-in-loop-low.ensures (omega (arith, length-set {A = Cell})) was (c.loop-low-test.ensures.skipped f was.fitting);
+          end_more f _ _ c.loop-low.low _ _ next c.fit-in-loop-low.ensures (omega (arith, length-set {A = Cell})) was (c.loop-low-test.ensures.skipped f was.fitting);
     }
 
 pub returns-clause-row : goal.returns-clause-row

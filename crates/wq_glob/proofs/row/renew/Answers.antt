@@ -6,7 +6,7 @@ use Rattle.wq_glob.proofs.MarkLemmas.{marks_step}
 use Rattle.wq_glob.proofs.SeenLemmas.{goes_on, stops, opened_more, shut_before, swept_cells}
 use Rattle.wq_glob.proofs.SweepLemmas.{swept_none, swept_more, swept_all, high_dead, low_dead, bounds_all}
 use Rattle.wq_glob.proofs.row.renew.Goals as goal
-use Rattle.wq_glob.proofs.row.renew.Goals.{After-widened-live}
+use Rattle.wq_glob.proofs.row.renew.Goals.{After-window_with-live}
 
 pub loop-seen-init : goal.loop-seen-init
 loop-seen-init c =
@@ -19,7 +19,7 @@ loop-seen-init c =
     }
 
 -- the cell before `k` is the one of its tail at the byte
-renewed : (c : After-widened-live) → c.cell_at-new.result ≡ cell_of c.args.flags (drop (c.loop-seen.k - 1) c.args.steps.now) (mark_at c.args.flags c.args.text.now c.args.at ∷ marks_at c.args.flags c.args.text.now (c.args.at + 1))
+renewed : (c : After-window_with-live) → c.cell_at-new.result ≡ cell_of c.args.flags (drop (c.loop-seen.k - 1) c.args.steps.now) (mark_at c.args.flags c.args.text.now c.args.at ∷ marks_at c.args.flags c.args.text.now (c.args.at + 1))
 renewed c =
     let f = c.args.flags in
     let steps = c.args.steps.now in
@@ -45,7 +45,7 @@ loop-seen-preserved c =
       swept = swept_more _ _ _ _ c.loop-seen.row c.loop-seen.k n _ _ _ e within (omega arith) c.loop-seen.invariant.swept (renewed c);
       opened = opened_more _ _ _ _ c.args.window c.requires.lives c.loop-seen.k n _ _ e c.loop-seen-test.ensures c.loop-seen.invariant.swept.old_fits c.loop-seen.invariant.swept.new_fits c.loop-seen.invariant.opened;
       bounds =
-          c.widened-live.ensures _ _ _ within
+          c.window_with-live.ensures _ _ _ within
           (subst (λ (k : ℕ). Bounds c.args.flags c.args.steps.now (mark_at c.args.flags c.args.text.now c.args.at ∷ marks_at c.args.flags c.args.text.now (c.args.at + 1)) k c.loop-seen.live) (sym e) c.loop-seen.invariant.bounds)
           (renewed c);
     }

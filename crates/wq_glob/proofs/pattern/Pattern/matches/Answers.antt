@@ -2,7 +2,7 @@ use Rattle.std.proofs.Common.{◌≡◌, ◌∙◌, ◌≤◌, ◌+◌, ◌*◌,
 use Rattle.wq_glob.specs.Pattern.{fits}
 use Rattle.wq_glob.specs.declared.step.Step.{Step}
 use Rattle.wq_glob.proofs.CostLemmas.{cost_of}
-use Rattle.wq_glob.proofs.GlobLemmas.{compiled_as, matched, steps_count, steps_few, fits_cuts, cuts_fits}
+use Rattle.wq_glob.proofs.PatternLemmas.{compiled_as, matched, steps_count, steps_few, fits_cuts, cuts_fits}
 use Rattle.wq_glob.proofs.pattern.Pattern.matches.Goals as goal
 use Rattle.wq_glob.proofs.pattern.Pattern.matches.Goals.{After-hit_of}
 

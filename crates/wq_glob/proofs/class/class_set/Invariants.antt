@@ -3,7 +3,7 @@ use Rattle.wq_glob.specs.ByteSet.{has_byte}
 use Rattle.wq_glob.specs.Class.{in_class}
 use Rattle.wq_glob.specs.Member.{Holds}
 use Rattle.wq_glob.specs.declared.class.Item.{Item}
-use Rattle.wq_glob.proofs.class.closed.Given as goal
+use Rattle.wq_glob.proofs.class.class_set.Given as goal
 
 abbrev pub invariant-loop-n : goal.invariant-loop-n
 invariant-loop-n l =

@@ -17,6 +17,7 @@ abbrev pub AreBytes : List Mark → Type 0
 AreBytes [] = Unit {0}
 AreBytes (x ∷ xs) = (x.byte < 256) × AreBytes xs
 
+-- the marks of a text of bytes are of bytes
 pub marks_are_bytes : (dotfiles front : Bool) (text : List ℕ) → ((i : ℕ) → get_or text i 0 < 256) → AreBytes (marks_from dotfiles front text)
 marks_are_bytes dotfiles front [] small = tt
 marks_are_bytes dotfiles front (b ∷ bs) small = (small 0, marks_are_bytes dotfiles (is_slash b) bs (λ i. small (suc i)))
@@ -30,6 +31,7 @@ module _ (test other : Mark → Bool) (fit like : List Mark → Bool) (same_test
   same_many [] bytes = same_fit [] bytes
   same_many (x ∷ xs) bytes = rw (same_fit (x ∷ xs) bytes, same_test x bytes.0, same_many xs bytes.1) refl
 
+  -- two tests that agree on bytes find the same directories
   pub same_folders : (xs : List Mark) → AreBytes xs → folders test fit xs ≡ folders other like xs
   same_folders [] bytes = refl
   same_folders (x ∷ xs) bytes = rw (same_test x bytes.0, same_folders xs bytes.1, same_fit xs bytes.1) refl
@@ -48,6 +50,7 @@ same_fits f (s ∷ steps) (a ∷ atoms) (stands, all) xs bytes =
     ap (λ (r : Reach). part_of r (step_admits f s) (step_fits f steps) xs) stands.same_reach
     ∙ same_part (step_admits f s) (admits f a) (step_fits f steps) (fits_by (atom_form f) atoms) stands.same_bytes (same_fits f steps atoms all) (reach a) xs bytes
 
+-- there are as many steps as atoms
 pub same_length : (f : Flags) (steps : List Step) (atoms : List Atom) → AllStand f steps atoms → length steps ≡ length atoms
 same_length f [] [] all = refl
 same_length f [] (a ∷ atoms) all = absurd all
@@ -55,14 +58,17 @@ same_length f (s ∷ steps) [] all = absurd all
 same_length f (s ∷ steps) (a ∷ atoms) all = ap suc (same_length f steps atoms all.1)
 
 module _ (g : PatternData) (steps : List Step) (compiled : IsCompiled g.text g.flags steps) where
+  -- the steps of a pattern fit what the pattern fits
   pub steps_fit : (text : List ℕ) → ((i : ℕ) → get_or text i 0 < 256) → step_fits g.flags steps (marks (g.flags).dotfiles text) ≡ fits g text
   unfolding fits atoms_of
   steps_fit text small = same_fits g.flags steps _ compiled.stands _ (marks_are_bytes (g.flags).dotfiles true text small)
 
+  -- and are as many as its atoms
   pub steps_count : length steps ≡ length (atoms_of g)
   unfolding atoms_of
   steps_count = same_length g.flags steps _ compiled.stands
 
+  -- which are at most 255
   pub steps_few : length steps ≤ 255
   steps_few = omega (arith, same_length g.flags steps _ compiled.stands, atoms_few g.flags (length g.text) true g.text, compiled.short)
 
@@ -71,6 +77,7 @@ pub fits_cuts : (g : PatternData) (text : List ℕ) → fits g text ≡ true →
 unfolding fits Fits
 fits_cuts g text h = cuts_from_test g.flags (atoms_of g) (marks (g.flags).dotfiles text) h
 
+-- and where it fits the test says yes
 pub cuts_fits : (g : PatternData) (text : List ℕ) → Fits g text → fits g text ≡ true
 unfolding fits Fits
 cuts_fits g text h = test_from_cuts g.flags (atoms_of g) (marks (g.flags).dotfiles text) h

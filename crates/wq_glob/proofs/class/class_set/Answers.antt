@@ -3,8 +3,8 @@ use Rattle.wq_glob.specs.ByteSet.{has_byte}
 use Rattle.wq_glob.specs.Class.{in_class}
 use Rattle.wq_glob.specs.declared.byte_set.ByteSet.{ByteSet}
 use Rattle.wq_glob.proofs.SetLemmas.{put_more, skip_more, put_all}
-use Rattle.wq_glob.proofs.class.closed.Goals as goal
-use Rattle.wq_glob.proofs.class.closed.Goals.{then-is_member, else-is_member}
+use Rattle.wq_glob.proofs.class.class_set.Goals as goal
+use Rattle.wq_glob.proofs.class.class_set.Goals.{then-is_member, else-is_member}
 
 pub loop-n-preserved : goal.loop-n-preserved
 loop-n-preserved c items holds b small =
