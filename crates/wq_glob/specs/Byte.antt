@@ -19,7 +19,7 @@ is_close b = b == byte "]"
 abbrev pub is_dash : ℕ → Bool
 is_dash b = b == byte "-"
 
--- the backslash, which makes the next byte a literal
+-- the backslash, which takes its meaning off the byte behind it
 abbrev pub is_escape : ℕ → Bool
 is_escape b = b == byte "\\"
 

@@ -88,7 +88,7 @@ pub record Class : Type 0 where
 abbrev pub in_items : List Item → ℕ → Bool
 in_items items b = list_any (in_item b) items
 
--- some item holds the byte, or without case its lower or its upper form
+-- some item holds the byte or, without case, the same letter in its other form
 abbrev pub in_either_case : Bool → List Item → ℕ → Bool
 in_either_case fold items b =
     in_items items b || (fold && (in_items items (lower_of b) || in_items items (upper_of b)))

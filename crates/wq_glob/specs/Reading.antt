@@ -64,7 +64,7 @@ unfoldable pub plain_item : Bool → List ℕ → Option (Item × List ℕ)
 plain_item noescape text =
     option_map (λ (b, after). item_from b after (range_end noescape after)) (letter noescape text)
 
--- the item at the front of a text, and what follows it; a `[` that begins no named class is a byte
+-- the item at the front of a text, and what follows it; a `[` with no name behind stands for itself
 unfoldable pub first_item : Bool → List ℕ → Option (Item × List ℕ)
 first_item noescape text =
     if begins is_open text && begins is_colon (drop 1 text)

@@ -242,8 +242,7 @@ pub(crate) fn read_items(text: &[u8], noescape: bool) -> Option<(Members, &[u8])
     Some((members, behind(rest)))
 }
 
-/// Whether a class holds a byte before it is negated: the byte itself, or without case its lower or
-/// its upper form.
+/// Whether the items of a class hold a byte or, without case, the same letter in its other form.
 fn is_held(set: &ByteSet, byte: u8, fold: bool) -> bool
     ensures { (items : List Item) → Holds set.now items → result ≡ in_either_case fold items byte }
 {

@@ -14,13 +14,13 @@ pub(crate) enum Step {
     AnyByte,
     /// A class: one byte of the set.
     Set(ByteSet),
-    /// `*`: any bytes.
+    /// `*`: as many bytes as it likes.
     Stars,
-    /// `**/`: nothing, or bytes that end in a slash.
+    /// `**/`: directories with their slashes, however many.
     Below,
-    /// `**` at the end: any bytes, slashes too.
+    /// `**` at the end: all that is left, slashes too.
     Tail,
-    /// Nothing that a text could have.
+    /// What no text has.
     Never,
 }
 
