@@ -49,11 +49,11 @@ is_graph b = is_between (byte "!") (byte "~") b
 abbrev pub delete : ℕ
 delete = 127
 
--- the horizontal tab, the first control byte that is white space
+-- the horizontal tab, the first byte of white space
 abbrev pub tab : ℕ
 tab = 9
 
--- the carriage return, the last one
+-- the carriage return, the last control byte of white space
 abbrev pub carriage_return : ℕ
 carriage_return = 13
 

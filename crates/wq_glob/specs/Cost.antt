@@ -12,7 +12,7 @@ use Rattle.wq_glob.specs.declared.row.Cell.{Cell}
 abbrev pub is_live : Cell → Bool
 is_live cell = cell.fits || cell.begun
 
--- the cells of a row of so many atoms: none is left out, up to all
+-- the cells of a row, each by how many of so many atoms are left out before it: none, up to all
 abbrev pub places : ℕ → List ℕ
 places atoms = range_with_len 0 (atoms + 1)
 
@@ -24,7 +24,7 @@ lives_from atoms row k = list_any (λ j. nat_le k j && is_live (row j)) (places 
 abbrev pub lives_to : ℕ → Row → ℕ → Bool
 lives_to atoms row k = list_any (λ j. nat_le j k && is_live (row j)) (places atoms)
 
--- the next cell fits
+-- the cell behind the one at `k` fits
 abbrev pub next_fits : Row → ℕ → Bool
 next_fits row k = (row (k + 1)).fits
 
@@ -34,7 +34,7 @@ abbrev pub is_seen : ℕ → Row → Row → ℕ → Bool
 is_seen atoms old new k =
     lives_from atoms old k && (lives_to atoms old k || next_fits old k || next_fits new k)
 
--- at the end of the text it is looked at where it or the next one fits
+-- a cell of the row at the end of the text is looked at where it or the next one fits
 abbrev pub is_seen_at_end : Row → ℕ → Bool
 is_seen_at_end row k = (row k).fits || next_fits row k
 

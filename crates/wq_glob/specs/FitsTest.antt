@@ -43,7 +43,7 @@ pub record Form (A : Type 0) : Type 0 where
   pub admits_of : A → Mark → Bool
   pub is_literal : A → Bool
 
--- what it has to know of the atoms themselves
+-- what a test has to know of the atoms themselves
 abbrev pub atom_form : Flags → Form Atom
 atom_form f = record { reach_of = reach; admits_of = admits f; is_literal = is_literal }
 
@@ -57,7 +57,7 @@ abbrev pub many : (Mark → Bool) → (List Mark → Bool) → List Mark → Boo
 many test fit [] = fit []
 many test fit (x ∷ xs) = fit (x ∷ xs) || (test x && many test fit xs)
 
--- the same for a front that ends in a slash
+-- each byte of some front of the text, which ends in a slash, passes, and what follows it fits
 abbrev pub folders : (Mark → Bool) → (List Mark → Bool) → List Mark → Bool
 folders test fit [] = false
 folders test fit (x ∷ xs) = test x && (folders test fit xs || (is_slash x.byte && fit xs))

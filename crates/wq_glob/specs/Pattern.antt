@@ -25,7 +25,7 @@ atoms_of g = atoms_from (length g.text) g.flags true g.text
 unfoldable pub Fits : PatternData → List ℕ → Type 0
 Fits g text = Cuts g.flags (atoms_of g) (marks (g.flags).dotfiles text)
 
--- the same as a test
+-- the pattern fits the text, as a test that computes
 unfoldable pub fits : PatternData → List ℕ → Bool
 fits g text = fits_by (atom_form g.flags) (atoms_of g) (marks (g.flags).dotfiles text)
 
@@ -43,17 +43,17 @@ same_flags f g =
 abbrev pub same_pattern : PatternData → PatternData → Bool
 same_pattern g h = bytes_eq g.text h.text && same_flags g.flags h.flags
 
--- being the same in a flag is an equivalence
+-- whether a flag is the same is an equivalence
 flag_equiv : (flag : Flags → Bool) → IsEquivalence (λ f g. beq (flag f) (flag g))
 flag_equiv flag = on_equiv flag bool_eq_equiv
 
--- and so is being the same in all
+-- and so is whether all flags are
 same_flags_equiv : IsEquivalence same_flags
 same_flags_equiv =
     and_equiv (and_equiv (and_equiv (flag_equiv (λ f. f.wholename)) (flag_equiv (λ f. f.dotfiles)))
     (flag_equiv (λ f. f.noescape))) (flag_equiv (λ f. f.fold))
 
--- and being the same pattern
+-- whether two patterns are the same is an equivalence
 pub same_pattern_equiv : IsEquivalence same_pattern
 same_pattern_equiv =
     and_equiv (on_equiv (λ (g : PatternData). g.text) nat_list_eq_equiv)
