@@ -1,0 +1,16 @@
+//! Programs of the matching machine: their instructions, what running them means, and the files that hold them.
+//!
+//! A [`Raw`] is a program that nobody has looked at: tables of constants and a list of instructions. [`decode`] makes
+//! one of the bytes of a file or names the first thing that is wrong with them, and [`encode`] gives back the one file
+//! of a raw. What a program does is defined in `specs/Machine.antt`; whether it may run is for others to say.
+#![tactic(auto)]
+
+mod fault;
+mod operation;
+mod raw;
+mod table;
+
+pub use fault::FileFault;
+pub use operation::{Case, CellKind, Op, Relation};
+pub use raw::Raw;
+pub use table::Table;
