@@ -1,13 +1,13 @@
 -- How the fields of a program file are read, one by one: what stands at the front of the bytes and what follows it,
 -- or the first thing that is wrong. This server's own format; numbers are big-endian.
-use Rattle.std.specs.Prelude.{ℕ, zero, suc, ℤ, ◌==◌, nat_lt, nat_le, if◌then◌else◌, List, [], ◌∷◌, length, take, drop, Option, Some, None, Result, Ok, Err}
+use Rattle.std.specs.Prelude.{◌≡◌, ℕ, zero, suc, ℤ, ◌==◌, nat_lt, nat_le, if◌then◌else◌, List, [], ◌∷◌, length, take, drop, Option, Some, None, Result, Ok, Err}
 use Rattle.std.specs.Int.{w16, w64, bit_at, from_be_bytes, cast_signed}
 use Rattle.wq_glob.specs.Glob.{Glob}
 use Rattle.wq_glob.specs.declared.options.Flags.{Flags}
 use Rattle.wq_code.specs.Limit.{max_text_length}
 use Rattle.wq_code.specs.Word.{op_coded, with_a, with_b}
 use Rattle.wq_code.specs.declared.fault.FileFault.{FileFault}
-use Rattle.wq_code.specs.declared.fault.FileFault.TheVariants.{CutShort, UnknownOperation, BadOperand, OverLimit}
+use Rattle.wq_code.specs.declared.fault.FileFault.TheVariants.{CutShort, UnknownOperation, BadOperand, OverLimit, NoMemory}
 use Rattle.wq_code.specs.declared.operation.Op.{Op}
 
 -- a field that was read, and then the next
@@ -111,3 +111,12 @@ op_at bytes = do
   (b, bytes) ← short_at bytes
   op ← or_fault (with_b op b) BadOperand
   Ok (op, bytes)
+
+-- what the code answered, seen by `view`, is what reading gives, but where a growth was refused
+abbrev pub Fails : {Y : Type 0} → FileFault → Result Y FileFault → Type 0
+Fails NoMemory read = Unit {0}
+Fails fault read = read ≡ Err fault
+
+abbrev pub Gives : {X Y : Type 0} → (X → Y) → Result X FileFault → Result Y FileFault → Type 0
+Gives view (Ok x) read = read ≡ Ok (view x)
+Gives view (Err fault) read = Fails fault read

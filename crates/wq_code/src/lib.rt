@@ -6,11 +6,16 @@
 #![tactic(auto)]
 
 mod fault;
+mod field;
+mod limit;
 mod operation;
 mod raw;
 mod table;
+mod word;
 
 pub use fault::FileFault;
+pub use limit::{MAX_ENTRIES, MAX_ROWS, MAX_TEXT};
 pub use operation::{Case, CellKind, Op, Relation};
 pub use raw::Raw;
 pub use table::Table;
+pub use word::Word;

@@ -1,0 +1,82 @@
+//! The fields of a program file, each read from the front of the bytes that are left. Nothing here knows their order.
+ghost use Rattle.std.specs.Prelude.{length};
+ghost use Rattle.wq_code.specs.Reading.{Gives, bytes_at, byte_at, short_at, count_at, many_at};
+
+use crate::fault::FileFault;
+use crate::table::Table;
+use std::alloc::Global;
+
+/// A value that has a form of its own in files.
+pub(crate) trait Field: Drop + Sized {
+    ghost use Rattle.wq_code.specs.Reading.{Reader, Gives};
+
+    ghost reading: { Reader Self };
+
+    /// Reads a value at the front of `bytes`, and gives what follows it.
+    fn read(alloc: Global, bytes: &[u8]) -> Result<(Self, &[u8]), FileFault>
+        ensures { Gives (λ x. (x.0, x.1.now)) result (reading bytes.now) };
+}
+
+/// The first `n` bytes and the others.
+#[tactic(auto, unfolding(crate::specs::Reading::bytes_at))]
+pub(crate) fn bytes_of(n: usize, bytes: &[u8]) -> Result<(&[u8], &[u8]), FileFault>
+    ensures { Gives (λ x. (x.0.now, x.1.now)) result (bytes_at n bytes.now) }
+{
+    if bytes.len() < n {
+        return Err(FileFault::CutShort);
+    }
+    Ok(bytes.split_at(n))
+}
+
+/// The first byte and the others.
+pub(crate) fn byte_of(bytes: &[u8]) -> Result<(u8, &[u8]), FileFault>
+    ensures { Gives (λ x. (x.0, x.1.now)) result (byte_at bytes.now) }
+{
+    match bytes {
+        [] => Err(FileFault::CutShort),
+        [byte, rest @ ..] => Ok((*byte, rest)),
+    }
+}
+
+/// A number of two bytes, and what follows it.
+#[tactic(auto, unfolding(crate::specs::Reading::short_at, crate::specs::Reading::bytes_at))]
+pub(crate) fn short_of(bytes: &[u8]) -> Result<(u16, &[u8]), FileFault>
+    ensures { Gives (λ x. (x.0, x.1.now)) result (short_at bytes.now) }
+{
+    if bytes.len() < 2 {
+        return Err(FileFault::CutShort);
+    }
+    let (digits, rest) = bytes.split_at(2);
+    Ok((u16::from_be_bytes([digits[0], digits[1]]), rest))
+}
+
+/// A count or a length of at most `limit`, and what follows it.
+#[tactic(auto, unfolding(crate::specs::Reading::count_at))]
+pub(crate) fn count_of(limit: usize, bytes: &[u8]) -> Result<(usize, &[u8]), FileFault>
+    ensures { Gives (λ x. (x.0, x.1.now)) result (count_at limit bytes.now) }
+{
+    let (count, rest) = short_of(bytes)?;
+    let count = count as usize;
+    if count > limit {
+        return Err(FileFault::OverLimit);
+    }
+    Ok((count, rest))
+}
+
+/// So many fields of one form, and what follows them.
+pub(crate) fn many_of<F: Field>(
+    alloc: Global,
+    count: usize,
+    bytes: &[u8],
+) -> Result<(Table<F>, &[u8]), FileFault>
+    ensures { Gives (λ x. (x.0, x.1.now)) result (many_at F.reading count bytes.now) }
+{
+    let mut rows = Vec::new(alloc);
+    let mut rest = bytes;
+    for _ in 0..count {
+        let (row, after) = F::read(alloc, rest)?;
+        rows.push(row)?;
+        rest = after;
+    }
+    Ok((Table::from_vec(rows), rest))
+}
