@@ -4,7 +4,7 @@ use Rattle.std.specs.Prelude.{ℕ, List, [], ◌∷◌, codes, Result, Ok}
 use Rattle.wq_code.specs.Limit.{max_rows}
 use Rattle.wq_code.specs.Reading.{◌>>=◌, exact_at, end_at, count_at, many_at, number_at, text_at, list_at, pattern_at, op_at}
 use Rattle.wq_code.specs.declared.fault.FileFault.{FileFault}
-use Rattle.wq_code.specs.declared.fault.FileFault.TheVariants.{WrongMagic, OtherVersion, BytesAfterEnd}
+use Rattle.wq_code.specs.declared.fault.FileFault.TheVariants.{WrongMagic, OtherVersion}
 use Rattle.wq_code.specs.declared.raw.Raw.{Raw}
 
 -- the program of a file
@@ -22,5 +22,5 @@ file_at bytes = do
   (lists, bytes) ← many_at list_at list_count bytes
   (patterns, bytes) ← many_at pattern_at pattern_count bytes
   (code, bytes) ← many_at op_at op_count bytes
-  _ ← end_at BytesAfterEnd bytes
+  _ ← end_at bytes
   Ok (record { numbers = numbers; texts = texts; lists = lists; patterns = patterns; code = code })

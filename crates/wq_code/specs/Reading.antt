@@ -1,13 +1,13 @@
 -- How the fields of a program file are read, one by one: what stands at the front of the bytes and what follows it,
 -- or the first thing that is wrong. This server's own format; numbers are big-endian.
-use Rattle.std.specs.Prelude.{◌≡◌, ℕ, zero, suc, ℤ, ◌==◌, nat_lt, nat_le, if◌then◌else◌, List, [], ◌∷◌, length, take, drop, Option, Some, None, Result, Ok, Err}
-use Rattle.std.specs.Int.{w16, w64, bit_at, from_be_bytes, cast_signed}
+use Rattle.std.specs.Prelude.{◌≡◌, ℕ, zero, suc, ℤ, bit_and, not, ◌==◌, nat_lt, nat_le, if◌then◌else◌, List, [], ◌∷◌, length, take, drop, Option, Some, None, Result, Ok, Err}
+use Rattle.std.specs.Int.{w16, w64, from_be_bytes, cast_signed}
 use Rattle.wq_glob.specs.Glob.{Glob}
 use Rattle.wq_glob.specs.declared.options.Flags.{Flags}
 use Rattle.wq_code.specs.Limit.{max_text_length}
 use Rattle.wq_code.specs.Word.{op_coded, with_a, with_b}
 use Rattle.wq_code.specs.declared.fault.FileFault.{FileFault}
-use Rattle.wq_code.specs.declared.fault.FileFault.TheVariants.{CutShort, UnknownOperation, BadOperand, OverLimit, NoMemory}
+use Rattle.wq_code.specs.declared.fault.FileFault.TheVariants.{CutShort, BytesAfterEnd, UnknownOperation, BadOperand, OverLimit, NoMemory}
 use Rattle.wq_code.specs.declared.operation.Op.{Op}
 
 -- a field that was read, and then the next
@@ -41,9 +41,9 @@ exact_at fault (x ∷ xs) [] = Err CutShort
 exact_at fault (x ∷ xs) (b ∷ bytes) = if b == x then exact_at fault xs bytes else Err fault
 
 -- nothing more
-abbrev pub end_at : FileFault → List ℕ → Result (List ℕ) FileFault
-end_at fault [] = Ok []
-end_at fault (b ∷ bytes) = Err fault
+abbrev pub end_at : List ℕ → Result (List ℕ) FileFault
+end_at [] = Ok []
+end_at (b ∷ bytes) = Err BytesAfterEnd
 
 -- so many fields of one form
 unfoldable pub many_at : {A : Type 0} → Reader A → ℕ → Reader (List A)
@@ -83,20 +83,20 @@ list_at bytes = do
   (n, bytes) ← short_at bytes
   many_at text_at n bytes
 
--- the flags that a byte below 16 holds
+-- the flags that a byte holds, by its lowest four bits
 abbrev pub flags_of : ℕ → Flags
-flags_of b = record {
-  wholename = bit_at b 0 == 1;
-  dotfiles = bit_at b 1 == 1;
-  noescape = bit_at b 2 == 1;
-  fold = bit_at b 3 == 1;
+flags_of bits = record {
+  wholename = not (bit_and bits 1 == 0);
+  dotfiles = not (bit_and bits 2 == 0);
+  noescape = not (bit_and bits 4 == 0);
+  fold = not (bit_and bits 8 == 0);
 }
 
 -- a pattern: its flags, its length and its bytes
 unfoldable pub pattern_at : Reader Glob
 pattern_at bytes = do
-  (flags, bytes) ← byte_at bytes
-  flags ← if nat_lt flags 16 then Ok (flags_of flags) else Err BadOperand
+  (bits, bytes) ← byte_at bytes
+  flags ← if nat_lt bits 16 then Ok (flags_of bits) else Err BadOperand
   (n, bytes) ← byte_at bytes
   (text, bytes) ← bytes_at n bytes
   Ok (record { text = text; flags = flags }, bytes)

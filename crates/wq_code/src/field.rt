@@ -1,6 +1,6 @@
 //! The fields of a program file, each read from the front of the bytes that are left. Nothing here knows their order.
-ghost use Rattle.std.specs.Prelude.{length};
-ghost use Rattle.wq_code.specs.Reading.{Gives, bytes_at, byte_at, short_at, count_at, many_at};
+ghost use Rattle.std.specs.Prelude.{◌≡◌, length, IfOk};
+ghost use Rattle.wq_code.specs.Reading.{Gives, bytes_at, byte_at, exact_at, end_at, short_at, count_at, many_at};
 
 use crate::fault::FileFault;
 use crate::table::Table;
@@ -20,7 +20,8 @@ pub(crate) trait Field: Drop + Sized {
 /// The first `n` bytes and the others.
 #[tactic(auto, unfolding(crate::specs::Reading::bytes_at))]
 pub(crate) fn bytes_of(n: usize, bytes: &[u8]) -> Result<(&[u8], &[u8]), FileFault>
-    ensures { Gives (λ x. (x.0.now, x.1.now)) result (bytes_at n bytes.now) }
+    ensures read { Gives (λ x. (x.0.now, x.1.now)) result (bytes_at n bytes.now) }
+    ensures len { IfOk result (λ x. length x.0.now ≡ n) }
 {
     if bytes.len() < n {
         return Err(FileFault::CutShort);
@@ -35,6 +36,38 @@ pub(crate) fn byte_of(bytes: &[u8]) -> Result<(u8, &[u8]), FileFault>
     match bytes {
         [] => Err(FileFault::CutShort),
         [byte, rest @ ..] => Ok((*byte, rest)),
+    }
+}
+
+/// What follows exactly these bytes; the first that differs is this fault.
+pub(crate) fn exact_of<'a>(
+    fault: FileFault,
+    exact: &[u8],
+    bytes: &'a [u8],
+) -> Result<&'a [u8], FileFault>
+    ensures { Gives (λ rest. rest.now) result (exact_at fault exact.now bytes.now) }
+{
+    let mut left = exact;
+    let mut rest = bytes;
+    while let [wanted, others @ ..] = left {
+        let (byte, after) = byte_of(rest)?;
+        if byte != *wanted {
+            return Err(fault);
+        }
+        left = others;
+        rest = after;
+    }
+    Ok(rest)
+}
+
+/// Nothing is left.
+pub(crate) fn end_of(bytes: &[u8]) -> Result<(), FileFault>
+    ensures { Gives (λ _. bytes.now) result (end_at bytes.now) }
+{
+    if bytes.is_empty() {
+        Ok(())
+    } else {
+        Err(FileFault::BytesAfterEnd)
     }
 }
 

@@ -5,6 +5,7 @@
 //! of a raw. What a program does is defined in `specs/Machine.antt`; whether it may run is for others to say.
 #![tactic(auto)]
 
+mod decoding;
 mod fault;
 mod field;
 mod limit;

@@ -1,0 +1,22 @@
+use Rattle.std.proofs.Common.{refl}
+use Rattle.wq_code.specs.File.{file_at}
+use Rattle.wq_code.proofs.decoding.file_of.Goals as goal
+
+pub returns : goal.returns
+unfolding file_at
+returns c =
+    rw (
+      c.in_ok-rest.ensures,
+      c.in_ok-rest-2.ensures,
+      c.in_ok-number_count.ensures,
+      c.in_ok-text_count.ensures,
+      c.in_ok-list_count.ensures,
+      c.in_ok-pattern_count.ensures,
+      c.in_ok-op_count.ensures,
+      c.in_ok-numbers.ensures,
+      c.in_ok-texts.ensures,
+      c.in_ok-lists.ensures,
+      c.in_ok-patterns.ensures,
+      c.in_ok-code.ensures,
+      c.in_ok-end_of.ensures,
+    ) refl
