@@ -1,6 +1,6 @@
 -- The limits that a program must keep to have a file.
 -- This server's own; the numbers stand in `Limit`.
-use Rattle.std.specs.Prelude.{ℕ, Bool, ◌&&◌, nat_le, List, length}
+use Rattle.std.specs.Prelude.{ℕ, Bool, true, ◌&&◌, nat_le, List, length}
 use Rattle.std.specs.List.{list_all}
 use Rattle.wq_glob.specs.Glob.{Glob}
 use Rattle.wq_glob.specs.Limits.{max_pattern_length}
@@ -10,6 +10,10 @@ use Rattle.wq_code.specs.declared.raw.Raw.{Raw}
 -- a table has not too many rows
 abbrev pub is_table : {A : Type 0} → List A → Bool
 is_table rows = nat_le (length rows) max_rows
+
+-- a row that has no limits of its own: a number or an instruction
+abbrev pub is_any : {A : Type 0} → A → Bool
+is_any row = true
 
 -- a text is not too long
 abbrev pub is_text : List ℕ → Bool

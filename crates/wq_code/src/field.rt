@@ -1,20 +1,40 @@
-//! The fields of a program file, each read from the front of the bytes that are left. Nothing here knows their order.
-ghost use Rattle.std.specs.Prelude.{◌≡◌, length, IfOk};
+//! The fields of a program file, each read from the front of the bytes that are left and written at their end.
+//! Nothing here knows their order.
+ghost use Rattle.std.specs.Prelude.{◌≡◌, ◌≤◌, ◌++◌, length, IfOk, OnOk, IsTrue};
+ghost use Rattle.std.specs.List.{flat_map, list_all};
+ghost use Rattle.wq_code.specs.Spelling.{short};
 ghost use Rattle.wq_code.specs.Reading.{Gives, bytes_at, byte_at, exact_at, end_at, short_at, count_at, many_at};
 
 use crate::fault::FileFault;
 use crate::table::Table;
-use std::alloc::Global;
+use std::alloc::{AllocError, Global};
 
 /// A value that has a form of its own in files.
 pub(crate) trait Field: Drop + Sized {
+    ghost use Rattle.std.specs.Prelude.{◌≡◌, ◌++◌, ℕ, List, Bool, IsTrue, OnOk};
     ghost use Rattle.wq_code.specs.Reading.{Reader, Gives};
 
+    /// How it is read.
     ghost reading: { Reader Self };
+
+    /// The bytes that it is written as.
+    ghost spelling: { Self → List ℕ };
+
+    /// It keeps to the limits.
+    ghost within: { Self → Bool };
 
     /// Reads a value at the front of `bytes`, and gives what follows it.
     fn read(alloc: Global, bytes: &[u8]) -> Result<(Self, &[u8]), FileFault>
         ensures { Gives (λ x. (x.0, x.1.now)) result (reading bytes.now) };
+
+    /// Writes the value at the end of `out`.
+    fn write(&self, out: &mut Vec<u8>) -> Result<(), AllocError>
+        requires { IsTrue (within self.now) }
+        ensures { OnOk result (out.new.items ≡ out.old.items ++ spelling self.now) };
+
+    /// Whether the value keeps to the limits.
+    fn fits(&self) -> bool
+        ensures { result ≡ within self.now };
 }
 
 /// The first `n` bytes and the others.
@@ -112,4 +132,30 @@ pub(crate) fn many_of<F: Field>(
         rest = after;
     }
     Ok((Table::from_vec(rows), rest))
+}
+
+/// Writes a number of two bytes at the end of `out`.
+pub(crate) fn put_short(out: &mut Vec<u8>, n: usize) -> Result<(), AllocError>
+    requires { n ≤ 65535 }
+    ensures { OnOk result (out.new.items ≡ out.old.items ++ short n) }
+{
+    out.extend_from_slice(&(n as u16).to_be_bytes())
+}
+
+/// Writes fields of one form one after the other.
+pub(crate) fn put_many<F: Field>(out: &mut Vec<u8>, rows: &[F]) -> Result<(), AllocError>
+    requires { IsTrue (list_all F.within rows.now) }
+    ensures { OnOk result (out.new.items ≡ out.old.items ++ flat_map F.spelling rows.now) }
+{
+    for row in rows {
+        row.write(out)?;
+    }
+    Ok(())
+}
+
+/// Whether all rows keep to the limits.
+pub(crate) fn all_fit<F: Field>(rows: &[F]) -> bool
+    ensures { result ≡ list_all F.within rows.now }
+{
+    rows.iter().all(|row| row.fits())
 }

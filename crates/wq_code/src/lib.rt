@@ -5,16 +5,18 @@
 //! of a raw. What a program does is defined in `specs/Machine.antt`; whether it may run is for others to say.
 #![tactic(auto)]
 
-mod decoding;
 mod fault;
 mod field;
+mod file;
 mod limit;
 mod operation;
 mod raw;
+mod row;
 mod table;
 mod word;
 
 pub use fault::FileFault;
+pub use file::encode;
 pub use limit::{MAX_ENTRIES, MAX_ROWS, MAX_TEXT};
 pub use operation::{Case, CellKind, Op, Relation};
 pub use raw::Raw;

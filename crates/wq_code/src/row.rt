@@ -1,22 +1,29 @@
-//! Reading a program file: the forms of its tables' rows, and their order.
+//! The rows of a program file's tables: how each is read and written, and its limits.
 ghost use Rattle.std.specs.Prelude.{◌≡◌};
-ghost use Rattle.wq_code.specs.Reading.{Gives, end_at, exact_at, flags_of};
-ghost use Rattle.wq_code.specs.File.{file_at};
+ghost use Rattle.wq_code.specs.Reading.{flags_of};
+ghost use Rattle.wq_code.specs.Spelling.{flags_byte};
 
 use crate::fault::FileFault;
-use crate::field::{Field, byte_of, bytes_of, count_of, end_of, exact_of, many_of, short_of};
-use crate::limit::{MAX_ROWS, MAX_TEXT};
+use crate::field::{
+    Field, all_fit, byte_of, bytes_of, count_of, many_of, put_many, put_short, short_of,
+};
+use crate::limit::{MAX_ENTRIES, MAX_TEXT};
 use crate::operation::Op;
-use crate::raw::Raw;
 use crate::table::Table;
 use crate::word::{op_of_byte, take_a, take_b};
-use std::alloc::Global;
-use wq_glob::{Flags, Pattern, PatternFault};
+use std::alloc::{AllocError, Global};
+use wq_glob::{Flags, MAX_PATTERN, Pattern, PatternFault};
 
 impl Field for i64 {
     ghost use Rattle.wq_code.specs.Reading.{number_at};
+    ghost use Rattle.wq_code.specs.Spelling.{number};
+    ghost use Rattle.wq_code.specs.Fits.{is_any};
 
     ghost reading = { number_at };
+
+    ghost spelling = { number };
+
+    ghost within = { is_any };
 
     #[tactic(auto, unfolding(crate::specs::Reading::number_at, crate::specs::Reading::bytes_at))]
     fn read(_alloc: Global, bytes: &[u8]) -> Result<(i64, &[u8]), FileFault> {
@@ -29,12 +36,26 @@ impl Field for i64 {
         ]);
         Ok((number, rest))
     }
+
+    fn write(&self, out: &mut Vec<u8>) -> Result<(), AllocError> {
+        out.extend_from_slice(&self.to_be_bytes())
+    }
+
+    fn fits(&self) -> bool {
+        true
+    }
 }
 
 impl Field for Table<u8> {
     ghost use Rattle.wq_code.specs.Reading.{text_at};
+    ghost use Rattle.wq_code.specs.Spelling.{text};
+    ghost use Rattle.wq_code.specs.Fits.{is_text};
 
     ghost reading = { text_at };
+
+    ghost spelling = { text };
+
+    ghost within = { is_text };
 
     #[tactic(auto, unfolding(crate::specs::Reading::text_at))]
     fn read(alloc: Global, bytes: &[u8]) -> Result<(Table<u8>, &[u8]), FileFault> {
@@ -42,24 +63,54 @@ impl Field for Table<u8> {
         let (text, rest) = bytes_of(len, rest)?;
         Ok((Table::from_vec(Vec::from_slice(alloc, text)?), rest))
     }
+
+    fn write(&self, out: &mut Vec<u8>) -> Result<(), AllocError> {
+        put_short(out, self.len())?;
+        out.extend_from_slice(self.as_slice())
+    }
+
+    fn fits(&self) -> bool {
+        self.len() <= MAX_TEXT
+    }
 }
 
 impl Field for Table<Table<u8>> {
     ghost use Rattle.wq_code.specs.Reading.{list_at};
+    ghost use Rattle.wq_code.specs.Spelling.{entries};
+    ghost use Rattle.wq_code.specs.Fits.{is_list};
 
     ghost reading = { list_at };
+
+    ghost spelling = { entries };
+
+    ghost within = { is_list };
 
     #[tactic(auto, unfolding(crate::specs::Reading::list_at))]
     fn read(alloc: Global, bytes: &[u8]) -> Result<(Table<Table<u8>>, &[u8]), FileFault> {
         let (count, rest) = short_of(bytes)?;
         many_of(alloc, count as usize, rest)
     }
+
+    fn write(&self, out: &mut Vec<u8>) -> Result<(), AllocError> {
+        put_short(out, self.len())?;
+        put_many(out, self.as_slice())
+    }
+
+    fn fits(&self) -> bool {
+        self.len() <= MAX_ENTRIES && all_fit(self.as_slice())
+    }
 }
 
 impl Field for Pattern {
     ghost use Rattle.wq_code.specs.Reading.{pattern_at};
+    ghost use Rattle.wq_code.specs.Spelling.{pattern};
+    ghost use Rattle.wq_code.specs.Fits.{is_pattern};
 
     ghost reading = { pattern_at };
+
+    ghost spelling = { pattern };
+
+    ghost within = { is_pattern };
 
     #[tactic(auto, unfolding(crate::specs::Reading::pattern_at))]
     fn read(alloc: Global, bytes: &[u8]) -> Result<(Pattern, &[u8]), FileFault> {
@@ -75,6 +126,27 @@ impl Field for Pattern {
             Err(PatternFault::TooLong) => unreachable!(),
         }
     }
+
+    fn write(&self, out: &mut Vec<u8>) -> Result<(), AllocError> {
+        let text = self.text();
+        out.push(bits_of_flags(self.flags()))?;
+        out.push(text.len() as u8)?;
+        out.extend_from_slice(text)
+    }
+
+    fn fits(&self) -> bool {
+        self.text().len() <= MAX_PATTERN
+    }
+}
+
+/// The flags of a pattern as the lowest four bits of a byte.
+fn bits_of_flags(flags: Flags) -> u8
+    ensures { result ≡ flags_byte flags }
+{
+    flags.wholename as u8
+        + 2 * (flags.dotfiles as u8)
+        + 4 * (flags.noescape as u8)
+        + 8 * (flags.fold as u8)
 }
 
 /// The flags of a pattern from the lowest four bits of a byte.
@@ -91,8 +163,14 @@ fn flags_of_bits(bits: u8) -> Flags
 
 impl Field for Op {
     ghost use Rattle.wq_code.specs.Reading.{op_at};
+    ghost use Rattle.wq_code.specs.Spelling.{instruction};
+    ghost use Rattle.wq_code.specs.Fits.{is_any};
 
     ghost reading = { op_at };
+
+    ghost spelling = { instruction };
+
+    ghost within = { is_any };
 
     #[tactic(auto, unfolding(crate::specs::Reading::op_at))]
     fn read(_alloc: Global, bytes: &[u8]) -> Result<(Op, &[u8]), FileFault> {
@@ -104,31 +182,15 @@ impl Field for Op {
         let op = take_b(op, b).ok_or(FileFault::BadOperand)?;
         Ok((op, rest))
     }
-}
 
-/// All fields of a file, in their order.
-#[tactic(auto, unfolding(crate::specs::File::file_at))]
-fn file_of(alloc: Global, bytes: &[u8]) -> Result<Raw, FileFault>
-    ensures { Gives (λ raw. raw) result (file_at bytes.now) }
-{
-    let rest = exact_of(FileFault::WrongMagic, b"WQPF", bytes)?;
-    let rest = exact_of(FileFault::OtherVersion, &[1], rest)?;
-    let (number_count, rest) = count_of(MAX_ROWS, rest)?;
-    let (text_count, rest) = count_of(MAX_ROWS, rest)?;
-    let (list_count, rest) = count_of(MAX_ROWS, rest)?;
-    let (pattern_count, rest) = count_of(MAX_ROWS, rest)?;
-    let (op_count, rest) = count_of(MAX_ROWS, rest)?;
-    let (numbers, rest) = many_of(alloc, number_count, rest)?;
-    let (texts, rest) = many_of(alloc, text_count, rest)?;
-    let (lists, rest) = many_of(alloc, list_count, rest)?;
-    let (patterns, rest) = many_of(alloc, pattern_count, rest)?;
-    let (code, rest) = many_of(alloc, op_count, rest)?;
-    end_of(rest)?;
-    Ok(Raw {
-        numbers,
-        texts,
-        lists,
-        patterns,
-        code,
-    })
+    fn write(&self, out: &mut Vec<u8>) -> Result<(), AllocError> {
+        let word = self.word();
+        out.push(word.op)?;
+        out.push(word.a)?;
+        out.extend_from_slice(&word.b.to_be_bytes())
+    }
+
+    fn fits(&self) -> bool {
+        true
+    }
 }

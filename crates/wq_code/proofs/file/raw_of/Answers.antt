@@ -1,9 +1,9 @@
 use Rattle.std.proofs.Common.{refl}
-use Rattle.wq_code.specs.File.{file_at}
-use Rattle.wq_code.proofs.decoding.file_of.Goals as goal
+use Rattle.wq_code.specs.File.{raw_at}
+use Rattle.wq_code.proofs.file.raw_of.Goals as goal
 
 pub returns : goal.returns
-unfolding file_at
+unfolding raw_at
 returns c =
     rw (
       c.in_ok-rest.ensures,
@@ -18,5 +18,4 @@ returns c =
       c.in_ok-lists.ensures,
       c.in_ok-patterns.ensures,
       c.in_ok-code.ensures,
-      c.in_ok-end_of.ensures,
     ) refl
