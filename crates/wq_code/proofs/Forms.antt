@@ -34,6 +34,12 @@ pub bind_ok : {A B : Type 0} (read : Result A FileFault) (next : A → Result B 
 bind_ok (Ok x) next y e = (x, refl, e)
 bind_ok (Err fault) next y e = absurd cc
 
+-- the same, for a goal that follows
+pub bind_then : {A B P : Type 0} (read : Result A FileFault) (next : A → Result B FileFault) (y : B)
+    → (read >>= next) ≡ Ok y → ((x : A) → read ≡ Ok x → next x ≡ Ok y → P) → P
+bind_then (Ok x) next y e goal = goal x refl e
+bind_then (Err fault) next y e goal = absurd cc
+
 -- a test that did not fail
 pub guard_ok : {A : Type 0} (b : Bool) (fault : FileFault) (x y : A) → cond b (Err fault) (Ok x) ≡ Ok y → (b ≡ false) × (x ≡ y)
 guard_ok true fault x y e = absurd cc
@@ -179,7 +185,7 @@ many_takes {A} field written Good form (suc n) bytes x fits e =
     subst (λ (y : List A × List ℕ). (bytes ≡ flat_map written y.0 ++ y.1) × ((length y.0 ≡ suc n) × All Good y.0)) (ok_is _ x b.2)
     (whole, (ap suc others.1.0, All-cons Good a.0.0 b.0.0 first.1 others.1.1))
 
-many_again : {A : Type 0} (field : Reader A) (written : A → List ℕ) (Good : A → Type 0) → IsForm field written Good
+pub many_again : {A : Type 0} (field : Reader A) (written : A → List ℕ) (Good : A → Type 0) → IsForm field written Good
     → (xs : List A) (rest : List ℕ) → All Good xs → many_at field (length xs) (flat_map written xs ++ rest) ≡ Ok (xs, rest)
 unfolding many_at
 many_again field written Good form [] rest good = refl
@@ -200,7 +206,7 @@ many-form field written Good form n = record {
 }
 
 -- all pass two tests
-all_both : {A : Type 0} (P Q : A → Type 0) (xs : List A) → All P xs → All Q xs → All (λ x. P x × Q x) xs
+pub all_both : {A : Type 0} (P Q : A → Type 0) (xs : List A) → All P xs → All Q xs → All (λ x. P x × Q x) xs
 all_both P Q xs p q k d lt = (p k d lt, q k d lt)
 
 -- a list of texts

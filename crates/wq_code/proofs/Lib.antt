@@ -1,3 +1,4 @@
 pub mod Many
 pub mod FitsLemmas
 pub mod Forms
+pub mod FileForm

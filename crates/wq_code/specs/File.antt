@@ -5,24 +5,41 @@ use Rattle.wq_code.specs.Limit.{max_rows}
 use Rattle.wq_code.specs.Reading.{◌>>=◌, Reader, exact_at, end_at, count_at, many_at, number_at, text_at, list_at, pattern_at, op_at}
 use Rattle.wq_code.specs.declared.fault.FileFault.{FileFault}
 use Rattle.wq_code.specs.declared.fault.FileFault.TheVariants.{WrongMagic, OtherVersion}
+use Rattle.wq_code.specs.declared.file.Counts.{Counts}
 use Rattle.wq_code.specs.declared.raw.Raw.{Raw}
 
--- a program: the fields of its file in their order
+-- what follows the magic and the version
+unfoldable pub head_at : List ℕ → Result (List ℕ) FileFault
+head_at bytes = do
+  bytes ← exact_at WrongMagic (codes "WQPF") bytes
+  exact_at OtherVersion (1 ∷ []) bytes
+
+-- the counts of the tables' rows
+unfoldable pub counts_at : Reader Counts
+counts_at bytes = do
+  (numbers, bytes) ← count_at max_rows bytes
+  (texts, bytes) ← count_at max_rows bytes
+  (lists, bytes) ← count_at max_rows bytes
+  (patterns, bytes) ← count_at max_rows bytes
+  (code, bytes) ← count_at max_rows bytes
+  Ok (record { numbers = numbers; texts = texts; lists = lists; patterns = patterns; code = code }, bytes)
+
+-- the tables, with so many rows
+unfoldable pub tables_at : Counts → Reader Raw
+tables_at counts bytes = do
+  (numbers, bytes) ← many_at number_at counts.numbers bytes
+  (texts, bytes) ← many_at text_at counts.texts bytes
+  (lists, bytes) ← many_at list_at counts.lists bytes
+  (patterns, bytes) ← many_at pattern_at counts.patterns bytes
+  (code, bytes) ← many_at op_at counts.code bytes
+  Ok (record { numbers = numbers; texts = texts; lists = lists; patterns = patterns; code = code }, bytes)
+
+-- a program, which bytes may follow
 unfoldable pub raw_at : Reader Raw
 raw_at bytes = do
-  bytes ← exact_at WrongMagic (codes "WQPF") bytes
-  bytes ← exact_at OtherVersion (1 ∷ []) bytes
-  (number_count, bytes) ← count_at max_rows bytes
-  (text_count, bytes) ← count_at max_rows bytes
-  (list_count, bytes) ← count_at max_rows bytes
-  (pattern_count, bytes) ← count_at max_rows bytes
-  (op_count, bytes) ← count_at max_rows bytes
-  (numbers, bytes) ← many_at number_at number_count bytes
-  (texts, bytes) ← many_at text_at text_count bytes
-  (lists, bytes) ← many_at list_at list_count bytes
-  (patterns, bytes) ← many_at pattern_at pattern_count bytes
-  (code, bytes) ← many_at op_at op_count bytes
-  Ok (record { numbers = numbers; texts = texts; lists = lists; patterns = patterns; code = code }, bytes)
+  bytes ← head_at bytes
+  (counts, bytes) ← counts_at bytes
+  tables_at counts bytes
 
 -- a file: a program, and nothing more
 unfoldable pub file_at : List ℕ → Result Raw FileFault

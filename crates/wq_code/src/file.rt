@@ -2,7 +2,7 @@
 ghost use Rattle.std.specs.Prelude.{◌≡◌, IsTrue, IfOk};
 ghost use Rattle.wq_code.specs.Fits.{fits};
 ghost use Rattle.wq_code.specs.Reading.{Gives};
-ghost use Rattle.wq_code.specs.File.{raw_at, file_at};
+ghost use Rattle.wq_code.specs.File.{head_at, counts_at, tables_at, raw_at, file_at};
 ghost use Rattle.wq_code.specs.Spelling.{spelling};
 
 use crate::fault::FileFault;
@@ -11,23 +11,55 @@ use crate::limit::MAX_ROWS;
 use crate::raw::Raw;
 use std::alloc::{AllocError, Global};
 
-/// The program at the front of `bytes`, and what follows it.
-#[tactic(auto, unfolding(crate::specs::File::raw_at))]
-fn raw_of(alloc: Global, bytes: &[u8]) -> Result<(Raw, &[u8]), FileFault>
-    ensures { Gives (λ x. (x.0, x.1.now)) result (raw_at bytes.now) }
+/// How many rows the tables of a file have.
+#[derive(Clone, Copy)]
+pub(crate) struct Counts {
+    numbers: usize,
+    texts: usize,
+    lists: usize,
+    patterns: usize,
+    code: usize,
+}
+
+/// What follows the magic and the version.
+#[tactic(auto, unfolding(crate::specs::File::head_at))]
+fn head_of(bytes: &[u8]) -> Result<&[u8], FileFault>
+    ensures { Gives (λ rest. rest.now) result (head_at bytes.now) }
 {
     let rest = exact_of(FileFault::WrongMagic, b"WQPF", bytes)?;
-    let rest = exact_of(FileFault::OtherVersion, &[1], rest)?;
-    let (number_count, rest) = count_of(MAX_ROWS, rest)?;
-    let (text_count, rest) = count_of(MAX_ROWS, rest)?;
-    let (list_count, rest) = count_of(MAX_ROWS, rest)?;
-    let (pattern_count, rest) = count_of(MAX_ROWS, rest)?;
-    let (op_count, rest) = count_of(MAX_ROWS, rest)?;
-    let (numbers, rest) = many_of(alloc, number_count, rest)?;
-    let (texts, rest) = many_of(alloc, text_count, rest)?;
-    let (lists, rest) = many_of(alloc, list_count, rest)?;
-    let (patterns, rest) = many_of(alloc, pattern_count, rest)?;
-    let (code, rest) = many_of(alloc, op_count, rest)?;
+    exact_of(FileFault::OtherVersion, &[1], rest)
+}
+
+/// The counts of the tables' rows, and what follows them.
+#[tactic(auto, unfolding(crate::specs::File::counts_at))]
+fn counts_of(bytes: &[u8]) -> Result<(Counts, &[u8]), FileFault>
+    ensures { Gives (λ x. (x.0, x.1.now)) result (counts_at bytes.now) }
+{
+    let (numbers, rest) = count_of(MAX_ROWS, bytes)?;
+    let (texts, rest) = count_of(MAX_ROWS, rest)?;
+    let (lists, rest) = count_of(MAX_ROWS, rest)?;
+    let (patterns, rest) = count_of(MAX_ROWS, rest)?;
+    let (code, rest) = count_of(MAX_ROWS, rest)?;
+    let counts = Counts {
+        numbers,
+        texts,
+        lists,
+        patterns,
+        code,
+    };
+    Ok((counts, rest))
+}
+
+/// The tables, with so many rows, and what follows them.
+#[tactic(auto, unfolding(crate::specs::File::tables_at))]
+fn tables_of(alloc: Global, counts: Counts, bytes: &[u8]) -> Result<(Raw, &[u8]), FileFault>
+    ensures { Gives (λ x. (x.0, x.1.now)) result (tables_at counts bytes.now) }
+{
+    let (numbers, rest) = many_of(alloc, counts.numbers, bytes)?;
+    let (texts, rest) = many_of(alloc, counts.texts, rest)?;
+    let (lists, rest) = many_of(alloc, counts.lists, rest)?;
+    let (patterns, rest) = many_of(alloc, counts.patterns, rest)?;
+    let (code, rest) = many_of(alloc, counts.code, rest)?;
     let raw = Raw {
         numbers,
         texts,
@@ -36,6 +68,16 @@ fn raw_of(alloc: Global, bytes: &[u8]) -> Result<(Raw, &[u8]), FileFault>
         code,
     };
     Ok((raw, rest))
+}
+
+/// The program at the front of `bytes`, and what follows it.
+#[tactic(auto, unfolding(crate::specs::File::raw_at))]
+fn raw_of(alloc: Global, bytes: &[u8]) -> Result<(Raw, &[u8]), FileFault>
+    ensures { Gives (λ x. (x.0, x.1.now)) result (raw_at bytes.now) }
+{
+    let rest = head_of(bytes)?;
+    let (counts, rest) = counts_of(rest)?;
+    tables_of(alloc, counts, rest)
 }
 
 /// The program of a whole file, if memory suffices.
