@@ -2,3 +2,4 @@ pub mod Many
 pub mod FitsLemmas
 pub mod Forms
 pub mod FileForm
+pub mod Steady
