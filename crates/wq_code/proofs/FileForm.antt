@@ -8,7 +8,7 @@ use Rattle.std.proofs.lemmas.List.Elements.{All-weaker}
 use Rattle.std.proofs.lemmas.List.Sums.{AllPass-from_list_all, list_all-from_AllPass}
 use Rattle.wq_code.specs.Limit.{max_rows}
 use Rattle.wq_code.specs.Fits.{is_text, is_list, is_pattern, fits}
-use Rattle.wq_code.specs.Reading.{◌>>=◌, exact_at, count_at, many_at, number_at, text_at, list_at, pattern_at, op_at}
+use Rattle.wq_code.specs.Reading.{exact_at, count_at, many_at, number_at, text_at, list_at, pattern_at, op_at}
 use Rattle.wq_code.specs.File.{head_at, counts_at, tables_at, raw_at}
 use Rattle.wq_code.specs.Spelling.{short, number, text, entries, pattern, instruction, spelling, AreBytes, IsInRange}
 use Rattle.wq_code.specs.declared.fault.FileFault.{FileFault}
@@ -88,8 +88,13 @@ counts_takes bytes x fits e =
 counts_again : (c : Counts) (rest : List ℕ) → AreCounts c → counts_at (counts c ++ rest) ≡ Ok (c, rest)
 unfolding counts_at
 counts_again c rest h =
-    rw (count.again c.numbers _ h.numbers, count.again c.texts _ h.texts, count.again c.lists _ h.lists,
-    count.again c.patterns _ h.patterns, count.again c.code _ h.code) refl
+    rw (
+      count.again c.numbers _ h.numbers,
+      count.again c.texts _ h.texts,
+      count.again c.lists _ h.lists,
+      count.again c.patterns _ h.patterns,
+      count.again c.code _ h.code,
+    ) refl
 
 pub counts-form : IsForm counts_at counts AreCounts
 counts-form = record { takes = counts_takes; again = counts_again }
@@ -131,9 +136,9 @@ tables_takes counts bytes x fits e =
     let p4 = joined c.1 (flat_map pattern d.0) d.1 (flat_map instruction f.0) f.1 td.0 tf.0 in
     let p3 = joined b.1 (flat_map entries c.0) c.1 (flat_map pattern d.0 ++ flat_map instruction f.0) f.1 tc.0 p4 in
     let p2 = joined a.1 (flat_map text b.0) b.1
-        (flat_map entries c.0 ++ (flat_map pattern d.0 ++ flat_map instruction f.0)) f.1 tb.0 p3 in
+    (flat_map entries c.0 ++ (flat_map pattern d.0 ++ flat_map instruction f.0)) f.1 tb.0 p3 in
     let p1 = joined bytes (flat_map number a.0) a.1
-        (flat_map text b.0 ++ (flat_map entries c.0 ++ (flat_map pattern d.0 ++ flat_map instruction f.0))) f.1 ta.0 p2 in
+    (flat_map text b.0 ++ (flat_map entries c.0 ++ (flat_map pattern d.0 ++ flat_map instruction f.0))) f.1 ta.0 p2 in
     subst (λ (y : Raw × List ℕ). (bytes ≡ tables y.0 ++ y.1) × AreTables counts y.0) (ok_is _ x e)
     (p1, record { numbers = ta.1; texts = tb.1; lists = tc.1; patterns = td.1; code = tf.1 }))))))
 
@@ -141,40 +146,51 @@ tables_again : (c : Counts) (raw : Raw) (rest : List ℕ) → AreTables c raw �
 unfolding tables_at
 tables_again c raw rest h =
     let regrouped : tables raw ++ rest ≡ flat_map number raw.numbers ++ (flat_map text raw.texts
-        ++ (flat_map entries raw.lists ++ (flat_map pattern raw.patterns ++ (flat_map instruction raw.code ++ rest)))) = simp append_assoc in
+    ++ (flat_map entries raw.lists ++ (flat_map pattern raw.patterns ++ (flat_map instruction raw.code ++ rest)))) = simp append_assoc in
     ap (tables_at c) regrouped
-    ∙ rw ((many-form _ _ _ number-form c.numbers).again raw.numbers _ h.numbers,
-    (many-form _ _ _ text-form c.texts).again raw.texts _ h.texts, (many-form _ _ _ list-form c.lists).again raw.lists _ h.lists,
-    (many-form _ _ _ pattern-form c.patterns).again raw.patterns _ h.patterns,
-    (many-form _ _ _ op-form c.code).again raw.code _ h.code) refl
+    ∙ rw (
+      (many-form _ _ _ number-form c.numbers).again raw.numbers _ h.numbers,
+      (many-form _ _ _ text-form c.texts).again raw.texts _ h.texts,
+      (many-form _ _ _ list-form c.lists).again raw.lists _ h.lists,
+      (many-form _ _ _ pattern-form c.patterns).again raw.patterns _ h.patterns,
+      (many-form _ _ _ op-form c.code).again raw.code _ h.code,
+    ) refl
 
 -- ---- a program
 
 abbrev pub counts_in : Raw → Counts
 counts_in raw = record {
-  numbers = length raw.numbers; texts = length raw.texts; lists = length raw.lists; patterns = length raw.patterns;
-  code = length raw.code }
+  numbers = length raw.numbers;
+  texts = length raw.texts;
+  lists = length raw.lists;
+  patterns = length raw.patterns;
+  code = length raw.code;
+}
 
 -- what is good of a program
 abbrev pub IsFile : Raw → Type 0
 IsFile raw = (fits raw ≡ true) × IsInRange raw
 
 file_from : (c : Counts) (raw : Raw) → AreCounts c → AreTables c raw → IsFile raw
-file_from c raw few good =
-    (fits-within raw (record {
-      numbers = omega (arith, few.numbers, good.numbers.0); texts = omega (arith, few.texts, good.texts.0);
-      lists = omega (arith, few.lists, good.lists.0); patterns = omega (arith, few.patterns, good.patterns.0);
-      code = omega (arith, few.code, good.code.0);
-      each_text = list_all-from_AllPass is_text raw.texts (All-weaker IsText (λ t. is_text t ≡ true) (λ _ h. h.0) raw.texts good.texts.1);
-      each_list = list_all-from_AllPass is_list raw.lists (All-weaker IsList (λ t. is_list t ≡ true) (λ _ h. h.0) raw.lists good.lists.1);
-      each_pattern = list_all-from_AllPass is_pattern raw.patterns (All-weaker IsPattern (λ t. is_pattern t ≡ true) (λ _ h. h.0) raw.patterns good.patterns.1);
-    }),
-    record {
-      numbers = good.numbers.1; texts = All-weaker IsText AreBytes (λ _ h. h.1) raw.texts good.texts.1;
-      lists = All-weaker IsList (All AreBytes) (λ _ h. h.1) raw.lists good.lists.1;
-      patterns = All-weaker IsPattern (λ p. AreBytes p.text) (λ _ h. h.1) raw.patterns good.patterns.1;
-      code = good.code.1;
-    })
+file_from c raw few good = (
+  fits-within raw (record {
+    numbers = omega (arith, few.numbers, good.numbers.0);
+    texts = omega (arith, few.texts, good.texts.0);
+    lists = omega (arith, few.lists, good.lists.0);
+    patterns = omega (arith, few.patterns, good.patterns.0);
+    code = omega (arith, few.code, good.code.0);
+    each_text = list_all-from_AllPass is_text raw.texts (All-weaker IsText (λ t. is_text t ≡ true) (λ _ h. h.0) raw.texts good.texts.1);
+    each_list = list_all-from_AllPass is_list raw.lists (All-weaker IsList (λ t. is_list t ≡ true) (λ _ h. h.0) raw.lists good.lists.1);
+    each_pattern = list_all-from_AllPass is_pattern raw.patterns (All-weaker IsPattern (λ t. is_pattern t ≡ true) (λ _ h. h.0) raw.patterns good.patterns.1);
+  }),
+  record {
+    numbers = good.numbers.1;
+    texts = All-weaker IsText AreBytes (λ _ h. h.1) raw.texts good.texts.1;
+    lists = All-weaker IsList (All AreBytes) (λ _ h. h.1) raw.lists good.lists.1;
+    patterns = All-weaker IsPattern (λ p. AreBytes p.text) (λ _ h. h.1) raw.patterns good.patterns.1;
+    code = good.code.1;
+  },
+)
 
 counts_from : (raw : Raw) → IsFile raw → AreCounts (counts_in raw)
 counts_from raw h =
@@ -205,14 +221,16 @@ raw_takes bytes x fits e =
     let t = tables_takes c.0 c.1 x fc e in
     let whole = joined bytes head r (counts c.0 ++ tables x.0) x.1 tr (joined r (counts c.0) c.1 (tables x.0) x.1 tc.0 t.0) in
     let same : counts c.0 ≡ counts (counts_in x.0) =
-        rw (t.1.numbers.0, t.1.texts.0, t.1.lists.0, t.1.patterns.0, t.1.code.0) refl in
+    rw (t.1.numbers.0, t.1.texts.0, t.1.lists.0, t.1.patterns.0, t.1.code.0) refl in
     (whole ∙ ap (λ (f : List ℕ). (head ++ (f ++ tables x.0)) ++ x.1) same, file_from c.0 x.0 tc.1 t.1)))
 
 raw_again : (raw : Raw) (rest : List ℕ) → IsFile raw → raw_at (spelling raw ++ rest) ≡ Ok (raw, rest)
 unfolding raw_at spelling head_at
 raw_again raw rest h =
-    rw (counts-form.again (counts_in raw) (tables raw ++ rest) (counts_from raw h),
-    tables_again (counts_in raw) raw rest (tables_from raw h)) refl
+    rw (
+      counts-form.again (counts_in raw) (tables raw ++ rest) (counts_from raw h),
+      tables_again (counts_in raw) raw rest (tables_from raw h),
+    ) refl
 
 -- a program is read as it is written, and nothing else is read
 pub raw-form : IsForm raw_at spelling IsFile

@@ -106,12 +106,12 @@ pub short-form : IsForm short_at short (λ n. n < 2 ^ 16)
 unfolding short_at
 short-form = record {
   takes = λ bytes x fits e.
-    let b = bind_ok (bytes_at 2 bytes) _ x e in
-    let t = bytes_at-takes 2 bytes b.0 b.1 in
-    let below = byte_below b.0.0 (front_are_bytes bytes b.0.0 b.0.1 fits t.0) in
-    let back : short (from_be_bytes w16 b.0.0) ≡ b.0.0 = be_bytes_2 b.0.0 _ t.1 below refl in
-    subst (λ (y : ℕ × List ℕ). (bytes ≡ short y.0 ++ y.1) × (y.0 < 2 ^ 16)) (ok_is _ x b.2)
-    (t.0 ∙ ap (λ (front : List ℕ). front ++ b.0.1) (sym back), omega (arith, below 0, below 1));
+      let b = bind_ok (bytes_at 2 bytes) _ x e in
+      let t = bytes_at-takes 2 bytes b.0 b.1 in
+      let below = byte_below b.0.0 (front_are_bytes bytes b.0.0 b.0.1 fits t.0) in
+      let back : short (from_be_bytes w16 b.0.0) ≡ b.0.0 = be_bytes_2 b.0.0 _ t.1 below refl in
+      subst (λ (y : ℕ × List ℕ). (bytes ≡ short y.0 ++ y.1) × (y.0 < 2 ^ 16)) (ok_is _ x b.2)
+      (t.0 ∙ ap (λ (front : List ℕ). front ++ b.0.1) (sym back), omega (arith, below 0, below 1));
   again = λ n rest lt. rw (bytes_at-again 2 (short n) rest refl, from_be_bytes-to_be_bytes_2 n lt) refl;
 }
 
@@ -120,10 +120,10 @@ pub count-form : (limit : ℕ) → limit < 2 ^ 16 → IsForm (count_at limit) sh
 unfolding count_at
 count-form limit small = record {
   takes = λ bytes x fits e.
-    let b = bind_ok (short_at bytes) _ x e in
-    let t = short-form.takes bytes b.0 fits b.1 in
-    let g = passed_ok (leb b.0.0 limit) OverLimit b.0 x b.2 in
-    subst (λ (y : ℕ × List ℕ). (bytes ≡ short y.0 ++ y.1) × (y.0 ≤ limit)) g.1 (t.0, leb-true _ _ g.0);
+      let b = bind_ok (short_at bytes) _ x e in
+      let t = short-form.takes bytes b.0 fits b.1 in
+      let g = passed_ok (leb b.0.0 limit) OverLimit b.0 x b.2 in
+      subst (λ (y : ℕ × List ℕ). (bytes ≡ short y.0 ++ y.1) × (y.0 ≤ limit)) g.1 (t.0, leb-true _ _ g.0);
   again = λ n rest le. rw (short-form.again n rest (omega arith), le-leb n limit le) refl;
 }
 
@@ -132,17 +132,17 @@ pub number-form : IsForm number_at number (λ n. FitsSigned w64 n)
 unfolding number_at
 number-form = record {
   takes = λ bytes x fits e.
-    let b = bind_ok (bytes_at 8 bytes) _ x e in
-    let t = bytes_at-takes 8 bytes b.0 b.1 in
-    let below = byte_below b.0.0 (front_are_bytes bytes b.0.0 b.0.1 fits t.0) in
-    let n : ℕ = from_be_bytes w64 b.0.0 in
-    let small : n < 2 ^ 64 = omega (arith, below 0, below 1, below 2, below 3, below 4, below 5, below 6, below 7) in
-    let back : number (cast_signed w64 n) ≡ b.0.0 =
-        ap (to_be_bytes w64) (of_z-to_z w64 n small) ∙ be_bytes_8 b.0.0 _ t.1 below refl in
-    subst (λ (y : ℤ × List ℕ). (bytes ≡ number y.0 ++ y.1) × FitsSigned w64 y.0) (ok_is _ x b.2)
-    (t.0 ∙ ap (λ (front : List ℕ). front ++ b.0.1) (sym back), sfits_to_z (record { fits = small }));
+      let b = bind_ok (bytes_at 8 bytes) _ x e in
+      let t = bytes_at-takes 8 bytes b.0 b.1 in
+      let below = byte_below b.0.0 (front_are_bytes bytes b.0.0 b.0.1 fits t.0) in
+      let n : ℕ = from_be_bytes w64 b.0.0 in
+      let small : n < 2 ^ 64 = omega (arith, below 0, below 1, below 2, below 3, below 4, below 5, below 6, below 7) in
+      let back : number (cast_signed w64 n) ≡ b.0.0 =
+      ap (to_be_bytes w64) (of_z-to_z w64 n small) ∙ be_bytes_8 b.0.0 _ t.1 below refl in
+      subst (λ (y : ℤ × List ℕ). (bytes ≡ number y.0 ++ y.1) × FitsSigned w64 y.0) (ok_is _ x b.2)
+      (t.0 ∙ ap (λ (front : List ℕ). front ++ b.0.1) (sym back), sfits_to_z (record { fits = small }));
   again = λ n rest h.
-    rw (bytes_at-again 8 (number n) rest refl, from_be_bytes-to_be_bytes_8 (cast_unsigned w64 n) (Fits-of_z h).fits, to_z-of_z w64 n h) refl;
+      rw (bytes_at-again 8 (number n) rest refl, from_be_bytes-to_be_bytes_8 (cast_unsigned w64 n) (Fits-of_z h).fits, to_z-of_z w64 n h) refl;
 }
 
 -- a text
@@ -153,17 +153,16 @@ pub text-form : IsForm text_at text IsText
 unfolding text_at
 text-form = record {
   takes = λ bytes x fits e.
-    let b = bind_ok (count_at max_text_length bytes) _ x e in
-    let t = (count-form max_text_length (lit< tt)).takes bytes b.0 fits b.1 in
-    let s = bytes_at-takes b.0.0 b.0.1 x b.2 in
-    let rest = rest_are_bytes bytes (short b.0.0) b.0.1 fits t.0 in
-    let whole : bytes ≡ text x.0 ++ x.1 =
-        t.0 ∙ ap (λ (n : ℕ). short n ++ b.0.1) (sym s.1) ∙ ap (λ (r : List ℕ). short (length x.0) ++ r) s.0 in
-    (whole, (le-leb _ _ (omega (arith, s.1, t.1)), front_are_bytes b.0.1 x.0 x.1 rest s.0));
+      let b = bind_ok (count_at max_text_length bytes) _ x e in
+      let t = (count-form max_text_length (lit< tt)).takes bytes b.0 fits b.1 in
+      let s = bytes_at-takes b.0.0 b.0.1 x b.2 in
+      let rest = rest_are_bytes bytes (short b.0.0) b.0.1 fits t.0 in
+      let whole : bytes ≡ text x.0 ++ x.1 =
+      t.0 ∙ ap (λ (n : ℕ). short n ++ b.0.1) (sym s.1) ∙ ap (λ (r : List ℕ). short (length x.0) ++ r) s.0 in
+      (whole, (le-leb _ _ (omega (arith, s.1, t.1)), front_are_bytes b.0.1 x.0 x.1 rest s.0));
   again = λ a rest h.
-    rw ((count-form max_text_length (lit< tt)).again (length a) (a ++ rest) (leb-true _ _ h.0)) (bytes_at-again (length a) a rest refl);
+      rw ((count-form max_text_length (lit< tt)).again (length a) (a ++ rest) (leb-true _ _ h.0)) (bytes_at-again (length a) a rest refl);
 }
-
 
 -- what follows the first field of several
 many_takes : {A : Type 0} (field : Reader A) (written : A → List ℕ) (Good : A → Type 0) → IsForm field written Good
@@ -179,9 +178,9 @@ many_takes {A} field written Good form (suc n) bytes x fits e =
     let first = form.takes bytes a.0 fits a.1 in
     let others = many_takes field written Good form n a.0.1 b.0 (rest_are_bytes bytes (written a.0.0) a.0.1 fits first.0) b.1 in
     let whole : bytes ≡ flat_map written (a.0.0 ∷ b.0.0) ++ b.0.1 =
-        first.0 ∙ ap (λ (r : List ℕ). written a.0.0 ++ r) others.0
-        ∙ sym (append_assoc (written a.0.0) (flat_map written b.0.0) b.0.1)
-        ∙ ap (λ (r : List ℕ). r ++ b.0.1) (sym (flat_map-cons written a.0.0 b.0.0)) in
+    first.0 ∙ ap (λ (r : List ℕ). written a.0.0 ++ r) others.0
+    ∙ sym (append_assoc (written a.0.0) (flat_map written b.0.0) b.0.1)
+    ∙ ap (λ (r : List ℕ). r ++ b.0.1) (sym (flat_map-cons written a.0.0 b.0.0)) in
     subst (λ (y : List A × List ℕ). (bytes ≡ flat_map written y.0 ++ y.1) × ((length y.0 ≡ suc n) × All Good y.0)) (ok_is _ x b.2)
     (whole, (ap suc others.1.0, All-cons Good a.0.0 b.0.0 first.1 others.1.1))
 
@@ -191,10 +190,12 @@ unfolding many_at
 many_again field written Good form [] rest good = refl
 many_again field written Good form (x ∷ xs) rest good =
     let regrouped : flat_map written (x ∷ xs) ++ rest ≡ written x ++ (flat_map written xs ++ rest) =
-        ap (λ (r : List ℕ). r ++ rest) (flat_map-cons written x xs) ∙ append_assoc (written x) (flat_map written xs) rest in
+    ap (λ (r : List ℕ). r ++ rest) (flat_map-cons written x xs) ∙ append_assoc (written x) (flat_map written xs) rest in
     ap (many_at field (suc (length xs))) regrouped
-    ∙ rw (form.again x (flat_map written xs ++ rest) (All-head Good x xs good),
-    many_again field written Good form xs rest (All-tail Good x xs good)) refl
+    ∙ rw (
+      form.again x (flat_map written xs ++ rest) (All-head Good x xs good),
+      many_again field written Good form xs rest (All-tail Good x xs good),
+    ) refl
 
 -- fields of one form
 pub many-form : {A : Type 0} (field : Reader A) (written : A → List ℕ) (Good : A → Type 0) → IsForm field written Good
@@ -202,7 +203,7 @@ pub many-form : {A : Type 0} (field : Reader A) (written : A → List ℕ) (Good
 many-form field written Good form n = record {
   takes = many_takes field written Good form n;
   again = λ xs rest good.
-    ap (λ (m : ℕ). many_at field m (flat_map written xs ++ rest)) (sym good.0) ∙ many_again field written Good form xs rest good.1;
+      ap (λ (m : ℕ). many_at field m (flat_map written xs ++ rest)) (sym good.0) ∙ many_again field written Good form xs rest good.1;
 }
 
 -- all pass two tests
@@ -217,20 +218,20 @@ pub list-form : IsForm list_at entries IsList
 unfolding list_at
 list-form = record {
   takes = λ bytes x fits e.
-    let b = bind_ok (short_at bytes) _ x e in
-    let t = short-form.takes bytes b.0 fits b.1 in
-    let rest = rest_are_bytes bytes (short b.0.0) b.0.1 fits t.0 in
-    let m = (many-form text_at text IsText text-form b.0.0).takes b.0.1 x rest b.2 in
-    let whole : bytes ≡ entries x.0 ++ x.1 =
-        t.0 ∙ ap (λ (n : ℕ). short n ++ b.0.1) (sym m.1.0) ∙ ap (λ (r : List ℕ). short (length x.0) ++ r) m.0 in
-    let each : list_all is_text x.0 ≡ true =
-        list_all-from_AllPass is_text x.0 (All-weaker IsText (λ text. is_text text ≡ true) (λ text h. h.0) x.0 m.1.1) in
-    (whole, (and_from _ _ (le-leb _ _ (omega (arith, m.1.0, t.1))) each, All-weaker IsText AreBytes (λ text h. h.1) x.0 m.1.1));
+      let b = bind_ok (short_at bytes) _ x e in
+      let t = short-form.takes bytes b.0 fits b.1 in
+      let rest = rest_are_bytes bytes (short b.0.0) b.0.1 fits t.0 in
+      let m = (many-form text_at text IsText text-form b.0.0).takes b.0.1 x rest b.2 in
+      let whole : bytes ≡ entries x.0 ++ x.1 =
+      t.0 ∙ ap (λ (n : ℕ). short n ++ b.0.1) (sym m.1.0) ∙ ap (λ (r : List ℕ). short (length x.0) ++ r) m.0 in
+      let each : list_all is_text x.0 ≡ true =
+      list_all-from_AllPass is_text x.0 (All-weaker IsText (λ text. is_text text ≡ true) (λ text h. h.0) x.0 m.1.1) in
+      (whole, (and_from _ _ (le-leb _ _ (omega (arith, m.1.0, t.1))) each, All-weaker IsText AreBytes (λ text h. h.1) x.0 m.1.1));
   again = λ a rest h.
-    let limits = and_parts (leb (length a) max_entries) (list_all is_text a) h.0 in
-    let few : length a < 2 ^ 16 = omega (arith, leb-true (length a) max_entries limits.0) in
-    let good = all_both (λ text. is_text text ≡ true) AreBytes a (AllPass-from_list_all is_text a limits.1) h.1 in
-    rw (short-form.again (length a) (flat_map text a ++ rest) few) (many_again text_at text IsText text-form a rest good);
+      let limits = and_parts (leb (length a) max_entries) (list_all is_text a) h.0 in
+      let few : length a < 2 ^ 16 = omega (arith, leb-true (length a) max_entries limits.0) in
+      let good = all_both (λ text. is_text text ≡ true) AreBytes a (AllPass-from_list_all is_text a limits.1) h.1 in
+      rw (short-form.again (length a) (flat_map text a ++ rest) few) (many_again text_at text IsText text-form a rest good);
 }
 
 -- the flags of a pattern and the bits that stand for them
@@ -299,7 +300,7 @@ pattern_takes (bits ∷ n ∷ bytes) x fits e =
     let small : n < 256 = All-head (λ b. b < 256) n bytes (behind_byte bits (n ∷ bytes) fits) in
     let flags : flags_byte b.0 ≡ bits = ap flags_byte (sym g.1) ∙ bits_back bits (ltb-true bits 16 g.0) in
     let whole : (bits ∷ n ∷ bytes) ≡ flags_byte b.0 ∷ length c.0.0 ∷ c.0.0 ++ c.0.1 =
-        rw (flags, t.1) (ap (λ (r : List ℕ). bits ∷ n ∷ r) t.0) in
+    rw (flags, t.1) (ap (λ (r : List ℕ). bits ∷ n ∷ r) t.0) in
     subst (λ (y : Glob × List ℕ). ((bits ∷ n ∷ bytes) ≡ pattern y.0 ++ y.1) × IsPattern y.0) (ok_is _ x c.2)
     (whole, (le-leb _ _ (omega (arith, t.1)), front_are_bytes bytes c.0.0 c.0.1 after t.0))
 
@@ -308,8 +309,8 @@ unfolding pattern_at
 pattern-form = record {
   takes = pattern_takes;
   again = λ p rest h.
-    let f = flags_again (p.flags).wholename (p.flags).dotfiles (p.flags).noescape (p.flags).fold in
-    rw (f.1, f.0, bytes_at-again (length p.text) p.text rest refl) refl;
+      let f = flags_again (p.flags).wholename (p.flags).dotfiles (p.flags).noescape (p.flags).fold in
+      rw (f.1, f.0, bytes_at-again (length p.text) p.text rest refl) refl;
 }
 
 -- ---- instructions
@@ -406,7 +407,7 @@ op_takes (code ∷ a ∷ bytes) x fits e =
     let has_a = with_a-has o.0 a p.0 (some_fault _ _ _ p.1) in
     let has_b = with_b-has p.0 b.0.0 q.0 (some_fault _ _ _ q.1) in
     let whole : (code ∷ a ∷ bytes) ≡ code_of q.0 ∷ a_of q.0 ∷ short (b_of q.0) ++ b.0.1 =
-        rw (has_b.0, has_a.0, coded, has_b.1, has_a.1, has_b.2) (ap (λ (r : List ℕ). code ∷ a ∷ r) t.0) in
+    rw (has_b.0, has_a.0, coded, has_b.1, has_a.1, has_b.2) (ap (λ (r : List ℕ). code ∷ a ∷ r) t.0) in
     subst (λ (y : Op × List ℕ). ((code ∷ a ∷ bytes) ≡ instruction y.0 ++ y.1) × IsOp y.0) (ok_is _ x q.2)
     (whole, omega (arith, has_b.2, t.1))
 

@@ -3,3 +3,4 @@ pub mod FitsLemmas
 pub mod Forms
 pub mod FileForm
 pub mod Steady
+pub mod FileLaws

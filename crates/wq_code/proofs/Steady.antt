@@ -1,10 +1,9 @@
 -- Bytes that follow change nothing of what was read before them, nor of what was found wrong, but where the bytes
 -- were cut short.
-use Rattle.std.proofs.Common.{◌≡◌, ◌⊎◌, ℕ, zero, suc, ◌<◌, ◌≤◌, Bool, true, false, cond, ltb, leb, eqb, List, [], ◌∷◌, ◌++◌, length, take, drop, Result, Ok, Err, refl, sym, ap, subst, ◌∙◌, arith, inl, inr}
-use Rattle.std.specs.Prelude.{◌≢◌, codes}
+use Rattle.std.proofs.Common.{◌≡◌, ℕ, zero, suc, Bool, true, false, cond, ltb, leb, eqb, List, [], ◌∷◌, ◌++◌, length, Result, Ok, Err, refl, arith, inl, inr}
+use Rattle.std.specs.Prelude.{codes}
 use Rattle.std.proofs.lemmas.Bool.{cases_lt, lt-ltb, le-ltb}
 use Rattle.std.proofs.lemmas.List.{length-append, take-append-le, drop-append-le}
-use Rattle.wq_glob.specs.declared.options.Flags.{Flags}
 use Rattle.wq_code.specs.Limit.{max_rows, max_text_length}
 use Rattle.wq_code.specs.Word.{op_coded, with_a, with_b}
 use Rattle.wq_code.specs.Reading.{◌>>=◌, Reader, or_fault, bytes_at, byte_at, exact_at, many_at, short_at, count_at, number_at, text_at, list_at, flags_of, pattern_at, op_at}
@@ -12,7 +11,6 @@ use Rattle.wq_code.specs.File.{head_at, counts_at, tables_at, raw_at}
 use Rattle.wq_code.specs.declared.fault.FileFault.{FileFault}
 use Rattle.wq_code.specs.declared.fault.FileFault.TheVariants.{WrongMagic, OtherVersion, CutShort, BytesAfterEnd, UnknownOperation, BadOperand, OverLimit, NoMemory}
 use Rattle.wq_code.specs.declared.file.Counts.{Counts}
-use Rattle.wq_code.specs.declared.operation.Op.{Op}
 
 -- a second reading, of more bytes, gives what the first gave, grown; nothing is said where the first was cut short
 abbrev pub Steady : {A : Type 0} → (A → A) → Result A FileFault → Result A FileFault → Type 0
@@ -63,8 +61,12 @@ unfolding bytes_at
 bytes_steady n bytes more =
     elim (cases_lt (length bytes) n) [
       | inl short ↦ rw (lt-ltb _ _ short) tt
-      | inr long ↦ rw (le-ltb _ _ long, le-ltb (length (bytes ++ more)) n (omega (arith, length-append bytes more)),
-          take-append-le n bytes more long, drop-append-le n bytes more long) refl
+      | inr long ↦ rw (
+        le-ltb _ _ long,
+        le-ltb (length (bytes ++ more)) n (omega (arith, length-append bytes more)),
+        take-append-le n bytes more long,
+        drop-append-le n bytes more long,
+      ) refl
     ]
 
 byte_steady : IsSteady byte_at

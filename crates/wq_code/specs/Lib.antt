@@ -10,3 +10,4 @@ pub mod Fits
 pub mod Reading
 pub mod File
 pub mod Spelling
+pub mod Law

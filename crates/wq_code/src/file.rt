@@ -3,7 +3,8 @@ ghost use Rattle.std.specs.Prelude.{◌≡◌, IsTrue, IfOk};
 ghost use Rattle.wq_code.specs.Fits.{fits};
 ghost use Rattle.wq_code.specs.Reading.{Gives};
 ghost use Rattle.wq_code.specs.File.{head_at, counts_at, tables_at, raw_at, file_at};
-ghost use Rattle.wq_code.specs.Spelling.{spelling};
+ghost use Rattle.wq_code.specs.Spelling.{spelling, IsSpelling};
+ghost use Rattle.wq_code.specs.declared.raw.Raw.{Raw};
 
 use crate::fault::FileFault;
 use crate::field::{count_of, end_of, exact_of, many_of, put_many, put_short};
@@ -88,6 +89,27 @@ fn file_of(alloc: Global, bytes: &[u8]) -> Result<Raw, FileFault>
     let (raw, rest) = raw_of(alloc, bytes)?;
     end_of(rest)?;
     Ok(raw)
+}
+
+/// Reads a program file, in one pass over its bytes.
+///
+/// ```text
+/// 57 51 50 46 01   00 00 00 00 00 00 00 00 00 02   01 01 00 00   23 00 00 00
+/// WQPF, version 1; no constants, two instructions; flag 1; ret
+/// ```
+///
+/// # Errors
+/// The first field that is cut short or unlawful, in the order of the file, or that bytes follow its end;
+/// [`FileFault::NoMemory`] where a growth was refused.
+pub fn decode(alloc: Global, bytes: &[u8]) -> Result<Raw, FileFault>
+    // What is read is spelled so.
+    ensures found { IfOk result (λ raw. IsSpelling raw bytes.now) }
+    // What is spelled so is read, unless memory runs out.
+    ensures only { (raw : Raw) → IsSpelling raw bytes.now → Gives (λ read. read) result (Ok raw) }
+    // Which fault it is.
+    ensures exact { Gives (λ raw. raw) result (file_at bytes.now) }
+{
+    file_of(alloc, bytes)
 }
 
 /// The one file of a program that fits.

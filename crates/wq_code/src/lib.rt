@@ -8,6 +8,7 @@
 mod fault;
 mod field;
 mod file;
+mod law;
 mod limit;
 mod operation;
 mod raw;
@@ -16,7 +17,11 @@ mod table;
 mod word;
 
 pub use fault::FileFault;
-pub use file::encode;
+pub use file::{decode, encode};
+pub use law::{
+    faults_stay, files_are_spellings, fronts_are_cut_short, none_begins_another, one_spelling,
+    spellings_are_read_back,
+};
 pub use limit::{MAX_ENTRIES, MAX_ROWS, MAX_TEXT};
 pub use operation::{Case, CellKind, Op, Relation};
 pub use raw::Raw;
