@@ -1,0 +1,5 @@
+pub mod Limit
+pub mod Kinds
+pub mod Fault
+pub mod Typing
+pub mod Budget
