@@ -1,6 +1,6 @@
 -- When a program may run: the kinds of the stack are known at each place, whatever way led there.
 -- This server's own rules.
-use Rattle.std.specs.Prelude.{◌≡◌, ℕ, ◌<◌, ◌≤◌, ◌⊎◌, IsTrue, List, [], ◌∷◌, length, Option, Some, slice_get}
+use Rattle.std.specs.Prelude.{◌≡◌, ℕ, ◌<◌, ◌≤◌, ◌⊎◌, IsTrue, if◌then◌else◌, List, [], ◌∷◌, length, Option, Some, slice_get}
 use Rattle.wq_code.specs.Signature.{signature}
 use Rattle.wq_code.specs.Flow.{Flow, Stop, flow}
 use Rattle.wq_code.specs.Constant.{constant, has_constant}
@@ -62,3 +62,7 @@ pub record IsValid (raw : Raw) : Type 0 where
 -- a fault is the first one of a program: there is a typing to its place, where it is the first
 abbrev pub IsFirstFault : Raw → ProgramFault → ℕ → Type 0
 IsFirstFault raw fault at = (lists : Lists) × IsFront raw lists at × (fault_at raw lists at ≡ Some fault)
+
+-- the kinds that are known after an instruction that leaves these was looked at
+abbrev pub grown : Lists → Kinds → Flow → ℕ → Lists
+grown lists after way at = λ place. if leads way at place then Some after else lists place
