@@ -8,16 +8,19 @@
 mod fault;
 mod field;
 mod file;
+mod flow;
 mod law;
 mod limit;
 mod operation;
 mod raw;
 mod row;
+mod signature;
 mod table;
 mod word;
 
 pub use fault::FileFault;
 pub use file::{decode, encode};
+pub use flow::Flow;
 pub use law::{
     faults_stay, files_are_spellings, fronts_are_cut_short, none_begins_another, one_spelling,
     spellings_are_read_back,
@@ -25,5 +28,6 @@ pub use law::{
 pub use limit::{MAX_ENTRIES, MAX_ROWS, MAX_TEXT};
 pub use operation::{Case, CellKind, Op, Relation};
 pub use raw::Raw;
+pub use signature::Need;
 pub use table::Table;
 pub use word::Word;
