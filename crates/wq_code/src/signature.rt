@@ -1,5 +1,5 @@
 //! What instructions take from the stack and what they leave there.
-ghost use Rattle.std.specs.Prelude.{◌≡◌, [], ◌∷◌, Some, None};
+ghost use Rattle.std.specs.Prelude.{◌≡◌, ◌≤◌, length};
 ghost use Rattle.wq_code.specs.Signature.{signature};
 
 use crate::operation::{CellKind, Op};
@@ -22,7 +22,8 @@ const TEXT: Need = Need::Cell(CellKind::Text);
 impl Op {
     /// The cells that the instruction takes from the stack, the top first.
     pub fn needs(self) -> &'static [Need]
-        ensures { result.now ≡ (signature self).needs }
+        ensures kinds { result.now ≡ (signature self).needs }
+        ensures few { length result.now ≤ 2 }
     {
         match self {
             Op::Compare(_) => &[NUMBER, NUMBER],
@@ -37,7 +38,8 @@ impl Op {
 
     /// The cells that the instruction puts there in their place.
     pub fn leaves(self) -> &'static [CellKind]
-        ensures { result.now ≡ (signature self).leaves }
+        ensures kinds { result.now ≡ (signature self).leaves }
+        ensures few { length result.now ≤ 1 }
     {
         match self {
             Op::Flag(_) | Op::Exists => &[CellKind::Flag],

@@ -4,7 +4,9 @@ use Rattle.std.specs.Prelude.{slice_get}
 use Rattle.std.specs.Option.{option_and_then}
 use Rattle.std.proofs.lemmas.Bool.{eqb-true, eq-eqb, ne_eqb, le-ltb, lt-leb, cases_lt}
 use Rattle.std.proofs.lemmas.Option.{same_Some, slice_get_within}
-use Rattle.wq_code.specs.Flow.{Flow, Next, To, Fork, Stop, flow}
+use Rattle.wq_code.specs.Flow.{flow}
+use Rattle.wq_code.specs.declared.flow.Flow.{Flow}
+use Rattle.wq_code.specs.declared.flow.Flow.TheVariants.{Next, To, Fork, Stop}
 use Rattle.wq_code.specs.declared.operation.Op.{Op}
 use Rattle.wq_code.specs.declared.raw.Raw.{Raw}
 use Rattle.wq_verify.specs.Kinds.{Kinds, Lists, same_kinds, kinds_after, leads}

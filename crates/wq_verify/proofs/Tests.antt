@@ -2,8 +2,11 @@
 use Rattle.std.proofs.Common.{◌≡◌, ◌⊎◌, ℕ, zero, suc, ◌+◌, ◌<◌, ◌≤◌, Bool, true, false, not, cond, ltb, leb, eqb, ◌&&◌, ◌||◌, List, [], ◌∷◌, ◌++◌, length, drop, Option, Some, None, refl, sym, ap, subst, ◌∙◌, inl, inr, arith}
 use Rattle.std.specs.Prelude.{slice_get}
 use Rattle.std.proofs.lemmas.Bool.{ltb-false, ltb-true, le-ltb, lt-ltb, leb-true, leb-false, le-leb, eqb-true, eq-eqb, and_parts, and_from, not-true}
-use Rattle.wq_code.specs.Signature.{Need, signature, same_kind, meets}
-use Rattle.wq_code.specs.Flow.{Flow, Next, To, Fork, Stop, flow}
+use Rattle.wq_code.specs.Signature.{signature, same_kind, meets}
+use Rattle.wq_code.specs.declared.signature.Need.{Need}
+use Rattle.wq_code.specs.Flow.{flow}
+use Rattle.wq_code.specs.declared.flow.Flow.{Flow}
+use Rattle.wq_code.specs.declared.flow.Flow.TheVariants.{Next, To, Fork, Stop}
 use Rattle.wq_code.specs.Constant.{constant, has_constant}
 use Rattle.wq_code.specs.declared.operation.CellKind.{CellKind}
 use Rattle.wq_code.specs.declared.operation.CellKind.TheVariants as cell

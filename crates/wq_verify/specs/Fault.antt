@@ -3,7 +3,9 @@
 use Rattle.std.specs.Prelude.{ℕ, ◌+◌, Bool, true, false, not, ◌==◌, ◌&&◌, ◌||◌, nat_lt, nat_le, if◌then◌else◌, List, length, Option, Some, None, slice_get}
 use Rattle.std.specs.Option.{option_and_then}
 use Rattle.wq_code.specs.Signature.{signature}
-use Rattle.wq_code.specs.Flow.{Flow, Next, To, Fork, Stop, flow}
+use Rattle.wq_code.specs.Flow.{flow}
+use Rattle.wq_code.specs.declared.flow.Flow.{Flow}
+use Rattle.wq_code.specs.declared.flow.Flow.TheVariants.{Next, To, Fork, Stop}
 use Rattle.wq_code.specs.Constant.{constant, has_constant}
 use Rattle.wq_code.specs.declared.operation.Op.{Op}
 use Rattle.wq_code.specs.declared.raw.Raw.{Raw}

@@ -1,8 +1,10 @@
 -- The kinds of the cells on a stack, and what instructions make of them. The top of a stack stands first.
 -- From this server's own table of instructions.
 use Rattle.std.specs.Prelude.{ℕ, ◌+◌, Bool, true, false, ◌==◌, ◌&&◌, ◌||◌, List, [], ◌∷◌, ◌++◌, length, drop, Option}
-use Rattle.wq_code.specs.Signature.{Need, signature, same_kind, meets}
-use Rattle.wq_code.specs.Flow.{Flow, Next, To, Fork, Stop}
+use Rattle.wq_code.specs.Signature.{signature, same_kind, meets}
+use Rattle.wq_code.specs.declared.signature.Need.{Need}
+use Rattle.wq_code.specs.declared.flow.Flow.{Flow}
+use Rattle.wq_code.specs.declared.flow.Flow.TheVariants.{Next, To, Fork, Stop}
 use Rattle.wq_code.specs.declared.operation.CellKind.{CellKind}
 use Rattle.wq_code.specs.declared.operation.CellKind.TheVariants as cell
 use Rattle.wq_code.specs.declared.operation.Op.{Op}

@@ -3,3 +3,4 @@ pub mod Kinds
 pub mod Fault
 pub mod Typing
 pub mod Budget
+pub mod Shape

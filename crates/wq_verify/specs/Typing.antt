@@ -2,7 +2,9 @@
 -- This server's own rules.
 use Rattle.std.specs.Prelude.{◌≡◌, ℕ, ◌<◌, ◌≤◌, ◌⊎◌, IsTrue, if◌then◌else◌, List, [], ◌∷◌, length, Option, Some, slice_get}
 use Rattle.wq_code.specs.Signature.{signature}
-use Rattle.wq_code.specs.Flow.{Flow, Stop, flow}
+use Rattle.wq_code.specs.Flow.{flow}
+use Rattle.wq_code.specs.declared.flow.Flow.{Flow}
+use Rattle.wq_code.specs.declared.flow.Flow.TheVariants.{Stop}
 use Rattle.wq_code.specs.Constant.{constant, has_constant}
 use Rattle.wq_code.specs.Fits.{fits}
 use Rattle.wq_code.specs.declared.operation.CellKind.TheVariants as cell

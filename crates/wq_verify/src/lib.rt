@@ -7,5 +7,9 @@
 #![tactic(auto)]
 
 mod fault;
+mod kinds;
+mod rule;
+mod shape;
 
 pub use fault::{ProgramFault, Refusal};
+pub use shape::MAX_CELLS;
