@@ -13,6 +13,7 @@ use Rattle.wq_verify.specs.Kinds.{Kinds, Lists, same_kinds, kinds_after, leads}
 use Rattle.wq_verify.specs.Fault.{stops, is_bad_jump, lacks_next, differs, is_other, fault_of, fault_reached, fault_at}
 use Rattle.wq_verify.specs.Typing.{IsNext, IsWell, KeepsRules, LeadsTo, IsFront, IsTyping, IsValid, IsFirstFault, grown}
 use Rattle.wq_verify.specs.declared.fault.ProgramFault.{ProgramFault}
+use Rattle.wq_verify.specs.declared.fault.ProgramFault.TheVariants.{EmptyCode, Unreached}
 use Rattle.wq_verify.proofs.Tests.{not_differs, differs-same, leads-later, leads-same, Passes, passes, passes-none, well-from_passes, no_lack, no_wrong, no_bad_return}
 
 -- ---- growing
@@ -224,3 +225,50 @@ valid_is_accepted raw fault at valid first =
         subst (λ (k : Option Kinds). fault_reached raw lists at w.0 k ≡ Some fault) known
         (subst (λ (o : Op). fault_reached raw lists at o (lists at) ≡ Some fault) (sym op) found.2) in
     some_not_none _ fault wrong none
+
+-- ---- what the code knows
+
+-- a front typing may be given by other lists that know the same
+pub front_same : (raw : Raw) (a b : Lists) (i : ℕ) → ((place : ℕ) → b place ≡ a place) → IsFront raw a i → IsFront raw b i
+front_same raw a b i same front =
+    let lists : a ≡ b = λ k place. sym (same place) k in
+    subst (λ (l : Lists). IsFront raw l i) lists front
+
+-- before any instruction there is a front typing
+pub front_starts : (raw : Raw) (lists : Lists) → lists 0 ≡ Some [] → ((place : ℕ) (kinds : Kinds) → lists place ≡ Some kinds → place ≡ 0)
+    → IsFront raw lists 0
+front_starts raw lists start only = record {
+  start = start;
+  each = λ at lt. absurd (omega arith);
+  only = λ place kinds e. inl (only place kinds e);
+}
+
+-- the first fault at a place of the code
+pub fault_at-there : (raw : Raw) (lists : Lists) (at : ℕ) (op : Op) → slice_get raw.code at ≡ Some op
+    → fault_at raw lists at ≡ fault_reached raw lists at op (lists at)
+unfolding fault_at
+fault_at-there raw lists at op there =
+    let lt = slice_get_within raw.code at op there in
+    let full : eqb (length raw.code) 0 ≡ false = ne_eqb (length raw.code) 0 (λ e. omega (arith, e, lt)) in
+    rw (full, there) refl
+
+pub unreached : (raw : Raw) (lists : Lists) (at : ℕ) (op : Op) → slice_get raw.code at ≡ Some op → lists at ≡ None
+    → fault_at raw lists at ≡ Some Unreached
+unreached raw lists at op there none =
+    fault_at-there raw lists at op there ∙ ap (λ (k : Option Kinds). fault_reached raw lists at op k) none
+
+pub faulty : (raw : Raw) (lists : Lists) (at : ℕ) (op : Op) (kinds : Kinds) (fault : ProgramFault) → slice_get raw.code at ≡ Some op
+    → lists at ≡ Some kinds → fault_of raw lists at op kinds ≡ Some fault → fault_at raw lists at ≡ Some fault
+faulty raw lists at op kinds fault there known e =
+    fault_at-there raw lists at op there ∙ ap (λ (k : Option Kinds). fault_reached raw lists at op k) known ∙ e
+
+-- an empty program
+pub empty : (raw : Raw) → length raw.code ≡ 0 → IsFirstFault raw EmptyCode 0
+unfolding fault_at
+empty raw none =
+    (λ place. cond (eqb place 0) (Some []) None,
+    front_starts raw _ refl (λ place kinds e. first place kinds (eqb place 0) refl e), rw (eq-eqb _ _ none) refl)
+  where
+    first : (place : ℕ) (kinds : Kinds) (b : Bool) → eqb place 0 ≡ b → cond b (Some []) None ≡ Some kinds → place ≡ 0
+    first place kinds true is e = eqb-true place 0 is
+    first place kinds false is e = absurd cc

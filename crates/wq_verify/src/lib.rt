@@ -8,6 +8,7 @@
 
 mod fault;
 mod kinds;
+mod pass;
 mod rule;
 mod shape;
 
