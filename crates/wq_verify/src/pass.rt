@@ -1,5 +1,5 @@
 //! One pass forward over a program: the kinds at each place that an instruction leads to.
-ghost use Rattle.std.specs.Prelude.{◌≡◌, ◌<◌, ℕ, IfOk, IfSome, IfNone, IsTrue, Some, List, [], length, false, ◌≤◌};
+ghost use Rattle.std.specs.Prelude.{◌≡◌, ◌<◌, ℕ, IfOk, IfSome, IfNone, IsTrue, Some, List, [], length, false, slice_get, option_map};
 ghost use Rattle.wq_verify.specs.Fault.{is_bad_jump, lacks_next};
 ghost use Rattle.wq_verify.specs.Kinds.{Lists};
 ghost use Rattle.wq_verify.specs.Shape.{kinds_of, lists_of, IsGrown, IsStart};
@@ -9,7 +9,7 @@ use crate::fault::{ProgramFault, Refusal};
 use crate::rule::fault_of;
 use crate::shape::Shape;
 use std::alloc::{AllocError, Global};
-use wq_code::{Flow, Raw};
+use wq_code::{Flow, Op, Raw};
 
 /// The places of a program of `len` instructions before any was looked at: place 0 is reached with no cells.
 pub(crate) fn start(alloc: Global, len: usize) -> Result<Vec<Option<Shape>>, AllocError>
@@ -43,6 +43,22 @@ fn grow(reached: &mut [Option<Shape>], flow: Flow, at: usize, after: Shape)
     }
 }
 
+/// The instruction at a place.
+fn op_at(raw: &Raw, at: usize) -> Op
+    requires { at < length raw.now.code }
+    ensures { slice_get raw.now.code at ≡ Some result }
+{
+    raw.code.as_slice()[at]
+}
+
+/// The kinds at a place, if it was reached.
+fn shape_at(reached: &[Option<Shape>], at: usize) -> Option<Shape>
+    requires { at < length reached.now }
+    ensures { option_map kinds_of result ≡ lists_of reached.now at }
+{
+    reached[at]
+}
+
 /// The first fault of a program that has instructions, unless it has none: then its typing is what was noted.
 pub(crate) fn first_fault(raw: &Raw, reached: &mut [Option<Shape>]) -> Option<Refusal>
     requires some { 0 < length raw.now.code }
@@ -51,10 +67,9 @@ pub(crate) fn first_fault(raw: &Raw, reached: &mut [Option<Shape>]) -> Option<Re
     ensures found { IfSome result (λ refusal. IsFirstFault raw.now refusal.fault refusal.at) }
     ensures none { IfNone result ((lists : Lists) × IsTyping raw.now lists) }
 {
-    let code = raw.code.as_slice();
-    for at in 0..code.len() {
-        let op = code[at];
-        let Some(shape) = reached[at] else {
+    for at in 0..raw.code.len() {
+        let op = op_at(raw, at);
+        let Some(shape) = shape_at(reached, at) else {
             return Some(Refusal {
                 fault: ProgramFault::Unreached,
                 at,
