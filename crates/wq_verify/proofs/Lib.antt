@@ -1,3 +1,4 @@
 pub mod Tests
 pub mod Fronts
 pub mod Shapes
+pub mod Budgets

@@ -2,7 +2,7 @@
 -- This server's own measure of cost: the charges of wq_code's machine.
 use Rattle.std.specs.Prelude.{ℕ, ◌+◌, ◌*◌, max, List, [], ◌∷◌, length, sum_by, slice_get}
 use Rattle.std.specs.Option.{option_map_or}
-use Rattle.wq_glob.specs.Glob.{atoms_of}
+use Rattle.wq_glob.specs.Glob.{Glob, atoms_of}
 use Rattle.wq_code.specs.declared.operation.Op.{Op}
 use Rattle.wq_code.specs.declared.operation.Op.TheVariants.{OneOf, Match}
 use Rattle.wq_code.specs.declared.raw.Raw.{Raw}
@@ -16,10 +16,14 @@ longest (text ∷ texts) = max (length text) (longest texts)
 abbrev pub widest : Raw → ℕ → ℕ
 widest raw name_len = max name_len (longest raw.texts)
 
--- the most that an instruction can cost with texts of this width: 1; for `Match` a cell for each atom and one, at each
--- byte and one, more; for `OneOf` the entries of its list more
+-- the most that a pattern can cost on a text of this width: a cell for each atom and one, at each byte and one
+abbrev pub pattern_cost : ℕ → Glob → ℕ
+pattern_cost width p = (length (atoms_of p) + 1) * (width + 1)
+
+-- the most that an instruction can cost with texts of this width: 1; for `Match` the cost of its pattern more, for
+-- `OneOf` the entries of its list
 abbrev pub cost : Raw → ℕ → Op → ℕ
-cost raw width (Match place) = 1 + option_map_or (λ p. (length (atoms_of p) + 1) * (width + 1)) (slice_get raw.patterns place) 0
+cost raw width (Match place) = 1 + option_map_or (pattern_cost width) (slice_get raw.patterns place) 0
 cost raw width (OneOf _ place) = 1 + option_map_or length (slice_get raw.lists place) 0
 cost raw width _ = 1
 

@@ -6,11 +6,15 @@
 //! one that may not in `specs/Fault.antt`. This crate runs no programs.
 #![tactic(auto)]
 
+mod budget;
 mod fault;
 mod kinds;
 mod pass;
+mod program;
 mod rule;
 mod shape;
 
+pub use budget::MAX_NAME;
 pub use fault::{ProgramFault, Refusal};
+pub use program::{Program, verify};
 pub use shape::MAX_CELLS;
