@@ -1,5 +1,5 @@
 -- Front typings: they grow by an instruction, there is at most one to a place, and no valid program is refused.
-use Rattle.std.proofs.Common.{◌≡◌, ◌⊎◌, ℕ, zero, suc, ◌+◌, ◌<◌, ◌≤◌, Bool, true, false, not, cond, ltb, leb, eqb, ◌&&◌, ◌||◌, List, [], ◌∷◌, ◌++◌, length, Option, Some, None, refl, sym, ap, subst, ◌∙◌, inl, inr, arith}
+use Rattle.std.proofs.Common.{◌≡◌, ◌⊎◌, ℕ, zero, suc, ◌+◌, ◌<◌, ◌≤◌, Bool, true, false, cond, eqb, ◌||◌, [], length, Option, Some, None, refl, sym, ap, subst, ◌∙◌, inl, inr, arith}
 use Rattle.std.specs.Prelude.{slice_get}
 use Rattle.std.specs.Option.{option_and_then}
 use Rattle.std.proofs.lemmas.Bool.{eqb-true, eq-eqb, ne_eqb, le-ltb, lt-leb, cases_lt}
@@ -9,12 +9,12 @@ use Rattle.wq_code.specs.declared.flow.Flow.{Flow}
 use Rattle.wq_code.specs.declared.flow.Flow.TheVariants.{Next, To, Fork, Stop}
 use Rattle.wq_code.specs.declared.operation.Op.{Op}
 use Rattle.wq_code.specs.declared.raw.Raw.{Raw}
-use Rattle.wq_verify.specs.Kinds.{Kinds, Lists, same_kinds, kinds_after, leads}
+use Rattle.wq_verify.specs.Kinds.{Kinds, Lists, kinds_after, leads}
 use Rattle.wq_verify.specs.Fault.{stops, is_bad_jump, lacks_next, differs, is_other, fault_of, fault_reached, fault_at}
-use Rattle.wq_verify.specs.Typing.{IsNext, IsWell, KeepsRules, LeadsTo, IsFront, IsTyping, IsValid, IsFirstFault, grown}
+use Rattle.wq_verify.specs.Typing.{IsWell, KeepsRules, IsFront, IsTyping, IsValid, IsFirstFault, grown}
 use Rattle.wq_verify.specs.declared.fault.ProgramFault.{ProgramFault}
 use Rattle.wq_verify.specs.declared.fault.ProgramFault.TheVariants.{EmptyCode, Unreached}
-use Rattle.wq_verify.proofs.Tests.{not_differs, differs-same, leads-later, leads-same, Passes, passes, passes-none, well-from_passes, no_lack, no_wrong, no_bad_return}
+use Rattle.wq_verify.proofs.Tests.{not_differs, differs-same, leads-same, Passes, passes, passes-none, well-from_passes, no_lack, no_wrong, no_bad_return}
 
 -- ---- growing
 
@@ -38,7 +38,11 @@ stays_known lists after way at place kinds same is =
 well_stays : (raw : Raw) (lists more : Lists) (at : ℕ) (op : Op) (kinds : Kinds)
     → ((place : ℕ) (k : Kinds) → lists place ≡ Some k → more place ≡ Some k) → IsWell raw lists at op kinds → IsWell raw more at op kinds
 well_stays raw lists more at op kinds stays w = record {
-  there = w.there; reached = stays at kinds w.reached; operands = w.operands; named = w.named; low = w.low;
+  there = w.there;
+  reached = stays at kinds w.reached;
+  operands = w.operands;
+  named = w.named;
+  low = w.low;
   next = λ place l. record { later = (w.next place l).later; within = (w.next place l).within; known = stays place _ (w.next place l).known };
 }
 
@@ -61,16 +65,19 @@ front_grows raw lists at op kinds front there reached none =
       start = stays 0 [] front.start;
       each = λ j lt. elim (at_or_below j at lt) [
         | inl less ↦ let old = front.each j less in (old.0, old.1, well_stays raw lists more j old.0 old.1 stays old.2)
-        | inr is ↦ subst (KeepsRules raw more) (sym is)
-            (op, kinds, well-from_passes raw lists more at op kinds there (stays at kinds reached) h
-            (λ place l. known_after (leads (flow op) at place) after (lists place) l))
+        | inr is ↦ subst (KeepsRules raw more) (sym is) (
+          op,
+          kinds,
+          well-from_passes raw lists more at op kinds there (stays at kinds reached) h
+              (λ place l. known_after (leads (flow op) at place) after (lists place) l),
+        )
       ];
       only = λ place k e. elim (from_grown (leads (flow op) at place) after k (lists place) e) [
         | inl l ↦ inr (at, omega arith, (op, there, l))
         | inr is ↦ elim (front.only place k is) [
-            | inl zero' ↦ inl zero'
-            | inr by ↦ inr (by.0, omega (arith, by.1), by.2)
-          ]
+          | inl zero' ↦ inl zero'
+          | inr by ↦ inr (by.0, omega (arith, by.1), by.2)
+        ]
       ];
     }
 
@@ -86,26 +93,26 @@ agree raw a b i n fa fb le zero place lt kinds e = absurd (omega arith)
 agree raw a b i n fa fb le (suc fuel) place lt kinds e =
     elim (fa.only place kinds e) [
       | inl is ↦
-        let first : a 0 ≡ Some kinds = subst (λ (p : ℕ). a p ≡ Some kinds) is e in
-        let none : [] ≡ kinds = same_Some [] kinds (sym fa.start ∙ first) in
-        subst (λ (p : ℕ). b p ≡ Some kinds) (sym is) (fb.start ∙ ap (λ (k : Kinds). Some k) none)
+          let first : a 0 ≡ Some kinds = subst (λ (p : ℕ). a p ≡ Some kinds) is e in
+          let none : [] ≡ kinds = same_Some [] kinds (sym fa.start ∙ first) in
+          subst (λ (p : ℕ). b p ≡ Some kinds) (sym is) (fb.start ∙ ap (λ (k : Kinds). Some k) none)
       | inr by ↦
-        let at = by.0 in
-        let op = by.2.0 in
-        let wa = fa.each at by.1 in
-        let wb = fb.each at (omega (arith, by.1)) in
-        let la : leads (flow wa.0) at place ≡ true =
-            subst (λ (o : Op). leads (flow o) at place ≡ true) (same_op raw at op wa.0 by.2.1 wa.2.there) by.2.2 in
-        let lb : leads (flow wb.0) at place ≡ true =
-            subst (λ (o : Op). leads (flow o) at place ≡ true) (same_op raw at op wb.0 by.2.1 wb.2.there) by.2.2 in
-        let na = wa.2.next place la in
-        let nb = wb.2.next place lb in
-        let below = agree raw a b i n fa fb le fuel at (omega (arith, na.later)) wa.1 wa.2.reached in
-        let ops : wa.0 ≡ wb.0 = same_op raw at wa.0 wb.0 wa.2.there wb.2.there in
-        let ks : wa.1 ≡ wb.1 = same_Some wa.1 wb.1 (sym below ∙ wb.2.reached) in
-        let after : kinds_after wb.0 wb.1 ≡ kinds_after wa.0 wa.1 = rw (ops, ks) refl in
-        let mine : kinds_after wa.0 wa.1 ≡ kinds = same_Some _ kinds (sym na.known ∙ e) in
-        nb.known ∙ ap (λ (k : Kinds). Some k) (after ∙ mine)
+          let at = by.0 in
+          let op = by.2.0 in
+          let wa = fa.each at by.1 in
+          let wb = fb.each at (omega (arith, by.1)) in
+          let la : leads (flow wa.0) at place ≡ true =
+          subst (λ (o : Op). leads (flow o) at place ≡ true) (same_op raw at op wa.0 by.2.1 wa.2.there) by.2.2 in
+          let lb : leads (flow wb.0) at place ≡ true =
+          subst (λ (o : Op). leads (flow o) at place ≡ true) (same_op raw at op wb.0 by.2.1 wb.2.there) by.2.2 in
+          let na = wa.2.next place la in
+          let nb = wb.2.next place lb in
+          let below = agree raw a b i n fa fb le fuel at (omega (arith, na.later)) wa.1 wa.2.reached in
+          let ops : wa.0 ≡ wb.0 = same_op raw at wa.0 wb.0 wa.2.there wb.2.there in
+          let ks : wa.1 ≡ wb.1 = same_Some wa.1 wb.1 (sym below ∙ wb.2.reached) in
+          let after : kinds_after wb.0 wb.1 ≡ kinds_after wa.0 wa.1 = rw (ops, ks) refl in
+          let mine : kinds_after wa.0 wa.1 ≡ kinds = same_Some _ kinds (sym na.known ∙ e) in
+          nb.known ∙ ap (λ (k : Kinds). Some k) (after ∙ mine)
     ]
 
 pub front_agrees : (raw : Raw) (a b : Lists) (i n : ℕ) → IsFront raw a i → IsFront raw b n → i ≤ n
@@ -155,8 +162,10 @@ no_other : (lists : Lists) (after : Kinds) (way : Flow) (at : ℕ)
 no_other lists after Next at h = h (at + 1) (eq-eqb (at + 1) (at + 1) refl)
 no_other lists after (To target) at h = h target (eq-eqb target target refl)
 no_other lists after (Fork target flag) at h =
-    rw (h target (rw (eq-eqb target target refl) refl),
-    h (at + 1) (or_right (eqb (at + 1) target) (eqb (at + 1) (at + 1)) (eq-eqb (at + 1) (at + 1) refl))) refl
+    rw (
+      h target (rw (eq-eqb target target refl) refl),
+      h (at + 1) (or_right (eqb (at + 1) target) (eqb (at + 1) (at + 1)) (eq-eqb (at + 1) (at + 1) refl)),
+    ) refl
 no_other lists after Stop at h = refl
 
 no_difference : (after : Kinds) (known : Option Kinds) → ((k : Kinds) → known ≡ Some k → k ≡ after) → differs after known ≡ false
@@ -168,7 +177,7 @@ passes-from_well : (raw : Raw) (lists more : Lists) (at : ℕ) (op : Op) (kinds 
     → ((place : ℕ) (k : Kinds) → lists place ≡ Some k → more place ≡ Some k) → Passes raw lists at op kinds
 passes-from_well raw lists more at op kinds w stays =
     let bounds : (place : ℕ) → leads (flow op) at place ≡ true → (at < place) × (place < length raw.code) =
-        λ place l. ((w.next place l).later, (w.next place l).within) in
+    λ place l. ((w.next place l).later, (w.next place l).within) in
     record {
       cells = no_lack (stops (flow op)) op kinds w.operands;
       right = no_wrong (stops (flow op)) op kinds w.operands;
@@ -178,7 +187,7 @@ passes-from_well raw lists more at op kinds w stays =
       low = le-ltb _ _ w.low;
       next = no_lack_of_next (flow op) at (length raw.code) bounds;
       same = no_other lists (kinds_after op kinds) (flow op) at (λ place l.
-      no_difference (kinds_after op kinds) (lists place) (λ k is. same_Some k _ (sym (stays place k is) ∙ (w.next place l).known)));
+          no_difference (kinds_after op kinds) (lists place) (λ k is. same_Some k _ (sym (stays place k is) ∙ (w.next place l).known)));
     }
 
 -- a place of the code that a typing knows, a front typing to it knows
@@ -187,19 +196,19 @@ known_at : (raw : Raw) (lists whole : Lists) (at : ℕ) (kinds : Kinds) → IsFr
 known_at raw lists whole at kinds front typing le known =
     elim (typing.only at kinds known) [
       | inl is ↦
-        let first : whole 0 ≡ Some kinds = subst (λ (p : ℕ). whole p ≡ Some kinds) is known in
-        let none : [] ≡ kinds = same_Some [] kinds (sym typing.start ∙ first) in
-        subst (λ (p : ℕ). lists p ≡ Some kinds) (sym is) (front.start ∙ ap (λ (k : Kinds). Some k) none)
+          let first : whole 0 ≡ Some kinds = subst (λ (p : ℕ). whole p ≡ Some kinds) is known in
+          let none : [] ≡ kinds = same_Some [] kinds (sym typing.start ∙ first) in
+          subst (λ (p : ℕ). lists p ≡ Some kinds) (sym is) (front.start ∙ ap (λ (k : Kinds). Some k) none)
       | inr by ↦
-        let wt = typing.each by.0 by.1 in
-        let lt : leads (flow wt.0) by.0 at ≡ true =
-            subst (λ (o : Op). leads (flow o) by.0 at ≡ true) (same_op raw by.0 by.2.0 wt.0 by.2.1 wt.2.there) by.2.2 in
-        let wf = front.each by.0 (wt.2.next at lt).later in
-        let lf : leads (flow wf.0) by.0 at ≡ true =
-            subst (λ (o : Op). leads (flow o) by.0 at ≡ true) (same_op raw by.0 by.2.0 wf.0 by.2.1 wf.2.there) by.2.2 in
-        let mine = (wf.2.next at lf).known in
-        let theirs = front_agrees raw lists whole at (length raw.code) front typing le at _ mine in
-        mine ∙ ap (λ (k : Kinds). Some k) (same_Some _ kinds (sym theirs ∙ known))
+          let wt = typing.each by.0 by.1 in
+          let lt : leads (flow wt.0) by.0 at ≡ true =
+          subst (λ (o : Op). leads (flow o) by.0 at ≡ true) (same_op raw by.0 by.2.0 wt.0 by.2.1 wt.2.there) by.2.2 in
+          let wf = front.each by.0 (wt.2.next at lt).later in
+          let lf : leads (flow wf.0) by.0 at ≡ true =
+          subst (λ (o : Op). leads (flow o) by.0 at ≡ true) (same_op raw by.0 by.2.0 wf.0 by.2.1 wf.2.there) by.2.2 in
+          let mine = (wf.2.next at lf).known in
+          let theirs = front_agrees raw lists whole at (length raw.code) front typing le at _ mine in
+          mine ∙ ap (λ (k : Kinds). Some k) (same_Some _ kinds (sym theirs ∙ known))
     ]
 
 some_not_none : {A : Type 0} (x : Option A) (y : A) → x ≡ Some y → x ≡ None → ⊥
@@ -212,18 +221,18 @@ valid_is_accepted raw fault at valid first =
     let front = first.1 in
     let full : eqb (length raw.code) 0 ≡ false = ne_eqb (length raw.code) 0 (λ e. omega (arith, e, valid.some)) in
     let e : option_and_then (λ op. fault_reached raw lists at op (lists at)) (slice_get raw.code at) ≡ Some fault =
-        rw full at first.2 in
+    rw full at first.2 in
     let found = there_is (λ op. fault_reached raw lists at op (lists at)) (slice_get raw.code at) fault e in
     let lt : at < length raw.code = slice_get_within raw.code at found.0 found.1 in
     let w = (valid.typed.1).each at lt in
     let op : w.0 ≡ found.0 = same_op raw at w.0 found.0 w.2.there found.1 in
     let known = known_at raw lists valid.typed.0 at w.1 front valid.typed.1 (omega (arith, lt)) w.2.reached in
     let p = passes-from_well raw lists valid.typed.0 at w.0 w.1 w.2
-        (front_agrees raw lists valid.typed.0 at (length raw.code) front valid.typed.1 (omega (arith, lt))) in
+    (front_agrees raw lists valid.typed.0 at (length raw.code) front valid.typed.1 (omega (arith, lt))) in
     let none : fault_of raw lists at w.0 w.1 ≡ None = passes-none raw lists at w.0 w.1 p in
     let wrong : fault_of raw lists at w.0 w.1 ≡ Some fault =
-        subst (λ (k : Option Kinds). fault_reached raw lists at w.0 k ≡ Some fault) known
-        (subst (λ (o : Op). fault_reached raw lists at o (lists at) ≡ Some fault) (sym op) found.2) in
+    subst (λ (k : Option Kinds). fault_reached raw lists at w.0 k ≡ Some fault) known
+    (subst (λ (o : Op). fault_reached raw lists at o (lists at) ≡ Some fault) (sym op) found.2) in
     some_not_none _ fault wrong none
 
 -- ---- what the code knows
@@ -265,9 +274,11 @@ faulty raw lists at op kinds fault there known e =
 -- an empty program
 pub empty : (raw : Raw) → length raw.code ≡ 0 → IsFirstFault raw EmptyCode 0
 unfolding fault_at
-empty raw none =
-    (λ place. cond (eqb place 0) (Some []) None,
-    front_starts raw _ refl (λ place kinds e. first place kinds (eqb place 0) refl e), rw (eq-eqb _ _ none) refl)
+empty raw none = (
+  λ place. cond (eqb place 0) (Some []) None,
+  front_starts raw _ refl (λ place kinds e. first place kinds (eqb place 0) refl e),
+  rw (eq-eqb _ _ none) refl,
+)
   where
     first : (place : ℕ) (kinds : Kinds) (b : Bool) → eqb place 0 ≡ b → cond b (Some []) None ≡ Some kinds → place ≡ 0
     first place kinds true is e = eqb-true place 0 is

@@ -2,3 +2,4 @@ pub mod Tests
 pub mod Fronts
 pub mod Shapes
 pub mod Budgets
+pub mod Steps

@@ -1,9 +1,8 @@
 -- What the tests of the faults say, and that the first fault is none exactly where an instruction keeps the rules.
-use Rattle.std.proofs.Common.{◌≡◌, ◌⊎◌, ℕ, zero, suc, ◌+◌, ◌<◌, ◌≤◌, Bool, true, false, not, cond, ltb, leb, eqb, ◌&&◌, ◌||◌, List, [], ◌∷◌, ◌++◌, length, drop, Option, Some, None, refl, sym, ap, subst, ◌∙◌, inl, inr, arith}
+use Rattle.std.proofs.Common.{◌≡◌, ◌⊎◌, ℕ, ◌+◌, ◌<◌, Bool, true, false, not, cond, ltb, leb, eqb, ◌&&◌, ◌||◌, [], ◌∷◌, length, Option, Some, None, refl, ap, inl, inr, arith}
 use Rattle.std.specs.Prelude.{slice_get}
-use Rattle.std.proofs.lemmas.Bool.{ltb-false, ltb-true, le-ltb, lt-ltb, leb-true, leb-false, le-leb, eqb-true, eq-eqb, and_parts, and_from, not-true}
-use Rattle.wq_code.specs.Signature.{signature, same_kind, meets}
-use Rattle.wq_code.specs.declared.signature.Need.{Need}
+use Rattle.std.proofs.lemmas.Bool.{ltb-false, le-ltb, leb-false, eqb-true, and_parts, and_from}
+use Rattle.wq_code.specs.Signature.{signature, same_kind}
 use Rattle.wq_code.specs.Flow.{flow}
 use Rattle.wq_code.specs.declared.flow.Flow.{Flow}
 use Rattle.wq_code.specs.declared.flow.Flow.TheVariants.{Next, To, Fork, Stop}
@@ -11,13 +10,12 @@ use Rattle.wq_code.specs.Constant.{constant, has_constant}
 use Rattle.wq_code.specs.declared.operation.CellKind.{CellKind}
 use Rattle.wq_code.specs.declared.operation.CellKind.TheVariants as cell
 use Rattle.wq_code.specs.declared.operation.Op.{Op}
-use Rattle.wq_code.specs.declared.operation.Op.TheVariants.{Jump, JumpIfNot, JumpIf, Return}
+use Rattle.wq_code.specs.declared.operation.Op.TheVariants.{Return}
 use Rattle.wq_code.specs.declared.raw.Raw.{Raw}
 use Rattle.wq_verify.specs.Limit.{max_cells}
 use Rattle.wq_verify.specs.Kinds.{Kinds, Lists, same_kinds, all_meet, is_one_flag, kinds_after, leads}
-use Rattle.wq_verify.specs.Fault.{stops, lacks_cells, has_wrong_cell, is_bad_return, is_bad_jump, lacks_next, differs, is_other, fault_of, fault_reached, fault_at}
-use Rattle.wq_verify.specs.Typing.{HasOperands, IsNext, IsWell, KeepsRules, LeadsTo, IsFront}
-use Rattle.wq_verify.specs.declared.fault.ProgramFault.{ProgramFault}
+use Rattle.wq_verify.specs.Fault.{stops, lacks_cells, has_wrong_cell, is_bad_return, is_bad_jump, lacks_next, differs, is_other, fault_of}
+use Rattle.wq_verify.specs.Typing.{HasOperands, IsWell}
 use Rattle.wq_verify.specs.declared.fault.ProgramFault.TheVariants.{TooFewCells, WrongKind, NoConstant, BadJump, OtherKinds, TooManyCells, NoNext, BadReturn}
 
 -- ---- tests on Booleans
@@ -88,7 +86,7 @@ one_flag-true (cell.Number ∷ xs) e = absurd cc
 one_flag-true (cell.Text ∷ xs) e = absurd cc
 
 -- only the end stops
-stops-Return : (op : Op) → flow op ≡ Stop → op ≡ Return
+pub stops-Return : (op : Op) → flow op ≡ Stop → op ≡ Return
 stops-Return Return e = refl
 stops-Return op e = absurd cc
 
@@ -129,7 +127,7 @@ leads-same lists after Stop at place o l = absurd cc
 
 -- ---- operands
 
-stops-true : (way : Flow) → stops way ≡ true → way ≡ Stop
+pub stops-true : (way : Flow) → stops way ≡ true → way ≡ Stop
 stops-true Next e = absurd cc
 stops-true (To target) e = absurd cc
 stops-true (Fork target flag) e = absurd cc
@@ -198,8 +196,14 @@ passes raw lists at op kinds e =
     let h = cond_none (lacks_next (flow op) at (length raw.code)) NoNext _ g.1 in
     let i = cond_none (is_other lists (kinds_after op kinds) (flow op) at) OtherKinds None h.1 in
     record {
-      cells = a.0; right = b.0; end = c.0; named = not_false (has_constant raw (constant op)) d.0; jump = f.0; low = g.0;
-      next = h.0; same = i.0;
+      cells = a.0;
+      right = b.0;
+      end = c.0;
+      named = not_false (has_constant raw (constant op)) d.0;
+      jump = f.0;
+      low = g.0;
+      next = h.0;
+      same = i.0;
     }
 
 pub passes-none : (raw : Raw) (lists : Lists) (at : ℕ) (op : Op) (kinds : Kinds) → Passes raw lists at op kinds
@@ -218,6 +222,6 @@ well-from_passes raw lists more at op kinds there reached h known = record {
   named = h.named;
   low = ltb-false _ _ h.low;
   next = λ place l.
-    let p = leads-later (flow op) at (length raw.code) place h.jump h.next l in
-    record { later = p.0; within = p.1; known = known place l };
+      let p = leads-later (flow op) at (length raw.code) place h.jump h.next l in
+      record { later = p.0; within = p.1; known = known place l };
 }

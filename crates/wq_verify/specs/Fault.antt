@@ -1,6 +1,6 @@
 -- What is wrong with an instruction of a program, as tests in the order in which they are looked for.
 -- This server's own rules; the faults' numbers are those that it prints.
-use Rattle.std.specs.Prelude.{ℕ, ◌+◌, Bool, true, false, not, ◌==◌, ◌&&◌, ◌||◌, nat_lt, nat_le, if◌then◌else◌, List, length, Option, Some, None, slice_get}
+use Rattle.std.specs.Prelude.{ℕ, ◌+◌, Bool, true, false, not, ◌==◌, ◌&&◌, ◌||◌, nat_lt, nat_le, if◌then◌else◌, length, Option, Some, None, slice_get}
 use Rattle.std.specs.Option.{option_and_then}
 use Rattle.wq_code.specs.Signature.{signature}
 use Rattle.wq_code.specs.Flow.{flow}

@@ -4,3 +4,5 @@ pub mod Fault
 pub mod Typing
 pub mod Budget
 pub mod Shape
+pub mod Running
+pub mod Law

@@ -1,6 +1,6 @@
 -- When a program may run: the kinds of the stack are known at each place, whatever way led there.
 -- This server's own rules.
-use Rattle.std.specs.Prelude.{◌≡◌, ℕ, ◌<◌, ◌≤◌, ◌⊎◌, IsTrue, if◌then◌else◌, List, [], ◌∷◌, length, Option, Some, slice_get}
+use Rattle.std.specs.Prelude.{◌≡◌, ℕ, ◌<◌, ◌≤◌, ◌⊎◌, IsTrue, if◌then◌else◌, [], ◌∷◌, length, Some, slice_get}
 use Rattle.wq_code.specs.Signature.{signature}
 use Rattle.wq_code.specs.Flow.{flow}
 use Rattle.wq_code.specs.declared.flow.Flow.{Flow}

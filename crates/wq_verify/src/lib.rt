@@ -9,6 +9,7 @@
 mod budget;
 mod fault;
 mod kinds;
+mod law;
 mod pass;
 mod program;
 mod rule;
@@ -16,5 +17,9 @@ mod shape;
 
 pub use budget::MAX_NAME;
 pub use fault::{ProgramFault, Refusal};
+pub use law::{
+    fronts_are_unique, fronts_grow, runs_begin_well, steps_go_well, valid_are_accepted,
+    valid_are_typed,
+};
 pub use program::{Program, verify};
 pub use shape::MAX_CELLS;

@@ -1,4 +1,4 @@
-use Rattle.std.proofs.Common.{◌≡◌, ◌≤◌, refl, arith}
+use Rattle.std.proofs.Common.{◌≡◌, refl, arith}
 use Rattle.wq_verify.specs.Budget.{longest}
 use Rattle.wq_verify.proofs.Budgets.{longest_low, texts_fit}
 use Rattle.wq_verify.proofs.budget.widest.Goals as goal
