@@ -11,3 +11,4 @@ pub mod Reading
 pub mod File
 pub mod Spelling
 pub mod Law
+pub mod FileFault

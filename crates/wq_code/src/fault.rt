@@ -1,5 +1,6 @@
 //! Why bytes are no program file.
 ghost use Rattle.std.specs.Prelude.{◌≡◌};
+ghost use Rattle.wq_code.specs.FileFault.{number_of};
 ghost use Rattle.wq_code.specs.declared.fault.FileFault.TheVariants.{NoMemory};
 
 use std::alloc::{AllocError, AllocFailed};
@@ -47,5 +48,23 @@ impl<T: Drop> From<AllocFailed<T>> for FileFault {
 
     fn from(_refused: AllocFailed<T>) -> FileFault {
         FileFault::NoMemory
+    }
+}
+
+impl FileFault {
+    /// The number of the fault, as it is printed behind `F`.
+    pub fn number(self) -> u8
+        ensures { result ≡ number_of self }
+    {
+        match self {
+            FileFault::WrongMagic => 1,
+            FileFault::OtherVersion => 2,
+            FileFault::CutShort => 3,
+            FileFault::BytesAfterEnd => 4,
+            FileFault::UnknownOperation => 5,
+            FileFault::BadOperand => 6,
+            FileFault::OverLimit => 7,
+            FileFault::NoMemory => 8,
+        }
     }
 }

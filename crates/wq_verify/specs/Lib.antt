@@ -6,3 +6,4 @@ pub mod Budget
 pub mod Shape
 pub mod Running
 pub mod Law
+pub mod ProgramFault

@@ -1,4 +1,7 @@
 //! Why a program may not run.
+ghost use Rattle.std.specs.Prelude.{◌≡◌};
+ghost use Rattle.wq_verify.specs.ProgramFault.{number_of};
+
 use thiserror::Error;
 
 /// What is wrong with a program, at one of its instructions.
@@ -37,6 +40,27 @@ pub enum ProgramFault {
     /// Y11: a growth was refused.
     #[error("no memory")]
     NoMemory,
+}
+
+impl ProgramFault {
+    /// The number of the fault, as it is printed behind `Y`.
+    pub fn number(self) -> u8
+        ensures { result ≡ number_of self }
+    {
+        match self {
+            ProgramFault::EmptyCode => 1,
+            ProgramFault::TooFewCells => 2,
+            ProgramFault::WrongKind => 3,
+            ProgramFault::NoConstant => 4,
+            ProgramFault::BadJump => 5,
+            ProgramFault::OtherKinds => 6,
+            ProgramFault::TooManyCells => 7,
+            ProgramFault::Unreached => 8,
+            ProgramFault::NoNext => 9,
+            ProgramFault::BadReturn => 10,
+            ProgramFault::NoMemory => 11,
+        }
+    }
 }
 
 /// A fault and the place of its instruction, counted from 0.
