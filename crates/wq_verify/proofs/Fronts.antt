@@ -11,7 +11,7 @@ use Rattle.wq_code.specs.declared.operation.Op.{Op}
 use Rattle.wq_code.specs.declared.raw.Raw.{Raw}
 use Rattle.wq_verify.specs.Kinds.{Kinds, Lists, kinds_after, leads}
 use Rattle.wq_verify.specs.Fault.{stops, is_bad_jump, lacks_next, differs, is_other, fault_of, fault_reached, fault_at}
-use Rattle.wq_verify.specs.Typing.{IsWell, KeepsRules, IsFront, IsTyping, IsValid, IsFirstFault, grown}
+use Rattle.wq_verify.specs.Typing.{IsWell, KeepsRules, IsFront, IsTyping, IsValid, IsFirstFault, lists_after}
 use Rattle.wq_verify.specs.declared.fault.ProgramFault.{ProgramFault}
 use Rattle.wq_verify.specs.declared.fault.ProgramFault.TheVariants.{EmptyCode, Unreached}
 use Rattle.wq_verify.proofs.Tests.{not_differs, differs-same, leads-same, Passes, passes, passes-none, well-from_passes, no_lack, no_wrong, no_bad_return}
@@ -31,7 +31,7 @@ from_grown false after kinds known e = inr e
 
 -- what was known stays known
 stays_known : (lists : Lists) (after : Kinds) (way : Flow) (at place : ℕ) (kinds : Kinds) → is_other lists after way at ≡ false
-    → lists place ≡ Some kinds → grown lists after way at place ≡ Some kinds
+    → lists place ≡ Some kinds → lists_after lists after way at place ≡ Some kinds
 stays_known lists after way at place kinds same is =
     grown_at (leads way at place) after kinds (lists place) is (leads-same lists after way at place same)
 
@@ -55,11 +55,11 @@ at_or_below j at lt = elim (cases_lt j at) [ inl less ↦ inl less | inr le ↦ 
 
 pub front_grows : (raw : Raw) (lists : Lists) (at : ℕ) (op : Op) (kinds : Kinds) → IsFront raw lists at
     → slice_get raw.code at ≡ Some op → lists at ≡ Some kinds → fault_of raw lists at op kinds ≡ None
-    → IsFront raw (grown lists (kinds_after op kinds) (flow op) at) (at + 1)
+    → IsFront raw (lists_after lists (kinds_after op kinds) (flow op) at) (at + 1)
 front_grows raw lists at op kinds front there reached none =
     let h = passes raw lists at op kinds none in
     let after = kinds_after op kinds in
-    let more : Lists = grown lists after (flow op) at in
+    let more : Lists = lists_after lists after (flow op) at in
     let stays = λ (place : ℕ) (k : Kinds) (is : lists place ≡ Some k). stays_known lists after (flow op) at place k h.same is in
     record {
       start = stays 0 [] front.start;

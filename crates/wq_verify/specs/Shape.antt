@@ -5,7 +5,7 @@ use Rattle.wq_code.specs.declared.operation.CellKind.{CellKind}
 use Rattle.wq_code.specs.declared.operation.CellKind.TheVariants as cell
 use Rattle.wq_code.specs.declared.flow.Flow.{Flow}
 use Rattle.wq_verify.specs.Kinds.{Kinds, Lists}
-use Rattle.wq_verify.specs.Typing.{grown}
+use Rattle.wq_verify.specs.Typing.{lists_after}
 use Rattle.wq_verify.specs.declared.shape.Shape.{Shape}
 
 -- the first so many cells of an array, the last of them first
@@ -28,4 +28,4 @@ IsStart reached =
 
 -- after an instruction at a place, the places that it leads to are reached with what it leaves
 abbrev pub IsGrown : List (Option Shape) → List (Option Shape) → Flow → ℕ → Shape → Type 0
-IsGrown old new flow at after = (place : ℕ) → lists_of new place ≡ grown (lists_of old) (kinds_of after) flow at place
+IsGrown old new flow at after = (place : ℕ) → lists_of new place ≡ lists_after (lists_of old) (kinds_of after) flow at place

@@ -1,4 +1,4 @@
-//! The kinds of the cells on a stack as they are kept. What can be done with them stands in `kinds`.
+//! The kinds of the cells on a stack as they are kept. What can be done with them stands in `stack`.
 ghost use Rattle.std.specs.Prelude.{◌≤◌};
 ghost use Rattle.wq_verify.specs.Limit.{max_cells};
 
