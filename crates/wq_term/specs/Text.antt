@@ -7,7 +7,7 @@ use Rattle.std.specs.List.{list_any, suffix_len}
 use Rattle.std.specs.Option.{option_map_or}
 use Rattle.std.specs.Str.{str_eq_ignore_ascii_case}
 use Rattle.wq_base.specs.Byte.{is_slash}
-use Rattle.wq_view.specs.Name.{basename_of, suffix_of}
+use Rattle.wq_base.specs.Name.{basename_of, suffix_of}
 use Rattle.wq_term.specs.declared.expr.Case.{Case}
 use Rattle.wq_term.specs.declared.expr.Case.TheVariants.{Exact, Folded}
 use Rattle.wq_term.specs.declared.expr.Scope.{Scope}
