@@ -24,7 +24,7 @@ use Rattle.wq_code.specs.declared.operation.Relation.{Relation}
 use Rattle.wq_code.specs.declared.operation.Relation.TheVariants.{Eq, Ne, Lt, Le, Gt, Ge}
 use Rattle.wq_code.specs.declared.operation.Op.{Op}
 use Rattle.wq_code.specs.declared.operation.Op.TheVariants.{Flag, Number, Text, Compare, Equal, Depth, OneOf, Match, Jump, JumpIfNot, JumpIf}
-use Rattle.wq_code.specs.Word.{code_of, a_of, b_of, blank_ops, flag_code, case_code, relation_code, op_coded, flag_coded, case_coded, relation_coded, with_a, with_b}
+use Rattle.wq_code.specs.Word.{code_of, a_of, b_of, blank_ops, flag_code, case_code, relation_code, op_of_code, flag_of_code, case_of_code, relation_of_code, with_a, with_b}
 use Rattle.wq_code.specs.Reading.{◌>>=◌, Reader, bytes_at, many_at, short_at, count_at, number_at, text_at, list_at, flags_of, pattern_at, or_fault, op_at}
 use Rattle.wq_code.specs.Spelling.{short, number, text, entries, flags_byte, pattern, instruction, AreBytes}
 
@@ -325,14 +325,14 @@ find_passes : {A : Type 0} (test : A → Bool) (xs : List A) (x : A) → find te
 find_passes test [] x e = absurd cc
 find_passes test (y ∷ xs) x e = passes_at test y (find test xs) x (test y) refl (find_passes test xs x) e
 
-flag_coded-code : (a : ℕ) (x : Bool) → flag_coded a ≡ Some x → flag_code x ≡ a
-flag_coded-code a x e = eqb-true _ _ (find_passes (λ x. flag_code x == a) (false ∷ true ∷ []) x e)
+flag_of_code-code : (a : ℕ) (x : Bool) → flag_of_code a ≡ Some x → flag_code x ≡ a
+flag_of_code-code a x e = eqb-true _ _ (find_passes (λ x. flag_code x == a) (false ∷ true ∷ []) x e)
 
-case_coded-code : (a : ℕ) (x : Case) → case_coded a ≡ Some x → case_code x ≡ a
-case_coded-code a x e = eqb-true _ _ (find_passes (λ x. case_code x == a) (Exact ∷ Folded ∷ []) x e)
+case_of_code-code : (a : ℕ) (x : Case) → case_of_code a ≡ Some x → case_code x ≡ a
+case_of_code-code a x e = eqb-true _ _ (find_passes (λ x. case_code x == a) (Exact ∷ Folded ∷ []) x e)
 
-relation_coded-code : (a : ℕ) (x : Relation) → relation_coded a ≡ Some x → relation_code x ≡ a
-relation_coded-code a x e =
+relation_of_code-code : (a : ℕ) (x : Relation) → relation_of_code a ≡ Some x → relation_code x ≡ a
+relation_of_code-code a x e =
     eqb-true _ _ (find_passes (λ x. relation_code x == a) (Eq ∷ Ne ∷ Lt ∷ Le ∷ Gt ∷ Ge ∷ []) x e)
 
 some_fault : {A : Type 0} (o : Option A) (fault : FileFault) (x : A) → or_fault o fault ≡ Ok x → o ≡ Some x
@@ -360,20 +360,20 @@ HasB b op other = (code_of other ≡ code_of op) × (a_of other ≡ a_of op) × 
 with_a-has : (op : Op) (a : ℕ) (other : Op) → with_a op a ≡ Some other → HasA a op other
 unfolding with_a
 with_a-has (Flag old) a other e =
-    let m = mapped (flag_coded a) Flag other e in
-    subst (HasA a (Flag old)) m.2 (refl, flag_coded-code a m.0 m.1)
+    let m = mapped (flag_of_code a) Flag other e in
+    subst (HasA a (Flag old)) m.2 (refl, flag_of_code-code a m.0 m.1)
 with_a-has (Compare old) a other e =
-    let m = mapped (relation_coded a) Compare other e in
-    subst (HasA a (Compare old)) m.2 (refl, relation_coded-code a m.0 m.1)
+    let m = mapped (relation_of_code a) Compare other e in
+    subst (HasA a (Compare old)) m.2 (refl, relation_of_code-code a m.0 m.1)
 with_a-has (Equal old) a other e =
-    let m = mapped (case_coded a) Equal other e in
-    subst (HasA a (Equal old)) m.2 (refl, case_coded-code a m.0 m.1)
+    let m = mapped (case_of_code a) Equal other e in
+    subst (HasA a (Equal old)) m.2 (refl, case_of_code-code a m.0 m.1)
 with_a-has (Depth old) a other e =
-    let m = mapped (case_coded a) Depth other e in
-    subst (HasA a (Depth old)) m.2 (refl, case_coded-code a m.0 m.1)
+    let m = mapped (case_of_code a) Depth other e in
+    subst (HasA a (Depth old)) m.2 (refl, case_of_code-code a m.0 m.1)
 with_a-has (OneOf old place) a other e =
-    let m = mapped (case_coded a) (λ case. OneOf case place) other e in
-    subst (HasA a (OneOf old place)) m.2 (refl, case_coded-code a m.0 m.1)
+    let m = mapped (case_of_code a) (λ case. OneOf case place) other e in
+    subst (HasA a (OneOf old place)) m.2 (refl, case_of_code-code a m.0 m.1)
 with_a-has op a other e = let k = kept a op other e in subst (HasA a op) k.1 (refl, sym k.0)
 
 with_b-has : (op : Op) (b : ℕ) (other : Op) → with_b op b ≡ Some other → HasB b op other
@@ -393,12 +393,12 @@ IsOp op = b_of op < 2 ^ 16
 
 op_takes : (bytes : List ℕ) (x : Op × List ℕ) → AreBytes bytes → op_at bytes ≡ Ok x
     → (bytes ≡ instruction x.0 ++ x.1) × IsOp x.0
-unfolding op_at op_coded
+unfolding op_at op_of_code
 op_takes [] x fits e = absurd cc
 op_takes (code ∷ []) x fits e =
-    let a = bind_ok (or_fault (op_coded code) UnknownOperation) _ x e in absurd (let h = a.2 in cc)
+    let a = bind_ok (or_fault (op_of_code code) UnknownOperation) _ x e in absurd (let h = a.2 in cc)
 op_takes (code ∷ a ∷ bytes) x fits e =
-    let o = bind_ok (or_fault (op_coded code) UnknownOperation) _ x e in
+    let o = bind_ok (or_fault (op_of_code code) UnknownOperation) _ x e in
     let p = bind_ok (or_fault (with_a o.0 a) BadOperand) _ x o.2 in
     let b = bind_ok (short_at bytes) _ x p.2 in
     let q = bind_ok (or_fault (with_b p.0 b.0.0) BadOperand) _ x b.2 in
@@ -412,7 +412,7 @@ op_takes (code ∷ a ∷ bytes) x fits e =
     (whole, omega (arith, has_b.2, t.1))
 
 op_again : (op : Op) (rest : List ℕ) → IsOp op → op_at (instruction op ++ rest) ≡ Ok (op, rest)
-unfolding op_at op_coded with_a with_b
+unfolding op_at op_of_code with_a with_b
 op_again (Flag true) rest h = rw (short-form.again 0 rest (lit< tt)) refl
 op_again (Flag false) rest h = rw (short-form.again 0 rest (lit< tt)) refl
 op_again (Compare Eq) rest h = rw (short-form.again 0 rest (lit< tt)) refl

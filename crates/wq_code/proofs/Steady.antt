@@ -5,14 +5,14 @@ use Rattle.std.specs.Prelude.{codes}
 use Rattle.std.proofs.lemmas.Bool.{cases_lt, lt-ltb, le-ltb}
 use Rattle.std.proofs.lemmas.List.{length-append, take-append-le, drop-append-le}
 use Rattle.wq_code.specs.Limit.{max_rows, max_text_length}
-use Rattle.wq_code.specs.Word.{op_coded, with_a, with_b}
+use Rattle.wq_code.specs.Word.{op_of_code, with_a, with_b}
 use Rattle.wq_code.specs.Reading.{◌>>=◌, Reader, or_fault, bytes_at, byte_at, exact_at, many_at, short_at, count_at, number_at, text_at, list_at, flags_of, pattern_at, op_at}
 use Rattle.wq_code.specs.File.{head_at, counts_at, tables_at, raw_at}
 use Rattle.wq_code.specs.declared.fault.FileFault.{FileFault}
 use Rattle.wq_code.specs.declared.fault.FileFault.TheVariants.{WrongMagic, OtherVersion, CutShort, BytesAfterEnd, UnknownOperation, BadOperand, OverLimit, NoMemory}
 use Rattle.wq_code.specs.declared.file.Counts.{Counts}
 
--- a second reading, of more bytes, gives what the first gave, grown; nothing is said where the first was cut short
+-- a second reading, of more bytes, gives what the first gave, lists_after; nothing is said where the first was cut short
 abbrev pub Steady : {A : Type 0} → (A → A) → Result A FileFault → Result A FileFault → Type 0
 Steady grow (Ok x) second = second ≡ Ok (grow x)
 Steady grow (Err CutShort) second = Unit {0}
@@ -136,8 +136,8 @@ op_steady : IsSteady op_at
 unfolding op_at
 op_steady bytes more =
     steady_then (with_more more) (with_more more) (byte_at bytes) _ _ _ (byte_steady bytes more) (λ code.
-    steady_then (λ op. op) (with_more more) (or_fault (op_coded code.0) UnknownOperation) _ _ _
-    (steady_same (or_fault (op_coded code.0) UnknownOperation)) (λ blank.
+    steady_then (λ op. op) (with_more more) (or_fault (op_of_code code.0) UnknownOperation) _ _ _
+    (steady_same (or_fault (op_of_code code.0) UnknownOperation)) (λ blank.
     steady_then (with_more more) (with_more more) (byte_at code.1) _ _ _ (byte_steady code.1 more) (λ a.
     steady_then (λ op. op) (with_more more) (or_fault (with_a blank a.0) BadOperand) _ _ _
     (steady_same (or_fault (with_a blank a.0) BadOperand)) (λ half.

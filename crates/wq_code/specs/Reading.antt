@@ -5,7 +5,7 @@ use Rattle.std.specs.Int.{w16, w64, from_be_bytes, cast_signed}
 use Rattle.wq_glob.specs.Glob.{Glob}
 use Rattle.wq_glob.specs.declared.options.Flags.{Flags}
 use Rattle.wq_code.specs.Limit.{max_text_length}
-use Rattle.wq_code.specs.Word.{op_coded, with_a, with_b}
+use Rattle.wq_code.specs.Word.{op_of_code, with_a, with_b}
 use Rattle.wq_code.specs.declared.fault.FileFault.{FileFault}
 use Rattle.wq_code.specs.declared.fault.FileFault.TheVariants.{CutShort, BytesAfterEnd, UnknownOperation, BadOperand, OverLimit, NoMemory}
 use Rattle.wq_code.specs.declared.operation.Op.{Op}
@@ -105,7 +105,7 @@ pattern_at bytes = do
 unfoldable pub op_at : Reader Op
 op_at bytes = do
   (code, bytes) ← byte_at bytes
-  op ← or_fault (op_coded code) UnknownOperation
+  op ← or_fault (op_of_code code) UnknownOperation
   (a, bytes) ← byte_at bytes
   op ← or_fault (with_a op a) BadOperand
   (b, bytes) ← short_at bytes

@@ -1,6 +1,6 @@
 //! Instructions as they are written in files: the byte of the operation, and the operands `a` and `b`.
 ghost use Rattle.std.specs.Prelude.{◌≡◌};
-ghost use Rattle.wq_code.specs.Word.{word_of, case_code, relation_code, op_coded, flag_coded, case_coded, relation_coded, with_a, with_b};
+ghost use Rattle.wq_code.specs.Word.{word_of, case_code, relation_code, op_of_code, flag_of_code, case_of_code, relation_of_code, with_a, with_b};
 
 use crate::operation::{Case, Op, Relation};
 
@@ -126,9 +126,9 @@ fn relation_byte(relation: Relation) -> u8
 }
 
 /// The operation of a byte, with operands that are yet to be read.
-#[tactic(auto, unfolding(crate::specs::Word::op_coded))]
+#[tactic(auto, unfolding(crate::specs::Word::op_of_code))]
 pub(crate) fn op_of_byte(byte: u8) -> Option<Op>
-    ensures { result ≡ op_coded byte }
+    ensures { result ≡ op_of_code byte }
 {
     match byte {
         0x01 => Some(Op::Flag(false)),
@@ -163,7 +163,7 @@ pub(crate) fn op_of_byte(byte: u8) -> Option<Op>
 }
 
 fn flag_of_byte(byte: u8) -> Option<bool>
-    ensures { result ≡ flag_coded byte }
+    ensures { result ≡ flag_of_code byte }
 {
     match byte {
         0 => Some(false),
@@ -173,7 +173,7 @@ fn flag_of_byte(byte: u8) -> Option<bool>
 }
 
 fn case_of_byte(byte: u8) -> Option<Case>
-    ensures { result ≡ case_coded byte }
+    ensures { result ≡ case_of_code byte }
 {
     match byte {
         0 => Some(Case::Exact),
@@ -183,7 +183,7 @@ fn case_of_byte(byte: u8) -> Option<Case>
 }
 
 fn relation_of_byte(byte: u8) -> Option<Relation>
-    ensures { result ≡ relation_coded byte }
+    ensures { result ≡ relation_of_code byte }
 {
     match byte {
         0 => Some(Relation::Eq),

@@ -27,10 +27,10 @@ use Rattle.wq_code.specs.declared.raw.Raw.{Raw}
 use Rattle.wq_verify.specs.Kinds.{Kinds, Lists, all_meet, kinds_after, leads}
 use Rattle.wq_verify.specs.Fault.{stops}
 use Rattle.wq_verify.specs.Typing.{IsWell}
-use Rattle.wq_verify.specs.Budget.{longest, cost}
+use Rattle.wq_verify.specs.Budget.{longest_len, cost}
 use Rattle.wq_verify.specs.Law.{StepsGoWell, RunsBeginWell}
 use Rattle.wq_verify.proofs.Tests.{stops-Return, stops-true}
-use Rattle.wq_verify.specs.Running.{kinds_in, AreNarrow, HasWidth, IsFit, GoesWell}
+use Rattle.wq_verify.specs.Run.{kinds_in, AreNarrow, HasWidth, IsFit, GoesWell}
 
 -- ---- operands
 
@@ -76,11 +76,11 @@ one_text needs (text x ∷ rest) h = (x, rest, refl)
 
 -- ---- texts
 
-longest_at : (texts : List (List ℕ)) (place : ℕ) (x : List ℕ) → slice_get texts place ≡ Some x → length x ≤ longest texts
-longest_at [] place x e = absurd cc
-longest_at (t ∷ texts) zero x e =
+longest_len_at : (texts : List (List ℕ)) (place : ℕ) (x : List ℕ) → slice_get texts place ≡ Some x → length x ≤ longest_len texts
+longest_len_at [] place x e = absurd cc
+longest_len_at (t ∷ texts) zero x e =
     let same : t ≡ x = cc in rw (← same) (omega arith)
-longest_at (t ∷ texts) (suc place) x e = omega (arith, longest_at texts place x e)
+longest_len_at (t ∷ texts) (suc place) x e = omega (arith, longest_len_at texts place x e)
 
 there_below : {A : Type 0} (xs : List A) (place : ℕ) → place < length xs → (x : A) × (slice_get xs place ≡ Some x)
 there_below [] place lt = absurd (omega arith)
@@ -155,7 +155,7 @@ leaves raw item width (Number place) cells s w m k n =
     let c = there raw.numbers place k in record { after = number c.0 ∷ cells; is = rw c.1 refl; kinds = refl; narrow = (tt, n) }
 leaves raw item width (Text place) cells s w m k n =
     let c = there raw.texts place k in
-    record { after = text c.0 ∷ cells; is = rw c.1 refl; kinds = refl; narrow = (omega (arith, longest_at raw.texts place c.0 c.1, w.texts), n) }
+    record { after = text c.0 ∷ cells; is = rw c.1 refl; kinds = refl; narrow = (omega (arith, longest_len_at raw.texts place c.0 c.1, w.texts), n) }
 leaves raw item width WholeName cells s w m k n = record { after = text item.name ∷ cells; is = refl; kinds = refl; narrow = (w.name, n) }
 leaves raw item width BaseName cells s w m k n =
     record { after = text (basename_of item.name) ∷ cells; is = refl; kinds = refl; narrow = (omega (arith, basename_low item.name, w.name), n) }

@@ -8,13 +8,13 @@ use Rattle.wq_code.specs.declared.operation.Op.TheVariants.{OneOf, Match}
 use Rattle.wq_code.specs.declared.raw.Raw.{Raw}
 
 -- the length of the longest text
-abbrev pub longest : List (List ℕ) → ℕ
-longest [] = 0
-longest (text ∷ texts) = max (length text) (longest texts)
+abbrev pub longest_len : List (List ℕ) → ℕ
+longest_len [] = 0
+longest_len (text ∷ texts) = max (length text) (longest_len texts)
 
 -- the most bytes that a text on the stack can have
-abbrev pub widest : Raw → ℕ → ℕ
-widest raw name_len = max name_len (longest raw.texts)
+abbrev pub width_of : Raw → ℕ → ℕ
+width_of raw name_len = max name_len (longest_len raw.texts)
 
 -- the most that a pattern can cost on a text of this width: a cell for each atom and one, at each byte and one
 abbrev pub pattern_cost : ℕ → Glob → ℕ
@@ -29,4 +29,4 @@ cost raw width _ = 1
 
 -- the sum over all instructions, executed or not
 unfoldable pub budget_of : Raw → ℕ → ℕ
-budget_of raw name_len = sum_by (cost raw (widest raw name_len)) raw.code
+budget_of raw name_len = sum_by (cost raw (width_of raw name_len)) raw.code

@@ -4,6 +4,6 @@ pub mod Fault
 pub mod Typing
 pub mod Budget
 pub mod Shape
-pub mod Running
+pub mod Run
 pub mod Law
 pub mod ProgramFault

@@ -66,5 +66,5 @@ abbrev pub IsFirstFault : Raw → ProgramFault → ℕ → Type 0
 IsFirstFault raw fault at = (lists : Lists) × IsFront raw lists at × (fault_at raw lists at ≡ Some fault)
 
 -- the kinds that are known after an instruction that leaves these was looked at
-abbrev pub grown : Lists → Kinds → Flow → ℕ → Lists
-grown lists after way at = λ place. if leads way at place then Some after else lists place
+abbrev pub lists_after : Lists → Kinds → Flow → ℕ → Lists
+lists_after lists after way at = λ place. if leads way at place then Some after else lists place

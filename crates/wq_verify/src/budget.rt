@@ -2,7 +2,7 @@
 ghost use Rattle.std.specs.Prelude.{◌≡◌, ◌≤◌, IsTrue, length, slice_get};
 ghost use Rattle.std.specs.Option.{option_map_or};
 ghost use Rattle.wq_code.specs.Fits.{fits};
-ghost use Rattle.wq_verify.specs.Budget.{cost, pattern_cost, longest, widest, budget_of};
+ghost use Rattle.wq_verify.specs.Budget.{cost, pattern_cost, longest_len, width_of, budget_of};
 
 use crate::program::Program;
 use wq_code::{Op, Raw, Table};
@@ -11,8 +11,8 @@ use wq_code::{Op, Raw, Table};
 pub const MAX_NAME: u64 = 4096;
 
 /// The length of the longest text.
-fn longest(texts: &[Table<u8>]) -> usize
-    ensures { result ≡ longest texts.now }
+fn longest_len(texts: &[Table<u8>]) -> usize
+    ensures { result ≡ longest_len texts.now }
 {
     let mut most = 0;
     let mut left = texts;
@@ -24,13 +24,13 @@ fn longest(texts: &[Table<u8>]) -> usize
 }
 
 /// The most bytes that a text on the stack can have.
-fn widest(raw: &Raw, name_len: u64) -> u64
+fn width_of(raw: &Raw, name_len: u64) -> u64
     requires limits { IsTrue (fits raw.now) }
     requires short { name_len ≤ MAX_NAME }
-    ensures value { result ≡ widest raw.now name_len }
+    ensures value { result ≡ width_of raw.now name_len }
     ensures low { result ≤ MAX_NAME }
 {
-    name_len.max(longest(raw.texts.as_slice()) as u64)
+    name_len.max(longest_len(raw.texts.as_slice()) as u64)
 }
 
 /// The most that a pattern can cost on texts of this width.
@@ -81,7 +81,7 @@ impl Program {
         ensures { result ≡ budget_of self.now name_len }
     {
         let raw = self.raw();
-        let width = widest(raw, name_len);
+        let width = width_of(raw, name_len);
         let mut total = 0;
         for op in raw.code.as_slice() {
             total += cost(raw, width, *op);

@@ -8,12 +8,12 @@
 
 mod budget;
 mod fault;
-mod kinds;
 mod law;
 mod pass;
 mod program;
 mod rule;
 mod shape;
+mod stack;
 
 pub use budget::MAX_NAME;
 pub use fault::{ProgramFault, Refusal};
