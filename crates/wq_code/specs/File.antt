@@ -1,4 +1,4 @@
--- The program file, version 1, field by field in its order: what its bytes hold, or the first thing that is wrong.
+-- The program file, version 1, field by field: what its bytes hold, or the first that is wrong.
 -- This server's own format.
 use Rattle.std.specs.Prelude.{ℕ, List, [], ◌∷◌, codes, Result, Ok}
 use Rattle.wq_code.specs.Limit.{max_rows}
@@ -22,7 +22,16 @@ counts_at bytes = do
   (lists, bytes) ← count_at max_rows bytes
   (patterns, bytes) ← count_at max_rows bytes
   (code, bytes) ← count_at max_rows bytes
-  Ok (record { numbers = numbers; texts = texts; lists = lists; patterns = patterns; code = code }, bytes)
+  Ok (
+    record {
+      numbers = numbers;
+      texts = texts;
+      lists = lists;
+      patterns = patterns;
+      code = code;
+    },
+    bytes,
+  )
 
 -- the tables, with so many rows
 unfoldable pub tables_at : Counts → Reader Raw
@@ -32,7 +41,16 @@ tables_at counts bytes = do
   (lists, bytes) ← many_at list_at counts.lists bytes
   (patterns, bytes) ← many_at pattern_at counts.patterns bytes
   (code, bytes) ← many_at op_at counts.code bytes
-  Ok (record { numbers = numbers; texts = texts; lists = lists; patterns = patterns; code = code }, bytes)
+  Ok (
+    record {
+      numbers = numbers;
+      texts = texts;
+      lists = lists;
+      patterns = patterns;
+      code = code;
+    },
+    bytes,
+  )
 
 -- a program, which bytes may follow
 unfoldable pub raw_at : Reader Raw

@@ -9,7 +9,8 @@ use Rattle.wq_code.specs.declared.raw.Raw.{Raw}
 
 -- bytes are read as a program exactly where they are its spelling
 abbrev pub FilesAreSpellings : Type 0
-FilesAreSpellings = (bytes : List ℕ) (raw : Raw) → AreBytes bytes → (file_at bytes ≡ Ok raw) ↔ IsSpelling raw bytes
+FilesAreSpellings = (bytes : List ℕ) (raw : Raw) → AreBytes bytes
+    → (file_at bytes ≡ Ok raw) ↔ IsSpelling raw bytes
 
 -- what is spelled is read back
 abbrev pub SpellingsAreReadBack : Type 0
@@ -17,17 +18,18 @@ SpellingsAreReadBack = (bytes : List ℕ) (raw : Raw) → IsSpelling raw bytes �
 
 -- a program has one spelling
 abbrev pub OneSpelling : Type 0
-OneSpelling = (raw : Raw) (bytes other : List ℕ) → IsSpelling raw bytes → IsSpelling raw other → bytes ≡ other
+OneSpelling = (raw : Raw) (bytes other : List ℕ) → IsSpelling raw bytes → IsSpelling raw other
+    → bytes ≡ other
 
 -- no spelling begins another, of whatever program
 abbrev pub NoneBeginsAnother : Type 0
-NoneBeginsAnother = (raw other : Raw) (bytes more : List ℕ) → IsSpelling raw bytes → IsSpelling other (bytes ++ more)
-    → (more ≡ []) × (raw ≡ other)
+NoneBeginsAnother = (raw other : Raw) (bytes more : List ℕ) → IsSpelling raw bytes
+    → IsSpelling other (bytes ++ more) → (more ≡ []) × (raw ≡ other)
 
 -- what was found wrong stays wrong whatever bytes follow, unless the bytes were cut short
 abbrev pub FaultsStay : Type 0
-FaultsStay = (bytes more : List ℕ) (fault : FileFault) → fault ≢ CutShort → file_at bytes ≡ Err fault
-    → file_at (bytes ++ more) ≡ Err fault
+FaultsStay = (bytes more : List ℕ) (fault : FileFault) → fault ≢ CutShort
+    → file_at bytes ≡ Err fault → file_at (bytes ++ more) ≡ Err fault
 
 -- each front of a spelling that is not all of it is cut short
 abbrev pub FrontsAreCutShort : Type 0

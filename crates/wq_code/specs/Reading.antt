@@ -1,5 +1,5 @@
--- How the fields of a program file are read, one by one: what stands at the front of the bytes and what follows it,
--- or the first thing that is wrong. This server's own format; numbers are big-endian.
+-- How the fields of a program file are read: what stands at the front of bytes and what follows it,
+-- or the first that is wrong. This server's own format; numbers are big-endian.
 use Rattle.std.specs.Prelude.{◌≡◌, ℕ, zero, suc, ℤ, bit_and, not, ◌==◌, nat_lt, nat_le, if◌then◌else◌, List, [], ◌∷◌, length, take, drop, Option, Some, None, Result, Ok, Err}
 use Rattle.std.specs.Int.{w16, w64, from_be_bytes, cast_signed}
 use Rattle.wq_glob.specs.Glob.{Glob}
@@ -12,7 +12,8 @@ use Rattle.wq_code.specs.declared.operation.Op.{Op}
 
 -- a field that was read, and then the next
 infixl 10 ◌>>=◌
-abbrev pub ◌>>=◌ : {A B : Type 0} → Result A FileFault → (A → Result B FileFault) → Result B FileFault
+abbrev pub ◌>>=◌ : {A B : Type 0}
+    → Result A FileFault → (A → Result B FileFault) → Result B FileFault
 (Ok x) >>= next = next x
 (Err fault) >>= next = Err fault
 

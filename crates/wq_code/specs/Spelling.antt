@@ -1,4 +1,4 @@
--- The bytes of a program file, version 1, as they are written: each program that fits has one spelling.
+-- The bytes of a program file, version 1: each program that fits has one spelling.
 -- This server's own format; numbers are big-endian.
 use Rattle.std.specs.Prelude.{◌≡◌, ℕ, ◌<◌, ◌^◌, ◌+◌, ◌*◌, ℤ, IsTrue, FitsSigned, List, [], ◌∷◌, ◌++◌, length, codes, All}
 use Rattle.std.specs.Int.{w16, w64, to_be_bytes, cast_unsigned}
@@ -28,7 +28,8 @@ entries texts = short (length texts) ++ flat_map text texts
 
 -- the flags of a pattern as bits of a byte, from the lowest on
 abbrev pub flags_byte : Flags → ℕ
-flags_byte f = flag_code f.wholename + 2 * flag_code f.dotfiles + 4 * flag_code f.noescape + 8 * flag_code f.fold
+flags_byte f =
+    flag_code f.wholename + 2 * flag_code f.dotfiles + 4 * flag_code f.noescape + 8 * flag_code f.fold
 
 -- a pattern: its flags, its length and its bytes
 abbrev pub pattern : Glob → List ℕ
@@ -51,7 +52,7 @@ spelling raw =
 abbrev pub AreBytes : List ℕ → Type 0
 AreBytes bytes = All (λ b. b < 256) bytes
 
--- each number, byte and operand is one that has room in its field: so it is of every `Raw` in memory
+-- each number, byte and operand has room in its field: so it is of every `Raw` in memory
 pub record IsInRange (raw : Raw) : Type 0 where
   pub numbers : All (λ n. FitsSigned w64 n) raw.numbers
   pub texts : All AreBytes raw.texts

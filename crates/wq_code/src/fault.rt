@@ -24,7 +24,8 @@ pub enum FileFault {
     /// F5: no instruction has this byte.
     #[error("unknown operation")]
     UnknownOperation,
-    /// F6: an operand that an instruction does not have is not 0, or `a` or a byte of flags is out of its range.
+    /// F6: an operand that an instruction does not have is not 0, or `a` or a byte of flags is out
+    /// of its range.
     #[error("bad operand")]
     BadOperand,
     /// F7: a count of rows or the length of a text is over its limit.

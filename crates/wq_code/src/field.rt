@@ -1,5 +1,5 @@
-//! The fields of a program file, each read from the front of the bytes that are left and written at their end.
-//! Nothing here knows their order.
+//! The fields of a program file, each read from the front of the bytes that are left and written at
+//! their end. Nothing here knows their order.
 ghost use Rattle.std.specs.Prelude.{◌≡◌, ◌≤◌, ◌++◌, length, IfOk, OnOk, IsTrue};
 ghost use Rattle.std.specs.List.{flat_map, list_all};
 ghost use Rattle.wq_code.specs.Spelling.{short};

@@ -99,8 +99,8 @@ fn file_of(alloc: Global, bytes: &[u8]) -> Result<Raw, FileFault>
 /// ```
 ///
 /// # Errors
-/// The first field that is cut short or unlawful, in the order of the file, or that bytes follow its end;
-/// [`FileFault::NoMemory`] where a growth was refused.
+/// The first field that is cut short or unlawful, in the order of the file, or that bytes follow
+/// its end; [`FileFault::NoMemory`] where a growth was refused.
 pub fn decode(alloc: Global, bytes: &[u8]) -> Result<Raw, FileFault>
     // What is read is spelled so.
     ensures found { IfOk result (λ raw. IsSpelling raw bytes.now) }

@@ -1,5 +1,6 @@
-//! The instructions of a program. What each needs, leaves and does stands in `specs/Signature.antt`, `specs/Flow.antt`
-//! and `specs/Machine.antt`, and how it is written in `specs/Word.antt`.
+//! The instructions of a program. What each needs, leaves and does stands in
+//! `specs/Signature.antt`, `specs/Flow.antt` and `specs/Machine.antt`, and how it is written in
+//! `specs/Word.antt`.
 
 /// What a cell of the machine's stack holds.
 #[derive(Clone, Copy, Debug)]
@@ -32,8 +33,8 @@ pub enum Case {
     Folded,
 }
 
-/// An instruction. A number inside is the place of a constant in its table, or of an instruction in the code; both
-/// count from 0.
+/// An instruction. A number inside is the place of a constant in its table, or of an instruction in
+/// the code; both count from 0.
 #[derive(Clone, Copy, Debug)]
 pub enum Op {
     /// `flag`: puts this flag on the stack.

@@ -24,8 +24,9 @@ pub struct Raw {
 }
 
 impl Raw {
-    /// Whether the program keeps to the limits of a file: at most [`MAX_ROWS`] rows of each table, texts of at most
-    /// [`MAX_TEXT`](crate::limit::MAX_TEXT) bytes and lists of at most [`MAX_ENTRIES`](crate::limit::MAX_ENTRIES).
+    /// Whether the program keeps to the limits of a file: at most [`MAX_ROWS`] rows of each table,
+    /// texts of at most [`MAX_TEXT`](crate::limit::MAX_TEXT) bytes and lists of at most
+    /// [`MAX_ENTRIES`](crate::limit::MAX_ENTRIES).
     #[tactic(auto, unfolding(crate::specs::Fits::fits))]
     pub fn fits(&self) -> bool
         ensures { result ≡ fits self.now }

@@ -1,4 +1,5 @@
-//! Instructions as they are written in files: the byte of the operation, and the operands `a` and `b`.
+//! Instructions as they are written in files: the byte of the operation, and the operands `a` and
+//! `b`.
 ghost use Rattle.std.specs.Prelude.{◌≡◌};
 ghost use Rattle.wq_code.specs.Word.{word_of, case_code, relation_code, op_of_code, flag_of_code, case_of_code, relation_of_code, with_a, with_b};
 

@@ -16,14 +16,16 @@ longest_len (text ∷ texts) = max (length text) (longest_len texts)
 abbrev pub width_of : Raw → ℕ → ℕ
 width_of raw name_len = max name_len (longest_len raw.texts)
 
--- the most that a pattern can cost on a text of this width: a cell for each atom and one, at each byte and one
+-- the most that a pattern can cost on a text of this width: a cell for each atom and one more, at
+-- each byte and once more
 abbrev pub pattern_cost : ℕ → Glob → ℕ
 pattern_cost width p = (length (atoms_of p) + 1) * (width + 1)
 
--- the most that an instruction can cost with texts of this width: 1; for `Match` the cost of its pattern more, for
--- `OneOf` the entries of its list
+-- the most that an instruction can cost with texts of this width: 1; for `Match` the cost of its
+-- pattern more, for `OneOf` the entries of its list
 abbrev pub cost : Raw → ℕ → Op → ℕ
-cost raw width (Match place) = 1 + option_map_or (pattern_cost width) (slice_get raw.patterns place) 0
+cost raw width (Match place) =
+    1 + option_map_or (pattern_cost width) (slice_get raw.patterns place) 0
 cost raw width (OneOf _ place) = 1 + option_map_or length (slice_get raw.lists place) 0
 cost raw width _ = 1
 

@@ -34,17 +34,19 @@ pub record IsWell (raw : Raw) (lists : Lists) (at : ℕ) (op : Op) (kinds : Kind
   pub operands : HasOperands op kinds
   pub named : IsTrue (has_constant raw (constant op))
   pub low : length (kinds_after op kinds) ≤ max_cells
-  pub next : (place : ℕ) → IsTrue (leads (flow op) at place) → IsNext raw lists at (kinds_after op kinds) place
+  pub next : (place : ℕ) → IsTrue (leads (flow op) at place)
+      → IsNext raw lists at (kinds_after op kinds) place
 
 abbrev pub KeepsRules : Raw → Lists → ℕ → Type 0
 KeepsRules raw lists at = (op : Op) × (kinds : Kinds) × IsWell raw lists at op kinds
 
 -- an instruction leads to a place
 abbrev pub LeadsTo : Raw → ℕ → ℕ → Type 0
-LeadsTo raw at place = (op : Op) × (slice_get raw.code at ≡ Some op) × IsTrue (leads (flow op) at place)
+LeadsTo raw at place =
+    (op : Op) × (slice_get raw.code at ≡ Some op) × IsTrue (leads (flow op) at place)
 
--- The kinds at place 0, where there are none, and at the places that those below `front` lead to, and at no other,
--- where the places below `front` keep the rules.
+-- The kinds at place 0, where there are none, and at the places that those below `front` lead to,
+-- and at no other, where the places below `front` keep the rules.
 pub record IsFront (raw : Raw) (lists : Lists) (front : ℕ) : Type 0 where
   pub start : lists 0 ≡ Some []
   pub each : (at : ℕ) → at < front → KeepsRules raw lists at
@@ -63,7 +65,8 @@ pub record IsValid (raw : Raw) : Type 0 where
 
 -- a fault is the first one of a program: there is a typing to its place, where it is the first
 abbrev pub IsFirstFault : Raw → ProgramFault → ℕ → Type 0
-IsFirstFault raw fault at = (lists : Lists) × IsFront raw lists at × (fault_at raw lists at ≡ Some fault)
+IsFirstFault raw fault at =
+    (lists : Lists) × IsFront raw lists at × (fault_at raw lists at ≡ Some fault)
 
 -- the kinds that are known after an instruction that leaves these was looked at
 abbrev pub lists_after : Lists → Kinds → Flow → ℕ → Lists

@@ -36,7 +36,8 @@ fn width_of(raw: &Raw, name_len: u64) -> u64
 /// The most that a pattern can cost on texts of this width.
 fn pattern_cost(raw: &Raw, width: u64, place: u16) -> u64
     requires { width ≤ MAX_NAME }
-    ensures value { result ≡ option_map_or (pattern_cost width) (slice_get raw.now.patterns place) 0 }
+    ensures value { result ≡
+        option_map_or (pattern_cost width) (slice_get raw.now.patterns place) 0 }
     ensures low { result ≤ 1048832 }
 {
     match raw.patterns.as_slice().get(place as usize) {
@@ -72,9 +73,10 @@ fn cost(raw: &Raw, width: u64, op: Op) -> u64
 }
 
 impl Program {
-    /// The most that the program can cost on a name of `name_len` bytes, at most [`MAX_NAME`]: the sum over all
-    /// instructions, executed or not, of 1, of a cell for each atom of a pattern and one at each byte of the widest
-    /// text and one, and of the entries of a list. It takes no memory.
+    /// The most that the program can cost on a name of `name_len` bytes, at most [`MAX_NAME`]: the
+    /// sum over all instructions, executed or not, of 1, of a cell for each atom of a pattern and
+    /// one at each byte of the widest text and one, and of the entries of a list. It takes no
+    /// memory.
     #[tactic(auto, unfolding(crate::specs::Budget::budget_of))]
     pub fn budget(&self, name_len: u64) -> u64
         requires { name_len ≤ MAX_NAME }

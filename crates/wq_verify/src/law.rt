@@ -1,5 +1,5 @@
-//! Laws about typings and about the runs of programs that may run, each a function without a body whose contract is
-//! the law. A proof of another crate gets a law by a call, which costs nothing.
+//! Laws about typings and about the runs of programs that may run, each a function without a body
+//! whose contract is the law. A proof of another crate gets a law by a call, which costs nothing.
 ghost use Rattle.wq_verify.specs.Law.{FrontsAreUnique, FrontsGrow, ValidAreTyped, ValidAreAccepted, RunsBeginWell, StepsGoWell};
 
 /// There is at most one front typing to a place.
@@ -29,8 +29,8 @@ pub fn runs_begin_well()
     ensures { RunsBeginWell }
 {}
 
-/// From a state that fits the typing, one step leads to a later place whose state fits, or to an answer within the
-/// sum of all costs, and never to a trap.
+/// From a state that fits the typing, one step leads to a later place whose state fits, or to an
+/// answer within the sum of all costs, and never to a trap.
 pub fn steps_go_well()
     ensures { StepsGoWell }
 {}

@@ -11,7 +11,8 @@ use crate::shape::Shape;
 use std::alloc::{AllocError, Global};
 use wq_code::{Flow, Op, Raw};
 
-/// The places of a program of `len` instructions before any was looked at: place 0 is reached with no cells.
+/// The places of a program of `len` instructions before any was looked at: place 0 is reached with
+/// no cells.
 pub(crate) fn start(alloc: Global, len: usize) -> Result<Vec<Option<Shape>>, AllocError>
     requires { 0 < len }
     ensures places { IfOk result (λ reached. length reached.items ≡ len) }
@@ -59,7 +60,8 @@ fn shape_at(reached: &[Option<Shape>], at: usize) -> Option<Shape>
     reached[at]
 }
 
-/// The first fault of a program that has instructions, unless it has none: then its typing is what was noted.
+/// The first fault of a program that has instructions, unless it has none: then its typing is what
+/// was noted.
 pub(crate) fn first_fault(raw: &Raw, reached: &mut [Option<Shape>]) -> Option<Refusal>
     requires some { 0 < length raw.now.code }
     requires places { length reached.old ≡ length raw.now.code }

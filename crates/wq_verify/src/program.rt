@@ -10,8 +10,8 @@ use std::alloc::Global;
 use std::marker::Model;
 use wq_code::Raw;
 
-/// A program that may run. It keeps to the limits of a file, has an instruction, and the kinds of the cells on its
-/// stack are known at each place.
+/// A program that may run. It keeps to the limits of a file, has an instruction, and the kinds of
+/// the cells on its stack are known at each place.
 #[derive(Debug, Drop)]
 pub struct Program {
     raw: Raw,
@@ -45,8 +45,8 @@ impl Program {
 /// ```
 ///
 /// # Errors
-/// The fault that is met first on the way from place 0 to the end; [`ProgramFault::NoMemory`] at 0 where a growth was
-/// refused.
+/// The fault that is met first on the way from place 0 to the end; [`ProgramFault::NoMemory`] at 0
+/// where a growth was refused.
 pub fn verify(alloc: Global, raw: Raw) -> Result<Program, (Raw, Refusal)>
     requires { IsTrue (fits raw) }
 
