@@ -25,6 +25,7 @@ matched fault x b xs bytes read rest true is others e =
     ap (λ (c : ℕ). c ∷ bytes) (eqb-true b x is) ∙ ap (λ (r : List ℕ). x ∷ r) (others e)
 matched fault x b xs bytes read rest false is others e = absurd cc
 
+-- what is read exactly so stands at the front
 pub exact_at-takes : (fault : FileFault) (xs bytes rest : List ℕ) → exact_at fault xs bytes ≡ Ok rest → bytes ≡ xs ++ rest
 exact_at-takes fault [] bytes rest e = ok_is bytes rest e
 exact_at-takes fault (x ∷ xs) [] rest e = absurd cc
@@ -39,6 +40,7 @@ joined bytes front after tail rest p q = p ∙ ap (λ (r : List ℕ). front ++ r
 abbrev pub head : List ℕ
 head = codes "WQPF" ++ 1 ∷ []
 
+-- what is read as a head begins with it
 pub head_at-takes : (bytes rest : List ℕ) → head_at bytes ≡ Ok rest → bytes ≡ head ++ rest
 unfolding head_at
 head_at-takes bytes rest e =
@@ -50,6 +52,7 @@ head_at-takes bytes rest e =
 abbrev pub counts : Counts → List ℕ
 counts c = short c.numbers ++ (short c.texts ++ (short c.lists ++ (short c.patterns ++ short c.code)))
 
+-- each count is within its limit
 pub record AreCounts (c : Counts) : Type 0 where
   pub numbers : c.numbers ≤ max_rows
   pub texts : c.texts ≤ max_rows
@@ -96,6 +99,7 @@ counts_again c rest h =
       count.again c.code _ h.code,
     ) refl
 
+-- counts are read as they are written
 pub counts-form : IsForm counts_at counts AreCounts
 counts-form = record { takes = counts_takes; again = counts_again }
 
@@ -108,6 +112,7 @@ tables raw =
 abbrev IsRow : {A : Type 0} → (A → Type 0) → ℕ → List A → Type 0
 IsRow Good n rows = (length rows ≡ n) × All Good rows
 
+-- the tables have so many rows, each of them good
 pub record AreTables (c : Counts) (raw : Raw) : Type 0 where
   pub numbers : IsRow (λ n. FitsSigned w64 n) c.numbers raw.numbers
   pub texts : IsRow IsText c.texts raw.texts
@@ -158,6 +163,7 @@ tables_again c raw rest h =
 
 -- ---- a program
 
+-- how many rows the tables of a program have
 abbrev pub counts_in : Raw → Counts
 counts_in raw = record {
   numbers = length raw.numbers;

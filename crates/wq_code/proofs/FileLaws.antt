@@ -23,11 +23,13 @@ spelled : (raw : Raw) (bytes more : List ℕ) → IsSpelling raw bytes → raw_a
 spelled raw bytes more s =
     ap (λ (b : List ℕ). raw_at (b ++ more)) s.written ∙ raw-form.again raw more (s.within_limits, s.in_range)
 
+-- what is spelled is read back
 pub spellings_are_read_back : SpellingsAreReadBack
 unfolding file_at
 spellings_are_read_back bytes raw s =
     let read : raw_at bytes ≡ Ok (raw, []) = ap raw_at (sym (append-nil bytes)) ∙ spelled raw bytes [] s in rw read refl
 
+-- what is read as a program is its spelling
 pub file_is_spelling : (bytes : List ℕ) (raw : Raw) → AreBytes bytes → file_at bytes ≡ Ok raw → IsSpelling raw bytes
 unfolding file_at
 file_is_spelling bytes raw fits e =
@@ -39,12 +41,15 @@ file_is_spelling bytes raw fits e =
     subst (λ (r : Raw). IsSpelling r bytes) (ok_is x.0 raw e)
     (record { within_limits = t.1.0; in_range = t.1.1; written = whole })))
 
+-- both of these
 pub files_are_spellings : FilesAreSpellings
 files_are_spellings bytes raw fits = (file_is_spelling bytes raw fits, spellings_are_read_back bytes raw)
 
+-- two spellings of a program are one
 pub one_spelling : OneSpelling
 one_spelling raw bytes other s t = s.written ∙ sym t.written
 
+-- a spelling that begins another is all of it
 pub none_begins_another : NoneBeginsAnother
 none_begins_another raw other bytes more s t =
     let first : raw_at (bytes ++ more) ≡ Ok (raw, more) = spelled raw bytes more s in
@@ -70,6 +75,7 @@ stays (Err BadOperand) second more fault other h e = rw h e
 stays (Err OverLimit) second more fault other h e = rw h e
 stays (Err NoMemory) second more fault other h e = rw h e
 
+-- what was found wrong stays wrong, whatever bytes follow
 pub faults_stay : FaultsStay
 unfolding file_at
 faults_stay bytes more fault other e = stays (raw_at bytes) (raw_at (bytes ++ more)) more fault other (raw_steady bytes more) e
@@ -91,6 +97,7 @@ cut_short (Err BadOperand) raw more some h = absurd cc
 cut_short (Err OverLimit) raw more some h = absurd cc
 cut_short (Err NoMemory) raw more some h = absurd cc
 
+-- a front that is not all of a spelling is cut short
 pub fronts_are_cut_short : FrontsAreCutShort
 unfolding file_at
 fronts_are_cut_short raw front more some s =

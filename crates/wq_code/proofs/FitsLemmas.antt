@@ -17,6 +17,7 @@ pub record IsWithin (raw : Raw) : Type 0 where
   pub each_list : list_all is_list raw.lists ≡ true
   pub each_pattern : list_all is_pattern raw.patterns ≡ true
 
+-- a program that fits is within each limit
 pub within : (raw : Raw) → fits raw ≡ true → IsWithin raw
 unfolding fits
 within raw h =
@@ -38,6 +39,7 @@ within raw h =
       each_pattern = patterns.1;
     }
 
+-- a program within each limit fits
 pub fits-within : (raw : Raw) → IsWithin raw → fits raw ≡ true
 unfolding fits
 fits-within raw h =

@@ -45,6 +45,7 @@ pub guard_ok : {A : Type 0} (b : Bool) (fault : FileFault) (x y : A) → cond b 
 guard_ok true fault x y e = absurd cc
 guard_ok false fault x y e = (refl, cc)
 
+-- a test that had to pass
 pub passed_ok : {A : Type 0} (b : Bool) (fault : FileFault) (x y : A) → cond b (Ok x) (Err fault) ≡ Ok y → (b ≡ true) × (x ≡ y)
 passed_ok true fault x y e = (refl, cc)
 passed_ok false fault x y e = absurd cc
@@ -52,6 +53,7 @@ passed_ok false fault x y e = absurd cc
 abbrev done : {A : Type 0} → A → Result A FileFault
 done x = Ok x
 
+-- two values that were read are one
 pub ok_is : {A : Type 0} (x y : A) → done x ≡ done y → x ≡ y
 ok_is x y e = cc
 
@@ -60,6 +62,7 @@ behind : (front rest : List ℕ) → AreBytes (front ++ rest) → AreBytes rest
 behind [] rest h = h
 behind (b ∷ front) rest h = behind front rest (All-tail (λ b. b < 256) b (front ++ rest) h)
 
+-- what stands behind a front of bytes are bytes
 pub rest_are_bytes : (bytes front rest : List ℕ) → AreBytes bytes → bytes ≡ front ++ rest → AreBytes rest
 rest_are_bytes bytes front rest h e = behind front rest (subst AreBytes e h)
 
@@ -70,6 +73,7 @@ before (b ∷ front) rest h =
     All-cons (λ b. b < 256) b front (All-head (λ b. b < 256) b (front ++ rest) h)
     (before front rest (All-tail (λ b. b < 256) b (front ++ rest) h))
 
+-- what stands in front of bytes are bytes
 pub front_are_bytes : (bytes front rest : List ℕ) → AreBytes bytes → bytes ≡ front ++ rest → AreBytes front
 front_are_bytes bytes front rest h e = before front rest (subst AreBytes e h)
 
@@ -89,6 +93,7 @@ bytes_at-takes n bytes x e =
     subst (λ (y : List ℕ × List ℕ). (bytes ≡ y.0 ++ y.1) × (length y.0 ≡ n)) g.1
     (sym (take-append-drop n bytes), omega (arith, length-take n bytes))
 
+-- so many bytes are read again, whatever follows
 pub bytes_at-again : (n : ℕ) (front rest : List ℕ) → length front ≡ n → bytes_at n (front ++ rest) ≡ Ok (front, rest)
 unfolding bytes_at
 bytes_at-again n front rest len =
@@ -149,6 +154,7 @@ number-form = record {
 abbrev pub IsText : List ℕ → Type 0
 IsText bytes = (is_text bytes ≡ true) × AreBytes bytes
 
+-- a text is read as it is written
 pub text-form : IsForm text_at text IsText
 unfolding text_at
 text-form = record {
@@ -184,6 +190,7 @@ many_takes {A} field written Good form (suc n) bytes x fits e =
     subst (λ (y : List A × List ℕ). (bytes ≡ flat_map written y.0 ++ y.1) × ((length y.0 ≡ suc n) × All Good y.0)) (ok_is _ x b.2)
     (whole, (ap suc others.1.0, All-cons Good a.0.0 b.0.0 first.1 others.1.1))
 
+-- fields of one form are read again, whatever follows
 pub many_again : {A : Type 0} (field : Reader A) (written : A → List ℕ) (Good : A → Type 0) → IsForm field written Good
     → (xs : List A) (rest : List ℕ) → All Good xs → many_at field (length xs) (flat_map written xs ++ rest) ≡ Ok (xs, rest)
 unfolding many_at
@@ -214,6 +221,7 @@ all_both P Q xs p q k d lt = (p k d lt, q k d lt)
 abbrev pub IsList : List (List ℕ) → Type 0
 IsList texts = (is_list texts ≡ true) × All AreBytes texts
 
+-- a list is read as it is written
 pub list-form : IsForm list_at entries IsList
 unfolding list_at
 list-form = record {
@@ -304,6 +312,7 @@ pattern_takes (bits ∷ n ∷ bytes) x fits e =
     subst (λ (y : Glob × List ℕ). ((bits ∷ n ∷ bytes) ≡ pattern y.0 ++ y.1) × IsPattern y.0) (ok_is _ x c.2)
     (whole, (le-leb _ _ (omega (arith, t.1)), front_are_bytes bytes c.0.0 c.0.1 after t.0))
 
+-- a pattern is read as it is written
 pub pattern-form : IsForm pattern_at pattern IsPattern
 unfolding pattern_at
 pattern-form = record {
@@ -429,5 +438,6 @@ op_again (OneOf Exact place) rest h = rw (short-form.again place rest h) refl
 op_again (OneOf Folded place) rest h = rw (short-form.again place rest h) refl
 op_again op rest h = rw (short-form.again (b_of op) rest h) refl
 
+-- an instruction is read as it is written
 pub op-form : IsForm op_at instruction IsOp
 op-form = record { takes = op_takes; again = op_again }

@@ -22,6 +22,7 @@ Steady grow (Err fault) second = second ≡ Err fault
 abbrev pub with_more : {A : Type 0} → List ℕ → A × List ℕ → A × List ℕ
 with_more more x = (x.0, x.1 ++ more)
 
+-- a field that is read alike whatever bytes follow
 abbrev pub IsSteady : {A : Type 0} → Reader A → Type 0
 IsSteady field = (bytes more : List ℕ) → Steady (with_more more) (field bytes) (field (bytes ++ more))
 
@@ -174,6 +175,7 @@ tables_steady counts bytes more =
     steady_then (with_more more) (with_more more) (many_at op_at counts.code d.1) _ _ _
     (many_steady op_at op_steady counts.code d.1 more) (λ e. refl)))))
 
+-- a program is read alike whatever bytes follow
 pub raw_steady : IsSteady raw_at
 unfolding raw_at
 raw_steady bytes more =

@@ -340,6 +340,7 @@ goes_or_ends raw lists item width place cells steps op w fit well true s =
     subst (λ (o : Op). GoesWell raw lists width place (go_on (flow o) place (cells_after raw item o cells) (steps + charge raw o cells))) (sym is)
     (ends raw lists item width place cells steps fit (subst (λ (o : Op). IsWell raw lists place o (kinds_in cells)) is well))
 
+-- from a state that fits, one step goes well
 pub steps_go_well : StepsGoWell
 unfolding step
 steps_go_well raw lists item width typing w place cells steps fit =
@@ -348,6 +349,7 @@ steps_go_well raw lists item width typing w place cells steps fit =
     let well = subst (IsWell raw lists place at.0) same at.2 in
     rw well.there (goes_or_ends raw lists item width place cells steps at.0 w fit well (stops (flow at.0)) refl)
 
+-- a run begins with a state that fits
 pub runs_begin_well : RunsBeginWell
 runs_begin_well raw lists width valid typing = record {
   within = valid.some;

@@ -20,18 +20,22 @@ use Rattle.wq_verify.specs.declared.fault.ProgramFault.TheVariants.{TooFewCells,
 
 -- ---- tests on Booleans
 
+-- what is not false is true
 pub not_false : (b : Bool) → not b ≡ false → b ≡ true
 not_false true e = refl
 not_false false e = absurd cc
 
+-- what is not true is false
 pub not_true : (b : Bool) → not b ≡ true → b ≡ false
 not_true true e = absurd cc
 not_true false e = refl
 
+-- neither of two
 pub or_false : (a b : Bool) → (a || b) ≡ false → (a ≡ false) × (b ≡ false)
 or_false true b e = absurd cc
 or_false false b e = (refl, e)
 
+-- one of two
 pub or_true : (a b : Bool) → (a || b) ≡ true → (a ≡ true) ⊎ (b ≡ true)
 or_true true b e = inl refl
 or_true false b e = inr e
@@ -54,6 +58,7 @@ same_kind-refl cell.Flag = refl
 same_kind-refl cell.Number = refl
 same_kind-refl cell.Text = refl
 
+-- stacks that are the same are equal
 pub same_kinds-true : (xs ys : Kinds) → same_kinds xs ys ≡ true → xs ≡ ys
 same_kinds-true [] [] e = refl
 same_kinds-true [] (y ∷ ys) e = absurd cc
@@ -63,6 +68,7 @@ same_kinds-true (x ∷ xs) (y ∷ ys) e =
     let one = same_kind-true x y p.0 in
     let others = same_kinds-true xs ys p.1 in cc
 
+-- a stack is the same as itself
 pub same_kinds-refl : (xs : Kinds) → same_kinds xs xs ≡ true
 same_kinds-refl [] = refl
 same_kinds-refl (x ∷ xs) = and_from (same_kind x x) (same_kinds xs xs) (same_kind-refl x) (same_kinds-refl xs)
@@ -73,6 +79,7 @@ not_differs after kinds None d e = absurd cc
 not_differs after kinds (Some others) d e =
     let same = same_kinds-true others after (not_false (same_kinds others after) d) in cc
 
+-- what is known with these kinds does not differ
 pub differs-same : (after : Kinds) (known : Option Kinds) → known ≡ Some after → differs after known ≡ false
 differs-same after None e = absurd cc
 differs-same after (Some kinds) e =
@@ -127,6 +134,7 @@ leads-same lists after Stop at place o l = absurd cc
 
 -- ---- operands
 
+-- what stops is the end
 pub stops-true : (way : Flow) → stops way ≡ true → way ≡ Stop
 stops-true Next e = absurd cc
 stops-true (To target) e = absurd cc
@@ -154,14 +162,17 @@ pub operands : (op : Op) (kinds : Kinds) → lacks_cells op kinds ≡ false → 
     → is_bad_return op kinds ≡ false → HasOperands op kinds
 operands op kinds = operands_at (stops (flow op)) op kinds refl
 
+-- an instruction that has its operands has enough cells
 pub no_lack : (b : Bool) (op : Op) (kinds : Kinds) → HasOperands op kinds → (not b && ltb (length kinds) (length (signature op).needs)) ≡ false
 no_lack true op kinds h = refl
 no_lack false op kinds h = le-ltb _ _ h.enough
 
+-- an instruction that has its operands has no wrong cell
 pub no_wrong : (b : Bool) (op : Op) (kinds : Kinds) → HasOperands op kinds → (not b && not (all_meet (signature op).needs kinds)) ≡ false
 no_wrong true op kinds h = refl
 no_wrong false op kinds h = ap not h.right
 
+-- an end that has its operand has exactly one flag
 pub no_bad_return : (b : Bool) (op : Op) (kinds : Kinds) → stops (flow op) ≡ b → HasOperands op kinds → (b && not (is_one_flag kinds)) ≡ false
 no_bad_return true op kinds is h = ap (λ (k : Kinds). not (is_one_flag k)) (h.alone (stops-true (flow op) is))
 no_bad_return false op kinds is h = refl
@@ -183,6 +194,7 @@ pub record Passes (raw : Raw) (lists : Lists) (at : ℕ) (op : Op) (kinds : Kind
   pub next : lacks_next (flow op) at (length raw.code) ≡ false
   pub same : is_other lists (kinds_after op kinds) (flow op) at ≡ false
 
+-- an instruction without a fault passes every test
 pub passes : (raw : Raw) (lists : Lists) (at : ℕ) (op : Op) (kinds : Kinds) → fault_of raw lists at op kinds ≡ None
     → Passes raw lists at op kinds
 unfolding fault_of
@@ -206,6 +218,7 @@ passes raw lists at op kinds e =
       same = i.0;
     }
 
+-- an instruction that passes every test has no fault
 pub passes-none : (raw : Raw) (lists : Lists) (at : ℕ) (op : Op) (kinds : Kinds) → Passes raw lists at op kinds
     → fault_of raw lists at op kinds ≡ None
 unfolding fault_of
