@@ -48,6 +48,7 @@ and_false : (b : Bool) → (b && false) ≡ false
 and_false true = refl
 and_false false = refl
 
+-- nor is a text of which it reads a number with another text
 pub other_text : (text : List ℕ) (z : ℤ) → z ≡ signed_digits_value 10 text → (text ≡ signed_decimal z → ⊥) → signed_of text ≡ None
 unfolding signed_of
 other_text text z is isnt =

@@ -70,6 +70,7 @@ ends_reading None left before now rest size n code holds stops = tt
 ends_reading (Some bytes) left before now rest size n code (at, rest_bytes, count, is, numbered, stands, sized, first) stops =
     (count, at, rest_bytes, first, subst (λ k. IfSome k (λ bytes. StopsWithin bytes rest)) is stops)
 
+-- the same, by the fault of the taking
 pub ends_taking : (script left before now rest : Option (List ℕ)) (size n : ℕ) (code : Stage) (fault : TakeFault)
     → Holds script left before now size n code → IfSome left (λ bytes. StopsWithin bytes rest)
     → IfSome script (λ bytes. Ends bytes before now rest (Err (fault_of fault)))

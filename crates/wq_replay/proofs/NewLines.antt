@@ -9,6 +9,7 @@ abbrev pub first_line : List ℕ → List ℕ
 first_line [] = []
 first_line (b ∷ bs) = if b == 10 then [] else b ∷ first_line bs
 
+-- the lines of some bytes are their first line and those behind it
 pub lines_first : (b : ℕ) (bs : List ℕ) → lines_of (b ∷ bs) ≡ first_line (b ∷ bs) ∷ lines_of (drop_through 10 (b ∷ bs))
 lines_first b [] = at (b == 10)
   where

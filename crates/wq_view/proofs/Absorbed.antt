@@ -9,16 +9,16 @@ use Rattle.std.specs.FinMap.{find, is_sorted}
 use Rattle.std.specs.FinMap.Entries.{below_all}
 use Rattle.wq_view.specs.Seen.{SeenData, Stat, same_stat, stat_of, entry_of}
 use Rattle.wq_view.specs.Listing.{name_cmp}
-use Rattle.wq_view.specs.RecordData.{RecordData, last_stat, unseen, changed, come, gone, observed, keyed, record_named}
-use Rattle.wq_view.specs.Merge.{absorbed as absorbed_at}
+use Rattle.wq_view.specs.RecordData.{RecordData, last_stat, blank_record, after_change, after_creation, after_deletion, record_after, by_name, record_named}
+use Rattle.wq_view.specs.Merge.{records_after as absorbed_at}
 use Rattle.wq_view.proofs.NameOrder.{names_total, names_exact, both_true, less_from_lt}
 use Rattle.wq_view.proofs.Listings.{tie_is_same, name_ties_itself}
 
 -- what a pass makes of the record of a name, where the name may have none
 abbrev pub after_pass : List ℕ → Option RecordData → Option Stat → ℕ → ℤ → Option RecordData
 after_pass name None None tick second = None
-after_pass name None (Some s) tick second = Some (observed (unseen name) (Some s) tick second)
-after_pass name (Some r) seen tick second = Some (observed r seen tick second)
+after_pass name None (Some s) tick second = Some (record_after (blank_record name) (Some s) tick second)
+after_pass name (Some r) seen tick second = Some (record_after r seen tick second)
 
 -- a name below all others is not among them
 pub find_below : {X : Type 0} (q : List ℕ) (es : List (List ℕ × X)) → below_all name_cmp q es ≡ true → find name_cmp q es ≡ None
@@ -44,39 +44,39 @@ tied a b e = names_exact a b (at (name_cmp a b) refl)
     at Greater is = absurd (false≢true (sym (ap is_eq is) ∙ e))
 
 -- what a pass sees leaves the name
-pub observed_name : (r : RecordData) (seen : Option Stat) (tick : ℕ) (second : ℤ) → (observed r seen tick second).name ≡ r.name
-observed_name r None tick second = elim r.exists as (λ b. (if b then gone r tick second else r).name ≡ r.name) [ true ↦ refl | false ↦ refl ]
-observed_name r (Some s) tick second = elim r.exists as (λ b. (if b then (if same_stat (last_stat r) s then r else changed r s tick second) else come r s tick second).name ≡ r.name) [
-  | true ↦ elim (same_stat (last_stat r) s) as (λ b. (if b then r else changed r s tick second).name ≡ r.name) [ true ↦ refl | false ↦ refl ]
+pub observed_name : (r : RecordData) (seen : Option Stat) (tick : ℕ) (second : ℤ) → (record_after r seen tick second).name ≡ r.name
+observed_name r None tick second = elim r.exists as (λ b. (if b then after_deletion r tick second else r).name ≡ r.name) [ true ↦ refl | false ↦ refl ]
+observed_name r (Some s) tick second = elim r.exists as (λ b. (if b then (if same_stat (last_stat r) s then r else after_change r s tick second) else after_creation r s tick second).name ≡ r.name) [
+  | true ↦ elim (same_stat (last_stat r) s) as (λ b. (if b then r else after_change r s tick second).name ≡ r.name) [ true ↦ refl | false ↦ refl ]
   | false ↦ refl
 ]
 
 module _ (tick : ℕ) (second : ℤ) where
-  abbrev absorbed : List RecordData → List SeenData → List RecordData
-  absorbed = absorbed_at tick second
+  abbrev records_after : List RecordData → List SeenData → List RecordData
+  records_after = absorbed_at tick second
 
   abbrev seen_row : SeenData → RecordData
-  seen_row row = observed (unseen row.name) (Some (stat_of row)) tick second
+  seen_row row = record_after (blank_record row.name) (Some (stat_of row)) tick second
 
   -- the first of the records after the pass, by which name comes first
-  first_row : (row : SeenData) (rows : List SeenData) → absorbed [] (row ∷ rows) ≡ seen_row row ∷ absorbed [] rows
+  first_row : (row : SeenData) (rows : List SeenData) → records_after [] (row ∷ rows) ≡ seen_row row ∷ records_after [] rows
   first_row row rows = rw (name_ties_itself row.name) refl
 
-  first_less : (r : RecordData) (rs : List RecordData) (row : SeenData) (rows : List SeenData) → name_cmp r.name row.name ≡ Less → absorbed (r ∷ rs) (row ∷ rows) ≡ observed r None tick second ∷ absorbed rs (row ∷ rows)
+  first_less : (r : RecordData) (rs : List RecordData) (row : SeenData) (rows : List SeenData) → name_cmp r.name row.name ≡ Less → records_after (r ∷ rs) (row ∷ rows) ≡ record_after r None tick second ∷ records_after rs (row ∷ rows)
   first_less r rs row rows less = rw (less, texts_ties r.name row.name, less) refl
 
-  first_equal : (r : RecordData) (rs : List RecordData) (row : SeenData) (rows : List SeenData) → name_cmp r.name row.name ≡ Equal → absorbed (r ∷ rs) (row ∷ rows) ≡ observed r (Some (stat_of row)) tick second ∷ absorbed rs rows
+  first_equal : (r : RecordData) (rs : List RecordData) (row : SeenData) (rows : List SeenData) → name_cmp r.name row.name ≡ Equal → records_after (r ∷ rs) (row ∷ rows) ≡ record_after r (Some (stat_of row)) tick second ∷ records_after rs rows
   first_equal r rs row rows same = rw (same, texts_ties r.name row.name, same) refl
 
-  first_greater : (r : RecordData) (rs : List RecordData) (row : SeenData) (rows : List SeenData) → name_cmp r.name row.name ≡ Greater → absorbed (r ∷ rs) (row ∷ rows) ≡ seen_row row ∷ absorbed (r ∷ rs) rows
+  first_greater : (r : RecordData) (rs : List RecordData) (row : SeenData) (rows : List SeenData) → name_cmp r.name row.name ≡ Greater → records_after (r ∷ rs) (row ∷ rows) ≡ seen_row row ∷ records_after (r ∷ rs) rows
   first_greater r rs row rows greater = rw (greater, name_ties_itself row.name) refl
 
   -- the records after the pass answer to each name as they should
   abbrev pub Answers : List RecordData → List SeenData → Type 0
-  Answers rs rows = (q : List ℕ) → record_named q (absorbed rs rows) ≡ after_pass q (record_named q rs) (find name_cmp q (map entry_of rows)) tick second
+  Answers rs rows = (q : List ℕ) → record_named q (records_after rs rows) ≡ after_pass q (record_named q rs) (find name_cmp q (map entry_of rows)) tick second
 
   -- a first record answers to its name, and the others to other names
-  cons_answers : (rs : List RecordData) (rows : List SeenData) (v : RecordData) (rest : List RecordData) → absorbed rs rows ≡ v ∷ rest → ((q : List ℕ) → q ≡ v.name → Some v ≡ after_pass q (record_named q rs) (find name_cmp q (map entry_of rows)) tick second) → ((q : List ℕ) → eq_by_cmp name_cmp q v.name ≡ false → record_named q rest ≡ after_pass q (record_named q rs) (find name_cmp q (map entry_of rows)) tick second) → Answers rs rows
+  cons_answers : (rs : List RecordData) (rows : List SeenData) (v : RecordData) (rest : List RecordData) → records_after rs rows ≡ v ∷ rest → ((q : List ℕ) → q ≡ v.name → Some v ≡ after_pass q (record_named q rs) (find name_cmp q (map entry_of rows)) tick second) → ((q : List ℕ) → eq_by_cmp name_cmp q v.name ≡ false → record_named q rest ≡ after_pass q (record_named q rs) (find name_cmp q (map entry_of rows)) tick second) → Answers rs rows
   cons_answers rs rows v rest is here there q =
       ap (record_named q) is ∙ elim (eq_by_cmp name_cmp q v.name) as (λ b. eq_by_cmp name_cmp q v.name ≡ b → cond b (Some v) (record_named q rest) ≡ after_pass q (record_named q rs) (find name_cmp q (map entry_of rows)) tick second) [
         | true ↦ λ e. here q (tied q v.name e)
@@ -98,57 +98,57 @@ module _ (tick : ℕ) (second : ℤ) where
   at_head n x es = rw (tie_is_same n n, name_ties_itself n) refl
 
   answers_row : (row : SeenData) (rows : List SeenData) → Answers [] rows → Answers [] (row ∷ rows)
-  answers_row row rows rest = cons_answers [] (row ∷ rows) (seen_row row) (absorbed [] rows) (first_row row rows)
+  answers_row row rows rest = cons_answers [] (row ∷ rows) (seen_row row) (records_after [] rows) (first_row row rows)
       (λ q is. let n = row.name in subst (λ z. Some (seen_row row) ≡ after_pass z None (find name_cmp z (map entry_of (row ∷ rows))) tick second) (sym is) (rw (at_head n (stat_of row) (map entry_of rows)) refl))
       (λ q apart. rest q ∙ ap (λ o. after_pass q None o tick second) (sym (past q row.name (stat_of row) (map entry_of rows) apart)))
 
   answers_ended : (r : RecordData) (rs : List RecordData) → Answers rs [] → Answers (r ∷ rs) []
-  answers_ended r rs rest = cons_answers (r ∷ rs) [] (observed r None tick second) (absorbed rs []) refl
-      (λ q is. subst (λ z. Some (observed r None tick second) ≡ after_pass z (record_named z (r ∷ rs)) None tick second) (sym (is ∙ observed_name r None tick second)) (rw (at_head r.name r (keyed rs)) refl))
-      (λ q apart. rest q ∙ ap (λ o. after_pass q o None tick second) (sym (past q r.name r (keyed rs) (ap (λ n. eq_by_cmp name_cmp q n) (sym (observed_name r None tick second)) ∙ apart))))
+  answers_ended r rs rest = cons_answers (r ∷ rs) [] (record_after r None tick second) (records_after rs []) refl
+      (λ q is. subst (λ z. Some (record_after r None tick second) ≡ after_pass z (record_named z (r ∷ rs)) None tick second) (sym (is ∙ observed_name r None tick second)) (rw (at_head r.name r (by_name rs)) refl))
+      (λ q apart. rest q ∙ ap (λ o. after_pass q o None tick second) (sym (past q r.name r (by_name rs) (ap (λ n. eq_by_cmp name_cmp q n) (sym (observed_name r None tick second)) ∙ apart))))
 
   answers_less : (r : RecordData) (rs : List RecordData) (row : SeenData) (rows : List SeenData) → name_cmp r.name row.name ≡ Less → is_sorted name_cmp (map entry_of (row ∷ rows)) ≡ true → Answers rs (row ∷ rows) → Answers (r ∷ rs) (row ∷ rows)
   answers_less r rs row rows less sorted rest =
       let none : find name_cmp r.name (map entry_of (row ∷ rows)) ≡ None = find_below r.name (map entry_of (row ∷ rows)) (rw less (below_through r.name row.name (map entry_of rows) less (sorted_head entry_of row rows sorted))) in
-      cons_answers (r ∷ rs) (row ∷ rows) (observed r None tick second) (absorbed rs (row ∷ rows)) (first_less r rs row rows less)
-      (λ q is. subst (λ z. Some (observed r None tick second) ≡ after_pass z (record_named z (r ∷ rs)) (find name_cmp z (map entry_of (row ∷ rows))) tick second) (sym (is ∙ observed_name r None tick second)) (rw (at_head r.name r (keyed rs), none) refl))
-      (λ q apart. rest q ∙ ap (λ o. after_pass q o (find name_cmp q (map entry_of (row ∷ rows))) tick second) (sym (past q r.name r (keyed rs) (ap (λ n. eq_by_cmp name_cmp q n) (sym (observed_name r None tick second)) ∙ apart))))
+      cons_answers (r ∷ rs) (row ∷ rows) (record_after r None tick second) (records_after rs (row ∷ rows)) (first_less r rs row rows less)
+      (λ q is. subst (λ z. Some (record_after r None tick second) ≡ after_pass z (record_named z (r ∷ rs)) (find name_cmp z (map entry_of (row ∷ rows))) tick second) (sym (is ∙ observed_name r None tick second)) (rw (at_head r.name r (by_name rs), none) refl))
+      (λ q apart. rest q ∙ ap (λ o. after_pass q o (find name_cmp q (map entry_of (row ∷ rows))) tick second) (sym (past q r.name r (by_name rs) (ap (λ n. eq_by_cmp name_cmp q n) (sym (observed_name r None tick second)) ∙ apart))))
 
   answers_equal : (r : RecordData) (rs : List RecordData) (row : SeenData) (rows : List SeenData) → name_cmp r.name row.name ≡ Equal → Answers rs rows → Answers (r ∷ rs) (row ∷ rows)
   answers_equal r rs row rows same rest =
       let name_is : r.name ≡ row.name = names_exact r.name row.name same in
       let s = stat_of row in
       let here : find name_cmp r.name (map entry_of (row ∷ rows)) ≡ Some s = ap (λ n. find name_cmp n (map entry_of (row ∷ rows))) name_is ∙ at_head row.name s (map entry_of rows) in
-      cons_answers (r ∷ rs) (row ∷ rows) (observed r (Some s) tick second) (absorbed rs rows) (first_equal r rs row rows same)
-      (λ q is. subst (λ z. Some (observed r (Some s) tick second) ≡ after_pass z (record_named z (r ∷ rs)) (find name_cmp z (map entry_of (row ∷ rows))) tick second) (sym (is ∙ observed_name r (Some s) tick second)) (rw (at_head r.name r (keyed rs), here) refl))
+      cons_answers (r ∷ rs) (row ∷ rows) (record_after r (Some s) tick second) (records_after rs rows) (first_equal r rs row rows same)
+      (λ q is. subst (λ z. Some (record_after r (Some s) tick second) ≡ after_pass z (record_named z (r ∷ rs)) (find name_cmp z (map entry_of (row ∷ rows))) tick second) (sym (is ∙ observed_name r (Some s) tick second)) (rw (at_head r.name r (by_name rs), here) refl))
       (λ q apart.
       let off : eq_by_cmp name_cmp q r.name ≡ false = ap (λ n. eq_by_cmp name_cmp q n) (sym (observed_name r (Some s) tick second)) ∙ apart in
-      rest q ∙ ap (λ o. after_pass q o (find name_cmp q (map entry_of rows)) tick second) (sym (past q r.name r (keyed rs) off))
+      rest q ∙ ap (λ o. after_pass q o (find name_cmp q (map entry_of rows)) tick second) (sym (past q r.name r (by_name rs) off))
       ∙ ap (λ o. after_pass q (record_named q (r ∷ rs)) o tick second) (sym (past q row.name s (map entry_of rows) (ap (λ n. eq_by_cmp name_cmp q n) (sym name_is) ∙ off))))
 
-  answers_greater : (r : RecordData) (rs : List RecordData) (row : SeenData) (rows : List SeenData) → name_cmp r.name row.name ≡ Greater → is_sorted name_cmp (keyed (r ∷ rs)) ≡ true → Answers (r ∷ rs) rows → Answers (r ∷ rs) (row ∷ rows)
+  answers_greater : (r : RecordData) (rs : List RecordData) (row : SeenData) (rows : List SeenData) → name_cmp r.name row.name ≡ Greater → is_sorted name_cmp (by_name (r ∷ rs)) ≡ true → Answers (r ∷ rs) rows → Answers (r ∷ rs) (row ∷ rows)
   answers_greater r rs row rows greater sorted rest =
       let less : name_cmp row.name r.name ≡ Less = names_total.antisymm row.name r.name ∙ ap ordering_reverse greater in
-      let none : record_named row.name (r ∷ rs) ≡ None = find_below row.name (keyed (r ∷ rs)) (rw less (below_through row.name r.name (keyed rs) less (sorted_head (λ (x : RecordData). (x.name, x)) r rs sorted))) in
+      let none : record_named row.name (r ∷ rs) ≡ None = find_below row.name (by_name (r ∷ rs)) (rw less (below_through row.name r.name (by_name rs) less (sorted_head (λ (x : RecordData). (x.name, x)) r rs sorted))) in
       let s = stat_of row in
-      cons_answers (r ∷ rs) (row ∷ rows) (seen_row row) (absorbed (r ∷ rs) rows) (first_greater r rs row rows greater)
+      cons_answers (r ∷ rs) (row ∷ rows) (seen_row row) (records_after (r ∷ rs) rows) (first_greater r rs row rows greater)
       (λ q is. subst (λ z. Some (seen_row row) ≡ after_pass z (record_named z (r ∷ rs)) (find name_cmp z (map entry_of (row ∷ rows))) tick second) (sym is) (rw (none, at_head row.name s (map entry_of rows)) refl))
       (λ q apart. rest q ∙ ap (λ o. after_pass q (record_named q (r ∷ rs)) o tick second) (sym (past q row.name s (map entry_of rows) apart)))
 
-  by_first : (r : RecordData) (rs : List RecordData) (row : SeenData) (rows : List SeenData) → is_sorted name_cmp (keyed (r ∷ rs)) ≡ true → is_sorted name_cmp (map entry_of (row ∷ rows)) ≡ true → Answers rs (row ∷ rows) → Answers rs rows → Answers (r ∷ rs) rows → (o : Ordering) → name_cmp r.name row.name ≡ o → Answers (r ∷ rs) (row ∷ rows)
+  by_first : (r : RecordData) (rs : List RecordData) (row : SeenData) (rows : List SeenData) → is_sorted name_cmp (by_name (r ∷ rs)) ≡ true → is_sorted name_cmp (map entry_of (row ∷ rows)) ≡ true → Answers rs (row ∷ rows) → Answers rs rows → Answers (r ∷ rs) rows → (o : Ordering) → name_cmp r.name row.name ≡ o → Answers (r ∷ rs) (row ∷ rows)
   by_first r rs row rows sorted_rs sorted_rows less equal greater Less is = answers_less r rs row rows is sorted_rows less
   by_first r rs row rows sorted_rs sorted_rows less equal greater Equal is = answers_equal r rs row rows is equal
   by_first r rs row rows sorted_rs sorted_rows less equal greater Greater is = answers_greater r rs row rows is sorted_rs greater
 
   -- with the answers of the later records, those of all
-  through : (r : RecordData) (rs : List RecordData) → is_sorted name_cmp (keyed (r ∷ rs)) ≡ true → ((rows : List SeenData) → is_sorted name_cmp (map entry_of rows) ≡ true → Answers rs rows) → (rows : List SeenData) → is_sorted name_cmp (map entry_of rows) ≡ true → Answers (r ∷ rs) rows
+  through : (r : RecordData) (rs : List RecordData) → is_sorted name_cmp (by_name (r ∷ rs)) ≡ true → ((rows : List SeenData) → is_sorted name_cmp (map entry_of rows) ≡ true → Answers rs rows) → (rows : List SeenData) → is_sorted name_cmp (map entry_of rows) ≡ true → Answers (r ∷ rs) rows
   through r rs sorted_rs later [] sorted_rows = answers_ended r rs (later [] refl)
   through r rs sorted_rs later (row ∷ rows) sorted_rows =
       let rest = sorted_rest entry_of row rows sorted_rows in
       by_first r rs row rows sorted_rs sorted_rows (later (row ∷ rows) sorted_rows) (later rows rest) (through r rs sorted_rs later rows rest) (name_cmp r.name row.name) refl
 
   -- each name finds what the pass makes of its record
-  pub absorbed_answers : (rs : List RecordData) (rows : List SeenData) → is_sorted name_cmp (keyed rs) ≡ true → is_sorted name_cmp (map entry_of rows) ≡ true → Answers rs rows
+  pub absorbed_answers : (rs : List RecordData) (rows : List SeenData) → is_sorted name_cmp (by_name rs) ≡ true → is_sorted name_cmp (map entry_of rows) ≡ true → Answers rs rows
   absorbed_answers [] rows sorted_rs sorted_rows = alone rows
     where
       alone : (rows : List SeenData) → Answers [] rows
@@ -157,61 +157,62 @@ module _ (tick : ℕ) (second : ℤ) where
   absorbed_answers (r ∷ rs) rows sorted_rs sorted_rows = through r rs sorted_rs (λ rows sorted. absorbed_answers rs rows (sorted_rest (λ (x : RecordData). (x.name, x)) r rs sorted_rs) sorted) rows sorted_rows
 
   -- a name below all records and rows is below the records after the pass
-  below_first : (x : List ℕ) (r : RecordData) (rs : List RecordData) (row : SeenData) (rows : List SeenData) → is_lt (name_cmp x r.name) ≡ true → is_lt (name_cmp x row.name) ≡ true → below_all name_cmp x (keyed (absorbed rs (row ∷ rows))) ≡ true → below_all name_cmp x (keyed (absorbed rs rows)) ≡ true → below_all name_cmp x (keyed (absorbed (r ∷ rs) rows)) ≡ true → (o : Ordering) → name_cmp r.name row.name ≡ o → below_all name_cmp x (keyed (absorbed (r ∷ rs) (row ∷ rows))) ≡ true
+  below_first : (x : List ℕ) (r : RecordData) (rs : List RecordData) (row : SeenData) (rows : List SeenData) → is_lt (name_cmp x r.name) ≡ true → is_lt (name_cmp x row.name) ≡ true → below_all name_cmp x (by_name (records_after rs (row ∷ rows))) ≡ true → below_all name_cmp x (by_name (records_after rs rows)) ≡ true → below_all name_cmp x (by_name (records_after (r ∷ rs) rows)) ≡ true → (o : Ordering) → name_cmp r.name row.name ≡ o → below_all name_cmp x (by_name (records_after (r ∷ rs) (row ∷ rows))) ≡ true
   below_first x r rs row rows xr xrow less equal greater Less is = rw (first_less r rs row rows is, observed_name r None tick second, xr) less
   below_first x r rs row rows xr xrow less equal greater Equal is = rw (first_equal r rs row rows is, observed_name r (Some (stat_of row)) tick second, xr) equal
   below_first x r rs row rows xr xrow less equal greater Greater is = rw (first_greater r rs row rows is, xrow) greater
 
-  below_through_rows : (x : List ℕ) (r : RecordData) (rs : List RecordData) → is_lt (name_cmp x r.name) ≡ true → ((rows : List SeenData) → below_all name_cmp x (map entry_of rows) ≡ true → below_all name_cmp x (keyed (absorbed rs rows)) ≡ true) → (rows : List SeenData) → below_all name_cmp x (map entry_of rows) ≡ true → below_all name_cmp x (keyed (absorbed (r ∷ rs) rows)) ≡ true
+  below_through_rows : (x : List ℕ) (r : RecordData) (rs : List RecordData) → is_lt (name_cmp x r.name) ≡ true → ((rows : List SeenData) → below_all name_cmp x (map entry_of rows) ≡ true → below_all name_cmp x (by_name (records_after rs rows)) ≡ true) → (rows : List SeenData) → below_all name_cmp x (map entry_of rows) ≡ true → below_all name_cmp x (by_name (records_after (r ∷ rs) rows)) ≡ true
   below_through_rows x r rs xr later [] e = rw (observed_name r None tick second, xr) (later [] refl)
   below_through_rows x r rs xr later (row ∷ rows) e =
       let parts = both_true (is_lt (name_cmp x row.name)) (below_all name_cmp x (map entry_of rows)) e in
       below_first x r rs row rows xr parts.0 (later (row ∷ rows) e) (later rows parts.1) (below_through_rows x r rs xr later rows parts.1) (name_cmp r.name row.name) refl
 
-  pub below_absorbed : (x : List ℕ) (rs : List RecordData) (rows : List SeenData) → below_all name_cmp x (keyed rs) ≡ true → below_all name_cmp x (map entry_of rows) ≡ true → below_all name_cmp x (keyed (absorbed rs rows)) ≡ true
+  -- a name below all records and rows is below all records after the pass
+  pub below_absorbed : (x : List ℕ) (rs : List RecordData) (rows : List SeenData) → below_all name_cmp x (by_name rs) ≡ true → below_all name_cmp x (map entry_of rows) ≡ true → below_all name_cmp x (by_name (records_after rs rows)) ≡ true
   below_absorbed x [] rows below_rs below_rows = alone rows below_rows
     where
-      alone : (rows : List SeenData) → below_all name_cmp x (map entry_of rows) ≡ true → below_all name_cmp x (keyed (absorbed [] rows)) ≡ true
+      alone : (rows : List SeenData) → below_all name_cmp x (map entry_of rows) ≡ true → below_all name_cmp x (by_name (records_after [] rows)) ≡ true
       alone [] e = refl
       alone (row ∷ rows) e =
           let parts = both_true (is_lt (name_cmp x row.name)) (below_all name_cmp x (map entry_of rows)) e in
           rw (first_row row rows, parts.0) (alone rows parts.1)
   below_absorbed x (r ∷ rs) rows below_rs below_rows =
-      let parts = both_true (is_lt (name_cmp x r.name)) (below_all name_cmp x (keyed rs)) below_rs in
+      let parts = both_true (is_lt (name_cmp x r.name)) (below_all name_cmp x (by_name rs)) below_rs in
       below_through_rows x r rs parts.0 (λ rows e. below_absorbed x rs rows parts.1 e) rows below_rows
 
   abbrev IsOrdered : List RecordData → List SeenData → Type 0
-  IsOrdered rs rows = is_sorted name_cmp (keyed (absorbed rs rows)) ≡ true
+  IsOrdered rs rows = is_sorted name_cmp (by_name (records_after rs rows)) ≡ true
 
   -- a head below the rest goes before it
-  ordered_cons : (rs : List RecordData) (rows : List SeenData) (v : RecordData) (rest : List RecordData) → absorbed rs rows ≡ v ∷ rest → below_all name_cmp v.name (keyed rest) ≡ true → is_sorted name_cmp (keyed rest) ≡ true → IsOrdered rs rows
+  ordered_cons : (rs : List RecordData) (rows : List SeenData) (v : RecordData) (rest : List RecordData) → records_after rs rows ≡ v ∷ rest → below_all name_cmp v.name (by_name rest) ≡ true → is_sorted name_cmp (by_name rest) ≡ true → IsOrdered rs rows
   ordered_cons rs rows v rest is under sorted = rw (is, under) sorted
 
-  ordered_first : (r : RecordData) (rs : List RecordData) (row : SeenData) (rows : List SeenData) → is_sorted name_cmp (keyed (r ∷ rs)) ≡ true → is_sorted name_cmp (map entry_of (row ∷ rows)) ≡ true → IsOrdered rs (row ∷ rows) → IsOrdered rs rows → IsOrdered (r ∷ rs) rows → (o : Ordering) → name_cmp r.name row.name ≡ o → IsOrdered (r ∷ rs) (row ∷ rows)
+  ordered_first : (r : RecordData) (rs : List RecordData) (row : SeenData) (rows : List SeenData) → is_sorted name_cmp (by_name (r ∷ rs)) ≡ true → is_sorted name_cmp (map entry_of (row ∷ rows)) ≡ true → IsOrdered rs (row ∷ rows) → IsOrdered rs rows → IsOrdered (r ∷ rs) rows → (o : Ordering) → name_cmp r.name row.name ≡ o → IsOrdered (r ∷ rs) (row ∷ rows)
   ordered_first r rs row rows sorted_rs sorted_rows less equal greater Less is =
       let under = below_absorbed r.name rs (row ∷ rows) (sorted_head (λ (x : RecordData). (x.name, x)) r rs sorted_rs) (rw is (below_through r.name row.name (map entry_of rows) is (sorted_head entry_of row rows sorted_rows))) in
-      ordered_cons (r ∷ rs) (row ∷ rows) (observed r None tick second) (absorbed rs (row ∷ rows)) (first_less r rs row rows is) (rw (observed_name r None tick second) under) less
+      ordered_cons (r ∷ rs) (row ∷ rows) (record_after r None tick second) (records_after rs (row ∷ rows)) (first_less r rs row rows is) (rw (observed_name r None tick second) under) less
   ordered_first r rs row rows sorted_rs sorted_rows less equal greater Equal is =
       let name_is : r.name ≡ row.name = names_exact r.name row.name is in
       let under = below_absorbed r.name rs rows (sorted_head (λ (x : RecordData). (x.name, x)) r rs sorted_rs) (ap (λ n. below_all name_cmp n (map entry_of rows)) name_is ∙ sorted_head entry_of row rows sorted_rows) in
-      ordered_cons (r ∷ rs) (row ∷ rows) (observed r (Some (stat_of row)) tick second) (absorbed rs rows) (first_equal r rs row rows is) (rw (observed_name r (Some (stat_of row)) tick second) under) equal
+      ordered_cons (r ∷ rs) (row ∷ rows) (record_after r (Some (stat_of row)) tick second) (records_after rs rows) (first_equal r rs row rows is) (rw (observed_name r (Some (stat_of row)) tick second) under) equal
   ordered_first r rs row rows sorted_rs sorted_rows less equal greater Greater is =
       let before : name_cmp row.name r.name ≡ Less = names_total.antisymm row.name r.name ∙ ap ordering_reverse is in
-      let under = below_absorbed row.name (r ∷ rs) rows (rw before (below_through row.name r.name (keyed rs) before (sorted_head (λ (x : RecordData). (x.name, x)) r rs sorted_rs))) (sorted_head entry_of row rows sorted_rows) in
-      ordered_cons (r ∷ rs) (row ∷ rows) (seen_row row) (absorbed (r ∷ rs) rows) (first_greater r rs row rows is) under greater
+      let under = below_absorbed row.name (r ∷ rs) rows (rw before (below_through row.name r.name (by_name rs) before (sorted_head (λ (x : RecordData). (x.name, x)) r rs sorted_rs))) (sorted_head entry_of row rows sorted_rows) in
+      ordered_cons (r ∷ rs) (row ∷ rows) (seen_row row) (records_after (r ∷ rs) rows) (first_greater r rs row rows is) under greater
 
-  ordered_through : (r : RecordData) (rs : List RecordData) → is_sorted name_cmp (keyed (r ∷ rs)) ≡ true → ((rows : List SeenData) → is_sorted name_cmp (map entry_of rows) ≡ true → IsOrdered rs rows) → (rows : List SeenData) → is_sorted name_cmp (map entry_of rows) ≡ true → IsOrdered (r ∷ rs) rows
+  ordered_through : (r : RecordData) (rs : List RecordData) → is_sorted name_cmp (by_name (r ∷ rs)) ≡ true → ((rows : List SeenData) → is_sorted name_cmp (map entry_of rows) ≡ true → IsOrdered rs rows) → (rows : List SeenData) → is_sorted name_cmp (map entry_of rows) ≡ true → IsOrdered (r ∷ rs) rows
   ordered_through r rs sorted_rs later [] sorted_rows =
-      ordered_cons (r ∷ rs) [] (observed r None tick second) (absorbed rs []) refl (rw (observed_name r None tick second) (below_absorbed r.name rs [] (sorted_head (λ (x : RecordData). (x.name, x)) r rs sorted_rs) refl)) (later [] refl)
+      ordered_cons (r ∷ rs) [] (record_after r None tick second) (records_after rs []) refl (rw (observed_name r None tick second) (below_absorbed r.name rs [] (sorted_head (λ (x : RecordData). (x.name, x)) r rs sorted_rs) refl)) (later [] refl)
   ordered_through r rs sorted_rs later (row ∷ rows) sorted_rows =
       let rest = sorted_rest entry_of row rows sorted_rows in
       ordered_first r rs row rows sorted_rs sorted_rows (later (row ∷ rows) sorted_rows) (later rows rest) (ordered_through r rs sorted_rs later rows rest) (name_cmp r.name row.name) refl
 
   -- the names of the records after the pass rise
-  pub absorbed_ordered : (rs : List RecordData) (rows : List SeenData) → is_sorted name_cmp (keyed rs) ≡ true → is_sorted name_cmp (map entry_of rows) ≡ true → IsOrdered rs rows
+  pub absorbed_ordered : (rs : List RecordData) (rows : List SeenData) → is_sorted name_cmp (by_name rs) ≡ true → is_sorted name_cmp (map entry_of rows) ≡ true → IsOrdered rs rows
   absorbed_ordered [] rows sorted_rs sorted_rows = alone rows sorted_rows
     where
       alone : (rows : List SeenData) → is_sorted name_cmp (map entry_of rows) ≡ true → IsOrdered [] rows
       alone [] e = refl
-      alone (row ∷ rows) e = ordered_cons [] (row ∷ rows) (seen_row row) (absorbed [] rows) (first_row row rows) (below_absorbed row.name [] rows refl (sorted_head entry_of row rows e)) (alone rows (sorted_rest entry_of row rows e))
+      alone (row ∷ rows) e = ordered_cons [] (row ∷ rows) (seen_row row) (records_after [] rows) (first_row row rows) (below_absorbed row.name [] rows refl (sorted_head entry_of row rows e)) (alone rows (sorted_rest entry_of row rows e))
   absorbed_ordered (r ∷ rs) rows sorted_rs sorted_rows = ordered_through r rs sorted_rs (λ rows sorted. absorbed_ordered rs rows (sorted_rest (λ (x : RecordData). (x.name, x)) r rs sorted_rs) sorted) rows sorted_rows

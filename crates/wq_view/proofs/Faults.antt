@@ -25,6 +25,7 @@ either_false : (a b : Bool) → (a || b) ≡ false → (a ≡ false) × (b ≡ f
 either_false true b e = absurd (false≢true (sym e))
 either_false false b e = (refl, e)
 
+-- two names are one whichever stands first
 pub same_name_flips : (a b : List ℕ) → bytes_eq a b ≡ bytes_eq b a
 same_name_flips a b = texts_ties a b ∙ (eq_by_cmp_equiv names_total).symm a b ∙ sym (texts_ties b a)
 

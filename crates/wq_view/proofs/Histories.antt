@@ -44,6 +44,7 @@ module _ (n : ℕ) where
   changed_alike s z same zero low = refl
   changed_alike s z same (suc i) low = rw (same (suc i) low, same i (omega arith)) refl
 
+-- the greatest number that passes is at most the last
 pub greatest_le : (t : ℕ → Bool) (n : ℕ) → greatest t n ≤ n
 greatest_le t zero = omega arith
 greatest_le t (suc n) = elim (t (suc n)) as (λ b. cond b (suc n) (greatest t n) ≤ suc n) [ true ↦ omega arith | false ↦ omega (arith, greatest_le t n) ]
@@ -52,12 +53,12 @@ greatest_le t (suc n) = elim (t (suc n)) as (λ b. cond b (suc n) (greatest t n)
 record_alike : (name : List ℕ) (s z : ℕ → Option Stat) (c d : ℕ → ℤ) (n : ℕ) → ((i : ℕ) → i ≤ n → s i ≡ z i) → ((i : ℕ) → i ≤ n → c i ≡ d i) → record_from name s c n ≡ record_from name z d n
 record_alike name s z c d n stats seconds =
     let seen = greatest_alike n (is_seen s) (is_seen z) n (omega arith) (λ i low. ap is_some (stats i low)) in
-    let come = greatest_alike n (has_come s) (has_come z) n (omega arith) (come_alike n s z stats) in
-    let changed = greatest_alike n (has_changed s) (has_changed z) n (omega arith) (changed_alike n s z stats) in
+    let after_creation = greatest_alike n (has_come s) (has_come z) n (omega arith) (come_alike n s z stats) in
+    let after_change = greatest_alike n (has_changed s) (has_changed z) n (omega arith) (changed_alike n s z stats) in
     let last = stats (greatest (is_seen z) n) (greatest_le (is_seen z) n) in
     let csec = seconds (greatest (has_come z) n) (greatest_le (has_come z) n) in
     let osec = seconds (greatest (has_changed z) n) (greatest_le (has_changed z) n) in
-    simp (seen, come, changed, last, csec, osec, stats n (omega arith))
+    simp (seen, after_creation, after_change, last, csec, osec, stats n (omega arith))
 
 pass_before : (history : History) (pass : PassData) (i : ℕ) → i < length history → slice_get (history ++ pass ∷ []) i ≡ slice_get history i
 pass_before [] pass i low = absurd (omega arith)
@@ -104,6 +105,7 @@ existing_from name stats seconds n = at (stats n) (stats (greatest (is_seen stat
     at None (Some l) eb ec = simp (eb, ec)
     at (Some t) c eb ec = let last = seen_now name stats seconds n t eb in simp (eb, last)
 
+-- what is seen of a file that exists is what the last pass saw
 pub existing_of : (history : History) (name : List ℕ) → existing_stat (record_of history name) ≡ stat_at history name (length history)
 existing_of history name = existing_from name (stat_at history name) (second_of history) (length history)
 

@@ -16,9 +16,11 @@ use Rattle.wq_view.specs.Limit.{max_rows}
 use Rattle.wq_view.proofs.NameOrder.{names_total, names_exact, same_name}
 use Rattle.wq_view.proofs.Faults.{same_name_flips}
 
+-- names that tie in byte order are the same
 pub tie_is_same : (a b : List ℕ) → eq_by_cmp name_cmp a b ≡ bytes_eq a b
 tie_is_same a b = sym (texts_ties a b)
 
+-- a name is itself
 pub name_ties_itself : (a : List ℕ) → bytes_eq a a ≡ true
 name_ties_itself a = texts_ties a a ∙ ap is_eq (tied_itself names_total a)
 

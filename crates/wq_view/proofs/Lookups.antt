@@ -12,27 +12,27 @@ use Rattle.std.proofs.lemmas.Bool.{cases_lt}
 use native.Mathlib.Numerals.{unary_clauses}
 use Rattle.std.proofs.lemmas.List.Sorted.{searchable_from_sorted}
 use Rattle.wq_view.specs.Listing.{name_cmp}
-use Rattle.wq_view.specs.RecordData.{RecordData, unseen, keyed, record_named}
+use Rattle.wq_view.specs.RecordData.{RecordData, blank_record, by_name, record_named}
 use Rattle.wq_view.proofs.NameOrder.{names_total, names_exact, both_true, less_from_lt}
 use Rattle.wq_view.proofs.Listings.{tie_is_same, name_ties_itself}
 
 -- a record past the end
 nobody : RecordData
-nobody = unseen []
+nobody = blank_record []
 
-below_at : (x : List ℕ) (rs : List RecordData) (at : ℕ) (d : RecordData) → below_all name_cmp x (keyed rs) ≡ true → at < length rs → name_cmp x (get_or rs at d).name ≡ Less
+below_at : (x : List ℕ) (rs : List RecordData) (at : ℕ) (d : RecordData) → below_all name_cmp x (by_name rs) ≡ true → at < length rs → name_cmp x (get_or rs at d).name ≡ Less
 below_at x [] at d e h = absurd (omega arith)
-below_at x (r ∷ rs) zero d e h = less_from_lt (name_cmp x r.name) (both_true (is_lt (name_cmp x r.name)) (below_all name_cmp x (keyed rs)) e).0
-below_at x (r ∷ rs) (suc at) d e h = below_at x rs at d (both_true (is_lt (name_cmp x r.name)) (below_all name_cmp x (keyed rs)) e).1 (omega arith)
+below_at x (r ∷ rs) zero d e h = less_from_lt (name_cmp x r.name) (both_true (is_lt (name_cmp x r.name)) (below_all name_cmp x (by_name rs)) e).0
+below_at x (r ∷ rs) (suc at) d e h = below_at x rs at d (both_true (is_lt (name_cmp x r.name)) (below_all name_cmp x (by_name rs)) e).1 (omega arith)
 
-rest_sorted : (r : RecordData) (rs : List RecordData) → is_sorted name_cmp (keyed (r ∷ rs)) ≡ true → is_sorted name_cmp (keyed rs) ≡ true
-rest_sorted r rs e = (both_true (below_all name_cmp r.name (keyed rs)) (is_sorted name_cmp (keyed rs)) e).1
+rest_sorted : (r : RecordData) (rs : List RecordData) → is_sorted name_cmp (by_name (r ∷ rs)) ≡ true → is_sorted name_cmp (by_name rs) ≡ true
+rest_sorted r rs e = (both_true (below_all name_cmp r.name (by_name rs)) (is_sorted name_cmp (by_name rs)) e).1
 
-head_below : (r : RecordData) (rs : List RecordData) → is_sorted name_cmp (keyed (r ∷ rs)) ≡ true → below_all name_cmp r.name (keyed rs) ≡ true
-head_below r rs e = (both_true (below_all name_cmp r.name (keyed rs)) (is_sorted name_cmp (keyed rs)) e).0
+head_below : (r : RecordData) (rs : List RecordData) → is_sorted name_cmp (by_name (r ∷ rs)) ≡ true → below_all name_cmp r.name (by_name rs) ≡ true
+head_below r rs e = (both_true (below_all name_cmp r.name (by_name rs)) (is_sorted name_cmp (by_name rs)) e).0
 
 -- neighbours rise, as a binary search asks
-neighbours : (rs : List RecordData) → is_sorted name_cmp (keyed rs) ≡ true → IsSortedBy (λ a b. is_lt (name_cmp a.name b.name)) rs
+neighbours : (rs : List RecordData) → is_sorted name_cmp (by_name rs) ≡ true → IsSortedBy (λ a b. is_lt (name_cmp a.name b.name)) rs
 neighbours [] e k d low h = absurd (omega arith)
 neighbours (r ∷ rs) e zero d low h =
     let less = below_at r.name rs 0 d (head_below r rs e) (omega arith) in
@@ -40,7 +40,7 @@ neighbours (r ∷ rs) e zero d low h =
 neighbours (r ∷ rs) e (suc k) d low h = simp unary_clauses (simp unary_clauses at (neighbours rs (rest_sorted r rs e) k d (omega arith) (omega arith)))
 
 -- a record at a place is what its name finds
-named_at : (q : List ℕ) (rs : List RecordData) (at : ℕ) → is_sorted name_cmp (keyed rs) ≡ true → at < length rs → (get_or rs at nobody).name ≡ q → slice_get rs at ≡ record_named q rs
+named_at : (q : List ℕ) (rs : List RecordData) (at : ℕ) → is_sorted name_cmp (by_name rs) ≡ true → at < length rs → (get_or rs at nobody).name ≡ q → slice_get rs at ≡ record_named q rs
 named_at q [] at e h is = absurd (omega arith)
 named_at q (r ∷ rs) zero e h is = subst (λ n. Some r ≡ record_named n (r ∷ rs)) is (rw (tie_is_same r.name r.name, name_ties_itself r.name) refl)
 named_at q (r ∷ rs) (suc at) e h is =
@@ -65,7 +65,7 @@ named_nowhere q (r ∷ rs) apart = elim (eq_by_cmp name_cmp q r.name) as (λ b. 
         at Greater is = absurd (false≢true (sym (ap is_eq is) ∙ e))
 
 -- what a binary search by name finds
-pub searched : (q : List ℕ) (rs : List RecordData) (r : Result ℕ ℕ) → is_sorted name_cmp (keyed rs) ≡ true → IsSearchInRange r (length rs) → IsBinarySearchResult (λ a. name_cmp a.name q) rs r → MatchOption (result_ok r) (record_named q rs ≡ None) (λ i. (i < length rs) × (slice_get rs i ≡ record_named q rs))
+pub searched : (q : List ℕ) (rs : List RecordData) (r : Result ℕ ℕ) → is_sorted name_cmp (by_name rs) ≡ true → IsSearchInRange r (length rs) → IsBinarySearchResult (λ a. name_cmp a.name q) rs r → MatchOption (result_ok r) (record_named q rs ≡ None) (λ i. (i < length rs) × (slice_get rs i ≡ record_named q rs))
 searched q rs (Ok at) sorted in_range equal = (in_range, named_at q rs at sorted in_range (names_exact _ _ (equal nobody)))
 searched q rs (Err at) sorted in_range parted =
     let parts = parted (searchable_from_sorted names_total (λ (a : RecordData). a.name) rs q (neighbours rs sorted)) in

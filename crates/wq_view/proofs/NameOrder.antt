@@ -13,9 +13,11 @@ use Rattle.std.specs.List.Sorted.{IsStrictlySortedBy}
 use Rattle.std.proofs.lemmas.Slice.Eq.{bytes_eq-Decides}
 use Rattle.wq_view.specs.Listing.{name_cmp}
 
+-- of two names one is below the other, or they are the same
 pub names_total : IsTotalOrder name_cmp
 names_total = nat_list_cmp_total
 
+-- names that tie are equal
 pub names_exact : IsAntisymmetric name_cmp
 names_exact = slice_cmp-IsAntisymmetric nat_cmp-IsAntisymmetric
 
@@ -23,11 +25,13 @@ names_exact = slice_cmp-IsAntisymmetric nat_cmp-IsAntisymmetric
 pub same_name : (a b : List ℕ) → bytes_eq a b ≡ true → a ≡ b
 same_name a b e = (bytes_eq-Decides a b).0 e
 
+-- an order that tests as less is less
 pub less_from_lt : (o : Ordering) → is_lt o ≡ true → o ≡ Less
 less_from_lt Less e = refl
 less_from_lt Equal e = absurd (false≢true e)
 less_from_lt Greater e = absurd (false≢true e)
 
+-- both of two tests hold where their conjunction does
 pub both_true : (a b : Bool) → (a && b) ≡ true → (a ≡ true) × (b ≡ true)
 both_true true b e = (refl, e)
 both_true false b e = absurd (false≢true e)
@@ -50,6 +54,7 @@ module _ {A X : Type 0} (f : A → List ℕ × X) where
   sorted_from_rising [] rise = refl
   sorted_from_rising (a ∷ xs) rise = rw (below_from_rising (f a).0 xs rise.0) (sorted_from_rising xs rise.1)
 
+  -- what tests as sorted rises
   pub rising_from_sorted : (xs : List A) → is_sorted name_cmp (map f xs) ≡ true → IsStrictlySortedBy name_cmp (map (λ a. (f a).0) xs)
   unfolding IsStrictlySortedBy
   rising_from_sorted [] e = tt

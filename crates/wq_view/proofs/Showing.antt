@@ -6,7 +6,7 @@ use Rattle.std.specs.FinMap.{find, is_sorted}
 use Rattle.std.specs.FinMap.Entries.{below_all}
 use Rattle.wq_view.specs.Seen.{SeenData, Stat, same_stat, stat_of, entry_of}
 use Rattle.wq_view.specs.Listing.{name_cmp}
-use Rattle.wq_view.specs.RecordData.{RecordData, last_stat, keyed, record_named}
+use Rattle.wq_view.specs.RecordData.{RecordData, last_stat, by_name, record_named}
 use Rattle.wq_view.specs.Merge.{shows, shows_next}
 use Rattle.wq_view.proofs.NameOrder.{both_true, same_name}
 use Rattle.wq_view.proofs.Listings.{name_ties_itself}
@@ -59,25 +59,26 @@ shown_existing (r ∷ rs) rows e = elim r.exists as (λ b. cond b ((r.name, last
         rw (name_test, stat_test) (later rows rest)
 
 -- a name below all records is below their stats
-below_existing : (x : List ℕ) (rs : List RecordData) → below_all name_cmp x (keyed rs) ≡ true → below_all name_cmp x (existing rs) ≡ true
+below_existing : (x : List ℕ) (rs : List RecordData) → below_all name_cmp x (by_name rs) ≡ true → below_all name_cmp x (existing rs) ≡ true
 below_existing x [] e = refl
 below_existing x (r ∷ rs) e =
-    let parts = both_true (is_lt (name_cmp x r.name)) (below_all name_cmp x (keyed rs)) e in
+    let parts = both_true (is_lt (name_cmp x r.name)) (below_all name_cmp x (by_name rs)) e in
     let rest = below_existing x rs parts.1 in
     elim r.exists as (λ b. below_all name_cmp x (cond b ((r.name, last_stat r) ∷ existing rs) (existing rs)) ≡ true) [ true ↦ rw parts.0 rest | false ↦ rest ]
 
-pub existing_sorted : (rs : List RecordData) → is_sorted name_cmp (keyed rs) ≡ true → is_sorted name_cmp (existing rs) ≡ true
+-- the files that exist stand in the order of all
+pub existing_sorted : (rs : List RecordData) → is_sorted name_cmp (by_name rs) ≡ true → is_sorted name_cmp (existing rs) ≡ true
 existing_sorted [] e = refl
 existing_sorted (r ∷ rs) e =
-    let parts = both_true (below_all name_cmp r.name (keyed rs)) (is_sorted name_cmp (keyed rs)) e in
+    let parts = both_true (below_all name_cmp r.name (by_name rs)) (is_sorted name_cmp (by_name rs)) e in
     let rest = existing_sorted rs parts.1 in
     elim r.exists as (λ b. is_sorted name_cmp (cond b ((r.name, last_stat r) ∷ existing rs) (existing rs)) ≡ true) [ true ↦ rw (below_existing r.name rs parts.0) rest | false ↦ rest ]
 
 -- a name finds among them what its record shows
-pub existing_found : (rs : List RecordData) → is_sorted name_cmp (keyed rs) ≡ true → (q : List ℕ) → find name_cmp q (existing rs) ≡ existing_stat (record_named q rs)
+pub existing_found : (rs : List RecordData) → is_sorted name_cmp (by_name rs) ≡ true → (q : List ℕ) → find name_cmp q (existing rs) ≡ existing_stat (record_named q rs)
 existing_found [] e q = refl
 existing_found (r ∷ rs) e q =
-    let parts = both_true (below_all name_cmp r.name (keyed rs)) (is_sorted name_cmp (keyed rs)) e in
+    let parts = both_true (below_all name_cmp r.name (by_name rs)) (is_sorted name_cmp (by_name rs)) e in
     let rest = existing_found rs parts.1 q in
     elim (eq_by_cmp name_cmp q r.name) as (λ b. eq_by_cmp name_cmp q r.name ≡ b → find name_cmp q (existing (r ∷ rs)) ≡ existing_stat (cond b (Some r) (record_named q rs))) [
       | true ↦ λ t.

@@ -28,6 +28,7 @@ kind_of-letter_of Unknown = refl
 pub same_kind : (k l : Kind) → letter_of k ≡ letter_of l → k ≡ l
 same_kind k l e = sym (kind_of-letter_of k) ∙ ap kind_of e ∙ kind_of-letter_of l
 
+-- what tests as the same is equal
 pub one_stat : (a b : Stat) → same_stat a b ≡ true → a ≡ b
 one_stat a b e =
     let front = both_true ((letter_of a.kind == letter_of b.kind) && int_eq a.size b.size) (int_eq a.mtime_ms b.mtime_ms) e in

@@ -5,9 +5,9 @@ use Rattle.std.specs.FinMap.{find, entries, get, get-entries, is_sorted, same_ma
 use Rattle.std.specs.FinMap.Entries.{same_entries}
 use Rattle.wq_view.specs.Seen.{SeenData, entry_of}
 use Rattle.wq_view.specs.Listing.{PassData, name_cmp}
-use Rattle.wq_view.specs.RecordData.{RecordData, keyed, record_named}
+use Rattle.wq_view.specs.RecordData.{RecordData, by_name, record_named}
 use Rattle.wq_view.specs.History.{History, record_of, last_stats}
-use Rattle.wq_view.specs.Merge.{shows, absorbed}
+use Rattle.wq_view.specs.Merge.{shows, records_after}
 use Rattle.wq_view.specs.View.{ViewData, IsViewOf, HasOneView}
 use Rattle.wq_view.proofs.NameOrder.{names_total, names_exact}
 use Rattle.wq_view.proofs.Absorbed.{after_pass, absorbed_answers, absorbed_ordered}
@@ -20,7 +20,7 @@ module _ (history : History) (view : ViewData) (pass : PassData) (rows : List Se
   found_is q = ap (find name_cmp q) (sym are_entries) ∙ sym (get-entries pass.stats q)
 
   -- the view with the pass is that of the history with it
-  pub view_of_more : is_sorted name_cmp (map entry_of rows) ≡ true → IsViewOf (history ++ pass ∷ []) (record { tick = view.tick + 1; records = absorbed (view.tick + 1) pass.second view.records rows })
+  pub view_of_more : is_sorted name_cmp (map entry_of rows) ≡ true → IsViewOf (history ++ pass ∷ []) (record { tick = view.tick + 1; records = records_after (view.tick + 1) pass.second view.records rows })
   view_of_more sorted = record {
     tick = omega (arith, is_view.tick, length-append history (pass ∷ []));
     ordered = absorbed_ordered (view.tick + 1) pass.second view.records rows is_view.ordered sorted;
@@ -48,12 +48,12 @@ module _ (history : History) (view : ViewData) (pass : PassData) (rows : List Se
       back e = shown_existing view.records rows (same_entries name_cmp names_total names_exact (existing view.records) (map entry_of rows) (subst T (sym (existing_sorted view.records is_view.ordered)) tt) (subst T (sym sorted) tt) (λ q. existing_is q ∙ ap (λ m. get m q) e ∙ sym (found_is q)))
 
 -- records whose names rise are those that their names find
-same_records : (a b : List RecordData) → is_sorted name_cmp (keyed a) ≡ true → is_sorted name_cmp (keyed b) ≡ true → ((q : List ℕ) → record_named q a ≡ record_named q b) → a ≡ b
+same_records : (a b : List RecordData) → is_sorted name_cmp (by_name a) ≡ true → is_sorted name_cmp (by_name b) ≡ true → ((q : List ℕ) → record_named q a ≡ record_named q b) → a ≡ b
 same_records a b sorted_a sorted_b same =
-    let keys = same_entries name_cmp names_total names_exact (keyed a) (keyed b) (subst T (sym sorted_a) tt) (subst T (sym sorted_b) tt) same in
+    let keys = same_entries name_cmp names_total names_exact (by_name a) (by_name b) (subst T (sym sorted_a) tt) (subst T (sym sorted_b) tt) same in
     values a ∙ ap (map (λ (e : List ℕ × RecordData). e.1)) keys ∙ sym (values b)
   where
-    values : (rs : List RecordData) → rs ≡ map (λ (e : List ℕ × RecordData). e.1) (keyed rs)
+    values : (rs : List RecordData) → rs ≡ map (λ (e : List ℕ × RecordData). e.1) (by_name rs)
     values [] = refl
     values (r ∷ rs) = ap (λ l. r ∷ l) (values rs)
 

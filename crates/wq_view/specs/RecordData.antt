@@ -72,8 +72,8 @@ pub record IsLawful (r : RecordData) : Type 0 where
   pub osec : IsTrue (is_count r.osec)
 
 -- the record of a name that no pass has seen yet
-abbrev pub unseen : List ℕ → RecordData
-unseen name = record {
+abbrev pub blank_record : List ℕ → RecordData
+blank_record name = record {
   name = name;
   kind = Unknown;
   size = pos 0;
@@ -86,30 +86,30 @@ unseen name = record {
 }
 
 -- the record after a pass that saw the file otherwise than it was
-abbrev pub changed : RecordData → Stat → ℕ → ℤ → RecordData
-changed r s tick second =
+abbrev pub after_change : RecordData → Stat → ℕ → ℤ → RecordData
+after_change r s tick second =
     record r { kind = s.kind; size = s.size; mtime_ms = s.mtime_ms; otick = tick; osec = second }
 
 -- the record after a pass that saw the file come
-abbrev pub come : RecordData → Stat → ℕ → ℤ → RecordData
-come r s tick second =
-    changed (record r { exists = true; ctick = tick; csec = second }) s tick second
+abbrev pub after_creation : RecordData → Stat → ℕ → ℤ → RecordData
+after_creation r s tick second =
+    after_change (record r { exists = true; ctick = tick; csec = second }) s tick second
 
 -- the record after a pass that saw the file go
-abbrev pub gone : RecordData → ℕ → ℤ → RecordData
-gone r tick second = record r { exists = false; otick = tick; osec = second }
+abbrev pub after_deletion : RecordData → ℕ → ℤ → RecordData
+after_deletion r tick second = record r { exists = false; otick = tick; osec = second }
 
 -- the record after a pass that saw this of the file, or nothing
-abbrev pub observed : RecordData → Option Stat → ℕ → ℤ → RecordData
-observed r None tick second = if r.exists then gone r tick second else r
-observed r (Some s) tick second =
-    if r.exists then (if same_stat (last_stat r) s then r else changed r s tick second)
-    else come r s tick second
+abbrev pub record_after : RecordData → Option Stat → ℕ → ℤ → RecordData
+record_after r None tick second = if r.exists then after_deletion r tick second else r
+record_after r (Some s) tick second =
+    if r.exists then (if same_stat (last_stat r) s then r else after_change r s tick second)
+    else after_creation r s tick second
 
 -- records as entries by their names
-abbrev pub keyed : List RecordData → List (List ℕ × RecordData)
-keyed = map (λ r. (r.name, r))
+abbrev pub by_name : List RecordData → List (List ℕ × RecordData)
+by_name = map (λ r. (r.name, r))
 
 -- the record of a name, if there is one
 abbrev pub record_named : List ℕ → List RecordData → Option RecordData
-record_named name records = find name_cmp name (keyed records)
+record_named name records = find name_cmp name (by_name records)

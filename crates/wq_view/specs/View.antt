@@ -4,7 +4,7 @@ use Rattle.std.specs.Prelude.{◌≡◌, ℕ, IsTrue, List, length, refl}
 use Rattle.std.specs.Coded.{Coded, code_by, coded×, coded_ℕ, coded_list}
 use Rattle.std.specs.FinMap.{is_sorted}
 use Rattle.wq_view.specs.Listing.{name_cmp}
-use Rattle.wq_view.specs.RecordData.{RecordData, record_code, keyed, record_named}
+use Rattle.wq_view.specs.RecordData.{RecordData, record_code, by_name, record_named}
 use Rattle.wq_view.specs.History.{History, record_of}
 
 -- what is known of a root
@@ -22,7 +22,7 @@ view_code =
 
 -- the names strictly rise in byte order
 abbrev pub NamesRise : List RecordData → Type 0
-NamesRise records = IsTrue (is_sorted name_cmp (keyed records))
+NamesRise records = IsTrue (is_sorted name_cmp (by_name records))
 
 -- the view of a history: its tick is the number of passes, its names rise, and each name has the
 -- record that the history gives it

@@ -6,7 +6,7 @@ ghost use Rattle.wq_view.specs.Name.{is_valid_name};
 ghost use Rattle.wq_view.specs.Seen.{stat_of, same_stat, is_lawful_row, is_count};
 ghost use Rattle.wq_view.specs.Listing.{name_cmp};
 ghost use Rattle.wq_base.specs.Name.{seconds_of};
-ghost use Rattle.wq_view.specs.RecordData.{last_stat, unseen, changed, come, observed};
+ghost use Rattle.wq_view.specs.RecordData.{last_stat, blank_record, after_change, after_creation, record_after};
 
 use crate::kind::Kind;
 use crate::limit::MAX_TICK;
@@ -78,9 +78,9 @@ impl Record {
     }
 
     /// The record of a name that no pass has seen yet.
-    pub(crate) fn unseen(row: &Seen) -> Result<Record, AllocError>
+    pub(crate) fn blank(row: &Seen) -> Result<Record, AllocError>
         requires { IsTrue (is_lawful_row row.now) }
-        ensures { IfOk result (λ r. r ≡ unseen row.now.name) }
+        ensures { IfOk result (λ r. r ≡ blank_record row.now.name) }
     {
         Ok(Record {
             name: Name::share(&row.name)?,
@@ -138,7 +138,7 @@ impl Record {
         requires row { IsTrue (is_lawful_row row.now) }
         requires tick { tick ≤ MAX_TICK }
         requires second { IsTrue (is_count second) }
-        ensures { self.new ≡ observed self.old (Some (stat_of row.now)) tick second }
+        ensures { self.new ≡ record_after self.old (Some (stat_of row.now)) tick second }
     {
         if !self.exists {
             self.come(row, tick, second);
@@ -152,7 +152,7 @@ impl Record {
         requires row { IsTrue (is_lawful_row row.now) }
         requires tick { tick ≤ MAX_TICK }
         requires second { IsTrue (is_count second) }
-        ensures { self.new ≡ come self.old (stat_of row.now) tick second }
+        ensures { self.new ≡ after_creation self.old (stat_of row.now) tick second }
     {
         self.exists = true;
         self.ctick = tick;
@@ -165,7 +165,7 @@ impl Record {
         requires row { IsTrue (is_lawful_row row.now) }
         requires tick { tick ≤ MAX_TICK }
         requires second { IsTrue (is_count second) }
-        ensures { self.new ≡ changed self.old (stat_of row.now) tick second }
+        ensures { self.new ≡ after_change self.old (stat_of row.now) tick second }
     {
         self.kind = row.kind;
         self.size = row.size;
@@ -178,7 +178,7 @@ impl Record {
     pub(crate) fn observe_absence(&mut self, tick: u64, second: i64)
         requires tick { tick ≤ MAX_TICK }
         requires second { IsTrue (is_count second) }
-        ensures { self.new ≡ observed self.old None tick second }
+        ensures { self.new ≡ record_after self.old None tick second }
     {
         if self.exists {
             self.exists = false;

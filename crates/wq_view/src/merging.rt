@@ -3,8 +3,8 @@
 ghost use Rattle.std.specs.Prelude.{◌≡◌, ◌+◌, ◌≤◌, ◌^◌, ◌<◌, ◌++◌, map, length, vec_len, IfOk, OnOk, OnErr, IsTrue};
 ghost use Rattle.std.specs.List.{list_all};
 ghost use Rattle.wq_view.specs.Seen.{is_lawful_row, is_count};
-ghost use Rattle.wq_view.specs.RecordData.{unseen};
-ghost use Rattle.wq_view.specs.Merge.{shows, with_names, observed_all};
+ghost use Rattle.wq_view.specs.RecordData.{blank_record};
+ghost use Rattle.wq_view.specs.Merge.{shows, with_names, each_after};
 
 use crate::file_record::Record;
 use crate::limit::{MAX_RECORDS, MAX_TICK};
@@ -108,7 +108,7 @@ fn with_names(
                 rows_left = later_rows;
             }
             Ordering::Greater => {
-                merged.push(Record::unseen(row)?)?;
+                merged.push(Record::blank(row)?)?;
                 rows_left = later_rows;
             }
         }
@@ -132,10 +132,10 @@ pub(crate) fn push_copies(merged: &mut Vec<Record>, records: &[Record]) -> Resul
 fn push_unseen(merged: &mut Vec<Record>, rows: &[Seen]) -> Result<(), AllocError>
     requires { IsTrue (list_all is_lawful_row rows.now) }
     ensures { OnOk result
-        (merged.new.items ≡ merged.old.items ++ map (λ row. unseen row.name) rows.now) }
+        (merged.new.items ≡ merged.old.items ++ map (λ row. blank_record row.name) rows.now) }
 {
     for row in rows {
-        merged.push(Record::unseen(row)?)?;
+        merged.push(Record::blank(row)?)?;
     }
     Ok(())
 }
@@ -145,7 +145,7 @@ pub(crate) fn observe_all(records: &mut [Record], rows: &[Seen], tick: u64, seco
     requires lawful { IsTrue (list_all is_lawful_row rows.now) }
     requires tick { tick ≤ MAX_TICK }
     requires second { IsTrue (is_count second) }
-    ensures { records.new ≡ observed_all tick second records.old rows.now }
+    ensures { records.new ≡ each_after tick second records.old rows.now }
 {
     let mut left = rows;
     for record in records.iter_mut() {

@@ -9,7 +9,7 @@ use Rattle.wq_view.specs.declared.file_record.Record.{Record}
 use Rattle.wq_view.specs.Limit.{max_tick}
 use Rattle.wq_view.specs.Seen.{SeenData}
 use Rattle.wq_view.specs.RecordData.{RecordData}
-use Rattle.wq_view.specs.Merge.{absorbed, with_names, observed_all}
+use Rattle.wq_view.specs.Merge.{records_after, with_names, each_after}
 use Rattle.wq_view.specs.View.{ViewData, IsViewOf}
 use Rattle.wq_view.proofs.Absorbed.{absorbed_ordered}
 use Rattle.wq_view.proofs.LeftOver.{length-observed_all}
@@ -17,24 +17,24 @@ use Rattle.wq_view.proofs.ViewSteps.{view_of_more}
 use Rattle.wq_view.proofs.view.View.take_in.Goals as goal
 
 -- the vector after the walks has the records after the pass
-written : (records : Vec Record Global) (new base : List RecordData) (rows : List SeenData) (tick : ℕ) (passed second : ℤ) → records.items ≡ with_names base rows → new ≡ observed_all tick (to_z w64 (of_z w64 passed)) records.items rows → SFits w64 passed → passed ≡ second → (with_items records new).items ≡ absorbed tick second base rows
-written records new base rows tick passed second named observed fits is =
+written : (records : Vec Record Global) (new base : List RecordData) (rows : List SeenData) (tick : ℕ) (passed second : ℤ) → records.items ≡ with_names base rows → new ≡ each_after tick (to_z w64 (of_z w64 passed)) records.items rows → SFits w64 passed → passed ≡ second → (with_items records new).items ≡ records_after tick second base rows
+written records new base rows tick passed second named record_after fits is =
     let same = to_z-of_z w64 passed fits ∙ is in
-    let new_is : new ≡ absorbed tick second base rows = observed ∙ ap (λ z. observed_all tick z records.items rows) same ∙ ap (λ rs. observed_all tick second rs rows) named in
-    let count : length new ≡ records.len = omega (arith, ap length observed, length-observed_all tick (to_z w64 (of_z w64 passed)) records.items rows, records.ok.0) in
+    let new_is : new ≡ records_after tick second base rows = record_after ∙ ap (λ z. each_after tick z records.items rows) same ∙ ap (λ rs. each_after tick second rs rows) named in
+    let count : length new ≡ records.len = omega (arith, ap length record_after, length-observed_all tick (to_z w64 (of_z w64 passed)) records.items rows, records.ok.0) in
     with_items_is records new count ∙ new_is
 
 pub invariant_of-self-2 : goal.invariant_of-self-2
 invariant_of-self-2 c =
     let fits : SFits w64 c.second.result = record { sfits = c.second.type_inv } in
-    let items = written c.add_names.new.records c.observe_all.new.records c.self.inside.records.items c.rows-rows.result.now (c.self.inside.tick + 1) c.second.result c.args.pass.now.second c.in_ok-add_names.ensures.ok (c.observe_all.ensures ∙ ap (λ rs. observed_all (c.self.inside.tick + 1) (to_z w64 (of_z w64 c.second.result)) rs c.rows-rows.result.now) c.deref_mut.ensures.value) fits c.second.ensures.value in
+    let items = written c.add_names.new.records c.observe_all.new.records c.self.inside.records.items c.rows-rows.result.now (c.self.inside.tick + 1) c.second.result c.args.pass.now.second c.in_ok-add_names.ensures.ok (c.observe_all.ensures ∙ ap (λ rs. each_after (c.self.inside.tick + 1) (to_z w64 (of_z w64 c.second.result)) rs c.rows-rows.result.now) c.deref_mut.ensures.value) fits c.second.ensures.value in
     let below : c.self.inside.tick + 1 ≤ max_tick = omega (arith, c.requires, ap (λ (v : ViewData). v.tick) c.self.view_is) in
     (below, c.add_names.ensures.bound, rw items (absorbed_ordered (c.self.inside.tick + 1) c.args.pass.now.second c.self.inside.records.items c.rows-rows.result.now c.self.invariant.2 c.rows-rows.ensures.rise))
 
 pub returns-clause-ok : goal.returns-clause-ok
 returns-clause-ok c history is_view =
     let fits : SFits w64 c.second.result = record { sfits = c.second.type_inv } in
-    let items = written c.add_names.new.records c.observe_all.new.records c.self.inside.records.items c.rows-rows.result.now (c.self.inside.tick + 1) c.second.result c.args.pass.now.second c.in_ok-add_names.ensures.ok (c.observe_all.ensures ∙ ap (λ rs. observed_all (c.self.inside.tick + 1) (to_z w64 (of_z w64 c.second.result)) rs c.rows-rows.result.now) c.deref_mut.ensures.value) fits c.second.ensures.value in
+    let items = written c.add_names.new.records c.observe_all.new.records c.self.inside.records.items c.rows-rows.result.now (c.self.inside.tick + 1) c.second.result c.args.pass.now.second c.in_ok-add_names.ensures.ok (c.observe_all.ensures ∙ ap (λ rs. each_after (c.self.inside.tick + 1) (to_z w64 (of_z w64 c.second.result)) rs c.rows-rows.result.now) c.deref_mut.ensures.value) fits c.second.ensures.value in
     let before : ViewData = record { tick = c.self.inside.tick; records = c.self.inside.records.items } in
     let was : IsViewOf history before = subst (IsViewOf history) (sym c.self.view_is) is_view in
     let next = view_of_more history before c.args.pass.now c.rows-rows.result.now was c.rows-rows.ensures.entries c.rows-rows.ensures.rise in
