@@ -1,2 +1,4 @@
 pub mod Unsigned
 pub mod Signed
+pub mod Fault
+pub mod Table

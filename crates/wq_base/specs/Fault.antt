@@ -17,6 +17,11 @@ abbrev pub or_its_fault : {A B E F : Type 0} → (E → F) → Result A E → (A
 or_its_fault of (Err fault) next = Err (of fault)
 or_its_fault of (Ok a) next = next a
 
+-- what follows a result, which keeps its fault where it is one
+abbrev pub or_own_fault : {A B E : Type 0} → Result A E → (A → Result B E) → Result B E
+or_own_fault (Err fault) next = Err fault
+or_own_fault (Ok a) next = next a
+
 -- true is said
 abbrev pub is_true : Option Bool → Bool
 is_true None = false

@@ -1,12 +1,12 @@
 -- Atoms take bytes off the text, so its length is enough for their number; and steps complete what was read.
 use Rattle.std.proofs.Common.{◌≡◌, ℕ, zero, suc, ◌+◌, ◌<◌, ◌≤◌, Bool, true, false, ◌&&◌, ◌==◌, nat_le, if◌then◌else◌, List, [], ◌∷◌, ◌++◌, length, drop, Option, Some, None, option_map, refl, sym, ◌∙◌, ap, subst, arith, append_assoc, append-nil, length-drop}
 use Rattle.std.specs.List.{prefix_len}
-use Rattle.std.specs.Option.{option_and_then, option_map_or}
+use Rattle.std.specs.Option.{option_and_then}
 use Rattle.wq_base.specs.Byte.{is_slash}
 use Rattle.wq_glob.specs.Byte.{is_star, is_open, is_close}
 use Rattle.wq_glob.specs.Class.{Class}
 use Rattle.wq_glob.specs.Reading.{begins, letter, class_at, class_items, first_item, before_items, items_from, is_negation}
-use Rattle.wq_glob.specs.Atom.{Atom, Literal, One, Star, Dirs, Nothing, opens, known_class, literal_at, one_of_at, stars_at, stars_before, first_atom, atoms_from}
+use Rattle.wq_glob.specs.Atom.{Atom, One, Star, Dirs, class_of, literal_of, opens, literal_at, one_of_at, stars_at, stars_before, first_atom, atoms_from}
 use Rattle.wq_glob.specs.Step.{StandsFor, AllStand, step_opens}
 use Rattle.wq_glob.specs.declared.class.Item.{Item}
 use Rattle.wq_glob.specs.declared.flag.Flags.{Flags}
@@ -43,13 +43,15 @@ one_of_not_longer : (noescape : Bool) (text : List ℕ) → length (one_of_at no
 unfolding one_of_at class_at
 one_of_not_longer noescape text = at (begins is_negation text)
   where
+    classed : Bool → Option (List Item × List ℕ) → Option (Class × List ℕ)
+    classed n o = option_map (λ (items, after). (record { negated = n; items = items }, after)) o
+
     atom : (n : Bool) (short : List ℕ) (o : Option (List Item × List ℕ)) → length short ≤ length text → NotLonger short o →
-        length (option_map_or {T = Class × List ℕ} {U = Atom × List ℕ} (λ x. (known_class x.0, x.1)) (option_map (λ items. (record { negated = n; items = items.0 }, items.1)) o) (Nothing, [])).1 ≤ length text
+        length (class_of (classed n o)).1 ≤ length text
     atom n short None less h = omega arith
     atom n short (Some r) less h = omega arith
 
-    at : (n : Bool) →
-        length (option_map_or {T = Class × List ℕ} {U = Atom × List ℕ} (λ x. (known_class x.0, x.1)) (option_map (λ items. (record { negated = n; items = items.0 }, items.1)) (class_items noescape (if n then drop 1 text else text))) (Nothing, [])).1 ≤ length text
+    at : (n : Bool) → length (class_of (classed n (class_items noescape (if n then drop 1 text else text)))).1 ≤ length text
     at true = atom true (drop 1 text) (class_items noescape (drop 1 text)) (omega (arith, length-drop 1 text)) (class_items_not_longer noescape (drop 1 text))
     at false = atom false text (class_items noescape text) (omega arith) (class_items_not_longer noescape text)
 
@@ -57,7 +59,7 @@ literal_shorter : (noescape : Bool) (text : List ℕ) → 0 < length text → le
 unfolding literal_at
 literal_shorter noescape text some = at (letter noescape text) (letter_shorter noescape text)
   where
-    at : (o : Option (ℕ × List ℕ)) → Shorter text o → length (option_map_or {T = ℕ × List ℕ} {U = Atom × List ℕ} (λ x. (Literal x.0, x.1)) o (Nothing, [])).1 < length text
+    at : (o : Option (ℕ × List ℕ)) → Shorter text o → length (literal_of o).1 < length text
     at None s = some
     at (Some r) s = s
 
@@ -118,6 +120,7 @@ atoms_step f start (x ∷ xs) some =
     let r : Atom × List ℕ = first_atom f start (x ∷ xs) in
     ap (λ (l : List Atom). r.0 ∷ l) (atoms_enough f (length xs) (length r.1) (opens r.0) r.1 (atom_shorter f start x xs) (omega arith))
 
+-- the first atom takes at least one byte off the text
 pub atom_less : (f : Flags) (start : Bool) (text : List ℕ) → 0 < length text → length (first_atom f start text).1 < length text
 atom_less f start [] some = absurd (omega arith)
 atom_less f start (x ∷ xs) some = let h = atom_shorter f start x xs in omega arith

@@ -4,6 +4,7 @@ use Rattle.std.specs.Int.{bit_at}
 use Rattle.std.proofs.lemmas.Bool.{cases_eq, eq-eqb, ne_eqb, or_right}
 use Rattle.std.proofs.lemmas.Nat.Bits.{bit_at_set_same, bit_at_set_other}
 
+-- each word of an empty set is zero
 pub zeros : (i : ℕ) → get_or {A = ℕ} (0 ∷ 0 ∷ 0 ∷ 0 ∷ []) i 0 ≡ 0
 zeros zero = refl
 zeros (suc zero) = refl
@@ -32,6 +33,7 @@ other_bit words byte b within ne =
       | inr apart ↦ ap (λ (w : ℕ). bit_at w (b % 64)) (get_or-set_other words (byte / 64) (b / 64) (with_bit words byte) 0 apart)
     ]
 
+-- putting a byte into its word adds that byte and no other
 pub set_has : (words : List ℕ) (byte b : ℕ) → byte / 64 < length words → (bit_at (get_or (set words (byte / 64) (with_bit words byte)) (b / 64) 0) (b % 64) == 1) ≡ ((bit_at (get_or words (b / 64) 0) (b % 64) == 1) || b == byte)
 set_has words byte b within =
     elim (cases_eq b byte) [

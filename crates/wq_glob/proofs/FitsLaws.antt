@@ -6,7 +6,7 @@ use Rattle.wq_base.specs.Byte.{is_slash}
 use Rattle.wq_glob.specs.Atom.{Atom, Literal, One, OneOf, Star, Dirs, Rest, Nothing}
 use Rattle.wq_glob.specs.Mark.{Mark}
 use Rattle.wq_glob.specs.Fits.{IsOne, IsEach, EndsInSlash, Takes, Cuts}
-use Rattle.wq_glob.specs.FitsTest.{Reach, Single, Many, Folders, reach, admits, folders, many, single, part_of, fits_by}
+use Rattle.wq_glob.specs.FitsTest.{Reach, Single, Many, Folders, reach, admits, folders, many, single, part_of, atom_form, fits_by}
 use Rattle.wq_glob.specs.declared.flag.Flags.{Flags}
 
 -- a part of this reach, each of whose bytes passes the test
@@ -116,16 +116,16 @@ takes f Rest part t = t
 takes f Nothing part (x, is, passes) = absurd (false≢true passes)
 
 -- where the test says yes, the text can be cut
-pub cuts_from_test : (f : Flags) (atoms : List Atom) (text : List Mark) → fits_by reach (admits f) atoms text ≡ true → Cuts f atoms text
+pub cuts_from_test : (f : Flags) (atoms : List Atom) (text : List Mark) → fits_by (atom_form f) atoms text ≡ true → Cuts f atoms text
 cuts_from_test f [] [] h = refl
 cuts_from_test f [] (x ∷ xs) h = absurd (false≢true h)
 cuts_from_test f (a ∷ later) text h =
-    let s = splits (reach a) (admits f a) (fits_by reach (admits f) later) text h in
+    let s = splits (reach a) (admits f a) (fits_by (atom_form f) later) text h in
     (s.0, s.1, s.2, takes f a s.0 s.3, cuts_from_test f later s.1 s.4)
 
 -- where the text can be cut, the test says yes
-pub test_from_cuts : (f : Flags) (atoms : List Atom) (text : List Mark) → Cuts f atoms text → fits_by reach (admits f) atoms text ≡ true
-test_from_cuts f [] text h = subst (λ (t : List Mark). fits_by reach (admits f) [] t ≡ true) (sym h) refl
+pub test_from_cuts : (f : Flags) (atoms : List Atom) (text : List Mark) → Cuts f atoms text → fits_by (atom_form f) atoms text ≡ true
+test_from_cuts f [] text h = subst (λ (t : List Mark). fits_by (atom_form f) [] t ≡ true) (sym h) refl
 test_from_cuts f (a ∷ later) text (part, after, is, t, cut) =
-    subst (λ (t : List Mark). fits_by reach (admits f) (a ∷ later) t ≡ true) (sym is)
-    (found (reach a) (admits f a) (fits_by reach (admits f) later) part after (taken f a part t) (test_from_cuts f later after cut))
+    subst (λ (t : List Mark). fits_by (atom_form f) (a ∷ later) t ≡ true) (sym is)
+    (found (reach a) (admits f a) (fits_by (atom_form f) later) part after (taken f a part t) (test_from_cuts f later after cut))

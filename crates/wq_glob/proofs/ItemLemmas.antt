@@ -21,6 +21,7 @@ widen : {A : Type 0} (short long : List ℕ) (o : Option (A × List ℕ)) → le
 widen short long None h s = tt
 widen short long (Some r) h s = omega arith
 
+-- a letter takes at least one byte
 pub letter_shorter : (noescape : Bool) (text : List ℕ) → Shorter text (letter noescape text)
 letter_shorter noescape text = at (not noescape && begins is_escape text)
   where
@@ -73,6 +74,7 @@ behind_two : {A : Type 0} (text : List ℕ) (o : Option (A × List ℕ)) → 0 <
 behind_two text None some s = tt
 behind_two text (Some r) some s = omega (arith, length-drop 1 text, length-drop 2 text)
 
+-- an item takes at least one byte
 pub first_shorter : (noescape : Bool) (text : List ℕ) → Shorter text (first_item noescape text)
 unfolding first_item
 first_shorter noescape text = at (begins is_open text) (begins is_colon (drop 1 text)) refl refl
@@ -138,6 +140,7 @@ unfolding items_from
 items_next noescape [] goes_on = rw (nothing_first noescape (first_item noescape []) (first_shorter noescape [])) refl
 items_next noescape (b ∷ bs) goes_on = rw goes_on (same_then (first_item noescape (b ∷ bs)) _ _ (λ r is. ap (λ (n : ℕ). before_items r.0 (items_from n noescape r.1)) (let e : length bs ≡ length (b ∷ bs) - 1 = omega arith in e)))
 
+-- one item more moves from what is left to what was read
 pub items_more : (noescape : Bool) (text : List ℕ) (done : List Item) (r : Item × List ℕ) → begins is_close text ≡ false → first_item noescape text ≡ Some r →
     with_items done (items_from (length text) noescape text) ≡ with_items (done ++ r.0 ∷ []) (items_from (length r.1) noescape r.1)
 items_more noescape text done r goes_on is =
@@ -147,6 +150,7 @@ items_more noescape text done r goes_on is =
     ∙ ap (λ o. with_items done (before_items r.0 o)) (items_enough noescape (length text - 1) (length r.1) r.1 (omega arith) (omega arith))
     ∙ with_more done r.0 (items_from (length r.1) noescape r.1)
 
+-- and leaves less
 pub items_less : (noescape : Bool) (text : List ℕ) (r : Item × List ℕ) → first_item noescape text ≡ Some r → length r.1 < length text
 items_less noescape text r is = shorter_at text (first_item noescape text) r is (first_shorter noescape text)
 
@@ -154,6 +158,7 @@ items_less noescape text r is = shorter_at text (first_item noescape text) r is 
 pub items_fail : (noescape : Bool) (text : List ℕ) (done : List Item) → begins is_close text ≡ false → first_item noescape text ≡ None → with_items done (items_from (length text) noescape text) ≡ None
 items_fail noescape text done goes_on is = ap (with_items done) (items_next noescape text goes_on) ∙ rw is refl
 
+-- where a `]` stands, the items that were read are all
 pub items_end : (noescape : Bool) (text : List ℕ) (done : List Item) → begins is_close text ≡ true → with_items done (items_from (length text) noescape text) ≡ Some (done, drop 1 text)
 unfolding items_from
 items_end noescape [] done closed = absurd (false≢true closed)

@@ -10,5 +10,8 @@ pub mod ItemLemmas
 pub mod SetLemmas
 pub mod StepLemmas
 pub mod AtomLemmas
-pub mod GlobLemmas
+pub mod PatternLemmas
 pub mod BackLemmas
+pub mod CountLemmas
+pub mod SeenLemmas
+pub mod CostLemmas

@@ -40,6 +40,7 @@ marks_step f text at h =
     ∙ ap (λ (b : Bool). record { byte = get_or text at 0; hidden = not f.dotfiles && b && is_dot (get_or text at 0) } ∷ drop (suc at) (marks f.dotfiles text)) (front_is text at h)
     ∙ ap (λ (n : ℕ). mark_at f text at ∷ drop n (marks f.dotfiles text)) (sym (add-one at))
 
+-- a text has as many marks as bytes
 pub length-marks_from : (dotfiles front : Bool) (text : List ℕ) → length (marks_from dotfiles front text) ≡ length text
 length-marks_from dotfiles front [] = refl
 length-marks_from dotfiles front (b ∷ bs) = ap suc (length-marks_from dotfiles (is_slash b) bs)

@@ -5,7 +5,7 @@ use Rattle.wq_base.specs.Byte.{is_slash}
 use Rattle.wq_glob.specs.Mark.{Mark}
 use Rattle.wq_glob.specs.FitsTest.{Reach, Single, Many, Folders}
 use Rattle.wq_glob.specs.Step.{step_reach, step_takes, seen_of}
-use Rattle.wq_glob.specs.Cell.{cell_of, next_cell, dead, step_fits}
+use Rattle.wq_glob.specs.Cell.{cell_of, next_cell, dead_cell, step_fits}
 use Rattle.wq_glob.specs.declared.flag.Flags.{Flags}
 use Rattle.wq_glob.specs.declared.row.Cell.{Cell}
 use Rattle.wq_glob.specs.declared.row.Seen.{Seen}
@@ -45,10 +45,11 @@ drop_all [] k h = drop_nil k
 drop_all (x ∷ xs) zero h = absurd (omega arith)
 drop_all (x ∷ xs) (suc k) h = drop_all xs k (omega arith)
 
-pub cell_at_end : (f : Flags) (steps : List Step) (k : ℕ) (x : Mark) (text : List Mark) → length steps ≤ k → dead ≡ cell_of f (drop k steps) (x ∷ text)
+-- behind the last step the cell at a byte is dead
+pub cell_at_end : (f : Flags) (steps : List Step) (k : ℕ) (x : Mark) (text : List Mark) → length steps ≤ k → dead_cell ≡ cell_of f (drop k steps) (x ∷ text)
 cell_at_end f steps k x text past = rw (drop_all steps k past) refl
 
-dead_next : (r : Reach) (takes slash : Bool) → next_cell r takes slash dead false false ≡ dead
+dead_next : (r : Reach) (takes slash : Bool) → next_cell r takes slash dead_cell false false ≡ dead_cell
 dead_next Single true slash = refl
 dead_next Single false slash = refl
 dead_next Many true slash = refl
@@ -57,37 +58,38 @@ dead_next Folders true true = refl
 dead_next Folders true false = refl
 dead_next Folders false slash = refl
 
-dead_from : (r : Reach) (takes slash : Bool) (old : Cell) (old_next new_next : Bool) → old ≡ dead → old_next ≡ false → new_next ≡ false → next_cell r takes slash old old_next new_next ≡ dead
+dead_from : (r : Reach) (takes slash : Bool) (old : Cell) (old_next new_next : Bool) → old ≡ dead_cell → old_next ≡ false → new_next ≡ false → next_cell r takes slash old old_next new_next ≡ dead_cell
 dead_from r takes slash old old_next new_next old_is old_next_is new_next_is = rw (old_is, old_next_is, new_next_is) (dead_next r takes slash)
 
-dead_cons : (f : Flags) (s : Step) (later : List Step) (x : Mark) (text : List Mark) → cell_of f (s ∷ later) text ≡ dead → step_fits f later text ≡ false → step_fits f later (x ∷ text) ≡ false → cell_of f (s ∷ later) (x ∷ text) ≡ dead
+dead_cons : (f : Flags) (s : Step) (later : List Step) (x : Mark) (text : List Mark) → cell_of f (s ∷ later) text ≡ dead_cell → step_fits f later text ≡ false → step_fits f later (x ∷ text) ≡ false → cell_of f (s ∷ later) (x ∷ text) ≡ dead_cell
 dead_cons f s later x text was old_next new_next =
     cell_step f s later x text ∙ dead_from _ _ _ _ _ _ was old_next new_next
 
 -- a cell is dead where the cells round it are
-dead_at : (f : Flags) (steps : List Step) (x : Mark) (text : List Mark) (j : ℕ) → j < length steps → cell_of f (drop j steps) text ≡ dead → step_fits f (drop (suc j) steps) text ≡ false → step_fits f (drop (suc j) steps) (x ∷ text) ≡ false → cell_of f (drop j steps) (x ∷ text) ≡ dead
+dead_at : (f : Flags) (steps : List Step) (x : Mark) (text : List Mark) (j : ℕ) → j < length steps → cell_of f (drop j steps) text ≡ dead_cell → step_fits f (drop (suc j) steps) text ≡ false → step_fits f (drop (suc j) steps) (x ∷ text) ≡ false → cell_of f (drop j steps) (x ∷ text) ≡ dead_cell
 dead_at f steps x text j within was old_next new_next =
-    subst (λ (l : List Step). cell_of f l text ≡ dead → cell_of f l (x ∷ text) ≡ dead) (sym (drop-cons steps j Never within))
+    subst (λ (l : List Step). cell_of f l text ≡ dead_cell → cell_of f l (x ∷ text) ≡ dead_cell) (sym (drop-cons steps j Never within))
     (λ h. dead_cons f (get_or steps j Never) (drop (suc j) steps) x text h old_next new_next) was
 
 -- tails of which each is dead stay so
-stay_dead : (f : Flags) (steps : List Step) (x : Mark) (text : List Mark) (low : ℕ) → ((j : ℕ) → low ≤ j → j ≤ length steps → cell_of f (drop j steps) text ≡ dead) → (d j : ℕ) → j + d ≡ length steps → low ≤ j → cell_of f (drop j steps) (x ∷ text) ≡ dead
+stay_dead : (f : Flags) (steps : List Step) (x : Mark) (text : List Mark) (low : ℕ) → ((j : ℕ) → low ≤ j → j ≤ length steps → cell_of f (drop j steps) text ≡ dead_cell) → (d j : ℕ) → j + d ≡ length steps → low ≤ j → cell_of f (drop j steps) (x ∷ text) ≡ dead_cell
 stay_dead f steps x text low was zero j ends from = sym (cell_at_end f steps j x text (omega arith))
 stay_dead f steps x text low was (suc d) j ends from =
     dead_at f steps x text j (omega arith) (was j from (omega arith))
     (ap (λ (c : Cell). c.fits) (was (suc j) (omega arith) (omega arith)))
     (ap (λ (c : Cell). c.fits) (stay_dead f steps x text low was d (suc j) (omega arith) (omega arith)))
 
-pub dead_above : (f : Flags) (steps : List Step) (x : Mark) (text : List Mark) (low : ℕ) → ((j : ℕ) → low ≤ j → j ≤ length steps → cell_of f (drop j steps) text ≡ dead) → (j : ℕ) → low ≤ j → j ≤ length steps → cell_of f (drop j steps) (x ∷ text) ≡ dead
+-- each of them, by its place
+pub dead_above : (f : Flags) (steps : List Step) (x : Mark) (text : List Mark) (low : ℕ) → ((j : ℕ) → low ≤ j → j ≤ length steps → cell_of f (drop j steps) text ≡ dead_cell) → (j : ℕ) → low ≤ j → j ≤ length steps → cell_of f (drop j steps) (x ∷ text) ≡ dead_cell
 dead_above f steps x text low was j from within = stay_dead f steps x text low was (length steps - j) j (omega arith) from
 
 -- tails that were dead stay so below one that neither fitted nor fits
-pub dead_below : (f : Flags) (steps : List Step) (x : Mark) (text : List Mark) (n : ℕ) → n ≤ length steps → ((j : ℕ) → j < n → cell_of f (drop j steps) text ≡ dead) → step_fits f (drop n steps) text ≡ false → step_fits f (drop n steps) (x ∷ text) ≡ false → (j : ℕ) → j < n → cell_of f (drop j steps) (x ∷ text) ≡ dead
+pub dead_below : (f : Flags) (steps : List Step) (x : Mark) (text : List Mark) (n : ℕ) → n ≤ length steps → ((j : ℕ) → j < n → cell_of f (drop j steps) text ≡ dead_cell) → step_fits f (drop n steps) text ≡ false → step_fits f (drop n steps) (x ∷ text) ≡ false → (j : ℕ) → j < n → cell_of f (drop j steps) (x ∷ text) ≡ dead_cell
 dead_below f steps x text zero within was old_next new_next j below = absurd (omega arith)
 dead_below f steps x text (suc n) within was old_next new_next j below =
-    let here : cell_of f (drop n steps) (x ∷ text) ≡ dead = dead_at f steps x text n (omega arith) (was n (omega arith)) old_next new_next in
+    let here : cell_of f (drop n steps) (x ∷ text) ≡ dead_cell = dead_at f steps x text n (omega arith) (was n (omega arith)) old_next new_next in
     elim (cases_eq j n) [
-      | inl same ↦ subst (λ (i : ℕ). cell_of f (drop i steps) (x ∷ text) ≡ dead) (sym same) here
+      | inl same ↦ subst (λ (i : ℕ). cell_of f (drop i steps) (x ∷ text) ≡ dead_cell) (sym same) here
       | inr other ↦
           dead_below f steps x text n (omega arith) (λ i h. was i (omega arith)) (ap (λ (c : Cell). c.fits) (was n (omega arith)))
           (ap (λ (c : Cell). c.fits) here) j (omega arith)

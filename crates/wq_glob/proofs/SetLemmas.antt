@@ -59,10 +59,7 @@ skip_more old held test b n was fails =
     and_false true = refl
     and_false false = refl
 
--- before the first byte nothing is put in, and after the last every byte that passes
-pub put_none : (old : Bool) (test : ℕ → Bool) (b : ℕ) → old ≡ (old || (nat_lt b 0 && test b))
-put_none old test b = rw (le-ltb b 0 (omega arith)) (sym (or_false old))
-
+-- after the last byte every one that passes is in
 pub put_all : (old held : Bool) (test : ℕ → Bool) (b n : ℕ) → b < n → held ≡ (old || (nat_lt b n && test b)) → held ≡ (old || test b)
 put_all old held test b n below is = is ∙ rw (lt-ltb b n below) refl
 
@@ -87,5 +84,6 @@ negate_is true false = refl
 negate_is false true = refl
 negate_is false false = refl
 
+-- and its items are what they are
 pub negated_as : (held either negated : Bool) → held ≡ either → not (beq held negated) ≡ (if negated then not either else either)
 negated_as held either negated is = negate_is held negated ∙ ap (λ (h : Bool). if negated then not h else h) is

@@ -3,7 +3,7 @@ use Rattle.std.proofs.Common.{◌≡◌, ℕ, ◌+◌, ◌<◌, ◌≤◌, Bool,
 use Rattle.std.specs.List.{list_any}
 use Rattle.std.proofs.lemmas.Bool.{not-true, and_parts, leb-true, ne_eqb}
 use Rattle.wq_base.specs.Byte.{is_slash}
-use Rattle.wq_glob.specs.Byte.{is_upper, folded, lower_of}
+use Rattle.wq_glob.specs.Byte.{is_upper, lower_if, lower_of}
 use Rattle.wq_glob.specs.ByteSet.{has_byte}
 use Rattle.wq_glob.specs.Class.{Class, in_class}
 use Rattle.wq_glob.specs.Reading.{begins, class_at, class_items, is_negation}
@@ -16,7 +16,7 @@ use Rattle.wq_glob.specs.declared.flag.Flags.{Flags}
 use Rattle.wq_glob.specs.declared.step.Step.TheVariants.{Byte, Set, Never}
 
 -- a letter without its case is a slash where it was one
-slash_folded : (fold : Bool) (b : ℕ) → is_slash (folded fold b) ≡ is_slash b
+slash_folded : (fold : Bool) (b : ℕ) → is_slash (lower_if fold b) ≡ is_slash b
 unfolding lower_of
 slash_folded false b = refl
 slash_folded true b = at (is_upper b) refl
@@ -30,11 +30,12 @@ slash_folded true b = at (is_upper b) refl
         let here : b ≡ 47 → ⊥ = omega arith in
         ne_eqb (b + 32) 47 high ∙ sym (ne_eqb b 47 here)
 
-pub stands_byte : (f : Flags) (b : ℕ) → StandsFor f (Byte (folded f.fold b)) (Literal b)
-stands_byte f b = record { same_reach = refl; same_bytes = λ x small. refl; same_opening = slash_folded f.fold b }
+-- a byte stands for its literal
+pub stands_byte : (f : Flags) (b : ℕ) → StandsFor f (Byte (lower_if f.fold b)) (Literal b)
+stands_byte f b = record { same_reach = refl; same_bytes = λ x small. refl; same_opening = slash_folded f.fold b; same_literal = refl }
 
 stands_set : (f : Flags) (set : ByteSet) (c : Class) → ((b : ℕ) → b < 256 → has_byte set b ≡ in_class f.fold c b) → StandsFor f (Set set) (OneOf c)
-stands_set f set c holds = record { same_reach = refl; same_bytes = λ x small. ap (λ (h : Bool). is_wild f x && h) (holds x.byte small); same_opening = refl }
+stands_set f set c holds = record { same_reach = refl; same_bytes = λ x small. ap (λ (h : Bool). is_wild f x && h) (holds x.byte small); same_opening = refl; same_literal = refl }
 
 -- a class whose names are all known
 pub stands_class : (f : Flags) (set : ByteSet) (c : Class) (known : Bool) → known ≡ not (list_any is_unknown c.items) → known ≡ true → ((b : ℕ) → b < 256 → has_byte set b ≡ in_class f.fold c b) → StandsFor f (Set set) (known_class c)
@@ -47,9 +48,11 @@ pub one_of_some : (noescape : Bool) (text after : List ℕ) (items : List Item) 
 unfolding one_of_at class_at
 one_of_some noescape text after items is = rw is refl
 
+-- or nothing, where the class has no end
 pub one_of_none : (noescape : Bool) (text : List ℕ) → class_items noescape (if begins is_negation text then drop 1 text else text) ≡ None → one_of_at noescape text ≡ (Nothing, [])
 unfolding one_of_at class_at
 one_of_none noescape text is = rw is refl
 
+-- what fits nothing stands for what fits nothing
 pub stands_never : (f : Flags) → StandsFor f Never Nothing
-stands_never f = record { same_reach = refl; same_bytes = λ x small. refl; same_opening = refl }
+stands_never f = record { same_reach = refl; same_bytes = λ x small. refl; same_opening = refl; same_literal = refl }

@@ -2,7 +2,7 @@
 use Rattle.std.proofs.Common.{◌≡◌, ◌≢◌, ℕ, ◌+◌, ◌<◌, ◌≤◌, Bool, false, List, ◌∷◌, ◌⊎◌, Option, Some, None, length, drop, get_or, set, sym, ◌∙◌, ap, inl, inr, arith, get_or-set_same, get_or-set_other}
 use Rattle.std.proofs.lemmas.Bool.{cases_lt, cases_eq}
 use Rattle.wq_glob.specs.Mark.{Mark}
-use Rattle.wq_glob.specs.Cell.{cell_of, dead, step_fits, IsRow, IsWindow, Bounds}
+use Rattle.wq_glob.specs.Cell.{cell_of, dead_cell, step_fits, IsRow, IsWindow, Bounds}
 use Rattle.wq_glob.proofs.RowLemmas.{dead_above, dead_below}
 use Rattle.wq_glob.specs.declared.flag.Flags.{Flags}
 use Rattle.wq_glob.specs.declared.row.Cell.{Cell}
@@ -11,14 +11,14 @@ use Rattle.wq_glob.specs.declared.step.Step.{Step}
 
 -- what a sweep over a row from its end has made of it, with the cells from `k` on renewed for the byte `x`
 pub record IsSwept (f : Flags) (steps : List Step) (x : Mark) (text : List Mark) (row : List Cell) (k : ℕ) (old_next new_next : Bool) : Type 0 where
-  pub renewed : (j : ℕ) → k ≤ j → j ≤ length steps → get_or row j dead ≡ cell_of f (drop j steps) (x ∷ text)
-  pub left : (j : ℕ) → j < k → j ≤ length steps → get_or row j dead ≡ cell_of f (drop j steps) text
+  pub renewed : (j : ℕ) → k ≤ j → j ≤ length steps → get_or row j dead_cell ≡ cell_of f (drop j steps) (x ∷ text)
+  pub left : (j : ℕ) → j < k → j ≤ length steps → get_or row j dead_cell ≡ cell_of f (drop j steps) text
   pub old_fits : k ≤ length steps → old_next ≡ step_fits f (drop k steps) text
   pub new_fits : k ≤ length steps → new_next ≡ step_fits f (drop k steps) (x ∷ text)
 
 module _ (f : Flags) (steps : List Step) (x : Mark) (text : List Mark) where
   -- behind the window all cells are dead, and stay so
-  pub high_dead : (w : Window) → IsWindow f steps text 0 w → (j : ℕ) → w.high + 1 ≤ j → j ≤ length steps → cell_of f (drop j steps) (x ∷ text) ≡ dead
+  pub high_dead : (w : Window) → IsWindow f steps text 0 w → (j : ℕ) → w.high + 1 ≤ j → j ≤ length steps → cell_of f (drop j steps) (x ∷ text) ≡ dead_cell
   high_dead w lives = dead_above f steps x text (w.high + 1) (λ j from within. lives.above j (omega arith) within)
 
   -- the sweep begins behind the last live cell
@@ -31,22 +31,22 @@ module _ (f : Flags) (steps : List Step) (x : Mark) (text : List Mark) where
   }
 
   -- and goes on by one cell
-  pub swept_more : (row : List Cell) (k n : ℕ) (old_next new_next : Bool) (new : Cell) → n + 1 ≡ k → n ≤ length steps → length steps < length row → IsSwept f steps x text row k old_next new_next → new ≡ cell_of f (drop n steps) (x ∷ text) → IsSwept f steps x text (set row n new) n (get_or row n dead).fits new.fits
+  pub swept_more : (row : List Cell) (k n : ℕ) (old_next new_next : Bool) (new : Cell) → n + 1 ≡ k → n ≤ length steps → length steps < length row → IsSwept f steps x text row k old_next new_next → new ≡ cell_of f (drop n steps) (x ∷ text) → IsSwept f steps x text (set row n new) n (get_or row n dead_cell).fits new.fits
   swept_more row k n old_next new_next new next within room swept new_is =
       let inside : n < length row = omega arith in
       record {
         renewed = λ j from at.
             elim (cases_eq j n) [
               | inl same ↦ rw (same, get_or-set_same) new_is
-              | inr other ↦ get_or-set_other row n j new dead other ∙ swept.renewed j (omega arith) at
+              | inr other ↦ get_or-set_other row n j new dead_cell other ∙ swept.renewed j (omega arith) at
             ];
-        left = λ j before at. let other : j ≢ n = omega arith in get_or-set_other row n j new dead other ∙ swept.left j (omega arith) at;
+        left = λ j before at. let other : j ≢ n = omega arith in get_or-set_other row n j new dead_cell other ∙ swept.left j (omega arith) at;
         old_fits = λ at. ap (λ (c : Cell). c.fits) (swept.left n (omega arith) at);
         new_fits = λ at. ap (λ (c : Cell). c.fits) new_is;
       }
 
   -- where it stops, the cells before it are dead
-  pub low_dead : (row : List Cell) (w : Window) (k : ℕ) (old_next new_next : Bool) → IsWindow f steps text 0 w → IsSwept f steps x text row k old_next new_next → (k ≡ 0) ⊎ ((k ≤ w.low) × (old_next ≡ false) × (new_next ≡ false)) → (j : ℕ) → j < k → cell_of f (drop j steps) (x ∷ text) ≡ dead
+  pub low_dead : (row : List Cell) (w : Window) (k : ℕ) (old_next new_next : Bool) → IsWindow f steps text 0 w → IsSwept f steps x text row k old_next new_next → (k ≡ 0) ⊎ ((k ≤ w.low) × (old_next ≡ false) × (new_next ≡ false)) → (j : ℕ) → j < k → cell_of f (drop j steps) (x ∷ text) ≡ dead_cell
   low_dead row w k old_next new_next lives swept (inl start) j before = absurd (omega arith)
   low_dead row w k old_next new_next lives swept (inr (low, old_none, new_none)) j before =
       let within : k ≤ length steps = omega (arith, lives.ordered, lives.within) in
@@ -64,12 +64,12 @@ module _ (f : Flags) (steps : List Step) (x : Mark) (text : List Mark) where
             ∙ sym (low_dead row w k old_next new_next lives swept stop j before)
       ]
     where
-      at_low : (k ≡ 0) ⊎ ((k ≤ w.low) × (old_next ≡ false) × (new_next ≡ false)) → j < k → cell_of f (drop j steps) text ≡ dead
+      at_low : (k ≡ 0) ⊎ ((k ≤ w.low) × (old_next ≡ false) × (new_next ≡ false)) → j < k → cell_of f (drop j steps) text ≡ dead_cell
       at_low (inl start) before = absurd (omega arith)
       at_low (inr (low, old_none, new_none)) before = lives.below j (omega arith) (omega arith) within
 
   -- and its live cells stand in the window of those that were looked at
-  pub bounds_all : (k : ℕ) (live : Option Window) → ((j : ℕ) → j < k → cell_of f (drop j steps) (x ∷ text) ≡ dead) → Bounds f steps (x ∷ text) k live → Bounds f steps (x ∷ text) 0 live
+  pub bounds_all : (k : ℕ) (live : Option Window) → ((j : ℕ) → j < k → cell_of f (drop j steps) (x ∷ text) ≡ dead_cell) → Bounds f steps (x ∷ text) k live → Bounds f steps (x ∷ text) 0 live
   bounds_all k None before none =
       λ j from within. elim (cases_lt j k) [ inl low ↦ before j low | inr high ↦ none j high within ]
   bounds_all k (Some w) before some = record {
@@ -78,4 +78,6 @@ module _ (f : Flags) (steps : List Step) (x : Mark) (text : List Mark) where
     within = some.within;
     below = λ j from low within. elim (cases_lt j k) [ inl lower ↦ before j lower | inr higher ↦ some.below j higher low within ];
     above = some.above;
+    first = some.first;
+    last = some.last;
   }

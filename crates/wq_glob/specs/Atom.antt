@@ -1,8 +1,8 @@
--- How a pattern is read into atoms, from left to right, on bytes. After git's wildmatch, in this project's profile:
--- runs of stars, escapes at the end and classes without an end have the meaning that is written here.
-use Rattle.std.specs.Prelude.{ℕ, zero, suc, Bool, true, false, ◌==◌, ◌&&◌, if◌then◌else◌, nat_le, List, [], ◌∷◌, drop}
+-- How a pattern is read into atoms, from left to right, byte by byte.
+-- After git's wildmatch, in this server's own profile.
+use Rattle.std.specs.Prelude.{ℕ, zero, suc, Bool, true, false, ◌==◌, ◌&&◌, if◌then◌else◌, nat_le}
+use Rattle.std.specs.Prelude.{List, [], ◌∷◌, drop, Option, Some, None}
 use Rattle.std.specs.List.{list_any, prefix_len}
-use Rattle.std.specs.Option.{option_map_or}
 use Rattle.std.specs.Str.{byte}
 use Rattle.wq_base.specs.Byte.{is_slash}
 use Rattle.wq_glob.specs.Byte.{is_star, is_open}
@@ -12,7 +12,7 @@ use Rattle.wq_glob.specs.declared.class.Item.{Item}
 use Rattle.wq_glob.specs.declared.class.Item.TheVariants.{Unknown}
 use Rattle.wq_glob.specs.declared.flag.Flags.{Flags}
 
--- `Dirs` is the `**/` of directories, `Rest` the `**` at the end, and `Nothing` fits no part
+-- an atom of a pattern: a byte, `?`, a class, `*`, `**/`, a last `**`, and what no text fits
 pub data Atom : Type 0 where
   Literal : ℕ → Atom
   One : Atom
@@ -28,32 +28,45 @@ opens (Literal b) = is_slash b
 opens Dirs = true
 opens _ = false
 
--- a byte that stands for itself, behind a backslash where one escapes it; a backslash with nothing behind it fits nothing
-unfoldable pub literal_at : Bool → List ℕ → Atom × List ℕ
-literal_at noescape text = option_map_or (λ x. (Literal x.0, x.1)) (letter noescape text) (Nothing, [])
+-- the atom of a byte that was read, and what follows it; where none was, nothing fits or follows
+abbrev pub literal_of : Option (ℕ × List ℕ) → Atom × List ℕ
+literal_of None = (Nothing, [])
+literal_of (Some (b, after)) = (Literal b, after)
 
+-- a byte that stands for itself, behind a backslash where one escapes it
+unfoldable pub literal_at : Bool → List ℕ → Atom × List ℕ
+literal_at noescape text = literal_of (letter noescape text)
+
+-- a name between `[:` and `:]` that no class has
 abbrev pub is_unknown : Item → Bool
 is_unknown Unknown = true
 is_unknown _ = false
 
--- a class as an atom: with an unknown name it fits nothing, negated or not
+-- a class as an atom: where a name in it is unknown no text fits it, not even when it is negated
 abbrev pub known_class : Class → Atom
 known_class c = if list_any is_unknown c.items then Nothing else OneOf c
 
--- the class behind a `[`: without an end it takes all that is left and fits nothing
+-- the atom of a class that was read, and what follows it; without its end nothing fits or follows
+abbrev pub class_of : Option (Class × List ℕ) → Atom × List ℕ
+class_of None = (Nothing, [])
+class_of (Some (c, after)) = (known_class c, after)
+
+-- the class behind a `[`
 unfoldable pub one_of_at : Bool → List ℕ → Atom × List ℕ
-one_of_at noescape text = option_map_or (λ x. (known_class x.0, x.1)) (class_at noescape text) (Nothing, [])
+one_of_at noescape text = class_of (class_at noescape text)
 
 -- what two stars or more are where directories may begin, by what follows them
 abbrev pub stars_before : List ℕ → Atom × List ℕ
 stars_before [] = (Rest, [])
 stars_before (b ∷ bs) = if is_slash b then (Dirs, bs) else (Star, b ∷ bs)
 
--- the longest run of stars: with `wholename`, `**/` or a last `**` where directories may begin, and else one star
+-- the stars at the front of a text, all of them: one star, unless with `wholename` they are two or
+-- more and directories may begin here
 unfoldable pub stars_at : Bool → Bool → List ℕ → Atom × List ℕ
 stars_at wholename start text =
     let run = prefix_len is_star text in
-    if wholename && start && nat_le 2 run then stars_before (drop run text) else (Star, drop run text)
+    if wholename && start && nat_le 2 run
+    then stars_before (drop run text) else (Star, drop run text)
 
 -- the atom at the front of a text, which is not empty, and what follows it
 unfoldable pub first_atom : Flags → Bool → List ℕ → Atom × List ℕ
@@ -63,9 +76,10 @@ first_atom f start text =
     else if begins is_open text then one_of_at f.noescape (drop 1 text)
     else literal_at f.noescape text
 
--- The atoms of a text. It has at most as many as bytes, so its length is enough for the first argument.
+-- The atoms of a text, where directories may begin at its front or not. A text has at most as many
+-- atoms as bytes, so its length is enough for the first argument.
 unfoldable pub atoms_from : ℕ → Flags → Bool → List ℕ → List Atom
 atoms_from zero f start text = []
 atoms_from (suc n) f start [] = []
 atoms_from (suc n) f start (b ∷ bs) =
-    let atom = first_atom f start (b ∷ bs) in atom.0 ∷ atoms_from n f (opens atom.0) atom.1
+    let (atom, after) = first_atom f start (b ∷ bs) in atom ∷ atoms_from n f (opens atom) after

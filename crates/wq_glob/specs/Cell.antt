@@ -1,74 +1,119 @@
--- The table that the matcher fills from the end of the text to its start, and from the last step to the first:
--- what is known of each tail of the pattern at each tail of the text.
-use Rattle.std.specs.Prelude.{◌≡◌, ℕ, ◌-◌, ◌<◌, ◌≤◌, Bool, true, false, not, ◌==◌, ◌&&◌, ◌||◌, List, [], ◌∷◌, length, drop, slice_index, slice_index_or, Option, MatchOption}
-use Rattle.wq_base.specs.Byte.{is_slash, is_dot}
-use Rattle.wq_glob.specs.Mark.{Mark, marks}
-use Rattle.wq_glob.specs.FitsTest.{Reach, Single, Many, Folders, fits_by, folders}
-use Rattle.wq_glob.specs.Step.{step_reach, step_admits}
+-- The table of a compiled pattern, as the matcher fills it: from the end of the text to its start,
+-- and in each row from the last step to the first. This library's own.
+use Rattle.std.specs.Prelude.{◌≡◌, ℕ, ◌+◌, ◌-◌, ◌<◌, ◌≤◌, Bool, true, false, ◌==◌, ◌&&◌, ◌||◌}
+use Rattle.std.specs.Prelude.{List, [], ◌∷◌, length, drop, slice_index, slice_index_or}
+use Rattle.std.specs.Prelude.{Option, MatchOption, IsTrue}
+use Rattle.wq_base.specs.Byte.{is_slash}
+use Rattle.wq_glob.specs.Mark.{Mark, mark, marks}
+use Rattle.wq_glob.specs.FitsTest.{Reach, Single, Many, Folders, fits_by}
+use Rattle.wq_glob.specs.Cost.{agrees, is_live, row_cells}
+use Rattle.wq_glob.specs.Table.{Row, cell_by, row_by}
+use Rattle.wq_glob.specs.Step.{step_reach, step_takes, step_form}
 use Rattle.wq_glob.specs.declared.flag.Flags.{Flags}
 use Rattle.wq_glob.specs.declared.row.Cell.{Cell}
+use Rattle.wq_glob.specs.declared.row.Seen.{Seen}
 use Rattle.wq_glob.specs.declared.row.Window.{Window}
 use Rattle.wq_glob.specs.declared.step.Step.{Step}
 
 -- the steps fit the text
 abbrev pub step_fits : Flags → List Step → List Mark → Bool
-step_fits f steps text = fits_by step_reach (step_admits f) steps text
+step_fits f steps text = fits_by (step_form f) steps text
 
--- the part of a `**/` has begun, and some front of the text ends it, so that the rest fits
-abbrev pub begun_at : Reach → (Mark → Bool) → (List Mark → Bool) → List Mark → Bool
-begun_at Folders test fit text = folders test fit text
-begun_at _ test fit text = false
-
-abbrev pub begun : Flags → List Step → List Mark → Bool
-begun f [] text = false
-begun f (s ∷ later) text = begun_at (step_reach s) (step_admits f s) (step_fits f later) text
+-- the steps from `k` on fit the end of a text
+abbrev pub fits_at_end : Flags → List Step → ℕ → Bool
+fits_at_end f steps k = step_fits f (drop k steps) []
 
 -- the cell of the steps at the text
 abbrev pub cell_of : Flags → List Step → List Mark → Cell
-cell_of f steps text = record { fits = step_fits f steps text; begun = begun f steps text }
+cell_of f steps text = cell_by (step_form f) steps text
 
-abbrev pub dead : Cell
-dead = record { fits = false; begun = false }
+-- the row of the steps at the text
+abbrev pub row_of : Flags → List Step → List Mark → Row
+row_of f steps text = row_by (step_form f) steps text
 
--- a cell from the cells round it: its own and the next step's behind the byte, and the next step's at the byte
+-- the cell of a tail that has begun no `**/`
+abbrev pub fit_cell : Bool → Cell
+fit_cell fits = record { fits = fits; begun = false }
+
+-- the cell of a tail that neither fits nor has begun
+abbrev pub dead_cell : Cell
+dead_cell = fit_cell false
+
+-- a cell, from those round it: its own and the next one behind the byte, the next one at the byte
 abbrev pub next_cell : Reach → Bool → Bool → Cell → Bool → Bool → Cell
-next_cell Single takes slash old old_next new_next = record { fits = takes && old_next; begun = false }
-next_cell Many takes slash old old_next new_next = record { fits = new_next || (takes && old.fits); begun = false }
+next_cell Single takes slash old old_next new_next = fit_cell (takes && old_next)
+next_cell Many takes slash old old_next new_next = fit_cell (new_next || (takes && old.fits))
 next_cell Folders takes slash old old_next new_next =
-    let begins = takes && (old.begun || (slash && old_next)) in record { fits = new_next || begins; begun = begins }
+    let begins = takes && (old.begun || (slash && old_next)) in
+    record { fits = new_next || begins; begun = begins }
+
+-- the cell of a step at a byte, from the cells round it
+abbrev pub step_cell : Step → Seen → Cell → Bool → Bool → Cell
+step_cell step seen old old_next new_next =
+    next_cell (step_reach step) (step_takes step seen) seen.slash old old_next new_next
+
+-- the cells round the one at `k` before the byte `x`: its own, and whether the next one fits
+pub record AreRound (f : Flags) (steps : List Step) (k : ℕ) (x : Mark) (text : List Mark)
+    (old : Cell) (old_next : Bool) (new_next : Bool) : Type 0 where
+  pub own : old ≡ row_of f steps text k
+  pub behind : k < length steps → old_next ≡ step_fits f (drop (k + 1) steps) text
+  pub here : k < length steps → new_next ≡ step_fits f (drop (k + 1) steps) (x ∷ text)
+
+-- a place of a text is at the front of a name
+abbrev pub is_front : List ℕ → ℕ → Bool
+is_front text at = at == 0 || is_slash (slice_index text (at - 1))
 
 -- the mark at a place of a text
 abbrev pub mark_at : Flags → List ℕ → ℕ → Mark
-mark_at f text at =
-    let b = slice_index text at in
-    record { byte = b; hidden = not f.dotfiles && (at == 0 || is_slash (slice_index text (at - 1))) && is_dot b }
+mark_at f text at = mark f.dotfiles (is_front text at) (slice_index text at)
 
 -- the marks of a text from a place on
 abbrev pub marks_at : Flags → List ℕ → ℕ → List Mark
 marks_at f text at = drop at (marks f.dotfiles text)
 
+-- the step at a place is a byte that the text has there
+abbrev pub step_agrees : Flags → List Step → List ℕ → ℕ → Bool
+step_agrees f steps text at = agrees (step_form f) (drop at steps) (marks_at f text at)
+
+-- how many cells the rows of the steps cost
+abbrev pub step_cells : Flags → List Step → List Mark → ℕ
+step_cells f steps text = row_cells (step_form f) steps text
+
+-- the row has no live cell
+abbrev pub IsBlank : List Cell → Type 0
+IsBlank row = (j : ℕ) → slice_index_or row j dead_cell ≡ dead_cell
+
 -- the row holds the cell of each tail of the steps
 abbrev pub IsRow : Flags → List Step → List Mark → List Cell → Type 0
-IsRow f steps text row = (j : ℕ) → j ≤ length steps → slice_index_or row j dead ≡ cell_of f (drop j steps) text
+IsRow f steps text row =
+    (j : ℕ) → j ≤ length steps → slice_index_or row j dead_cell ≡ row_of f steps text j
 
--- the live cells of the steps from `k` on stand in the window
-pub record IsWindow (f : Flags) (steps : List Step) (text : List Mark) (k : ℕ) (w : Window) : Type 0 where
+-- the cells of the steps from `k` on are dead
+abbrev pub AreDead : Flags → List Step → List Mark → ℕ → Type 0
+AreDead f steps text k = (j : ℕ) → k ≤ j → j ≤ length steps → row_of f steps text j ≡ dead_cell
+
+-- of the cells from `k` on, the first that lives and the last
+pub record IsWindow (f : Flags) (steps : List Step) (text : List Mark) (k : ℕ)
+    (w : Window) : Type 0 where
   pub from : k ≤ w.low
   pub ordered : w.low ≤ w.high
   pub within : w.high ≤ length steps
-  pub below : (j : ℕ) → k ≤ j → j < w.low → j ≤ length steps → cell_of f (drop j steps) text ≡ dead
-  pub above : (j : ℕ) → w.high < j → j ≤ length steps → cell_of f (drop j steps) text ≡ dead
+  pub below : (j : ℕ) → k ≤ j → j < w.low → j ≤ length steps → row_of f steps text j ≡ dead_cell
+  pub above : (j : ℕ) → w.high < j → j ≤ length steps → row_of f steps text j ≡ dead_cell
+  pub first : IsTrue (is_live (row_of f steps text w.low))
+  pub last : IsTrue (is_live (row_of f steps text w.high))
 
 -- the window of the cells from `k` on, or none where all of them are dead
 abbrev pub Bounds : Flags → List Step → List Mark → ℕ → Option Window → Type 0
-Bounds f steps text k w =
-    MatchOption w ((j : ℕ) → k ≤ j → j ≤ length steps → cell_of f (drop j steps) text ≡ dead) (IsWindow f steps text k)
+Bounds f steps text k w = MatchOption w (AreDead f steps text k) (IsWindow f steps text k)
+
+-- the window of the cells behind `k`, and the one with the cell at `k`
+abbrev pub Widens : ℕ → Cell → Option Window → Option Window → Type 0
+Widens k cell narrow wide = (f : Flags) (steps : List Step) (text : List Mark)
+    → k ≤ length steps → Bounds f steps text (k + 1) narrow
+    → cell ≡ row_of f steps text k → Bounds f steps text k wide
 
 -- a part of this reach may be empty
 abbrev pub may_be_empty : Reach → Bool
 may_be_empty Single = false
 may_be_empty _ = true
-
--- the row has no live cell
-abbrev pub IsBlank : List Cell → Type 0
-IsBlank row = (j : ℕ) → slice_index_or row j dead ≡ dead

@@ -1,15 +1,15 @@
--- What it means that a pattern fits a text: the text can be cut into parts, one for each atom in order, each allowed
--- to its atom. After git's wildmatch, in this project's profile; no order of search is in it.
+-- What it means that a pattern fits: some cut of the text gives each atom in turn what it takes.
+-- After git's wildmatch, in this server's own profile; no search is in it.
 use Rattle.std.specs.Prelude.{◌≡◌, Bool, not, ◌==◌, ◌&&◌, IsTrue, ◌⊎◌, List, [], ◌∷◌, ◌++◌}
 use Rattle.std.specs.List.{list_all}
 use Rattle.wq_base.specs.Byte.{is_slash}
-use Rattle.wq_glob.specs.Byte.{folded}
+use Rattle.wq_glob.specs.Byte.{lower_if}
 use Rattle.wq_glob.specs.Class.{in_class}
 use Rattle.wq_glob.specs.Atom.{Atom, Literal, One, OneOf, Star, Dirs, Rest, Nothing}
 use Rattle.wq_glob.specs.Mark.{Mark}
 use Rattle.wq_glob.specs.declared.flag.Flags.{Flags}
 
--- no hidden dot: what may stand in the part of an atom that is no literal
+-- no hidden dot: these only a literal takes
 abbrev pub is_shown : Mark → Bool
 is_shown x = not x.hidden
 
@@ -27,11 +27,12 @@ IsEach test part = IsTrue (list_all test part)
 
 -- the part ends in a slash
 abbrev pub EndsInSlash : List Mark → Type 0
-EndsInSlash part = (body : List Mark) × (x : Mark) × (part ≡ body ++ x ∷ []) × IsTrue (is_slash x.byte)
+EndsInSlash part =
+    (body : List Mark) × (x : Mark) × (part ≡ body ++ x ∷ []) × IsTrue (is_slash x.byte)
 
--- the part is allowed to the atom
+-- the atom takes the part
 abbrev pub Takes : Flags → Atom → List Mark → Type 0
-Takes f (Literal b) part = IsOne (λ x. folded f.fold x.byte == folded f.fold b) part
+Takes f (Literal b) part = IsOne (λ x. lower_if f.fold x.byte == lower_if f.fold b) part
 Takes f One part = IsOne (is_wild f) part
 Takes f (OneOf c) part = IsOne (λ x. is_wild f x && in_class f.fold c x.byte) part
 Takes f Star part = IsEach (is_wild f) part
@@ -39,7 +40,9 @@ Takes f Dirs part = (part ≡ []) ⊎ (IsEach is_shown part × EndsInSlash part)
 Takes f Rest part = IsEach is_shown part
 Takes f Nothing part = ⊥
 
--- the text can be cut into parts, one for each atom in order, each allowed to its atom
+-- a cut of the text gives the first atom a part that it takes, and the later ones what follows it
 abbrev pub Cuts : Flags → List Atom → List Mark → Type 0
 Cuts f [] text = text ≡ []
-Cuts f (a ∷ later) text = (part : List Mark) × (after : List Mark) × (text ≡ part ++ after) × Takes f a part × Cuts f later after
+Cuts f (a ∷ later) text =
+    (part : List Mark) × (after : List Mark) × (text ≡ part ++ after)
+    × Takes f a part × Cuts f later after

@@ -1,20 +1,21 @@
--- The same as a test that computes: whether a pattern fits a text, atom by atom. Above it stands the law that it
--- says yes exactly where the text can be cut.
+-- The same as a test that computes, atom by atom; the law that ties it to the cuts stands in `Law`.
+-- This library's own.
 use Rattle.std.specs.Prelude.{Bool, true, false, ◌==◌, ◌&&◌, ◌||◌, List, [], ◌∷◌}
 use Rattle.wq_base.specs.Byte.{is_slash}
-use Rattle.wq_glob.specs.Byte.{folded}
+use Rattle.wq_glob.specs.Byte.{lower_if}
 use Rattle.wq_glob.specs.Class.{in_class}
 use Rattle.wq_glob.specs.Atom.{Atom, Literal, One, OneOf, Star, Dirs, Rest, Nothing}
 use Rattle.wq_glob.specs.Mark.{Mark}
 use Rattle.wq_glob.specs.Fits.{is_shown, is_wild}
 use Rattle.wq_glob.specs.declared.flag.Flags.{Flags}
 
--- how long the part of an atom is: one byte, any number of bytes, or nothing or bytes up to a slash
+-- how far an atom reaches: over one byte, over any number of bytes, or over whole directories
 pub data Reach : Type 0 where
   Single : Reach
   Many : Reach
   Folders : Reach
 
+-- how far each atom reaches
 abbrev pub reach : Atom → Reach
 reach Star = Many
 reach Rest = Many
@@ -23,7 +24,7 @@ reach _ = Single
 
 -- the bytes that an atom's part may hold
 abbrev pub admits : Flags → Atom → Mark → Bool
-admits f (Literal b) x = folded f.fold x.byte == folded f.fold b
+admits f (Literal b) x = lower_if f.fold x.byte == lower_if f.fold b
 admits f One x = is_wild f x
 admits f (OneOf c) x = is_wild f x && in_class f.fold c x.byte
 admits f Star x = is_wild f x
@@ -31,32 +32,49 @@ admits f Dirs x = is_shown x
 admits f Rest x = is_shown x
 admits f Nothing x = false
 
--- some front of the text that is not empty passes and ends in a slash, and what follows it fits
-abbrev pub folders : (Mark → Bool) → (List Mark → Bool) → List Mark → Bool
-folders test fit [] = false
-folders test fit (x ∷ xs) = test x && (folders test fit xs || (is_slash x.byte && fit xs))
+-- the atom is a literal
+abbrev pub is_literal : Atom → Bool
+is_literal (Literal _) = true
+is_literal _ = false
 
--- some front of the text passes, and what follows it fits
-abbrev pub many : (Mark → Bool) → (List Mark → Bool) → List Mark → Bool
-many test fit [] = fit []
-many test fit (x ∷ xs) = fit (x ∷ xs) || (test x && many test fit xs)
+-- what a test has to know of the atoms of a pattern: their reach, their bytes, which are literals
+pub record Form (A : Type 0) : Type 0 where
+  pub reach_of : A → Reach
+  pub admits_of : A → Mark → Bool
+  pub is_literal : A → Bool
+
+-- what a test has to know of the atoms themselves
+abbrev pub atom_form : Flags → Form Atom
+atom_form f = record { reach_of = reach; admits_of = admits f; is_literal = is_literal }
 
 -- the first byte passes, and what follows it fits
 abbrev pub single : (Mark → Bool) → (List Mark → Bool) → List Mark → Bool
 single test fit [] = false
 single test fit (x ∷ xs) = test x && fit xs
 
--- the text is a part of this reach, and then a text that fits
+-- each byte of some front of the text passes, and what follows that front fits
+abbrev pub many : (Mark → Bool) → (List Mark → Bool) → List Mark → Bool
+many test fit [] = fit []
+many test fit (x ∷ xs) = fit (x ∷ xs) || (test x && many test fit xs)
+
+-- each byte of some front of the text, which ends in a slash, passes, and what follows it fits
+abbrev pub folders : (Mark → Bool) → (List Mark → Bool) → List Mark → Bool
+folders test fit [] = false
+folders test fit (x ∷ xs) = test x && (folders test fit xs || (is_slash x.byte && fit xs))
+
+-- some front of the text is a part of this reach, and what follows it fits
 abbrev pub part_of : Reach → (Mark → Bool) → (List Mark → Bool) → List Mark → Bool
 part_of Single test fit text = single test fit text
 part_of Many test fit text = many test fit text
 part_of Folders test fit text = fit text || folders test fit text
 
+-- the text is empty
 abbrev pub is_empty : List Mark → Bool
 is_empty [] = true
-is_empty (x ∷ xs) = false
+is_empty _ = false
 
--- a text fits a list of atoms of any form, whose reach and bytes are given
-abbrev pub fits_by : {A : Type 0} → (A → Reach) → (A → Mark → Bool) → List A → List Mark → Bool
-fits_by reach_of admits_of [] text = is_empty text
-fits_by reach_of admits_of (a ∷ later) text = part_of (reach_of a) (admits_of a) (fits_by reach_of admits_of later) text
+-- atoms of any form fit a text
+abbrev pub fits_by : {A : Type 0} → Form A → List A → List Mark → Bool
+fits_by form [] text = is_empty text
+fits_by form (a ∷ later) text =
+    part_of (form.reach_of a) (form.admits_of a) (fits_by form later) text

@@ -6,8 +6,11 @@ pub mod Atom
 pub mod Mark
 pub mod Fits
 pub mod FitsTest
+pub mod Table
+pub mod Cost
 pub mod Pattern
 pub mod ByteSet
 pub mod Step
 pub mod Cell
 pub mod Member
+pub mod Law

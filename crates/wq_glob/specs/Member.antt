@@ -1,4 +1,5 @@
--- What the reader of a class has gathered: which bytes its items hold, and whether all their names are known.
+-- What the reader of a class has gathered: the bytes of its items, and whether all names are known.
+-- This library's own; what an item is stands in `Class`.
 use Rattle.std.specs.Prelude.{◌≡◌, ℕ, ◌<◌, not, List, Option, Some}
 use Rattle.std.specs.List.{list_any}
 use Rattle.wq_glob.specs.Atom.{is_unknown}
@@ -12,6 +13,7 @@ use Rattle.wq_glob.specs.declared.class.Members.{Members}
 abbrev pub Holds : ByteSet → List Item → Type 0
 Holds set items = (b : ℕ) → b < 256 → has_byte set b ≡ in_items items b
 
+-- the members are those of the items
 pub record AreMembers (m : Members) (items : List Item) : Type 0 where
   pub bytes : Holds m.set items
   pub known : m.known ≡ not (list_any is_unknown items)

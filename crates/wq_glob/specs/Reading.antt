@@ -1,97 +1,108 @@
--- How the classes of a pattern are written, as functions on bytes: what stands at the front of a text, and what
--- follows it. After the bracket expressions of POSIX and of git's wildmatch; this project's profile of them.
-use Rattle.std.specs.Prelude.{ℕ, zero, suc, ◌-◌, ◌+◌, Bool, false, ◌==◌, not, ◌&&◌, ◌||◌, if◌then◌else◌, nat_le, List, [], ◌∷◌, length, take, drop, slice_index, Option, Some, None, option_map, option_and_then, position, codes, bytes_eq}
-use Rattle.std.specs.Option.{option_or}
+-- How the classes of a pattern are written: what stands at the front of a text, and what follows.
+-- After the bracket expressions of POSIX and of git's wildmatch; this server's own profile of them.
+use Rattle.std.specs.Prelude.{ℕ, zero, suc, ◌-◌, ◌+◌, Bool, false, ◌==◌, not, ◌&&◌, ◌||◌}
+use Rattle.std.specs.Prelude.{if◌then◌else◌, nat_le, List, [], ◌∷◌, length, take, drop, slice_index}
+use Rattle.std.specs.Prelude.{Option, Some, None, option_map, option_and_then, position, bytes_eq}
+use Rattle.std.specs.List.{find}
+use Rattle.std.specs.Option.{option_or, option_map_or}
 use Rattle.std.specs.Str.{byte}
 use Rattle.wq_base.specs.Byte.{is_colon}
 use Rattle.wq_glob.specs.Byte.{is_close, is_open, is_dash, is_escape}
-use Rattle.wq_glob.specs.Class.{Class}
-use Rattle.wq_glob.specs.declared.class.ClassName.TheVariants.{Alnum, Alpha, Blank, Cntrl, Digit, Graph, Lower, Print, Punct, Space, Upper, Xdigit}
+use Rattle.wq_glob.specs.Class.{Class, class_name, named_classes}
 use Rattle.wq_glob.specs.declared.class.Item.{Item}
 use Rattle.wq_glob.specs.declared.class.Item.TheVariants.{Range, Named, Unknown}
 
 -- the first byte passes the test
 abbrev pub begins : (ℕ → Bool) → List ℕ → Bool
 begins test [] = false
-begins test (b ∷ bs) = test b
+begins test (b ∷ _) = test b
 
 -- the first byte and what follows it, where there is one
 abbrev pub next : List ℕ → Option (ℕ × List ℕ)
 next [] = None
 next (b ∷ bs) = Some (b, bs)
 
--- the byte that the front of a text stands for, and what follows it: a backslash gives the byte behind it, unless
--- `noescape`; none where the text ends first
+-- the byte that the front of a text stands for, and what follows it: a backslash gives the byte
+-- behind it, unless `noescape`; none where the text ends first
 abbrev pub letter : Bool → List ℕ → Option (ℕ × List ℕ)
-letter noescape text = if not noescape && begins is_escape text then next (drop 1 text) else next text
+letter noescape text =
+    if not noescape && begins is_escape text then next (drop 1 text) else next text
 
--- the class that has this name
+-- the named class that has this name, and where none has it an unknown item
 unfoldable pub item_named : List ℕ → Item
 item_named name =
-    if bytes_eq name (codes "alnum") then Named Alnum else
-    if bytes_eq name (codes "alpha") then Named Alpha else
-    if bytes_eq name (codes "blank") then Named Blank else
-    if bytes_eq name (codes "cntrl") then Named Cntrl else
-    if bytes_eq name (codes "digit") then Named Digit else
-    if bytes_eq name (codes "graph") then Named Graph else
-    if bytes_eq name (codes "lower") then Named Lower else
-    if bytes_eq name (codes "print") then Named Print else
-    if bytes_eq name (codes "punct") then Named Punct else
-    if bytes_eq name (codes "space") then Named Space else
-    if bytes_eq name (codes "upper") then Named Upper else
-    if bytes_eq name (codes "xdigit") then Named Xdigit else Unknown
+    option_map_or Named (find (λ class. bytes_eq name (class_name class)) named_classes) Unknown
 
--- Behind `[:`, the named class up to `:]` and what follows it: the first `]` has a `:` before it. None where it has not.
+-- a colon stands before the place
+abbrev pub is_behind_colon : List ℕ → ℕ → Bool
+is_behind_colon text place = nat_le 1 place && is_colon (slice_index text (place - 1))
+
+-- the name before the `:` before a place, and what follows the place; none where no `:` is there
+abbrev pub name_to : List ℕ → ℕ → Option (Item × List ℕ)
+name_to text end =
+    if is_behind_colon text end
+    then Some (item_named (take (end - 1) text), drop (end + 1) text) else None
+
+-- behind `[:`, the named class and what follows its `:]`, whose `]` is the first in the text
 unfoldable pub named_item : List ℕ → Option (Item × List ℕ)
-named_item text =
-    option_and_then (λ i.
-    if nat_le 1 i && is_colon (slice_index text (i - 1))
-    then Some (item_named (take (i - 1) text), drop (i + 1) text) else None)
-    (position is_close text)
+named_item text = option_and_then (name_to text) (position is_close text)
 
--- behind the first byte of a range, the byte that ends it and what follows: after `-`, any but an unescaped `]`
+-- behind the first byte of a range, the byte that ends it and what follows: after a dash, any byte
+-- but an unescaped `]`
 unfoldable pub range_end : Bool → List ℕ → Option (ℕ × List ℕ)
 range_end noescape text =
-    if begins is_dash text && not (begins is_close (drop 1 text)) then letter noescape (drop 1 text) else None
+    if begins is_dash text && not (begins is_close (drop 1 text))
+    then letter noescape (drop 1 text) else None
 
 -- an item that begins with this byte: a range where an end follows, and else the byte alone
 unfoldable pub item_from : ℕ → List ℕ → Option (ℕ × List ℕ) → Item × List ℕ
 item_from first after None = (Range first first, after)
-item_from first after (Some end) = (Range first end.0, end.1)
+item_from first _ (Some (last, after)) = (Range first last, after)
 
 -- the item at the front of a text that is no named class, and what follows it
 unfoldable pub plain_item : Bool → List ℕ → Option (Item × List ℕ)
-plain_item noescape text = option_map (λ x. item_from x.0 x.1 (range_end noescape x.1)) (letter noescape text)
+plain_item noescape text =
+    option_map (λ (b, after). item_from b after (range_end noescape after)) (letter noescape text)
 
--- the item at the front of a text, and what follows it; a `[` that begins no named class is a byte
+-- the item at the front of a text, and what follows it; a `[` with no name behind stands for itself
 unfoldable pub first_item : Bool → List ℕ → Option (Item × List ℕ)
 first_item noescape text =
     if begins is_open text && begins is_colon (drop 1 text)
-    then option_or (named_item (drop 2 text)) (plain_item noescape text) else plain_item noescape text
+    then option_or (named_item (drop 2 text)) (plain_item noescape text)
+    else plain_item noescape text
 
 -- an item, put before the items that were read behind it
 abbrev pub before_items : Item → Option (List Item × List ℕ) → Option (List Item × List ℕ)
-before_items item read = option_map (λ items. (item ∷ items.0, items.1)) read
+before_items item None = None
+before_items item (Some (items, after)) = Some (item ∷ items, after)
 
--- The items up to the `]` that ends the class, and what follows it; none where it has no end. A text has at most
--- as many items as bytes, so its length is enough for the first argument.
+-- The items up to the `]` that ends the class, and what follows it; none where it has no end. A
+-- text has at most as many items as bytes, so its length is enough for the first argument.
 unfoldable pub items_from : ℕ → Bool → List ℕ → Option (List Item × List ℕ)
-items_from zero noescape text = None
+items_from zero _ _ = None
 items_from (suc n) noescape text =
     if begins is_close text then Some ([], drop 1 text)
-    else option_and_then (λ item. before_items item.0 (items_from n noescape item.1)) (first_item noescape text)
+    else option_and_then (λ (item, after). before_items item (items_from n noescape after))
+    (first_item noescape text)
 
 -- the items of a class, of which a `]` may be the first
 unfoldable pub class_items : Bool → List ℕ → Option (List Item × List ℕ)
 class_items noescape text =
-    option_and_then (λ item. before_items item.0 (items_from (length item.1) noescape item.1)) (first_item noescape text)
+    option_and_then
+    (λ (item, after). before_items item (items_from (length after) noescape after))
+    (first_item noescape text)
 
 -- a class begins with `!` or `^` where it is negated
 abbrev pub is_negation : ℕ → Bool
 is_negation b = b == byte "!" || b == byte "^"
 
+-- behind the bracket of a class, its items, without the sign that negates it
+abbrev pub behind_negation : List ℕ → List ℕ
+behind_negation text = if begins is_negation text then drop 1 text else text
+
 -- behind its `[`, a class and what follows it; none where it has no end
 unfoldable pub class_at : Bool → List ℕ → Option (Class × List ℕ)
 class_at noescape text =
-    option_map (λ items. (record { negated = begins is_negation text; items = items.0 }, items.1))
-    (class_items noescape (if begins is_negation text then drop 1 text else text))
+    option_map
+    (λ (items, after). (record { negated = begins is_negation text; items = items }, after))
+    (class_items noescape (behind_negation text))

@@ -1,18 +1,22 @@
 -- What the steps of a compiled pattern mean, and that they stand for its atoms.
-use Rattle.std.specs.Prelude.{◌≡◌, ℕ, ◌<◌, Bool, true, false, ◌==◌, ◌&&◌, ◌≤◌, List, [], ◌∷◌, length}
+-- This library's own; what an atom is stands in `Atom`.
+use Rattle.std.specs.Prelude.{◌≡◌, ℕ, ◌<◌, Bool, true, false, ◌==◌, ◌&&◌, ◌≤◌}
+use Rattle.std.specs.Prelude.{List, [], ◌∷◌, length}
 use Rattle.wq_base.specs.Byte.{is_slash}
-use Rattle.wq_glob.specs.Byte.{folded}
+use Rattle.wq_glob.specs.Byte.{lower_if}
 use Rattle.wq_glob.specs.ByteSet.{has_byte}
 use Rattle.wq_glob.specs.Atom.{Atom, opens, atoms_from}
 use Rattle.wq_glob.specs.Mark.{Mark}
 use Rattle.wq_glob.specs.Fits.{is_shown, is_wild}
-use Rattle.wq_glob.specs.FitsTest.{Reach, Single, Many, Folders, reach, admits}
-use Rattle.wq_glob.specs.declared.flag.Flags.{Flags}
+use Rattle.wq_glob.specs.FitsTest.{Reach, Single, Many, Folders, Form, is_literal, reach, admits}
 use Rattle.wq_glob.specs.Limit.{max_pattern_length}
+use Rattle.wq_glob.specs.declared.flag.Flags.{Flags}
 use Rattle.wq_glob.specs.declared.row.Seen.{Seen}
 use Rattle.wq_glob.specs.declared.step.Step.{Step}
-use Rattle.wq_glob.specs.declared.step.Step.TheVariants.{Byte, AnyByte, Set, Stars, Below, Tail, Never}
+use Rattle.wq_glob.specs.declared.step.Step.TheVariants.{Byte, AnyByte, Set, Stars, Below, Tail}
+use Rattle.wq_glob.specs.declared.step.Step.TheVariants.{Never}
 
+-- how far each step reaches
 abbrev pub step_reach : Step → Reach
 step_reach Stars = Many
 step_reach Tail = Many
@@ -21,7 +25,13 @@ step_reach _ = Single
 
 -- a mark as the steps of a pattern with these flags see it
 abbrev pub seen_of : Flags → Mark → Seen
-seen_of f x = record { byte = x.byte; folded = folded f.fold x.byte; slash = is_slash x.byte; shown = is_shown x; wild = is_wild f x }
+seen_of f x = record {
+  byte = x.byte;
+  folded = lower_if f.fold x.byte;
+  slash = is_slash x.byte;
+  shown = is_shown x;
+  wild = is_wild f x;
+}
 
 -- a step may take this byte
 abbrev pub step_takes : Step → Seen → Bool
@@ -33,9 +43,20 @@ step_takes Below s = s.shown
 step_takes Tail s = s.shown
 step_takes Never s = false
 
+-- the bytes that a step's part may hold
 abbrev pub step_admits : Flags → Step → Mark → Bool
 step_admits f step x = step_takes step (seen_of f x)
 
+-- the step is of a literal
+abbrev pub is_byte : Step → Bool
+is_byte (Byte _) = true
+is_byte _ = false
+
+-- what a test has to know of steps
+abbrev pub step_form : Flags → Form Step
+step_form f = record { reach_of = step_reach; admits_of = step_admits f; is_literal = is_byte }
+
+-- a run of stars may mean directories behind these steps
 abbrev pub step_opens : Step → Bool
 step_opens (Byte b) = is_slash b
 step_opens Below = true
@@ -46,6 +67,7 @@ pub record StandsFor (f : Flags) (step : Step) (atom : Atom) : Type 0 where
   pub same_reach : step_reach step ≡ reach atom
   pub same_bytes : (x : Mark) → x.byte < 256 → step_admits f step x ≡ admits f atom x
   pub same_opening : step_opens step ≡ opens atom
+  pub same_literal : is_byte step ≡ is_literal atom
 
 -- the steps stand for the atoms, one for each in order
 abbrev pub AllStand : Flags → List Step → List Atom → Type 0

@@ -1,10 +1,10 @@
 //! Single bytes: how a text begins, and letters without their case.
 ghost use Rattle.std.specs.Prelude.{◌≡◌, ◌==◌, ◌<◌, length, drop};
-ghost use Rattle.wq_glob.specs.Byte.{folded, lower_of, upper_of};
+ghost use Rattle.wq_glob.specs.Byte.{lower_if, lower_of, upper_of};
 ghost use Rattle.wq_glob.specs.Reading.{begins};
 
 /// Whether a text begins with the byte.
-pub fn begins(text: &[u8], byte: u8) -> bool
+pub(crate) fn begins(text: &[u8], byte: u8) -> bool
     ensures { result ≡ begins (λ b. b == byte) text.now }
 {
     match text.first() {
@@ -14,7 +14,7 @@ pub fn begins(text: &[u8], byte: u8) -> bool
 }
 
 /// What follows the first byte.
-pub fn behind(text: &[u8]) -> &[u8]
+pub(crate) fn behind(text: &[u8]) -> &[u8]
     requires { 0 < length text.now }
     ensures { result.now ≡ drop 1 text.now }
 {
@@ -23,7 +23,7 @@ pub fn behind(text: &[u8]) -> &[u8]
 
 /// A to Z as a to z, every other byte as it is.
 #[tactic(auto, unfolding(crate::specs::Byte::lower_of))]
-pub fn lower(byte: u8) -> u8
+pub(crate) fn lower(byte: u8) -> u8
     ensures { result ≡ lower_of byte }
 {
     if byte >= b'A' && byte <= b'Z' {
@@ -35,7 +35,7 @@ pub fn lower(byte: u8) -> u8
 
 /// a to z as A to Z, every other byte as it is.
 #[tactic(auto, unfolding(crate::specs::Byte::upper_of))]
-pub fn upper(byte: u8) -> u8
+pub(crate) fn upper(byte: u8) -> u8
     ensures { result ≡ upper_of byte }
 {
     if byte >= b'a' && byte <= b'z' {
@@ -46,8 +46,8 @@ pub fn upper(byte: u8) -> u8
 }
 
 /// The byte as it is compared.
-pub fn lower_if(fold: bool, byte: u8) -> u8
-    ensures { result ≡ folded fold byte }
+pub(crate) fn lower_if(fold: bool, byte: u8) -> u8
+    ensures { result ≡ lower_if fold byte }
 {
     if fold { lower(byte) } else { byte }
 }

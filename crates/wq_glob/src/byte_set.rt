@@ -4,27 +4,27 @@ ghost use Rattle.wq_glob.specs.ByteSet.{has_byte};
 
 /// Which of the 256 bytes are in the set: byte b is bit b % 64 of word b / 64.
 #[derive(Clone, Copy, Debug)]
-pub struct ByteSet {
+pub(crate) struct ByteSet {
     words: [u64; 4],
 }
 
 impl ByteSet {
     /// The set of no byte.
-    pub fn empty() -> ByteSet
+    pub(crate) fn empty() -> ByteSet
         ensures { (b : ℕ) → has_byte result b ≡ false }
     {
         ByteSet { words: [0; 4] }
     }
 
     /// Whether the byte is in the set.
-    pub fn has(&self, byte: u8) -> bool
+    pub(crate) fn has(&self, byte: u8) -> bool
         ensures { result ≡ has_byte self.now byte }
     {
         (self.words[(byte / 64) as usize] >> (byte % 64)) & 1 == 1
     }
 
     /// Adds the byte.
-    pub fn insert(&mut self, byte: u8)
+    pub(crate) fn insert(&mut self, byte: u8)
         ensures { (b : ℕ) → b < 256 → has_byte self.new b ≡ (has_byte self.old b || b == byte) }
     {
         self.words[(byte / 64) as usize] |= 1 << (byte % 64);

@@ -1,19 +1,22 @@
-//! Reads the classes of a pattern, as `[a-z]` or `[![:digit:]]`, into sets of bytes. Where a class ends and what is
-//! no class is said here; what a set takes of a text is not.
-ghost use Rattle.std.specs.Prelude.{◌≡◌, ◌<◌, ◌==◌, ℕ, ◌+◌, List, [], ◌∷◌, ◌++◌, ◌||◌, length, drop, None, Some, MatchOption, option_map, not, position, IfSome, IsTrue, ◌≤◌, ◌-◌, ◌&&◌, nat_le, slice_index};
+//! Reads the classes of a pattern, as `[a-z]` or `[![:digit:]]`, into sets of bytes. Where a class
+//! ends and what is no class is said here; what a set takes of a text is not.
+ghost use Rattle.std.specs.Prelude.{◌≡◌, ◌<◌, ◌==◌, ℕ, ◌+◌, List, [], ◌∷◌, ◌++◌, ◌||◌, length};
+ghost use Rattle.std.specs.Prelude.{drop, None, Some, MatchOption, option_map, not, position};
+ghost use Rattle.std.specs.Prelude.{IfSome, IsTrue, ◌≤◌, ◌-◌, ◌&&◌, nat_le, slice_index};
 ghost use Rattle.wq_base.specs.Byte.{is_colon};
 ghost use Rattle.wq_glob.specs.Byte.{is_close};
 ghost use Rattle.wq_glob.specs.ByteSet.{has_byte};
 ghost use Rattle.wq_glob.specs.Class.{in_item, in_items, in_name, in_class, in_either_case};
 ghost use Rattle.wq_glob.specs.Member.{AreMembers, HasItems, Holds};
-ghost use Rattle.wq_glob.specs.Reading.{begins, letter, item_named, named_item, range_end, plain_item, first_item, class_items};
+ghost use Rattle.wq_glob.specs.Reading.{begins, is_behind_colon, letter, item_named, named_item};
+ghost use Rattle.wq_glob.specs.Reading.{range_end, plain_item, first_item, class_items};
 
-use crate::byte_set::ByteSet;
 use crate::byte::{begins, behind, lower, upper};
+use crate::byte_set::ByteSet;
 
 /// A named class of POSIX, in ASCII.
 #[derive(Clone, Copy)]
-pub enum ClassName {
+pub(crate) enum ClassName {
     Alnum,
     Alpha,
     Blank,
@@ -30,7 +33,7 @@ pub enum ClassName {
 
 /// What stands between the brackets of a class.
 #[derive(Clone, Copy)]
-pub enum Item {
+pub(crate) enum Item {
     /// A byte, and all bytes from it to the second.
     Range(u8, u8),
     Named(ClassName),
@@ -40,9 +43,9 @@ pub enum Item {
 
 /// What the items of a class hold, and whether all their names are known.
 #[derive(Clone, Copy)]
-pub struct Members {
-    pub set: ByteSet,
-    pub known: bool,
+pub(crate) struct Members {
+    pub(crate) set: ByteSet,
+    pub(crate) known: bool,
 }
 
 /// Whether a named class holds the byte.
@@ -81,38 +84,26 @@ fn in_item(item: Item, byte: u8) -> bool
 fn item_named(name: &[u8]) -> Item
     ensures { result ≡ item_named name.now }
 {
-    if name == b"alnum".as_slice() {
-        Item::Named(ClassName::Alnum)
-    } else if name == b"alpha".as_slice() {
-        Item::Named(ClassName::Alpha)
-    } else if name == b"blank".as_slice() {
-        Item::Named(ClassName::Blank)
-    } else if name == b"cntrl".as_slice() {
-        Item::Named(ClassName::Cntrl)
-    } else if name == b"digit".as_slice() {
-        Item::Named(ClassName::Digit)
-    } else if name == b"graph".as_slice() {
-        Item::Named(ClassName::Graph)
-    } else if name == b"lower".as_slice() {
-        Item::Named(ClassName::Lower)
-    } else if name == b"print".as_slice() {
-        Item::Named(ClassName::Print)
-    } else if name == b"punct".as_slice() {
-        Item::Named(ClassName::Punct)
-    } else if name == b"space".as_slice() {
-        Item::Named(ClassName::Space)
-    } else if name == b"upper".as_slice() {
-        Item::Named(ClassName::Upper)
-    } else if name == b"xdigit".as_slice() {
-        Item::Named(ClassName::Xdigit)
-    } else {
-        Item::Unknown
+    match name {
+        b"alnum" => Item::Named(ClassName::Alnum),
+        b"alpha" => Item::Named(ClassName::Alpha),
+        b"blank" => Item::Named(ClassName::Blank),
+        b"cntrl" => Item::Named(ClassName::Cntrl),
+        b"digit" => Item::Named(ClassName::Digit),
+        b"graph" => Item::Named(ClassName::Graph),
+        b"lower" => Item::Named(ClassName::Lower),
+        b"print" => Item::Named(ClassName::Print),
+        b"punct" => Item::Named(ClassName::Punct),
+        b"space" => Item::Named(ClassName::Space),
+        b"upper" => Item::Named(ClassName::Upper),
+        b"xdigit" => Item::Named(ClassName::Xdigit),
+        _ => Item::Unknown,
     }
 }
 
 /// The byte that the front of a text stands for, and what follows it.
-pub fn letter(text: &[u8], noescape: bool) -> Option<(u8, &[u8])>
-    ensures { option_map (λ r. (r.0, r.1.now)) result ≡ letter noescape text.now }
+pub(crate) fn letter(text: &[u8], noescape: bool) -> Option<(u8, &[u8])>
+    ensures { option_map (λ (read, after). (read, after.now)) result ≡ letter noescape text.now }
 {
     let text = if !noescape && begins(text, b'\\') {
         &text[1..]
@@ -137,7 +128,7 @@ fn close_of(text: &[u8]) -> Option<usize>
 fn is_behind_colon(text: &[u8], place: usize) -> bool
     requires { place ≤ length text.now }
     ensures later { IsTrue result → 1 ≤ place }
-    ensures value { result ≡ (nat_le 1 place && is_colon (slice_index text.now (place - 1))) }
+    ensures value { result ≡ (is_behind_colon text.now place) }
 {
     place >= 1 && text[place - 1] == b':'
 }
@@ -145,7 +136,7 @@ fn is_behind_colon(text: &[u8], place: usize) -> bool
 /// Behind `[:`, the named class up to `:]`, and what follows it.
 #[tactic(auto, unfolding(crate::specs::Reading::named_item))]
 fn named_item(text: &[u8]) -> Option<(Item, &[u8])>
-    ensures { option_map (λ r. (r.0, r.1.now)) result ≡ named_item text.now }
+    ensures { option_map (λ (read, after). (read, after.now)) result ≡ named_item text.now }
 {
     let Some(end) = close_of(text) else {
         return None;
@@ -160,7 +151,7 @@ fn named_item(text: &[u8]) -> Option<(Item, &[u8])>
 /// Behind the first byte of a range, the byte that ends it, and what follows.
 #[tactic(auto, unfolding(crate::specs::Reading::range_end))]
 fn range_end(text: &[u8], noescape: bool) -> Option<(u8, &[u8])>
-    ensures { option_map (λ r. (r.0, r.1.now)) result ≡ range_end noescape text.now }
+    ensures { option_map (λ (read, after). (read, after.now)) result ≡ range_end noescape text.now }
 {
     if begins(text, b'-') && !begins(&text[1..], b']') {
         letter(&text[1..], noescape)
@@ -172,7 +163,8 @@ fn range_end(text: &[u8], noescape: bool) -> Option<(u8, &[u8])>
 /// The item at the front of a text that is no named class, and what follows it.
 #[tactic(auto, unfolding(crate::specs::Reading::plain_item, crate::specs::Reading::item_from))]
 fn plain_item(text: &[u8], noescape: bool) -> Option<(Item, &[u8])>
-    ensures { option_map (λ r. (r.0, r.1.now)) result ≡ plain_item noescape text.now }
+    ensures { option_map (λ (read, after). (read, after.now)) result
+        ≡ plain_item noescape text.now }
 {
     let (first, after) = letter(text, noescape)?;
     match range_end(after, noescape) {
@@ -184,7 +176,8 @@ fn plain_item(text: &[u8], noescape: bool) -> Option<(Item, &[u8])>
 /// The item at the front of a text, and what follows it.
 #[tactic(auto, unfolding(crate::specs::Reading::first_item))]
 fn first_item(text: &[u8], noescape: bool) -> Option<(Item, &[u8])>
-    ensures { option_map (λ r. (r.0, r.1.now)) result ≡ first_item noescape text.now }
+    ensures { option_map (λ (read, after). (read, after.now)) result
+        ≡ first_item noescape text.now }
 {
     if begins(text, b'[') && begins(&text[1..], b':') {
         match named_item(&text[2..]) {
@@ -200,7 +193,7 @@ fn first_item(text: &[u8], noescape: bool) -> Option<(Item, &[u8])>
 fn insert_item(set: &mut ByteSet, item: Item)
     ensures { (b : ℕ) → b < 256 → has_byte set.new b ≡ (has_byte set.old b || in_item b item) }
 {
-    'bytes: for n in 0..256usize {
+    for n in 0..256usize {
         let byte = n as u8;
         if in_item(item, byte) {
             set.insert(byte);
@@ -221,7 +214,8 @@ impl Members {
 
     /// Adds what one item more holds.
     fn add(&mut self, item: Item)
-        ensures { (items : List Item) → AreMembers self.old items → AreMembers self.new (items ++ item ∷ []) }
+        ensures { (items : List Item)
+            → AreMembers self.old items → AreMembers self.new (items ++ item ∷ []) }
     {
         insert_item(&mut self.set, item);
         self.known = self.known && !matches!(item, Item::Unknown);
@@ -229,15 +223,16 @@ impl Members {
 }
 
 /// What the items of a class hold, up to the `]` that ends it, and what follows it.
-pub fn read_items(text: &[u8], noescape: bool) -> Option<(Members, &[u8])>
-    ensures { MatchOption result (class_items noescape text.now ≡ None) (λ r. HasItems (class_items noescape text.now) r.0 r.1.now) }
+pub(crate) fn read_items(text: &[u8], noescape: bool) -> Option<(Members, &[u8])>
+    ensures { MatchOption result (class_items noescape text.now ≡ None)
+        (λ (members, after). HasItems (class_items noescape text.now) members after.now) }
 {
     let mut members = Members::none();
     let Some((first, mut rest)) = first_item(text, noescape) else {
         return None;
     };
     members.add(first);
-    'items: while !begins(rest, b']') {
+    while !begins(rest, b']') {
         let Some((item, after)) = first_item(rest, noescape) else {
             return None;
         };
@@ -247,7 +242,7 @@ pub fn read_items(text: &[u8], noescape: bool) -> Option<(Members, &[u8])>
     Some((members, behind(rest)))
 }
 
-/// Whether a class holds a byte before it is negated: the byte itself, or without case its lower or its upper form.
+/// Whether the items of a class hold a byte or, without case, the same letter in its other form.
 fn is_held(set: &ByteSet, byte: u8, fold: bool) -> bool
     ensures { (items : List Item) → Holds set.now items → result ≡ in_either_case fold items byte }
 {
@@ -257,18 +252,19 @@ fn is_held(set: &ByteSet, byte: u8, fold: bool) -> bool
 /// Whether a class holds a byte: its case is left out first, and then the class is negated.
 #[tactic(auto, using(crate::proofs::SetLemmas::negated_as))]
 fn is_member(set: &ByteSet, byte: u8, negated: bool, fold: bool) -> bool
-    ensures { (items : List Item) → Holds set.now items → result ≡ in_class fold record { negated = negated; items = items } byte }
+    ensures { (items : List Item) → Holds set.now items
+        → result ≡ in_class fold record { negated = negated; items = items } byte }
 {
     is_held(set, byte, fold) != negated
 }
 
 /// The bytes of a class whose items hold the set.
-pub fn closed(set: &ByteSet, negated: bool, fold: bool) -> ByteSet
+pub(crate) fn class_set(set: &ByteSet, negated: bool, fold: bool) -> ByteSet
     ensures { (items : List Item) → Holds set.now items → (b : ℕ) → b < 256
         → has_byte result b ≡ in_class fold record { negated = negated; items = items } b }
 {
     let mut held = ByteSet::empty();
-    'bytes: for n in 0..256usize {
+    for n in 0..256usize {
         let byte = n as u8;
         if is_member(set, byte, negated, fold) {
             held.insert(byte);

@@ -3,12 +3,12 @@
 /// How a pattern is read and compared.
 #[derive(Clone, Copy, Debug, PartialEq, Eq)]
 pub struct Flags {
-    /// The text is a path: `?`, `*` and classes take no slash, and `**` may stand for directories.
+    /// The text is a path: slashes part its names, and only `**` goes across them.
     pub wholename: bool,
-    /// A dot at the start of a name needs no literal dot.
+    /// `?`, `*`, `**` and classes take a dot at the front of a name, too.
     pub dotfiles: bool,
     /// A backslash is a byte like any other.
     pub noescape: bool,
-    /// A to Z are compared as a to z.
+    /// Letters of ASCII are compared without their case.
     pub fold: bool,
 }

@@ -1,5 +1,5 @@
-//! Wildmatch: patterns for paths, as of git's `.gitignore` and Watchman's expression term `match`, with an exact
-//! meaning and a bounded cost.
+//! Wildmatch: patterns for paths, as of git's `.gitignore` and Watchman's expression term `match`,
+//! with an exact meaning and a bounded cost.
 //!
 //! ```text
 //! *.c                  any name that ends in .c, but for a hidden one
@@ -7,23 +7,26 @@
 //! [![:digit:]]?        two bytes, of which the first is no digit
 //! ```
 //!
-//! A [`Pattern`] is read once from its text and its [`Flags`] and then tried on texts. What it fits is defined by cuts
-//! of the text (`specs/Fits.antt`), and how a text is read by `specs/Reading.antt` and `specs/Atoms.antt`. This crate
-//! knows no files: a caller hands in a basename or a whole name.
+//! A [`Pattern`] is read once from its text and its [`Flags`] and then tried on texts. What it fits
+//! is defined by cuts of the text (`specs/Fits.antt`), how its own text is read by
+//! `specs/Reading.antt` and `specs/Atom.antt`, and what a trial costs by `specs/Cost.antt`. This
+//! crate knows no files: a caller hands in a basename or a whole name.
 #![tactic(auto)]
 
-mod byte_set;
 mod byte;
+mod byte_set;
 mod class;
+mod flag;
+mod law;
 mod limit;
 mod matching;
-mod flag;
 mod pattern;
 mod reading;
 mod row;
 mod step;
 
+pub use flag::Flags;
+pub use law::fits_where_it_can_be_cut;
 pub use limit::{MAX_PATTERN, MAX_TEXT};
 pub use matching::Hit;
-pub use flag::Flags;
 pub use pattern::{Pattern, PatternFault};

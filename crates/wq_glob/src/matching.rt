@@ -1,13 +1,16 @@
-//! Whether a compiled pattern fits a text: its leading bytes first, one by one, and then row by row from the end
-//! of the text. What a row is stands in `rows`.
-ghost use Rattle.std.specs.Prelude.{◌≡◌, ◌<◌, ◌≤◌, ◌+◌, ◌-◌, ◌*◌, ◌&&◌, ℕ, List, ◌∷◌, [], length, drop, true, false, IsTrue, MatchOption, ⊤};
+//! Whether a compiled pattern fits a text: its last byte first, then its leading bytes, one by one,
+//! and then row by row from the end of the text. What a row is stands in `row`.
+ghost use Rattle.std.specs.Prelude.{◌≡◌, ◌<◌, ◌≤◌, ◌+◌, ◌-◌, ◌*◌, ◌&&◌, ℕ, List, ◌∷◌, [], length};
+ghost use Rattle.std.specs.Prelude.{drop, true, false, IsTrue, MatchOption, ⊤};
 ghost use Rattle.std.specs.Bool.{MatchBool};
-ghost use Rattle.wq_glob.specs.Cell.{IsBlank, step_fits, marks_at};
+ghost use Rattle.wq_glob.specs.Cell.{IsBlank, marks_at, step_agrees, step_cells, step_fits};
+ghost use Rattle.wq_glob.specs.Cost.{begins_literal, cost, differs_at_end, front};
 ghost use Rattle.wq_glob.specs.Mark.{marks};
+ghost use Rattle.wq_glob.specs.Step.{step_form};
 
 use crate::byte::lower_if;
-use crate::limit::{MAX_PATTERN, MAX_TEXT};
 use crate::flag::Flags;
+use crate::limit::{MAX_PATTERN, MAX_TEXT};
 use crate::row::{Cell, fill_end, renew};
 use crate::step::Step;
 
@@ -16,16 +19,9 @@ use crate::step::Step;
 pub struct Hit {
     /// The pattern fits the text.
     pub yes: bool,
-    /// How many cells of the table of atoms and places were looked at, each counted once: the cost of the answer.
+    /// The cost of the answer: how many cells of the table of atoms and places it counts, as the
+    /// definition `cells_of` says.
     pub cells: u64,
-}
-
-/// How many steps at the front of a pattern are bytes that the text has in their places, and whether the next one
-/// is a byte that it has not.
-#[derive(Clone, Copy)]
-struct Front {
-    len: usize,
-    differs: bool,
 }
 
 /// Fills rows from the end of the text down to `from`, until one has no live cell.
@@ -37,6 +33,7 @@ fn run(row: &mut [Cell], steps: &[Step], text: &[u8], from: usize, flags: Flags)
     requires place { from ≤ length text.now }
 
     ensures yes { result.yes ≡ step_fits flags steps.now (marks_at flags text.now from) }
+    ensures cells { result.cells ≡ step_cells flags steps.now (marks_at flags text.now from) }
     ensures bounded { result.cells ≤ (length steps.now + 1) * (length text.now - from + 1) }
     ensures counted { IsTrue result.yes → length text.now - from + 1 ≤ result.cells }
     ensures looked { 1 ≤ result.cells }
@@ -45,7 +42,7 @@ fn run(row: &mut [Cell], steps: &[Step], text: &[u8], from: usize, flags: Flags)
     // The cells of the window, and the dead one before it where there is one.
     let mut cells = (window.high + 1 - window.low.saturating_sub(1)) as u64;
     let mut at = text.len();
-    'places: while at > from {
+    while at > from {
         at -= 1;
         let renewal = renew(row, window, steps, text, at, flags);
         cells += renewal.cells;
@@ -60,46 +57,50 @@ fn run(row: &mut [Cell], steps: &[Step], text: &[u8], from: usize, flags: Flags)
     }
 }
 
-/// Whether the text has the byte of a step at a place; none where the step is no byte.
-fn byte_at(step: &Step, text: &[u8], at: usize, flags: Flags) -> Option<bool>
-    requires { at ≤ length text.now }
-    ensures { MatchOption result ⊤ (λ same. (same ≡ true → at < length text.now) × ((later : List Step) →
-        step_fits flags (step.now ∷ later) (marks_at flags text.now at) ≡ (same && step_fits flags later (marks_at flags text.now (at + 1))))) }
+/// Whether the step at a place is a byte.
+fn is_byte_at(steps: &[Step], at: usize) -> bool
+    ensures { (f : Flags) → result ≡ begins_literal (step_form f) (drop at steps.now) }
 {
-    match step {
-        Step::Byte(byte) => Some(at < text.len() && lower_if(flags.fold, text[at]) == *byte),
-        _ => None,
+    at < steps.len() && matches!(&steps[at], Step::Byte(_))
+}
+
+/// Whether the step at a place is a byte that the text has there.
+fn agrees_at(steps: &[Step], text: &[u8], at: usize, flags: Flags) -> bool
+    ensures within { IsTrue result → (at < length steps.now) × (at < length text.now) }
+    ensures value { at ≤ length text.now
+        → result ≡ step_agrees flags steps.now text.now at }
+{
+    if at >= steps.len() || at >= text.len() {
+        return false;
+    }
+    match &steps[at] {
+        Step::Byte(byte) => lower_if(flags.fold, text[at]) == *byte,
+        _ => false,
     }
 }
 
-/// Compares the bytes at the front of a pattern with those of the text.
-fn front_of(steps: &[Step], text: &[u8], flags: Flags) -> Front
-    ensures steps { result.len ≤ length steps.now }
-    ensures text { result.len ≤ length text.now }
-    ensures differs { IsTrue result.differs → (result.len < length steps.now) × (step_fits flags steps.now (marks_at flags text.now 0) ≡ false) }
+/// How many steps at the front of a pattern are bytes that the text has in their places.
+fn front_of(steps: &[Step], text: &[u8], flags: Flags) -> usize
+    ensures steps { result ≤ length steps.now }
+    ensures text { result ≤ length text.now }
+    ensures front { result ≡ front (step_form flags) steps.now (marks_at flags text.now 0) }
+    ensures stops { step_agrees flags steps.now text.now result ≡ false }
     ensures same { step_fits flags steps.now (marks_at flags text.now 0)
-        ≡ step_fits flags (drop result.len steps.now) (marks_at flags text.now result.len) }
+        ≡ step_fits flags (drop result steps.now) (marks_at flags text.now result) }
 {
     let mut len = 0;
-    'steps: while len < steps.len() {
-        match byte_at(&steps[len], text, len, flags) {
-            Some(true) => len += 1,
-            Some(false) => return Front { len, differs: true },
-            None => return Front {
-                len,
-                differs: false,
-            },
-        }
+    while agrees_at(steps, text, len, flags) {
+        len += 1;
     }
-    Front {
-        len,
-        differs: false,
-    }
+    len
 }
 
 /// Whether a pattern ends in a byte that the text does not end in.
 fn differs_at_end(steps: &[Step], text: &[u8], flags: Flags) -> bool
-    ensures { IsTrue result → step_fits flags steps.now (marks flags.dotfiles text.now) ≡ false }
+    ensures answer { IsTrue result
+        → step_fits flags steps.now (marks flags.dotfiles text.now) ≡ false }
+    ensures value { result
+        ≡ differs_at_end (step_form flags) steps.now (marks flags.dotfiles text.now) }
 {
     if steps.is_empty() {
         return false;
@@ -129,12 +130,33 @@ fn long_row() -> [Cell; LONG_ROW]
     [Cell::DEAD; LONG_ROW]
 }
 
+/// Fills rows for the steps behind the front, in as much room as these take.
+fn hit_by_rows(steps: &[Step], text: &[u8], from: usize, flags: Flags) -> Hit
+    requires small { length steps.now ≤ MAX_PATTERN }
+    requires short { length text.now ≤ MAX_TEXT }
+    requires place { from ≤ length text.now }
+
+    ensures yes { result.yes ≡ step_fits flags steps.now (marks_at flags text.now from) }
+    ensures cells { result.cells ≡ step_cells flags steps.now (marks_at flags text.now from) }
+    ensures bounded { result.cells ≤ (length steps.now + 1) * (length text.now - from + 1) }
+    ensures counted { IsTrue result.yes → length text.now - from + 1 ≤ result.cells }
+    ensures looked { 1 ≤ result.cells }
+{
+    if steps.len() < SHORT_ROW {
+        run(&mut short_row(), steps, text, from, flags)
+    } else {
+        run(&mut long_row(), steps, text, from, flags)
+    }
+}
+
 /// Whether the steps fit the text, and at what cost.
-pub fn hit_of(steps: &[Step], text: &[u8], flags: Flags) -> Hit
+pub(crate) fn hit_of(steps: &[Step], text: &[u8], flags: Flags) -> Hit
     requires small { length steps.now ≤ MAX_PATTERN }
     requires short { length text.now ≤ MAX_TEXT }
 
     ensures yes { result.yes ≡ step_fits flags steps.now (marks flags.dotfiles text.now) }
+    ensures cells { result.cells
+        ≡ cost (step_form flags) steps.now (marks flags.dotfiles text.now) }
     ensures bounded { result.cells ≤ (length steps.now + 1) * (length text.now + 1) }
     ensures counted { IsTrue result.yes → length text.now + 1 ≤ result.cells }
     ensures looked { 1 ≤ result.cells }
@@ -145,22 +167,17 @@ pub fn hit_of(steps: &[Step], text: &[u8], flags: Flags) -> Hit
             cells: 1,
         };
     }
-    let front = front_of(steps, text, flags);
-    if front.differs {
+    let same = front_of(steps, text, flags);
+    if is_byte_at(steps, same) {
         // The last byte, the bytes that are the same and the one that differs.
         return Hit {
             yes: false,
-            cells: front.len as u64 + 2,
+            cells: same as u64 + 2,
         };
     }
-    let later = &steps[front.len..];
-    let hit = if later.len() < SHORT_ROW {
-        run(&mut short_row(), later, text, front.len, flags)
-    } else {
-        run(&mut long_row(), later, text, front.len, flags)
-    };
+    let hit = hit_by_rows(&steps[same..], text, same, flags);
     Hit {
         yes: hit.yes,
-        cells: hit.cells + front.len as u64,
+        cells: hit.cells + same as u64,
     }
 }

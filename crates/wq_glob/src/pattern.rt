@@ -1,12 +1,13 @@
-//! Patterns: a text with flags, read once and then tried on paths. How it is read stands in `reading`, how it is tried
-//! in `matching`; which paths are tried, and whether by their last part or whole, is for others to say.
+//! Patterns: a text with flags, read once and then tried on paths. How it is read stands in
+//! `reading`, how it is tried in `matching`; which paths are tried, and whether by their last part
+//! or whole, is for others to say.
 ghost use Rattle.std.specs.Prelude.{◌≡◌, ◌<◌, ◌≤◌, ◌↔◌, ◌+◌, ◌*◌, IfOk, IsTrue, length, IsErrOf};
-ghost use Rattle.wq_glob.specs.Pattern.{atoms_of, fits, Fits};
+ghost use Rattle.wq_glob.specs.Pattern.{atoms_of, cells_of, fits, Fits};
 ghost use Rattle.wq_glob.specs.Limit.{max_pattern_length, max_text_length};
 
+use crate::flag::Flags;
 use crate::limit::MAX_PATTERN;
 use crate::matching::{Hit, hit_of};
-use crate::flag::Flags;
 use crate::reading::read_steps;
 use crate::step::Step;
 use std::alloc::{AllocError, Global};
@@ -33,7 +34,8 @@ impl From<AllocError> for PatternFault {
     }
 }
 
-/// A pattern of wildmatch. Contracts see its text and its flags, and two patterns are equal where these are.
+/// A pattern of wildmatch. Contracts see its text and its flags, and two patterns are equal where
+/// these are.
 #[derive(Debug, Drop)]
 pub struct Pattern {
     text: Vec<u8>,
@@ -91,13 +93,17 @@ impl Eq for Pattern {
 }
 
 impl Pattern {
-    /// Reads a pattern. Every text of at most [`MAX_PATTERN`] bytes is one: a malformed one, as `[a`, fits nothing.
+    /// Reads a pattern. Every text of at most [`MAX_PATTERN`] bytes is one: a malformed one, as
+    /// `[a`, fits nothing.
     ///
     /// # Errors
-    /// [`PatternFault::TooLong`] exactly where the text is longer, [`PatternFault::NoMemory`] where a growth was refused.
+    /// [`PatternFault::TooLong`] exactly where the text is longer, [`PatternFault::NoMemory`] where
+    /// memory ran out.
     pub fn parse(alloc: Global, text: &[u8], flags: Flags) -> Result<Pattern, PatternFault>
-        ensures read { IfOk result (λ pattern. pattern ≡ record { text = text.now; flags = flags }) }
-        ensures long { IsErrOf result PatternFault.TooLong ↔ (max_pattern_length < length text.now) }
+        ensures read { IfOk result
+            (λ pattern. pattern ≡ record { text = text.now; flags = flags }) }
+        ensures long { IsErrOf result PatternFault.TooLong
+            ↔ (max_pattern_length < length text.now) }
     {
         if text.len() > MAX_PATTERN {
             return Err(PatternFault::TooLong);
@@ -122,7 +128,8 @@ impl Pattern {
         self.flags
     }
 
-    /// How many atoms the pattern has: literals, `?`, classes, `*`, `**/` and a last `**` count one each.
+    /// How many atoms the pattern has: literals, `?`, classes, `*`, `**/` and a last `**` count one
+    /// each.
     pub fn atoms(&self) -> usize
         ensures count { result ≡ length (atoms_of self.now) }
         ensures few { result ≤ max_pattern_length }
@@ -130,10 +137,13 @@ impl Pattern {
         self.steps.len()
     }
 
-    /// Whether the pattern fits a text of at most [`MAX_TEXT`](crate::limit::MAX_TEXT) bytes, and at what cost.
+    /// Whether the pattern fits a text of at most [`MAX_TEXT`](crate::limit::MAX_TEXT) bytes, and
+    /// at what cost.
     ///
-    /// It fits where the text can be cut into parts, one for each atom in order, each allowed to its atom. With m atoms
-    /// and a text of t bytes at most (m + 1)(t + 1) cells are looked at, whatever the pattern; it takes no memory.
+    /// It fits where some cut of the text gives every atom, from left to right, a part that it
+    /// takes. The cost is how many cells of the table of atoms and places the definition `cells_of`
+    /// counts: for m atoms and t bytes at most (m + 1)(t + 1), whatever the pattern. It takes no
+    /// memory.
     ///
     /// ```text
     /// src/**/*.c   with wholename fits src/a.c and src/x/y/a.c, and not src/.x/a.c
@@ -144,8 +154,10 @@ impl Pattern {
         ensures test { result.yes ≡ fits self.now text.now }
         ensures cuts { IsTrue result.yes ↔ Fits self.now text.now }
 
-        ensures bounded { result.cells ≤ (length (atoms_of self.now) + 1) * (length text.now + 1) }
-        // A yes has looked at each byte, and no answer comes for nothing.
+        ensures cells { result.cells ≡ cells_of self.now text.now }
+        ensures bounded { result.cells
+            ≤ (length (atoms_of self.now) + 1) * (length text.now + 1) }
+        // A yes costs a cell for each byte at least, and no answer comes for nothing.
         ensures counted { IsTrue result.yes → length text.now + 1 ≤ result.cells }
         ensures looked { 1 ≤ result.cells }
     {

@@ -1,7 +1,9 @@
-//! Reads a pattern into the steps that the matcher runs, one for each atom, from left to right. What a class is
-//! stands in `classes`; how steps take a text in `rows`.
-ghost use Rattle.std.specs.Prelude.{◌≡◌, ◌<◌, ◌≤◌, ℕ, List, [], ◌∷◌, ◌++◌, ◌&&◌, ◌||◌, length, drop, if◌then◌else◌, IfOk, true};
-ghost use Rattle.wq_glob.specs.Atom.{atoms_from, first_atom, known_class, literal_at, one_of_at, stars_at};
+//! Reads a pattern into the steps that the matcher runs, one for each atom, from left to right.
+//! What a class is stands in `class`; how steps take a text in `row`.
+ghost use Rattle.std.specs.Prelude.{◌≡◌, ◌<◌, ◌≤◌, ℕ, List, [], ◌∷◌, ◌++◌, ◌&&◌, ◌||◌, length};
+ghost use Rattle.std.specs.Prelude.{drop, if◌then◌else◌, IfOk, true};
+ghost use Rattle.wq_glob.specs.Atom.{atoms_from, first_atom, known_class, literal_at, one_of_at};
+ghost use Rattle.wq_glob.specs.Atom.{stars_at};
 ghost use Rattle.std.specs.List.{prefix_len};
 ghost use Rattle.wq_glob.specs.Byte.{is_star};
 ghost use Rattle.wq_glob.specs.Member.{AreMembers};
@@ -10,7 +12,7 @@ ghost use Rattle.wq_glob.specs.Step.{AllStand, StandsFor, step_opens};
 ghost use Rattle.wq_glob.specs.declared.class.Item.{Item};
 
 use crate::byte::{begins, behind, lower_if};
-use crate::class::{Members, closed, letter, read_items};
+use crate::class::{Members, class_set, letter, read_items};
 use crate::flag::Flags;
 use crate::step::Step;
 use std::alloc::{AllocError, Global};
@@ -33,7 +35,7 @@ fn class_step(members: Members, negated: bool, flags: Flags) -> Step
         → StandsFor flags result (known_class record { negated = negated; items = items }) }
 {
     if members.known {
-        Step::Set(closed(&members.set, negated, flags.fold))
+        Step::Set(class_set(&members.set, negated, flags.fold))
     } else {
         Step::Never
     }
@@ -121,13 +123,14 @@ fn opens(step: &Step) -> bool
 }
 
 /// The steps of a pattern, one for each of its atoms.
-pub fn read_steps(alloc: Global, text: &[u8], flags: Flags) -> Result<Vec<Step>, AllocError>
-    ensures { IfOk result (λ steps. AllStand flags steps.items (atoms_from (length text.now) flags true text.now)) }
+pub(crate) fn read_steps(alloc: Global, text: &[u8], flags: Flags) -> Result<Vec<Step>, AllocError>
+    ensures { IfOk result
+        (λ steps. AllStand flags steps.items (atoms_from (length text.now) flags true text.now)) }
 {
     let mut steps = Vec::new(alloc);
     let mut rest = text;
     let mut at_start = true;
-    'atoms: while !rest.is_empty() {
+    while !rest.is_empty() {
         let (step, after) = first_step(rest, at_start, flags);
         steps.push(step)?;
         at_start = opens(&step);

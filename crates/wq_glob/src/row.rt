@@ -1,9 +1,12 @@
-//! The matcher: a row of cells over the steps of a pattern, filled from the end of the text to its start. It cuts
-//! nothing, goes back nowhere and takes no memory.
-ghost use Rattle.std.specs.Prelude.{◌≡◌, ◌<◌, ◌≤◌, ℕ, ◌+◌, length, drop, List, ◌∷◌, [], true, false, ◌⊎◌, ◌-◌, IsTrue};
+//! The matcher: a row of cells over the steps of a pattern, filled from the end of the text to its
+//! start. It cuts nothing, goes back nowhere and takes no memory.
+ghost use Rattle.std.specs.Prelude.{◌≡◌, ◌<◌, ◌≤◌, ℕ, ◌+◌, length, drop, List, ◌∷◌, [], true};
+ghost use Rattle.std.specs.Prelude.{false, ◌⊎◌, ◌-◌, IsTrue, nat_lt, ◌&&◌, ◌||◌};
 ghost use Rattle.std.specs.Bool.{MatchBool};
-ghost use Rattle.wq_glob.specs.Cell.{next_cell, mark_at, cell_of, dead, IsRow, IsWindow, Bounds, marks_at, step_fits, IsBlank};
-ghost use Rattle.wq_glob.specs.Step.{step_reach, step_takes, seen_of};
+ghost use Rattle.wq_glob.specs.Cell.{step_cell, fit_cell, fits_at_end, mark_at, cell_of, marks_at};
+ghost use Rattle.wq_glob.specs.Cell.{AreRound, Bounds, IsBlank, IsRow, IsWindow, Widens};
+ghost use Rattle.wq_glob.specs.Cell.{step_cells};
+ghost use Rattle.wq_glob.specs.Step.{step_reach, seen_of};
 ghost use Rattle.wq_glob.specs.Mark.{Mark};
 
 use crate::byte::lower_if;
@@ -12,23 +15,24 @@ use crate::step::{Step, may_take_nothing};
 
 /// What is known of a tail of the pattern at a place of the text.
 #[derive(Clone, Copy)]
-pub struct Cell {
+pub(crate) struct Cell {
     /// The tail fits the text from here on.
-    pub fits: bool,
-    /// The tail begins with `**/`, and the text from here on is the rest of its part, up to a slash, and then fits.
-    pub begun: bool,
+    pub(crate) fits: bool,
+    /// The tail begins with `**/`, and the text from here on is the rest of its part, up to a
+    /// slash, and then fits.
+    pub(crate) begun: bool,
 }
 
 impl Cell {
     /// The cell of a tail that fits no more, however the text goes on to its front.
-    pub const DEAD: Cell = Cell {
+    pub(crate) const DEAD: Cell = Cell {
         fits: false,
         begun: false,
     };
 
     /// The cell of a tail that does not begin with `**/`.
-    fn fitting(fits: bool) -> Cell
-        ensures { result ≡ record { fits = fits; begun = false } }
+    fn fit(fits: bool) -> Cell
+        ensures { result ≡ fit_cell fits }
     {
         Cell { fits, begun: false }
     }
@@ -36,22 +40,22 @@ impl Cell {
 
 /// The steps from the first to the last whose cells are not dead.
 #[derive(Clone, Copy)]
-pub struct Window {
-    pub low: usize,
-    pub high: usize,
+pub(crate) struct Window {
+    pub(crate) low: usize,
+    pub(crate) high: usize,
 }
 
 /// A byte of the text as the steps of a pattern see it.
 #[derive(Clone, Copy)]
-pub struct Seen {
-    pub byte: u8,
+pub(crate) struct Seen {
+    pub(crate) byte: u8,
     /// The byte, without its case where the pattern has none.
-    pub folded: u8,
-    pub slash: bool,
+    pub(crate) folded: u8,
+    pub(crate) slash: bool,
     /// It is no leading dot that a literal alone may take.
-    pub shown: bool,
+    pub(crate) shown: bool,
     /// `?`, `*` and a class may take it.
-    pub wild: bool,
+    pub(crate) wild: bool,
 }
 
 /// The byte at a place of the text.
@@ -71,16 +75,17 @@ fn seen_at(text: &[u8], at: usize, flags: Flags) -> Seen
     }
 }
 
-/// A cell, from the cell of the same step and from those of the next step, behind the byte and at it.
+/// A cell, from the cell of the same step and from those of the next step, behind the byte and at
+/// it.
 fn next_cell(step: &Step, seen: &Seen, old: Cell, old_next: bool, new_next: bool) -> Cell
-    ensures { result ≡ next_cell (step_reach step.now) (step_takes step.now seen.now) seen.now.slash old old_next new_next }
+    ensures { result ≡ step_cell step.now seen.now old old_next new_next }
 {
     match step {
-        Step::Byte(byte) => Cell::fitting(old_next && seen.folded == *byte),
-        Step::AnyByte => Cell::fitting(old_next && seen.wild),
-        Step::Set(set) => Cell::fitting(old_next && seen.wild && set.has(seen.byte)),
-        Step::Stars => Cell::fitting(new_next || (old.fits && seen.wild)),
-        Step::Tail => Cell::fitting(new_next || (old.fits && seen.shown)),
+        Step::Byte(byte) => Cell::fit(old_next && seen.folded == *byte),
+        Step::AnyByte => Cell::fit(old_next && seen.wild),
+        Step::Set(set) => Cell::fit(old_next && seen.wild && set.has(seen.byte)),
+        Step::Stars => Cell::fit(new_next || (old.fits && seen.wild)),
+        Step::Tail => Cell::fit(new_next || (old.fits && seen.shown)),
         Step::Below => {
             let begun = seen.shown && (old.begun || (seen.slash && old_next));
             Cell {
@@ -88,17 +93,16 @@ fn next_cell(step: &Step, seen: &Seen, old: Cell, old_next: bool, new_next: bool
                 begun,
             }
         }
-        Step::Never => Cell::fitting(false),
+        Step::Never => Cell::fit(false),
     }
 }
 
-/// The cell of the steps from `k` on at a byte, from the cells round it: dead where no step is left.
+/// The cell of the steps from `k` on at a byte, from the cells round it: dead where no step is
+/// left.
 fn cell_at(steps: &[Step], k: usize, seen: &Seen, old: Cell, old_next: bool, new_next: bool) -> Cell
     requires { k ≤ length steps.now }
     ensures { (f : Flags) (x : Mark) (text : List Mark) → seen.now ≡ seen_of f x
-        → old ≡ cell_of f (drop k steps.now) text
-        → (k < length steps.now → old_next ≡ step_fits f (drop (k + 1) steps.now) text)
-        → (k < length steps.now → new_next ≡ step_fits f (drop (k + 1) steps.now) (x ∷ text))
+        → AreRound f steps.now k x text old old_next new_next
         → result ≡ cell_of f (drop k steps.now) (x ∷ text) }
 {
     if k < steps.len() {
@@ -110,13 +114,14 @@ fn cell_at(steps: &[Step], k: usize, seen: &Seen, old: Cell, old_next: bool, new
 
 /// What a byte made of a row: where it still lives, and how many cells were looked at.
 #[derive(Clone, Copy)]
-pub struct Renewal {
-    pub window: Option<Window>,
-    pub cells: u64,
+pub(crate) struct Renewal {
+    pub(crate) window: Option<Window>,
+    pub(crate) cells: u64,
 }
 
-/// Renews a row for the byte at `at`: from the last live cell down, as long as a cell or the next one may live.
-pub fn renew(
+/// Renews a row for the byte at `at`: from the last live cell down, as long as a cell or the next
+/// one may live.
+pub(crate) fn renew(
     row: &mut [Cell],
     window: Window,
     steps: &[Step],
@@ -132,6 +137,8 @@ pub fn renew(
 
     ensures row { IsRow flags steps.now (marks_at flags text.now at) row.new }
     ensures window { Bounds flags steps.now (marks_at flags text.now at) 0 result.window }
+    ensures cells { step_cells flags steps.now (marks_at flags text.now at)
+        ≡ step_cells flags steps.now (marks_at flags text.now (at + 1)) + result.cells }
     ensures counted { 1 ≤ result.cells }
     ensures bounded { result.cells ≤ length steps.now + 1 }
 {
@@ -140,12 +147,12 @@ pub fn renew(
     let mut old_next = false;
     let mut new_next = false;
     let mut live: Option<Window> = None;
-    'cells: while is_open(k, window.low, old_next, new_next) {
+    while is_open(k, window.low, old_next, new_next) {
         k -= 1;
         let old = row[k];
         let new = cell_at(steps, k, &seen, old, old_next, new_next);
         row[k] = new;
-        live = widened(live, k, new);
+        live = window_with(live, k, new);
         old_next = old.fits;
         new_next = new.fits;
     }
@@ -155,17 +162,17 @@ pub fn renew(
     }
 }
 
-/// Whether the cell before `k` may live at a byte: one that lived behind it, or one before a cell that fits.
+/// Whether the cell before `k` may live at a byte: one that lived behind it, or one before a cell
+/// that fits.
 fn is_open(k: usize, low: usize, old_next: bool, new_next: bool) -> bool
-    ensures { MatchBool result (0 < k) ((k ≡ 0) ⊎ ((k ≤ low) × (old_next ≡ false) × (new_next ≡ false))) }
+    ensures { result ≡ (nat_lt 0 k && (nat_lt low k || old_next || new_next)) }
 {
     k > 0 && (k > low || old_next || new_next)
 }
 
 /// The window with the cell at `k`, which stands before it, where that cell lives.
-fn widened(window: Option<Window>, k: usize, cell: Cell) -> Option<Window>
-    ensures { (f : Flags) (steps : List Step) (text : List Mark) → k ≤ length steps → Bounds f steps text (k + 1) window
-        → cell ≡ cell_of f (drop k steps) text → Bounds f steps text k result }
+fn window_with(window: Option<Window>, k: usize, cell: Cell) -> Option<Window>
+    ensures { Widens k cell window result }
 {
     if !cell.fits && !cell.begun {
         return window;
@@ -183,26 +190,28 @@ fn widened(window: Option<Window>, k: usize, cell: Cell) -> Option<Window>
 fn is_skipped(steps: &[Step], low: usize) -> bool
     requires { low ≤ length steps.now }
     ensures later { IsTrue result → 0 < low }
-    ensures skipped { (f : Flags) → step_fits f (drop low steps.now) [] ≡ true → MatchBool result
-        (step_fits f (drop (low - 1) steps.now) [] ≡ true) ((low ≡ 0) ⊎ (step_fits f (drop (low - 1) steps.now) [] ≡ false)) }
+    ensures skipped { (f : Flags) → fits_at_end f steps.now low ≡ true → MatchBool result
+        (fits_at_end f steps.now (low - 1) ≡ true)
+        ((low ≡ 0) ⊎ (fits_at_end f steps.now (low - 1) ≡ false)) }
 {
     low > 0 && may_take_nothing(&steps[low - 1])
 }
 
 /// Fills a blank row for the end of the text, where a tail fits whose steps may all take nothing.
-pub fn fill_end(row: &mut [Cell], steps: &[Step]) -> Window
+pub(crate) fn fill_end(row: &mut [Cell], steps: &[Step]) -> Window
     requires room { length steps.now < length row.old }
     requires blank { IsBlank row.old }
     ensures row { (f : Flags) → IsRow f steps.now [] row.new }
     ensures lives { (f : Flags) → IsWindow f steps.now [] 0 result }
     ensures ordered { result.low ≤ result.high }
     ensures last { result.high ≡ length steps.now }
+    ensures cells { (f : Flags) → step_cells f steps.now [] ≡ result.high + 1 - (result.low - 1) }
 {
     let mut low = steps.len();
-    row[low] = Cell::fitting(true);
-    'tails: while is_skipped(steps, low) {
+    row[low] = Cell::fit(true);
+    while is_skipped(steps, low) {
         low -= 1;
-        row[low] = Cell::fitting(true);
+        row[low] = Cell::fit(true);
     }
     Window {
         low,

@@ -7,25 +7,25 @@ use crate::byte_set::ByteSet;
 
 /// What an atom takes of a text.
 #[derive(Clone, Copy, Debug)]
-pub enum Step {
+pub(crate) enum Step {
     /// One byte, this one; without case where the pattern is, and then kept in lower case.
     Byte(u8),
     /// `?`: one byte.
     AnyByte,
     /// A class: one byte of the set.
     Set(ByteSet),
-    /// `*`: any bytes.
+    /// `*`: as many bytes as it likes.
     Stars,
-    /// `**/`: nothing, or bytes that end in a slash.
+    /// `**/`: directories with their slashes, however many.
     Below,
-    /// `**` at the end: any bytes, slashes too.
+    /// `**` at the end: all that is left, slashes too.
     Tail,
-    /// Nothing that a text could have.
+    /// What no text has.
     Never,
 }
 
 /// Whether the part of a step may be empty.
-pub fn may_take_nothing(step: &Step) -> bool
+pub(crate) fn may_take_nothing(step: &Step) -> bool
     ensures { result ≡ may_be_empty (step_reach step.now) }
 {
     matches!(step, Step::Stars | Step::Below | Step::Tail)

@@ -1,3 +1,4 @@
 mod Names
 mod Keys
 pub mod NoFloat
+mod Grammar

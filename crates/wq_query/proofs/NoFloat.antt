@@ -11,21 +11,22 @@ use Rattle.serde_json.specs.View.{items_of}
 use Rattle.serde_json.specs.Written.{has_float, items_have_float, members_have_float}
 use Rattle.wq_clock.specs.Instance.{InstanceData}
 use Rattle.wq_clock.specs.declared.bound.Bound.{Bound}
-use Rattle.wq_view.specs.RecordData.{RecordData}
+use Rattle.wq_view.specs.RecordData.{RecordData, seconds_of}
 use Rattle.wq_view.specs.View.{ViewData}
 use Rattle.wq_query.specs.declared.field.Field.{Field}
-use Rattle.wq_query.specs.declared.field.Field.TheVariants.{Name, Exists, New, Size, Kind, Cclock, Oclock, Mtime, MtimeMs}
-use Rattle.wq_term.specs.Number.{seconds_of}
+use Rattle.wq_query.specs.declared.field.Field.TheVariants.{Name, Exists, New, Size, Kind, Cclock}
+use Rattle.wq_query.specs.declared.field.Field.TheVariants.{Oclock, Mtime, MtimeMs}
 use Rattle.wq_query.specs.Field.{field_name}
-use Rattle.wq_query.specs.Asked.{QueryData}
-use Rattle.wq_query.specs.Listed.{listed}
-use Rattle.wq_query.specs.Reply.{field_data, members_with, file_data, reply_of}
+use Rattle.wq_query.specs.Query.{PlanData}
+use Rattle.wq_query.specs.Listing.{files_of}
+use Rattle.wq_query.specs.Reply.{field_data, members_with, file_data, files_data, reply_of}
 
 integer : (n : ℤ) → has_float (number (of_integer n)) ≡ false
 integer (pos n) = refl
 integer (negsuc n) = refl
 
-field : (instance : InstanceData) (bound : Bound) (r : RecordData) (f : Field) → has_float (field_data instance bound r f) ≡ false
+field : (instance : InstanceData) (bound : Bound) (r : RecordData) (f : Field)
+    → has_float (field_data instance bound r f) ≡ false
 field instance bound r Name = refl
 field instance bound r Exists = refl
 field instance bound r New = refl
@@ -39,27 +40,41 @@ field instance bound r MtimeMs = integer r.mtime_ms
 both : (a b : Bool) → a ≡ false → b ≡ false → (a || b) ≡ false
 both a b ha hb = rw (ha, hb) refl
 
-put : (k : List ℕ) (d : Data) (ms : Members) → has_float d ≡ false → members_have_float ms ≡ false → members_have_float (with_member k d ms) ≡ false
+put : (k : List ℕ) (d : Data) (ms : Members) → has_float d ≡ false → members_have_float ms ≡ false
+    → members_have_float (with_member k d ms) ≡ false
 put k d no_members h hs = both (has_float d) false h refl
-put k d (member l e ms) h hs = ordered (slice_cmp nat_cmp k l) (or_parts (has_float e) _ hs).0 (put k d ms h (or_parts (has_float e) _ hs).1)
+put k d (member l e ms) h hs =
+    ordered (slice_cmp nat_cmp k l) (or_parts (has_float e) _ hs).0 (put k d ms h (or_parts (has_float e) _ hs).1)
   where
-    ordered : (order : Ordering) → has_float e ≡ false → members_have_float (with_member k d ms) ≡ false → members_have_float (match_ordering order (member k d (member l e ms)) (member l d ms) (member l e (with_member k d ms))) ≡ false
+    ordered : (order : Ordering) → has_float e ≡ false
+        → members_have_float (with_member k d ms) ≡ false
+        → members_have_float (match_ordering order (member k d (member l e ms)) (member l d ms) (member l e (with_member k d ms))) ≡ false
     ordered Less he later = both (has_float d) _ h hs
     ordered Equal he later = both (has_float d) _ h (or_parts (has_float e) _ hs).1
     ordered Greater he later = both (has_float e) _ he later
 
-members : (instance : InstanceData) (bound : Bound) (r : RecordData) (ms : Members) (fields : List Field) → members_have_float ms ≡ false → members_have_float (members_with instance bound r ms fields) ≡ false
+members : (instance : InstanceData) (bound : Bound) (r : RecordData) (ms : Members) (fields : List Field)
+    → members_have_float ms ≡ false
+    → members_have_float (members_with instance bound r ms fields) ≡ false
 members instance bound r ms [] h = h
-members instance bound r ms (f ∷ fields) h = members instance bound r (with_member (field_name f) (field_data instance bound r f) ms) fields (put (field_name f) (field_data instance bound r f) ms (field instance bound r f) h)
+members instance bound r ms (f ∷ fields) h =
+    members instance bound r (with_member (field_name f) (field_data instance bound r f) ms) fields (put (field_name f) (field_data instance bound r f) ms (field instance bound r f) h)
 
-file : (fields : List Field) (instance : InstanceData) (bound : Bound) (r : RecordData) → has_float (file_data fields instance bound r) ≡ false
+file : (fields : List Field) (instance : InstanceData) (bound : Bound) (r : RecordData)
+    → has_float (file_data fields instance bound r) ≡ false
 file [] instance bound r = refl
 file (f ∷ []) instance bound r = field instance bound r f
 file (f ∷ g ∷ fields) instance bound r = members instance bound r no_members (f ∷ g ∷ fields) refl
 
-files : (fields : List Field) (instance : InstanceData) (bound : Bound) (rs : List RecordData) → items_have_float (items_of (map (file_data fields instance bound) rs)) ≡ false
+files : (fields : List Field) (instance : InstanceData) (bound : Bound) (rs : List RecordData)
+    → items_have_float (items_of (map (file_data fields instance bound) rs)) ≡ false
 files fields instance bound [] = refl
-files fields instance bound (r ∷ rs) = both (has_float (file_data fields instance bound r)) _ (file fields instance bound r) (files fields instance bound rs)
+files fields instance bound (r ∷ rs) =
+    both (has_float (file_data fields instance bound r)) _ (file fields instance bound r) (files fields instance bound rs)
 
-pub reply : (query : QueryData) (bound : Bound) (instance : InstanceData) (view : ViewData) → has_float (reply_of query bound instance view) ≡ false
-reply query bound instance view = both (items_have_float (items_of (map (file_data query.fields instance bound) (listed query bound view.records)))) false (files query.fields instance bound (listed query bound view.records)) refl
+-- no reply has one
+pub reply : (plan : PlanData) (instance : InstanceData) (view : ViewData)
+    → has_float (reply_of plan instance view) ≡ false
+reply plan instance view =
+    both (items_have_float (items_of (files_data plan instance view.records))) false
+    (files (plan.query).fields instance plan.bound (files_of plan view.records)) refl

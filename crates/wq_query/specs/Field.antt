@@ -1,7 +1,10 @@
--- The fields that a query may ask of each file, by their names (Watchman's documentation of the key `fields`).
-use Rattle.std.specs.Prelude.{ℕ, List, [], ◌∷◌, bytes_eq, codes, if◌then◌else◌, Option, Some, None}
+-- The fields that a query may ask of each file, by their names.
+-- From Watchman's documentation of the query key `fields`.
+use Rattle.std.specs.Prelude.{ℕ, List, [], ◌∷◌, codes, Option}
+use Rattle.wq_base.specs.Table.{named}
 use Rattle.wq_query.specs.declared.field.Field.{Field}
-use Rattle.wq_query.specs.declared.field.Field.TheVariants.{Name, Exists, New, Size, Kind, Cclock, Oclock, Mtime, MtimeMs}
+use Rattle.wq_query.specs.declared.field.Field.TheVariants.{Name, Exists, New, Size, Kind}
+use Rattle.wq_query.specs.declared.field.Field.TheVariants.{Cclock, Oclock, Mtime, MtimeMs}
 
 -- the name of a field
 abbrev pub field_name : Field → List ℕ
@@ -15,19 +18,13 @@ field_name Oclock = codes "oclock"
 field_name Mtime = codes "mtime"
 field_name MtimeMs = codes "mtime_ms"
 
--- the field that has a name
+-- all fields
+abbrev pub fields : List Field
+fields = Name ∷ Exists ∷ New ∷ Size ∷ Kind ∷ Cclock ∷ Oclock ∷ Mtime ∷ MtimeMs ∷ []
+
+-- the field that a text names
 unfoldable pub field_named : List ℕ → Option Field
-field_named name =
-    if bytes_eq name (codes "name") then Some Name
-    else if bytes_eq name (codes "exists") then Some Exists
-    else if bytes_eq name (codes "new") then Some New
-    else if bytes_eq name (codes "size") then Some Size
-    else if bytes_eq name (codes "type") then Some Kind
-    else if bytes_eq name (codes "cclock") then Some Cclock
-    else if bytes_eq name (codes "oclock") then Some Oclock
-    else if bytes_eq name (codes "mtime") then Some Mtime
-    else if bytes_eq name (codes "mtime_ms") then Some MtimeMs
-    else None
+field_named text = named field_name fields text
 
 -- the fields of a query that names none
 abbrev pub default_fields : List Field

@@ -1,6 +1,8 @@
 pub mod Field
-pub mod Asked
-pub mod Listed
-pub mod Reply
 pub mod Query
-pub mod Key
+pub mod Reading
+pub mod Outcome
+pub mod Listing
+pub mod Reply
+pub mod Grammar
+pub mod Law

@@ -1,17 +1,38 @@
--- What the Rust types `Query` and `Plan` stand for.
-use Rattle.std.specs.Prelude.{◌≡◌, Result, Ok, Err}
-use Rattle.wq_term.specs.Expr.{term_of}
+-- What a query asks, and the plan of answering it; what the types `Query` and `Plan` stand for.
+-- The parts are keys of Watchman's documentation of file queries.
+use Rattle.std.specs.Prelude.{Bool, List}
+use Rattle.wq_clock.specs.declared.bound.Bound.{Bound}
+use Rattle.wq_term.specs.Expr.{ExprData, term_of}
+use Rattle.wq_query.specs.declared.field.Field.{Field}
 use Rattle.wq_query.specs.declared.query.Query.{Query}
-use Rattle.wq_query.specs.declared.fault.QueryFault.{QueryFault}
-use Rattle.wq_query.specs.declared.fault.QueryFault.TheVariants.{NoMemory}
-use Rattle.wq_query.specs.Asked.{QueryData}
+use Rattle.wq_query.specs.declared.query.Plan.{Plan}
 
--- what a query asks
+-- which files match, what is told of each, after which point files changed,
+-- and whether the list is empty where nothing is known to the client
+pub record QueryData : Type 0 where
+  pub expression : ExprData
+  pub fields : List Field
+  pub bound : Bound
+  pub empty_on_fresh_instance : Bool
+
+-- a query and the bound with which it is answered
+pub record PlanData : Type 0 where
+  pub query : QueryData
+  pub bound : Bound
+
+-- the plan of a query with the bound that it sets itself
+abbrev pub plan_of : QueryData → PlanData
+plan_of query = record { query = query; bound = query.bound }
+
+-- what a `Query` asks
 abbrev pub asked_of : Query → QueryData
-asked_of q = record { expression = term_of q.expr; fields = q.fields.items; bound = q.bound; empty_on_fresh_instance = q.empty_on_fresh_instance }
+asked_of query = record {
+  expression = term_of query.expr;
+  fields = (query.fields).items;
+  bound = query.bound;
+  empty_on_fresh_instance = query.empty_on_fresh_instance;
+}
 
--- the result of the code is this answer, or the memory ran out
-abbrev pub Gives : Result Query QueryFault → Result QueryData QueryFault → Type 0
-Gives (Ok q) answer = answer ≡ Ok (asked_of q)
-Gives (Err NoMemory) answer = Unit {0}
-Gives (Err fault) answer = answer ≡ Err fault
+-- what a `Plan` answers, and with which bound
+abbrev pub planned : Plan → PlanData
+planned plan = record { query = asked_of plan.query; bound = plan.bound }

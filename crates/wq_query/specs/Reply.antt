@@ -1,20 +1,22 @@
--- The reply to a query, as data. Its text is the compact text of that data (RFC 8259), keys in byte order.
+-- The reply to a query, as data; its text is the compact text of that data, keys in byte order.
+-- From Watchman's documentation of file queries; the texts are those of RFC 8259.
 use Rattle.std.specs.Prelude.{List, [], ◌∷◌, map, codes}
-use Rattle.serde_json.specs.Data.{Data, boolean, number, string, array, object, Members, no_members, member, put as with_member}
+use Rattle.serde_json.specs.Data.{Data, boolean, number, string, array, object}
+use Rattle.serde_json.specs.Data.{Members, no_members, member, put as with_member}
 use Rattle.serde_json.specs.Find.{of_integer}
 use Rattle.serde_json.specs.View.{items_of}
 use Rattle.wq_clock.specs.Instance.{InstanceData}
 use Rattle.wq_clock.specs.ClockText.{clock_text}
 use Rattle.wq_clock.specs.declared.bound.Bound.{Bound}
 use Rattle.wq_view.specs.Kind.{letter_of}
-use Rattle.wq_view.specs.RecordData.{RecordData}
+use Rattle.wq_view.specs.RecordData.{RecordData, seconds_of}
 use Rattle.wq_view.specs.View.{ViewData}
 use Rattle.wq_query.specs.declared.field.Field.{Field}
-use Rattle.wq_query.specs.declared.field.Field.TheVariants.{Name, Exists, New, Size, Kind, Cclock, Oclock, Mtime, MtimeMs}
-use Rattle.wq_term.specs.Number.{seconds_of}
+use Rattle.wq_query.specs.declared.field.Field.TheVariants.{Name, Exists, New, Size, Kind}
+use Rattle.wq_query.specs.declared.field.Field.TheVariants.{Cclock, Oclock, Mtime, MtimeMs}
 use Rattle.wq_query.specs.Field.{field_name}
-use Rattle.wq_query.specs.Asked.{QueryData}
-use Rattle.wq_query.specs.Listed.{is_fresh, is_new, listed}
+use Rattle.wq_query.specs.Query.{PlanData}
+use Rattle.wq_query.specs.Listing.{is_fresh, is_new, files_of}
 
 -- what a field says of a file, at an instance
 abbrev pub field_data : InstanceData → Bound → RecordData → Field → Data
@@ -28,20 +30,27 @@ field_data instance bound r Oclock = string (clock_text instance r.otick)
 field_data instance bound r Mtime = number (of_integer (seconds_of r.mtime_ms))
 field_data instance bound r MtimeMs = number (of_integer r.mtime_ms)
 
--- the members of some fields
+-- members, and those of some fields beside them
 abbrev pub members_with : InstanceData → Bound → RecordData → Members → List Field → Members
 members_with instance bound r ms [] = ms
-members_with instance bound r ms (field ∷ fields) = members_with instance bound r (with_member (field_name field) (field_data instance bound r field) ms) fields
+members_with instance bound r ms (field ∷ fields) =
+    let more = with_member (field_name field) (field_data instance bound r field) ms in
+    members_with instance bound r more fields
 
 -- what is told of a file: the bare value of one field, or an object of several
 abbrev pub file_data : List Field → InstanceData → Bound → RecordData → Data
 file_data (field ∷ []) instance bound r = field_data instance bound r field
 file_data fields instance bound r = object (members_with instance bound r no_members fields)
 
--- the reply to a query with a bound, at a view
-abbrev pub reply_of : QueryData → Bound → InstanceData → ViewData → Data
-reply_of query bound instance view =
+-- what is told of the files that a plan lists of these records
+abbrev pub files_data : PlanData → InstanceData → List RecordData → List Data
+files_data plan instance records =
+    map (file_data (plan.query).fields instance plan.bound) (files_of plan records)
+
+-- the reply to a plan, at a view
+abbrev pub reply_of : PlanData → InstanceData → ViewData → Data
+reply_of plan instance view =
     object (member (codes "clock") (string (clock_text instance view.tick))
-    (member (codes "files") (array (items_of (map (file_data query.fields instance bound) (listed query bound view.records))))
-    (member (codes "is_fresh_instance") (boolean (is_fresh bound))
+    (member (codes "files") (array (items_of (files_data plan instance view.records)))
+    (member (codes "is_fresh_instance") (boolean (is_fresh plan.bound))
     (member (codes "version") (string (codes "wq-1")) no_members))))

@@ -19,9 +19,9 @@ pub enum Field {
     Cclock,
     /// `oclock`: the clock id of the last pass that saw a change of the file, its deletion too.
     Oclock,
-    /// `mtime`: the time of modification in whole seconds of the Unix epoch, rounded down.
+    /// `mtime`: the modification time in whole seconds of the Unix epoch, rounded down.
     Mtime,
-    /// `mtime_ms`: the time of modification in milliseconds of the Unix epoch.
+    /// `mtime_ms`: the modification time in milliseconds of the Unix epoch.
     MtimeMs,
 }
 

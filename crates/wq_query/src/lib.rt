@@ -4,6 +4,7 @@
 
 mod fault;
 mod field;
+mod law;
 mod listing;
 mod query;
 mod reading;
@@ -11,5 +12,6 @@ mod reply;
 
 pub use fault::QueryFault;
 pub use field::Field;
+pub use law::values_ask_what_they_write;
 pub use query::{Plan, Query};
 pub use reply::{answer, answer_bytes};

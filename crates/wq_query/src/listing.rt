@@ -1,7 +1,7 @@
 //! Which files a plan lists, one record at a time.
 ghost use Rattle.std.specs.Prelude.{◌≡◌};
-ghost use Rattle.wq_query.specs.Listed.{is_candidate, is_fresh, is_listed, is_new};
-ghost use Rattle.wq_query.specs.Query.{asked_of};
+ghost use Rattle.wq_query.specs.Listing.{is_candidate, is_empty, is_fresh, is_listed, is_new};
+ghost use Rattle.wq_query.specs.Query.{planned};
 
 use crate::query::Plan;
 use wq_clock::Bound;
@@ -42,9 +42,16 @@ pub(crate) fn is_new(bound: Bound, file: &Record) -> bool
 
 /// Whether the plan lists the file.
 pub(crate) fn is_listed(plan: &Plan, file: &Record) -> bool
-    ensures { result ≡ is_listed (asked_of plan.now.query) plan.now.bound file.now }
+    ensures { result ≡ is_listed (planned plan.now) file.now }
 {
     is_candidate(plan.bound, file)
         && holds(&plan.query.expr, file)
         && (!is_fresh(plan.bound) || file.exists)
+}
+
+/// Whether the plan lists nothing, whatever there is.
+pub(crate) fn is_empty(plan: &Plan) -> bool
+    ensures { result ≡ is_empty (planned plan.now) }
+{
+    is_fresh(plan.bound) && plan.query.empty_on_fresh_instance
 }

@@ -1,11 +1,11 @@
 //! A query, and the plan of answering it with a bound.
 ghost use Rattle.std.specs.Prelude.{◌≡◌};
-ghost use Rattle.serde_json.specs.View.{view};
+ghost use Rattle.serde_json.specs.View.{view as data_of};
 ghost use Rattle.wq_clock.specs.Instance.{instance_data};
-ghost use Rattle.wq_clock.specs.declared.bound.Bound.TheVariants.{Fresh};
 ghost use Rattle.wq_term.specs.Expr.{term_of};
-ghost use Rattle.wq_query.specs.Asked.{asks};
-ghost use Rattle.wq_query.specs.Query.{asked_of, Gives};
+ghost use Rattle.wq_query.specs.Outcome.{Gives};
+ghost use Rattle.wq_query.specs.Query.{asked_of, planned};
+ghost use Rattle.wq_query.specs.Reading.{asks};
 
 use crate::fault::QueryFault;
 use crate::field::Field;
@@ -32,12 +32,14 @@ pub struct Plan {
 }
 
 impl Query {
-    /// What a JSON object asks, at this instance of the server. The first fault refuses it: see [`QueryFault`].
+    /// What a JSON object asks, at this instance of the server. The first fault refuses it: see
+    /// [`QueryFault`].
     ///
-    /// Keys that are not known are ignored, and so are `dedup_results`, `defer` and `drop`. The value of
-    /// `sync_timeout` is tested here, and used by who crawls. A value that is no object has no keys.
+    /// Keys that are not known are ignored, and so are `dedup_results`, `defer` and `drop`. The
+    /// value of `sync_timeout` is tested here, and used by who crawls. A value that is no object
+    /// has no keys.
     pub fn read(alloc: Global, value: &Value, instance: &Instance) -> Result<Query, QueryFault>
-        ensures { Gives result (asks (instance_data instance.now) (view value.now)) }
+        ensures { Gives result (asks (instance_data instance.now) (data_of value.now)) }
     {
         if reading::has_left_out_key(value) {
             return Err(QueryFault::LeftOutKey);
@@ -78,8 +80,7 @@ impl Query {
 
     /// The plan of answering the query with this bound, whichever the query sets.
     pub fn plan_plain(self, bound: Bound) -> Plan
-        ensures query { asked_of result.query ≡ asked_of self }
-        ensures bound { result.bound ≡ bound }
+        ensures { planned result ≡ record { query = asked_of self; bound = bound } }
     {
         Plan { query: self, bound }
     }

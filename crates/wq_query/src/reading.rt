@@ -1,18 +1,18 @@
 //! Reading the keys of a query from a JSON object, one function for each.
-ghost use Rattle.std.specs.Prelude.{◌≡◌, map, option_and_then, option_map};
-ghost use Rattle.serde_json.specs.Find.{as_str};
-ghost use Rattle.serde_json.specs.View.{view, items_view};
+ghost use Rattle.std.specs.Prelude.{◌≡◌, map, option_map};
+ghost use Rattle.serde_json.specs.View.{view as data_of, items_view};
 ghost use Rattle.wq_clock.specs.Instance.{instance_data};
-ghost use Rattle.wq_query.specs.Asked.{has_key_of, has_left_out_key, is_plain_case, expression_of, fields_in, fields_of, since_of, flag_of, is_whole};
-ghost use Rattle.wq_query.specs.Field.{field_named};
-ghost use Rattle.wq_query.specs.Key.{GivesExpression, GivesFields};
+ghost use Rattle.wq_query.specs.Outcome.{GivesExpression, GivesFields};
+ghost use Rattle.wq_query.specs.Reading.{has_key_of, has_left_out_key, is_plain_case};
+ghost use Rattle.wq_query.specs.Reading.{expression_of, field_of, fields_in, fields_of, since_of};
+ghost use Rattle.wq_query.specs.Reading.{flag_of, is_whole};
 
 use crate::fault::QueryFault;
 use crate::field::Field;
 use serde_json::Value;
 use std::alloc::Global;
 use wq_clock::{Bound, Instance};
-use wq_term::{Expr, TermFault, read_bound, read_expr};
+use wq_term::{Expr, TermFault, read_bound, read_expr, whole_number};
 
 /// The keys that would change the answer and are left out, or not built yet.
 const LEFT_OUT_KEYS: [&str; 8] = [
@@ -26,19 +26,16 @@ const LEFT_OUT_KEYS: [&str; 8] = [
     "path",
 ];
 
-/// The greatest whole number that a key takes, either side of 0.
-const MAX_WHOLE: i64 = 1 << 62;
-
 /// Whether the query has a key that would change the answer and is left out.
 pub(crate) fn has_left_out_key(query: &Value) -> bool
-    ensures { result ≡ has_left_out_key (view query.now) }
+    ensures { result ≡ has_left_out_key (data_of query.now) }
 {
     has_key_of(query, &LEFT_OUT_KEYS) || !is_plain_case(query.get("case_sensitive"))
 }
 
 /// Whether the query has one of these keys.
 fn has_key_of(query: &Value, keys: &[&str]) -> bool
-    ensures { result ≡ has_key_of (map (λ key. key.now) keys.now) (view query.now) }
+    ensures { result ≡ has_key_of (map (λ key. key.now) keys.now) (data_of query.now) }
 {
     for key in keys {
         if query.get(*key).is_some() {
@@ -54,7 +51,8 @@ pub(crate) fn expression(
     value: Option<&Value>,
     instance: &Instance,
 ) -> Result<Expr, QueryFault>
-    ensures { GivesExpression result (expression_of (instance_data instance.now) (option_map (λ v. view v.now) value.entry)) }
+    ensures { GivesExpression result (expression_of (instance_data instance.now)
+        (option_map (λ v. data_of v.now) value.entry)) }
 {
     let Some(value) = value else {
         return Ok(Expr::True);
@@ -66,9 +64,11 @@ pub(crate) fn expression(
     }
 }
 
-/// The bound that `since` sets: fresh where it is not there, and none where it is no clock spec or a cursor.
+/// The bound that `since` sets: fresh where it is not there, and none where it is no clock spec or
+/// a cursor.
 pub(crate) fn since(value: Option<&Value>, instance: &Instance) -> Option<Bound>
-    ensures { result ≡ since_of (instance_data instance.now) (option_map (λ v. view v.now) value.entry) }
+    ensures { result ≡ since_of (instance_data instance.now)
+        (option_map (λ v. data_of v.now) value.entry) }
 {
     match value {
         None => Some(Bound::Fresh),
@@ -78,7 +78,7 @@ pub(crate) fn since(value: Option<&Value>, instance: &Instance) -> Option<Bound>
 
 /// Whether a key that is there is true or false, and which; false where it is not there.
 pub(crate) fn flag(value: Option<&Value>) -> Option<bool>
-    ensures { result ≡ flag_of (option_map (λ v. view v.now) value.entry) }
+    ensures { result ≡ flag_of (option_map (λ v. data_of v.now) value.entry) }
 {
     match value {
         None => Some(false),
@@ -88,20 +88,17 @@ pub(crate) fn flag(value: Option<&Value>) -> Option<bool>
 
 /// Whether a key that is there is a whole number from -2^62 to 2^62.
 pub(crate) fn is_whole(value: Option<&Value>) -> bool
-    ensures { result ≡ is_whole (option_map (λ v. view v.now) value.entry) }
+    ensures { result ≡ is_whole (option_map (λ v. data_of v.now) value.entry) }
 {
     match value {
         None => true,
-        Some(value) => match value.as_i64() {
-            Some(number) => -MAX_WHOLE <= number && number <= MAX_WHOLE,
-            None => false,
-        },
+        Some(value) => whole_number(value).is_some(),
     }
 }
 
 /// Whether `case_sensitive` is not there or true.
 fn is_plain_case(value: Option<&Value>) -> bool
-    ensures { result ≡ is_plain_case (option_map (λ v. view v.now) value.entry) }
+    ensures { result ≡ is_plain_case (option_map (λ v. data_of v.now) value.entry) }
 {
     match value {
         None => true,
@@ -111,7 +108,7 @@ fn is_plain_case(value: Option<&Value>) -> bool
 
 /// The fields: a list of names that is not empty, or the default ones.
 pub(crate) fn fields(alloc: Global, value: Option<&Value>) -> Result<Vec<Field>, QueryFault>
-    ensures { GivesFields result (fields_of (option_map (λ v. view v.now) value.entry)) }
+    ensures { GivesFields result (fields_of (option_map (λ v. data_of v.now) value.entry)) }
 {
     let Some(value) = value else {
         let default = [Field::Name, Field::Exists, Field::New, Field::Size];
@@ -142,7 +139,7 @@ fn fields_in(alloc: Global, names: &[Value]) -> Result<Vec<Field>, QueryFault>
 
 /// The field that a text names.
 fn field_in(name: &Value) -> Option<Field>
-    ensures { result ≡ option_and_then field_named (as_str (view name.now)) }
+    ensures { result ≡ field_of (data_of name.now) }
 {
     name.as_str().and_then(Field::named)
 }

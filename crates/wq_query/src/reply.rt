@@ -6,12 +6,11 @@ ghost use Rattle.serde_json.specs.Written.{compact_text};
 ghost use Rattle.wq_clock.specs.ClockText.{clock_text};
 ghost use Rattle.wq_clock.specs.Instance.{instance_data};
 ghost use Rattle.wq_view.specs.Kind.{letter_of};
-ghost use Rattle.wq_query.specs.Listed.{listed};
-ghost use Rattle.wq_query.specs.Reply.{field_data, file_data, reply_of};
-ghost use Rattle.wq_query.specs.Query.{asked_of};
+ghost use Rattle.wq_query.specs.Query.{planned};
+ghost use Rattle.wq_query.specs.Reply.{field_data, file_data, files_data, reply_of};
 
 use crate::field::Field;
-use crate::listing::{is_fresh, is_listed, is_new};
+use crate::listing::{is_empty, is_fresh, is_listed, is_new};
 use crate::query::Plan;
 use serde_json::{Map, Value, json};
 use std::alloc::{AllocError, Global};
@@ -19,17 +18,16 @@ use wq_base::MAX_NUMBER;
 use wq_clock::{Bound, Instance, print};
 use wq_view::{Kind, Record, View};
 
-/// How many milliseconds a second has.
-const SECOND: i64 = 1000;
-
-/// The reply to a query at a view: its clock, the listed files in the view's order, and whether the bound is fresh.
+/// The reply to a query at a view: its clock, the listed files in the view's order, and whether the
+/// bound is fresh.
 pub fn answer(
     alloc: Global,
     plan: &Plan,
     instance: &Instance,
     view: &View,
 ) -> Result<Value, AllocError>
-    ensures { IfOk result (λ v. data_of v ≡ reply_of (asked_of plan.now.query) plan.now.bound (instance_data instance.now) view.now) }
+    ensures { IfOk result (λ v. data_of v
+        ≡ reply_of (planned plan.now) (instance_data instance.now) view.now) }
 {
     let files = Value::Array(files(alloc, plan, instance, view)?);
     let clock = print(instance, view.tick());
@@ -48,7 +46,8 @@ pub fn answer_bytes(
     instance: &Instance,
     view: &View,
 ) -> Result<Vec<u8>, AllocError>
-    ensures { IfOk result (λ text. text.items ≡ compact_text (reply_of (asked_of plan.now.query) plan.now.bound (instance_data instance.now) view.now)) }
+    ensures { IfOk result (λ text. text.items
+        ≡ compact_text (reply_of (planned plan.now) (instance_data instance.now) view.now)) }
 {
     answer(alloc, plan, instance, view)?.to_vec(alloc)
 }
@@ -60,10 +59,11 @@ fn files(
     instance: &Instance,
     view: &View,
 ) -> Result<Vec<Value>, AllocError>
-    ensures { IfOk result (λ files. map data_of files.items ≡ map (file_data plan.now.query.fields.items (instance_data instance.now) plan.now.bound) (listed (asked_of plan.now.query) plan.now.bound view.now.records)) }
+    ensures { IfOk result (λ files. map data_of files.items
+        ≡ files_data (planned plan.now) (instance_data instance.now) view.now.records) }
 {
     let mut files = Vec::new(alloc);
-    if is_fresh(plan.bound) && plan.query.empty_on_fresh_instance {
+    if is_empty(plan) {
         return Ok(files);
     }
     for file in view.records() {
@@ -83,7 +83,8 @@ fn file_value(
     bound: Bound,
     file: &Record,
 ) -> Result<Value, AllocError>
-    ensures { IfOk result (λ v. data_of v ≡ file_data fields.now (instance_data instance.now) bound file.now) }
+    ensures { IfOk result (λ v. data_of v
+        ≡ file_data fields.now (instance_data instance.now) bound file.now) }
 {
     if let [field] = fields {
         return field_value(alloc, *field, instance, bound, file);
@@ -104,7 +105,8 @@ fn field_value(
     bound: Bound,
     file: &Record,
 ) -> Result<Value, AllocError>
-    ensures { IfOk result (λ v. data_of v ≡ field_data (instance_data instance.now) bound file.now field) }
+    ensures { IfOk result (λ v. data_of v
+        ≡ field_data (instance_data instance.now) bound file.now field) }
 {
     match field {
         Field::Name => Value::try_from_str(alloc, file.name.as_str()),
@@ -114,7 +116,7 @@ fn field_value(
         Field::Kind => letter_value(alloc, file.kind),
         Field::Cclock => clock_value(alloc, instance, file.ctick),
         Field::Oclock => clock_value(alloc, instance, file.otick),
-        Field::Mtime => Ok(Value::from(file.mtime_ms.div_euclid(SECOND))),
+        Field::Mtime => Ok(Value::from(file.mtime())),
         Field::MtimeMs => Ok(Value::from(file.mtime_ms)),
     }
 }

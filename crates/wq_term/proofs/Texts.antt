@@ -1,5 +1,7 @@
 -- Texts that are compared byte by byte, and lists of texts that are read from the front.
-use Rattle.std.proofs.Common.{◌≡◌, ◌≤◌, ℕ, ◌-◌, ◌++◌, not, IsTrue, List, [], ◌∷◌, length, Vec, Option, Some, None, ok_or, Ok, Err, refl, sym, ap, ◌∙◌, arith, length-drop}
+use Rattle.std.proofs.Common.{◌≡◌, ◌≤◌, ℕ, ◌-◌, ◌++◌, not, IsTrue, List, [], ◌∷◌, length, Vec}
+use Rattle.std.proofs.Common.{Option, Some, None, ok_or, Ok, Err, refl, sym, ap, ◌∙◌, arith}
+use Rattle.std.proofs.Common.{length-drop}
 use Rattle.std.specs.List.{suffix_len}
 use Rattle.std.proofs.lemmas.Bool.{and_parts}
 use Rattle.std.proofs.lemmas.Bool.Decides.{nat_tests}
@@ -13,6 +15,7 @@ use Rattle.wq_term.specs.declared.expr.Scope.TheVariants.{Basename, Wholename}
 use Rattle.wq_term.specs.Text.{part_of}
 use Rattle.wq_term.specs.declared.fault.TermFault.{TermFault}
 use Rattle.wq_base.specs.Fault.{with_first}
+use Rattle.wq_base.proofs.Fault.{before, before-push, before-none}
 use Rattle.wq_term.specs.Argument.{text_of, all_texts_of}
 use Rattle.wq_term.specs.Expr.{texts_in}
 
@@ -22,31 +25,13 @@ unfolding is_valid_name
 name_is_short name h = grind (arith, nat_tests, and_parts)
 
 -- and so has each part of it that a scope asks for
-pub part_is_short : (scope : Scope) (name : List ℕ) → IsTrue (is_valid_name name) → length (part_of scope name) ≤ MAX_NAME
+pub part_is_short : (scope : Scope) (name : List ℕ) → IsTrue (is_valid_name name)
+    → length (part_of scope name) ≤ MAX_NAME
 part_is_short Wholename name h = name_is_short name h
 part_is_short Basename name h =
     let short = name_is_short name h in
     let rest = length-drop (length name - suffix_len (λ b. not (is_slash b)) name) name in
     omega (arith, short, rest)
-
--- texts that are read before the rest of a list
-abbrev pub texts_before : List (List ℕ) → Option (List (List ℕ)) → Option (List (List ℕ))
-texts_before [] rest = rest
-texts_before (t ∷ ts) rest = with_first (Some t) (texts_before ts rest)
-
-pub texts_before-push : (ts : List (List ℕ)) (t : List ℕ) (rest : Option (List (List ℕ))) → texts_before (ts ++ t ∷ []) rest ≡ texts_before ts (with_first (Some t) rest)
-texts_before-push [] t rest = refl
-texts_before-push (u ∷ ts) t rest = ap (with_first (Some u)) (texts_before-push ts t rest)
-
--- at the end the texts are those read
-pub texts_before-end : (ts : List (List ℕ)) → texts_before ts (Some []) ≡ Some ts
-texts_before-end [] = refl
-texts_before-end (t ∷ ts) = ap (with_first (Some t)) (texts_before-end ts)
-
--- what is no text makes the list none
-pub texts_before-none : (ts : List (List ℕ)) → texts_before ts None ≡ None
-texts_before-none [] = refl
-texts_before-none (t ∷ ts) = ap (with_first (Some t)) (texts_before-none ts)
 
 -- what is right where it is there
 pub was_some : {A E : Type 0} (o : Option A) (fault : E) (x : A) → ok_or o fault ≡ Ok x → o ≡ Some x
@@ -54,19 +39,26 @@ was_some None fault x e = cc
 was_some (Some y) fault x e = cc
 
 -- one more text is read
-pub text_more : (ts : List (List ℕ)) (d : Data) (ds : Items) (t : List ℕ) (all : Option (List (List ℕ))) → text_of d ≡ Some t → texts_before ts (all_texts_of (item d ds)) ≡ all → texts_before (ts ++ t ∷ []) (all_texts_of ds) ≡ all
-text_more ts d ds t all is so_far = texts_before-push ts t (all_texts_of ds) ∙ ap (λ o. texts_before ts (with_first o (all_texts_of ds))) (sym is) ∙ so_far
+pub text_more : (ts : List (List ℕ)) (d : Data) (ds : Items) (t : List ℕ) (all : Option (List (List ℕ)))
+    → text_of d ≡ Some t → before ts (all_texts_of (item d ds)) ≡ all
+    → before (ts ++ t ∷ []) (all_texts_of ds) ≡ all
+text_more ts d ds t all is so_far =
+    before-push ts t (all_texts_of ds) ∙ ap (λ o. before ts (with_first o (all_texts_of ds))) (sym is) ∙ so_far
 
 -- one more item is no text
-pub text_none : (ts : List (List ℕ)) (d : Data) (ds : Items) (all : Option (List (List ℕ))) → text_of d ≡ None → texts_before ts (all_texts_of (item d ds)) ≡ all → all ≡ None
-text_none ts d ds all is so_far = sym so_far ∙ ap (λ o. texts_before ts (with_first o (all_texts_of ds))) is ∙ texts_before-none ts
+pub text_none : (ts : List (List ℕ)) (d : Data) (ds : Items) (all : Option (List (List ℕ)))
+    → text_of d ≡ None → before ts (all_texts_of (item d ds)) ≡ all → all ≡ None
+text_none ts d ds all is so_far =
+    sym so_far ∙ ap (λ o. before ts (with_first o (all_texts_of ds))) is ∙ before-none ts
 
 -- the texts of vectors, with one more
-pub texts_in-push : (vs : List (Vec ℕ Global)) (v : Vec ℕ Global) → texts_in (vs ++ v ∷ []) ≡ texts_in vs ++ v.items ∷ []
+pub texts_in-push : (vs : List (Vec ℕ Global)) (v : Vec ℕ Global)
+    → texts_in (vs ++ v ∷ []) ≡ texts_in vs ++ v.items ∷ []
 texts_in-push [] v = refl
 texts_in-push (u ∷ vs) v = ap (λ ts. u.items ∷ ts) (texts_in-push vs v)
 
 -- a part that is none makes the whole none, with one fault
-pub none_fault : {A B : Type 0} (one : Option A) (all : Option B) (wrong fault : TermFault) → ok_or one wrong ≡ Err fault → (one ≡ None → all ≡ None) → ok_or all wrong ≡ Err fault
+pub none_fault : {A B : Type 0} (one : Option A) (all : Option B) (wrong fault : TermFault)
+    → ok_or one wrong ≡ Err fault → (one ≡ None → all ≡ None) → ok_or all wrong ≡ Err fault
 none_fault None all wrong fault is next = ap (λ o. ok_or o wrong) (next refl) ∙ let e : wrong ≡ fault = cc in ap Err e
 none_fault (Some x) all wrong fault is next = cc

@@ -1,6 +1,7 @@
 -- What an expression means: whether a record matches it, by cases on its term.
 -- The terms are those of Watchman's documentation of file queries.
-use Rattle.std.specs.Prelude.{ℕ, ℤ, pos, Bool, true, false, not, ◌&&◌, ◌||◌, ◌==◌, List, [], ◌∷◌, map, Vec}
+use Rattle.std.specs.Prelude.{ℕ, suc, ℤ, pos, Bool, true, false, not, ◌&&◌, ◌||◌, max}
+use Rattle.std.specs.Prelude.{◌==◌, List, [], ◌∷◌, map, Vec}
 use Rattle.std.specs.Ordering.{int_eq}
 use Rattle.std.specs.declared.alloc.Global.{Global}
 use Rattle.wq_view.specs.declared.kind.Kind.{Kind}
@@ -72,6 +73,19 @@ abbrev mutual
   pub some : ExprsData → RecordData → Bool
   some no_terms r = false
   some (term t ts) r = means t r || some ts r
+
+abbrev mutual
+  -- how many terms stand inside one another, this one counted
+  pub depth_of : ExprData → ℕ
+  depth_of (negation t) = suc (depth_of t)
+  depth_of (all_of ts) = suc (greatest_depth ts)
+  depth_of (any_of ts) = suc (greatest_depth ts)
+  depth_of _ = 1
+
+  -- the depth of the deepest of some terms, and 0 of none
+  pub greatest_depth : ExprsData → ℕ
+  greatest_depth no_terms = 0
+  greatest_depth (term t ts) = max (depth_of t) (greatest_depth ts)
 
 -- a list of terms as an expression holds it
 abbrev pub terms_of : List ExprData → ExprsData

@@ -8,3 +8,7 @@ pub mod Word
 pub mod Argument
 pub mod PatternArgument
 pub mod Reading
+pub mod Outcome
+pub mod ArgumentGrammar
+pub mod Grammar
+pub mod Law

@@ -1,6 +1,6 @@
 -- The limits of expressions, which are this server's own.
 -- Watchman's documentation of file queries names none.
-use Rattle.std.specs.Prelude.{ℕ, ℤ, pos, ◌^◌}
+use Rattle.std.specs.Prelude.{ℕ}
 
 -- how many terms may stand inside one another, the outermost counted
 abbrev pub max_depth : ℕ
@@ -9,7 +9,3 @@ max_depth = 64
 -- the most bytes of a text in `name`, `suffix` and `dirname`
 abbrev pub max_text_length : ℕ
 max_text_length = 4096
-
--- the greatest whole number, either side of 0
-abbrev pub max_number : ℤ
-max_number = pos (2 ^ 62)

@@ -1,11 +1,10 @@
--- How numbers of a record are compared with those of a term: relations, and what lies after a bound.
+-- How numbers of a record are compared with those of a term: relations, and what is after a bound.
 -- From Watchman's documentation of the terms `size` and `since`.
-use Rattle.std.specs.Prelude.{ℕ, ℤ, pos, Bool, not, int_lt, int_le, nat_lt}
+use Rattle.std.specs.Prelude.{ℕ, ℤ, Bool, not, int_lt, int_le, nat_lt}
 use Rattle.std.specs.Ordering.{int_eq}
-use Rattle.std.specs.Int.{int_div_euclid}
 use Rattle.wq_clock.specs.declared.bound.Bound.{Bound}
 use Rattle.wq_clock.specs.declared.bound.Bound.TheVariants.{Fresh, Tick, Second}
-use Rattle.wq_view.specs.RecordData.{RecordData}
+use Rattle.wq_view.specs.RecordData.{RecordData, seconds_of}
 use Rattle.wq_term.specs.declared.expr.Relation.{Relation}
 use Rattle.wq_term.specs.declared.expr.Relation.TheVariants.{Eq, Ne, Gt, Ge, Lt, Le}
 use Rattle.wq_term.specs.declared.expr.Since.{Since}
@@ -19,10 +18,6 @@ compares Gt a b = int_lt b a
 compares Ge a b = int_le b a
 compares Lt a b = int_lt a b
 compares Le a b = int_le a b
-
--- milliseconds as whole seconds, rounded down: -1 ms lies in second -1
-abbrev pub seconds_of : ℤ → ℤ
-seconds_of ms = int_div_euclid ms (pos 1000)
 
 -- whether a moment, by its tick and its second, lies strictly after a bound;
 -- where the client knows nothing, whether the file exists

@@ -1,11 +1,13 @@
--- How the texts of a term are compared with the name of a file: letter case, scopes, suffixes, directories.
+-- How the texts of a term are compared with a file's name: case, scopes, suffixes, directories.
 -- From Watchman's documentation of the terms `name`, `suffix` and `dirname`.
-use Rattle.std.specs.Prelude.{ℕ, pos, ◌-◌, Bool, true, false, not, ◌&&◌, ◌==◌, List, [], ◌∷◌, length, take, drop, count_by, bytes_eq, if◌then◌else◌, Option, Some, None}
+use Rattle.std.specs.Prelude.{ℕ, pos, ◌-◌, Bool, true, false, not, ◌&&◌, ◌==◌, List, [], ◌∷◌}
+use Rattle.std.specs.Prelude.{length, take, drop, count_by, bytes_eq, if◌then◌else◌, Option, Some}
+use Rattle.std.specs.Prelude.{None}
 use Rattle.std.specs.List.{list_any, suffix_len}
 use Rattle.std.specs.Option.{option_map_or}
 use Rattle.std.specs.Str.{str_eq_ignore_ascii_case}
 use Rattle.wq_base.specs.Byte.{is_slash}
-use Rattle.wq_view.specs.Name.{basename_of, suffix_of}
+use Rattle.wq_base.specs.Name.{basename_of, suffix_of}
 use Rattle.wq_term.specs.declared.expr.Case.{Case}
 use Rattle.wq_term.specs.declared.expr.Case.TheVariants.{Exact, Folded}
 use Rattle.wq_term.specs.declared.expr.Scope.{Scope}
@@ -45,7 +47,7 @@ abbrev pub after_slash : List ℕ → Option (List ℕ)
 after_slash [] = None
 after_slash (b ∷ rest) = if is_slash b then Some rest else None
 
--- what follows `dir/` in a name strictly below the directory; below the empty one lies every name, whole
+-- what follows `dir/` in a name strictly below the directory; below the empty one lies every name
 abbrev pub rest_below : Case → List ℕ → List ℕ → Option (List ℕ)
 rest_below case dir name =
     if length dir == 0 then Some name

@@ -1,8 +1,11 @@
 -- The words that terms take as arguments: letters of kinds, scopes, relations, fields.
 -- From Watchman's documentation of the terms `type`, `name`, `size` and `since`.
-use Rattle.std.specs.Prelude.{ℕ, List, bytes_eq, codes, if◌then◌else◌, Option, Some, None}
+use Rattle.std.specs.Prelude.{ℕ, List, [], ◌∷◌, codes, Option}
+use Rattle.wq_base.specs.Table.{named}
 use Rattle.wq_view.specs.declared.kind.Kind.{Kind}
-use Rattle.wq_view.specs.declared.kind.Kind.TheVariants.{File, Dir, Link, Block, Char, Fifo, Socket, Door}
+use Rattle.wq_view.specs.declared.kind.Kind.TheVariants.{File, Dir, Link, Block, Char}
+use Rattle.wq_view.specs.declared.kind.Kind.TheVariants.{Fifo, Socket, Door}
+use Rattle.wq_view.specs.Kind.{letter_of}
 use Rattle.wq_term.specs.declared.expr.Relation.{Relation}
 use Rattle.wq_term.specs.declared.expr.Relation.TheVariants.{Eq, Ne, Gt, Ge, Lt, Le}
 use Rattle.wq_term.specs.declared.expr.Scope.{Scope}
@@ -10,41 +13,58 @@ use Rattle.wq_term.specs.declared.expr.Scope.TheVariants.{Basename, Wholename}
 use Rattle.wq_term.specs.declared.reading.word.Field.{Field}
 use Rattle.wq_term.specs.declared.reading.word.Field.TheVariants.{Oclock, Cclock, Mtime}
 
--- the kind that the term `type` asks for by this letter
+-- the name of a kind in `type`: its letter
+abbrev pub kind_name : Kind → List ℕ
+kind_name kind = letter_of kind ∷ []
+
+-- the kinds that `type` asks for, which are all but the unknown one
+abbrev pub kinds : List Kind
+kinds = Block ∷ Char ∷ Dir ∷ File ∷ Fifo ∷ Link ∷ Socket ∷ Door ∷ []
+
+-- the kind that a letter names
 unfoldable pub kind_named : List ℕ → Option Kind
-kind_named letter =
-    if bytes_eq letter (codes "b") then Some Block
-    else if bytes_eq letter (codes "c") then Some Char
-    else if bytes_eq letter (codes "d") then Some Dir
-    else if bytes_eq letter (codes "f") then Some File
-    else if bytes_eq letter (codes "p") then Some Fifo
-    else if bytes_eq letter (codes "l") then Some Link
-    else if bytes_eq letter (codes "s") then Some Socket
-    else if bytes_eq letter (codes "D") then Some Door
-    else None
+kind_named letter = named kind_name kinds letter
 
--- the part of a name
+-- the name of a scope
+abbrev pub scope_name : Scope → List ℕ
+scope_name Basename = codes "basename"
+scope_name Wholename = codes "wholename"
+
+-- all scopes
+abbrev pub scopes : List Scope
+scopes = Basename ∷ Wholename ∷ []
+
+-- the part of a name that a word names
 unfoldable pub scope_named : List ℕ → Option Scope
-scope_named word =
-    if bytes_eq word (codes "basename") then Some Basename
-    else if bytes_eq word (codes "wholename") then Some Wholename
-    else None
+scope_named word = named scope_name scopes word
 
--- the relation of two numbers
+-- the name of a relation
+abbrev pub relation_name : Relation → List ℕ
+relation_name Eq = codes "eq"
+relation_name Ne = codes "ne"
+relation_name Gt = codes "gt"
+relation_name Ge = codes "ge"
+relation_name Lt = codes "lt"
+relation_name Le = codes "le"
+
+-- all relations
+abbrev pub relations : List Relation
+relations = Eq ∷ Ne ∷ Gt ∷ Ge ∷ Lt ∷ Le ∷ []
+
+-- the relation of two numbers that a word names
 unfoldable pub relation_named : List ℕ → Option Relation
-relation_named word =
-    if bytes_eq word (codes "eq") then Some Eq
-    else if bytes_eq word (codes "ne") then Some Ne
-    else if bytes_eq word (codes "gt") then Some Gt
-    else if bytes_eq word (codes "ge") then Some Ge
-    else if bytes_eq word (codes "lt") then Some Lt
-    else if bytes_eq word (codes "le") then Some Le
-    else None
+relation_named word = named relation_name relations word
 
--- what `since` compares
+-- the name of what `since` compares
+abbrev pub field_name : Field → List ℕ
+field_name Oclock = codes "oclock"
+field_name Cclock = codes "cclock"
+field_name Mtime = codes "mtime"
+
+-- all that `since` compares
+abbrev pub fields : List Field
+fields = Oclock ∷ Cclock ∷ Mtime ∷ []
+
+-- what `since` compares, by the word that names it
 unfoldable pub field_named : List ℕ → Option Field
-field_named word =
-    if bytes_eq word (codes "oclock") then Some Oclock
-    else if bytes_eq word (codes "cclock") then Some Cclock
-    else if bytes_eq word (codes "mtime") then Some Mtime
-    else None
+field_named word = named field_name fields word

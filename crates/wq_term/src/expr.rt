@@ -1,4 +1,5 @@
-//! The expressions, one variant for each term. ExprsData that differ in letter case alone are one variant.
+//! The expressions, one variant for each term. Terms that differ in letter case alone are one
+//! variant.
 
 use wq_clock::Bound;
 use wq_glob::Pattern;
@@ -17,24 +18,25 @@ pub enum Expr {
     Empty,
     /// `type`: the files of this kind, deleted ones by their last kind.
     KindIs(Kind),
-    /// `name` and `iname`: the files of which this part of the name is one of the texts. A text may be empty,
-    /// and so may the list.
+    /// `name` and `iname`: the files of which this part of the name is one of the texts. A text may
+    /// be empty, and so may the list.
     Name {
         case: Case,
         scope: Scope,
         texts: Vec<Vec<u8>>,
     },
-    /// `match` and `imatch`: the files whose name fits the pattern, the whole name where the pattern has the flag
-    /// `wholename`, and else what follows the last slash.
+    /// `match` and `imatch`: the files whose name fits the pattern, the whole name where the
+    /// pattern has the flag `wholename`, and else what follows the last slash.
     Match(Pattern),
-    /// `suffix`: the files whose suffix is one of the texts, with A to Z as a to z. An empty text matches nothing.
+    /// `suffix`: the files whose suffix is one of the texts, with A to Z as a to z. An empty text
+    /// matches nothing.
     Suffix(Vec<Vec<u8>>),
     /// `size`: the files that exist, and whose size in bytes stands in this relation to the number.
     Size(Relation, i64),
     /// `since`: the files of which something happened strictly after a point.
     Since(Since),
-    /// `dirname` and `idirname`: the files strictly below a directory, which is written without slashes at
-    /// its end. Below the empty one lies every file.
+    /// `dirname` and `idirname`: the files strictly below a directory, which is written without
+    /// slashes at its end. Below the empty one lies every file.
     Dirname {
         case: Case,
         dir: Vec<u8>,
@@ -87,7 +89,8 @@ pub enum Since {
     Modified(i64),
 }
 
-/// How deep below a directory a file lies: the number of slashes in what follows the directory and its slash.
+/// How deep below a directory a file lies: the number of slashes in what follows the directory and
+/// its slash.
 #[derive(Clone, Copy)]
 pub enum Depth {
     /// However deep.

@@ -3,14 +3,15 @@
 use std::alloc::{AllocError, AllocFailed};
 use thiserror::Error;
 
-/// The first fault of a JSON value as an expression: depth first, from left to right; of one term that it is
-/// too deep, then its own other faults in this order, then those of its terms.
+/// The first fault of a JSON value as an expression: depth first, from left to right; of one term
+/// that it is too deep, then its own other faults in this order, then those of its terms.
 #[derive(Clone, Copy, Debug, PartialEq, Eq, Drop, Error)]
 pub enum TermFault {
     /// A text that names no term.
     #[error("unknown term")]
     UnknownTerm,
-    /// Too many arguments or too few, one of another shape or past its limit, or a value that is no term.
+    /// Too many arguments or too few, one that is malformed or past its limit, or a value that is
+    /// no term.
     #[error("wrong term arguments")]
     WrongArguments,
     /// More than 64 terms inside one another.

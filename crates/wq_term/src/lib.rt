@@ -5,10 +5,15 @@
 mod expr;
 mod fault;
 mod head;
+mod law;
 mod meaning;
 mod reading;
 
 pub use expr::{Case, Depth, Expr, Relation, Scope, Since};
 pub use fault::TermFault;
+pub use law::{
+    bounds_say_what_they_write, numbers_say_what_they_write, read_expressions_are_shallow,
+    values_say_what_they_write,
+};
 pub use meaning::holds;
-pub use reading::{MAX_DEPTH, MAX_NUMBER, MAX_TEXT, read_bound, read_expr};
+pub use reading::{MAX_DEPTH, MAX_TEXT, read_bound, read_expr, whole_number};

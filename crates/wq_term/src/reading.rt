@@ -1,11 +1,11 @@
-//! Reading an expression from a JSON value: the terms, their heads and how they nest. What the arguments of
-//! one term say is read in the modules below; what a term means is not said here.
+//! Reading an expression from a JSON value: the terms, their heads and how they nest. What the
+//! arguments of one term say is read in the modules below; what a term means is not said here.
 ghost use Rattle.std.specs.Prelude.{◌≡◌};
-ghost use Rattle.serde_json.specs.View.{view, items_view};
+ghost use Rattle.serde_json.specs.View.{view as data_of, items_view};
 ghost use Rattle.wq_clock.specs.Instance.{instance_data};
-ghost use Rattle.wq_term.specs.Argument.{only_of};
+ghost use Rattle.wq_term.specs.Outcome.{Gives, GivesAll};
 ghost use Rattle.wq_term.specs.Limit.{max_depth};
-ghost use Rattle.wq_term.specs.Reading.{Gives, GivesAll, read_plain, read_negation, read_all, read_named, reads_as};
+ghost use Rattle.wq_term.specs.Reading.{read_plain, read_negation, read_all, read_named, reads_as};
 ghost use Rattle.wq_term.specs.Expr.{term_of};
 
 mod argument;
@@ -17,8 +17,8 @@ mod word;
 use crate::expr::{Case, Expr};
 use crate::fault::TermFault;
 use crate::head::Head;
-use argument::{only, parts};
-pub use argument::{MAX_NUMBER, MAX_TEXT};
+use argument::parts;
+pub use argument::{MAX_TEXT, whole_number};
 pub use number::read_bound;
 use serde_json::Value;
 use std::alloc::Global;
@@ -29,10 +29,11 @@ pub const MAX_DEPTH: u32 = 64;
 
 /// The expression that a JSON value says, at this instance of the server.
 ///
-/// A term is an array headed by its name, with its arguments behind it; the bare name stands for an array
-/// of it alone. The first fault refuses the value: see [`TermFault`].
+/// A term is an array headed by its name, with its arguments behind it; the bare name stands for an
+/// array of it alone. The first fault refuses the value: see [`TermFault`]. Which values are read is
+/// also said as a grammar: see [`values_say_what_they_write`](crate::values_say_what_they_write).
 pub fn read_expr(alloc: Global, value: &Value, instance: &Instance) -> Result<Expr, TermFault>
-    ensures { Gives result (reads_as (instance_data instance.now) max_depth (view value.now)) }
+    ensures { Gives result (reads_as (instance_data instance.now) max_depth (data_of value.now)) }
 {
     read_term(alloc, value, instance, MAX_DEPTH)
 }
@@ -46,7 +47,7 @@ fn read_term(
     instance: &Instance,
     levels: u32,
 ) -> Result<Expr, TermFault>
-    ensures { Gives result (reads_as (instance_data instance.now) levels (view value.now)) }
+    ensures { Gives result (reads_as (instance_data instance.now) levels (data_of value.now)) }
 {
     if levels == 0 {
         return Err(TermFault::TooDeep);
@@ -69,7 +70,8 @@ fn read_named(
     instance: &Instance,
     levels: u32,
 ) -> Result<Expr, TermFault>
-    ensures { Gives result (read_named (instance_data instance.now) (reads_as (instance_data instance.now) levels) head (items_view arguments.now)) }
+    ensures { Gives result (read_named (instance_data instance.now)
+        (reads_as (instance_data instance.now) levels) head (items_view arguments.now)) }
 {
     match head {
         Head::True => read_plain(Expr::True, arguments),
@@ -94,15 +96,17 @@ fn read_named(
 
 /// `not` of one term.
 #[cycle(read)]
+#[tactic(auto, using(crate::proofs::Arguments::no_negation))]
 fn read_negation(
     alloc: Global,
     arguments: &[Value],
     instance: &Instance,
     levels: u32,
 ) -> Result<Expr, TermFault>
-    ensures { Gives result (read_negation (reads_as (instance_data instance.now) levels) (only_of (items_view arguments.now))) }
+    ensures { Gives result (read_negation (reads_as (instance_data instance.now) levels)
+        (items_view arguments.now)) }
 {
-    let Some(term) = only(arguments) else {
+    let [term] = arguments else {
         return Err(TermFault::WrongArguments);
     };
     let term = read_term(alloc, term, instance, levels)?;
@@ -117,7 +121,8 @@ fn read_all(
     instance: &Instance,
     levels: u32,
 ) -> Result<Vec<Expr>, TermFault>
-    ensures { GivesAll result (read_all (reads_as (instance_data instance.now) levels) (items_view arguments.now)) }
+    ensures { GivesAll result (read_all (reads_as (instance_data instance.now) levels)
+        (items_view arguments.now)) }
 {
     let mut terms = Vec::new(alloc);
     for argument in arguments {
@@ -127,7 +132,7 @@ fn read_all(
 }
 
 /// A term that has no arguments.
-#[tactic(auto, using(crate::proofs::Lists::plain_some))]
+#[tactic(auto, using(crate::proofs::Arguments::not_plain))]
 fn read_plain(term: Expr, arguments: &[Value]) -> Result<Expr, TermFault>
     ensures { Gives result (read_plain (term_of term) (items_view arguments.now)) }
 {

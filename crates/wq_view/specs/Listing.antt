@@ -27,7 +27,8 @@ pub record PassData : Type 0 where
 abbrev pub pass_code : Coded PassData
 pass_code =
     code_by (FinMap name_cmp Stat × ℤ) (coded× (code (coded_list coded_ℕ) stat_code) coded_ℤ)
-    (λ pass. (pass.stats, pass.second)) (λ (stats, second). record { stats = stats; second = second }) (λ _. refl)
+    (λ pass. (pass.stats, pass.second))
+    (λ (stats, second). record { stats = stats; second = second }) (λ _. refl)
 
 -- what rows list, where no name stands twice
 abbrev pub listing_of : List SeenData → ℤ → PassData

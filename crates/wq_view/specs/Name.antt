@@ -1,9 +1,9 @@
 -- The names of files: paths relative to a root, as bytes, with their parts between slashes.
--- What a basename and a suffix are is said in Watchman's documentation of the expression terms.
-use Rattle.std.specs.Prelude.{ℕ, Bool, ◌==◌, nat_le, not, ◌&&◌, if◌then◌else◌, List, [], length, bytes_eq, codes}
+-- What a name may be is this server's own.
+use Rattle.std.specs.Prelude.{ℕ, Bool, ◌==◌, nat_le, not, ◌&&◌, List, [], length, bytes_eq, codes}
 use Rattle.std.specs.Str.{is_utf8}
-use Rattle.std.specs.List.{list_any, list_all, slice_split, after_last}
-use Rattle.wq_base.specs.Byte.{is_slash, is_dot}
+use Rattle.std.specs.List.{list_any, list_all, slice_split}
+use Rattle.wq_base.specs.Byte.{is_slash}
 use Rattle.wq_view.specs.Limit.{max_name_length}
 
 -- a part between slashes that names something: not empty, not `.` and not `..`
@@ -18,12 +18,3 @@ is_valid_name bytes =
     nat_le 1 (length bytes) && nat_le (length bytes) max_name_length
     && not (list_any (λ b. b == 0) bytes)
     && list_all is_plain_part (slice_split is_slash bytes) && is_utf8 bytes
-
--- what follows the last slash
-abbrev pub basename_of : List ℕ → List ℕ
-basename_of name = after_last is_slash name
-
--- what follows the last dot of the basename, or nothing where it has no dot
-abbrev pub suffix_of : List ℕ → List ℕ
-suffix_of name =
-    if list_any is_dot (basename_of name) then after_last is_dot (basename_of name) else []

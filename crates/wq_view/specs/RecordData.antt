@@ -3,7 +3,6 @@
 use Rattle.std.specs.Prelude.{ℕ, ℤ, pos, ◌≤◌, Bool, false, true, IsTrue, if◌then◌else◌, List, map, Option, Some, None, refl}
 use Rattle.std.specs.Coded.{Coded, code_by, coded×, coded_ℕ, coded_ℤ, coded_bool, coded_list}
 use Rattle.std.specs.FinMap.{find}
-use Rattle.std.specs.Int.{int_div_euclid}
 use Rattle.wq_view.specs.contracts.kind.Kind.{the_row}
 use Rattle.wq_view.specs.declared.kind.Kind.{Kind}
 use Rattle.wq_view.specs.declared.kind.Kind.TheVariants.{Unknown}
@@ -58,10 +57,6 @@ record_code =
       osec = osec;
     })
     (λ _. refl)
-
--- milliseconds as whole seconds, rounded down: -1 ms lies in second -1
-abbrev pub seconds_of : ℤ → ℤ
-seconds_of ms = int_div_euclid ms (pos 1000)
 
 -- what was last seen of the file
 abbrev pub last_stat : RecordData → Stat

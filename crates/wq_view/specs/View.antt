@@ -17,7 +17,8 @@ pub record ViewData : Type 0 where
 abbrev pub view_code : Coded ViewData
 view_code =
     code_by (ℕ × List RecordData) (coded× coded_ℕ (coded_list record_code))
-    (λ view. (view.tick, view.records)) (λ (tick, records). record { tick = tick; records = records }) (λ _. refl)
+    (λ view. (view.tick, view.records))
+    (λ (tick, records). record { tick = tick; records = records }) (λ _. refl)
 
 -- the names strictly rise in byte order
 abbrev pub NamesRise : List RecordData → Type 0

@@ -1,10 +1,12 @@
 //! The record that a view keeps of one file, and how a pass changes it.
 //! Which records a view has, and in which order, is not said here.
 ghost use Rattle.std.specs.Prelude.{◌≡◌, ◌≤◌, Some, None, IfOk, IsTrue, bytes_eq};
-ghost use Rattle.wq_view.specs.Name.{basename_of, suffix_of, is_valid_name};
+ghost use Rattle.wq_base.specs.Name.{basename_of, suffix_of};
+ghost use Rattle.wq_view.specs.Name.{is_valid_name};
 ghost use Rattle.wq_view.specs.Seen.{stat_of, same_stat, is_lawful_row, is_count};
 ghost use Rattle.wq_view.specs.Listing.{name_cmp};
-ghost use Rattle.wq_view.specs.RecordData.{last_stat, unseen, changed, come, observed, seconds_of};
+ghost use Rattle.wq_base.specs.Name.{seconds_of};
+ghost use Rattle.wq_view.specs.RecordData.{last_stat, unseen, changed, come, observed};
 
 use crate::kind::Kind;
 use crate::limit::MAX_TICK;

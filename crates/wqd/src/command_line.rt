@@ -1,14 +1,16 @@
 //! The words of the command line.
 
 use clap::error::ErrorKind;
-use clap::{Command, Error};
+use clap::{Arg, Command, Error};
 use std::alloc::{AllocError, AllocFailed, Global};
 
 /// What the command line asks for.
-#[derive(Clone, Copy, Debug, PartialEq, Eq)]
+#[derive(Debug, Drop)]
 pub(crate) enum Task {
     /// Replay a script.
     Replay,
+    /// Say what the program file of this path is.
+    Check(String),
 }
 
 /// Why the command line asks for nothing.
@@ -26,16 +28,22 @@ pub(crate) fn task_of(alloc: Global, words: &[String]) -> Result<Task, CommandLi
         Ok(matches) => matches,
         Err(error) => return Err(fault_of(&error)),
     };
-    match matches.subcommand_name() {
-        Some("replay") => Ok(Task::Replay),
+    match matches.subcommand() {
+        Some(("replay", _)) => Ok(Task::Replay),
+        Some(("check", given)) => match given.get_str("file") {
+            Some(path) => Ok(Task::Check(String::from_str(alloc, path)?)),
+            None => Err(CommandLineFault::Wrong),
+        },
         _ => Err(CommandLineFault::Wrong),
     }
 }
 
 fn command<'a>(alloc: Global) -> Result<Command<'a>, AllocError> {
+    let file = Arg::new(alloc, "file").required(true);
     Command::new(alloc, "wqd")
         .subcommand_required(true)
-        .subcommand(Command::new(alloc, "replay"))
+        .subcommand(Command::new(alloc, "replay"))?
+        .subcommand(Command::new(alloc, "check").arg(file)?)
 }
 
 /// Memory that ran out is told apart from words that are wrong.

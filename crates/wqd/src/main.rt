@@ -1,12 +1,15 @@
-//! The file watch server's program: the command line, files and exit statuses. What it answers stands in `wq_replay`.
+//! The file watch server's program: the command line, files and exit statuses. What it answers stands in `wq_replay`, and
+//! what it says of program files in `wq_check`.
 #![tactic(auto)]
 
 mod command_line;
 
 use command_line::{CommandLineFault, Task};
 use std::env;
-use std::io::{self, BufReader, BufWriter, ErrorKind, Write};
+use std::fs::File;
+use std::io::{self, BufReader, BufWriter, ErrorKind, Read, Write};
 use std::process::ExitCode;
+use wq_check::{FAULT, MAX_FILE, check};
 use wq_replay::{ReplayFault, replay};
 
 /// The exit status after a wrong command line.
@@ -14,12 +17,13 @@ const WRONG_COMMAND_LINE: u8 = 2;
 
 fn main(rt: HostRuntime) -> ExitCode {
     match task(&rt) {
-        Ok(Task::Replay) => exit_status(&rt, replay_script(&rt)),
+        Ok(Task::Replay) => replay_status(&rt, replay_script(&rt)),
+        Ok(Task::Check(path)) => ExitCode::from(check_file(&rt, &path)),
         Err(CommandLineFault::Wrong) => {
             eprintln!(rt; "wqd: wrong command line").ok();
             ExitCode::from(WRONG_COMMAND_LINE)
         }
-        Err(CommandLineFault::NoMemory) => exit_status(&rt, Err(ReplayFault::Memory)),
+        Err(CommandLineFault::NoMemory) => replay_status(&rt, Err(ReplayFault::Memory)),
     }
 }
 
@@ -42,7 +46,7 @@ fn task(rt: &HostRuntime) -> Result<Task, CommandLineFault> {
 }
 
 /// The status of a replay that ended so. A fault is named on standard error.
-fn exit_status(rt: &HostRuntime, done: Result<(), ReplayFault>) -> ExitCode {
+fn replay_status(rt: &HostRuntime, done: Result<(), ReplayFault>) -> ExitCode {
     match done {
         Ok(()) => ExitCode::SUCCESS,
         Err(fault) => {
@@ -62,4 +66,24 @@ fn replay_script(rt: &HostRuntime) -> Result<(), ReplayFault> {
         return Err(ReplayFault::Write);
     }
     done
+}
+
+/// Says on standard output what the program file of this path is, and gives the exit status.
+fn check_file(rt: &HostRuntime, path: &str) -> u8 {
+    let Some(bytes) = file_bytes(rt, path) else {
+        eprintln!(rt; "cannot read").ok();
+        return FAULT;
+    };
+    check(rt.alloc(), &bytes, &mut io::writer(rt))
+}
+
+/// The bytes of a file, if it can be read and has at most [`MAX_FILE`] of them. No more than one byte over that is read.
+fn file_bytes(rt: &HostRuntime, path: &str) -> Option<Vec<u8>> {
+    let mut bytes = Vec::new(rt.alloc());
+    let file = File::open(rt, path).ok()?;
+    file.take(MAX_FILE as u64 + 1).read_to_end(&mut bytes).ok()?;
+    if bytes.len() > MAX_FILE {
+        return None;
+    }
+    Some(bytes)
 }

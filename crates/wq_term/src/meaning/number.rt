@@ -6,9 +6,6 @@ use crate::expr::{Relation, Since};
 use wq_clock::Bound;
 use wq_view::Record;
 
-/// How many milliseconds a second has.
-const SECOND: i64 = 1000;
-
 impl Relation {
     /// Whether the first number stands in this relation to the second.
     pub(crate) fn holds(self, left: i64, right: i64) -> bool
@@ -33,12 +30,13 @@ impl Since {
         match self {
             Since::Observed(bound) => is_after(bound, file.exists, file.otick, file.osec),
             Since::Created(bound) => is_after(bound, file.exists, file.ctick, file.csec),
-            Since::Modified(second) => second < file.mtime_ms.div_euclid(SECOND),
+            Since::Modified(second) => second < file.mtime(),
         }
     }
 }
 
-/// Whether a moment lies strictly after the bound; of a client that knows nothing, whether the file exists.
+/// Whether a moment lies strictly after the bound; of a client that knows nothing, whether the file
+/// exists.
 fn is_after(bound: Bound, exists: bool, tick: u64, second: i64) -> bool
     ensures { result ≡ is_after bound exists tick second }
 {

@@ -3,7 +3,8 @@ ghost use Rattle.std.specs.Prelude.{◌≡◌, ◌≤◌, IfSome, option_map, co
 ghost use Rattle.std.specs.Str.{str_eq_ignore_ascii_case};
 ghost use Rattle.wq_base.specs.Byte.{is_slash};
 ghost use Rattle.wq_term.specs.Expr.{texts_in};
-ghost use Rattle.wq_term.specs.Text.{same_text, part_of, is_named, is_suffix, has_suffix, is_below, rest_below, after_slash, has_depth};
+ghost use Rattle.wq_term.specs.Text.{same_text, part_of, is_named, is_suffix, has_suffix, is_below};
+ghost use Rattle.wq_term.specs.Text.{rest_below, after_slash, has_depth};
 
 use crate::expr::{Case, Depth, Scope};
 use wq_view::{MAX_NAME, Record};

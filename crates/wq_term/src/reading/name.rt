@@ -1,48 +1,70 @@
 //! Reading the terms over the kind and the name of a file: `type`, `name`, `suffix` and `dirname`.
-ghost use Rattle.std.specs.Prelude.{◌≡◌, option_map};
-ghost use Rattle.serde_json.specs.View.{view, items_view};
-ghost use Rattle.wq_term.specs.Argument.{depth_of};
-ghost use Rattle.wq_term.specs.Reading.{Gives, read_kind, read_name, read_suffix, read_dirname};
+ghost use Rattle.std.specs.Prelude.{◌≡◌};
+ghost use Rattle.serde_json.specs.View.{view as data_of, items_view};
+ghost use Rattle.wq_term.specs.Argument.{depth_argument, kind_of};
+ghost use Rattle.wq_term.specs.Outcome.{Gives};
+ghost use Rattle.wq_term.specs.Reading.{below_at, name_in, read_dirname, read_kind, read_name};
+ghost use Rattle.wq_term.specs.Reading.{read_suffix};
 ghost use Rattle.wq_term.specs.Text.{without_end_slashes};
 
-use crate::expr::{Case, Depth, Expr};
+use crate::expr::{Case, Depth, Expr, Scope};
 use crate::fault::TermFault;
-use crate::reading::argument::{
-    comparison, one_or_two, only, parts, read_scope, read_texts, text,
-};
+use crate::reading::argument::{comparison, parts, read_texts, scope, text};
 use crate::reading::word::kind_named;
 use serde_json::Value;
 use std::alloc::Global;
+use wq_view::Kind;
 
 /// `type` of one letter.
+#[tactic(auto, using(crate::proofs::Arguments::no_kind))]
 pub(super) fn read_kind(arguments: &[Value]) -> Result<Expr, TermFault>
     ensures { Gives result (read_kind (items_view arguments.now)) }
 {
-    match only(arguments).and_then(Value::as_str).and_then(kind_named) {
+    let [letter] = arguments else {
+        return Err(TermFault::WrongArguments);
+    };
+    match kind(letter) {
         Some(kind) => Ok(Expr::KindIs(kind)),
         None => Err(TermFault::WrongArguments),
     }
 }
 
+/// The kind of a letter.
+fn kind(letter: &Value) -> Option<Kind>
+    ensures { result ≡ kind_of (data_of letter.now) }
+{
+    letter.as_str().and_then(kind_named)
+}
+
 /// `name` and `iname` of a text or texts, and a scope.
+#[tactic(auto, using(crate::proofs::Arguments::no_name))]
 pub(super) fn read_name(alloc: Global, case: Case, arguments: &[Value]) -> Result<Expr, TermFault>
     ensures { Gives result (read_name case (items_view arguments.now)) }
 {
-    let Some((texts, scope)) = one_or_two(arguments) else {
-        return Err(TermFault::WrongArguments);
-    };
-    let Some(scope) = read_scope(scope) else {
-        return Err(TermFault::WrongArguments);
-    };
+    match arguments {
+        [texts] => name_in(alloc, case, Scope::Basename, texts),
+        [texts, word] => match scope(word) {
+            Some(scope) => name_in(alloc, case, scope, texts),
+            None => Err(TermFault::WrongArguments),
+        },
+        _ => Err(TermFault::WrongArguments),
+    }
+}
+
+/// `name` and `iname` of this scope and a text or texts.
+fn name_in(alloc: Global, case: Case, scope: Scope, texts: &Value) -> Result<Expr, TermFault>
+    ensures { Gives result (name_in case scope (data_of texts.now)) }
+{
     let texts = read_texts(alloc, texts)?;
     Ok(Expr::Name { case, scope, texts })
 }
 
 /// `suffix` of a text or texts.
+#[tactic(auto, using(crate::proofs::Arguments::no_suffix))]
 pub(super) fn read_suffix(alloc: Global, arguments: &[Value]) -> Result<Expr, TermFault>
     ensures { Gives result (read_suffix (items_view arguments.now)) }
 {
-    let Some(texts) = only(arguments) else {
+    let [texts] = arguments else {
         return Err(TermFault::WrongArguments);
     };
     Ok(Expr::Suffix(read_texts(alloc, texts)?))
@@ -56,23 +78,31 @@ pub(super) fn read_dirname(
 ) -> Result<Expr, TermFault>
     ensures { Gives result (read_dirname case (items_view arguments.now)) }
 {
-    let Some((dir, depth)) = one_or_two(arguments) else {
-        return Err(TermFault::WrongArguments);
-    };
-    let (Some(dir), Some(depth)) = (text(dir), read_depth(depth)) else {
+    match arguments {
+        [dir] => below_at(alloc, case, Depth::Any, dir),
+        [dir, value] => match depth(value) {
+            Some(depth) => below_at(alloc, case, depth, dir),
+            None => Err(TermFault::WrongArguments),
+        },
+        _ => Err(TermFault::WrongArguments),
+    }
+}
+
+/// `dirname` and `idirname` of this depth and a directory.
+fn below_at(alloc: Global, case: Case, depth: Depth, dir: &Value) -> Result<Expr, TermFault>
+    ensures { Gives result (below_at case depth (data_of dir.now)) }
+{
+    let Some(dir) = text(dir) else {
         return Err(TermFault::WrongArguments);
     };
     let dir = Vec::from_slice(alloc, without_end_slashes(dir))?;
     Ok(Expr::Dirname { case, dir, depth })
 }
 
-/// A depth, `["depth", relation, number]`, and any where none is given.
-fn read_depth(argument: Option<&Value>) -> Option<Depth>
-    ensures { result ≡ depth_of (option_map (λ v. view v.now) argument.entry) }
+/// A depth, `["depth", relation, number]`.
+fn depth(value: &Value) -> Option<Depth>
+    ensures { result ≡ depth_argument (data_of value.now) }
 {
-    let Some(value) = argument else {
-        return Some(Depth::Any);
-    };
     let Some(("depth", arguments)) = parts(value) else {
         return None;
     };

@@ -1,6 +1,6 @@
 -- A list of names that is not empty.
 use Rattle.std.proofs.Common.{◌≡◌, ◌==◌, false, length, sym, ap, ◌∙◌}
-use Rattle.serde_json.specs.View.{view}
+use Rattle.serde_json.specs.View.{view as data_of}
 use Rattle.wq_query.proofs.Keys.{fields_found}
 use Rattle.wq_query.proofs.reading.fields.Goals as goal
 
@@ -9,4 +9,4 @@ returns c =
     let names = c.in-Some-as_array.names.now.items in
     let some : (length names == 0) ≡ false = ap (λ n. n == 0) (sym c.in-Some-as_array.names.now.ok.0) ∙ sym c.is_empty.ensures ∙ c.if-is_empty.false in
     let given = rw c.deref.ensures.value at c.fields_in.ensures in
-    rw c.in-Some.is (fields_found (view c.in-Some.value.now) names c.fields_in.result some c.in-Some-as_array.ensures given)
+    rw c.in-Some.is (fields_found (data_of c.in-Some.value.now) names c.fields_in.result some c.in-Some-as_array.ensures given)

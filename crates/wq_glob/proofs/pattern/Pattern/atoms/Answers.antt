@@ -1,5 +1,5 @@
 use Rattle.std.proofs.Common.{arith, ◌≡◌, ◌∙◌, length}
-use Rattle.wq_glob.proofs.GlobLemmas.{compiled_as, steps_count, steps_few}
+use Rattle.wq_glob.proofs.PatternLemmas.{compiled_as, steps_count, steps_few}
 use Rattle.wq_glob.proofs.pattern.Pattern.atoms.Goals as goal
 
 pub returns-clause-count : goal.returns-clause-count

@@ -1,7 +1,8 @@
 use Rattle.std.proofs.Common.{◌≡◌, ◌∙◌, ◌≤◌, ◌+◌, ◌*◌, ℕ, List, length, ap, sym, subst}
 use Rattle.wq_glob.specs.Pattern.{fits}
 use Rattle.wq_glob.specs.declared.step.Step.{Step}
-use Rattle.wq_glob.proofs.GlobLemmas.{compiled_as, matched, steps_count, steps_few, fits_cuts, cuts_fits}
+use Rattle.wq_glob.proofs.CostLemmas.{cost_of}
+use Rattle.wq_glob.proofs.PatternLemmas.{compiled_as, matched, steps_count, steps_few, fits_cuts, cuts_fits}
 use Rattle.wq_glob.proofs.pattern.Pattern.matches.Goals as goal
 use Rattle.wq_glob.proofs.pattern.Pattern.matches.Goals.{After-hit_of}
 
@@ -28,3 +29,6 @@ returns-clause-bounded c =
     let compiled = compiled_as c.args.self.now _ _ c.self.inside.steps.items c.self.view_is c.self.invariant in
     subst (λ (m : ℕ). c.hit_of.result.cells ≤ (m + 1) * (length c.args.text.now + 1))
     (ap (λ (l : List Step). length l) c.as_slice.ensures.value ∙ steps_count c.args.self.now _ compiled) c.hit_of.ensures.bounded
+
+pub returns-clause-cells : goal.returns-clause-cells
+returns-clause-cells c = cost_of c.args.self.now c.args.text.now _ _ c.self.inside.steps.items c.as_slice.result.now _ c.self.view_is c.self.invariant c.as_slice.ensures.value (λ i. (c.type_inv.text i).fits) c.hit_of.ensures.cells

@@ -3,8 +3,8 @@ use Rattle.std.proofs.Common.{◌≡◌, drop}
 use Rattle.serde_json.specs.View.{items_view}
 use Rattle.wq_term.specs.Argument.{all_texts_of}
 use Rattle.wq_term.specs.Expr.{texts_in}
-use Rattle.wq_term.proofs.Texts.{texts_before}
+use Rattle.wq_base.proofs.Fault.{before}
 use Rattle.wq_term.proofs.reading.argument.read_all_texts.Given as goal
 
 abbrev pub invariant-loop-item : goal.invariant-loop-item
-invariant-loop-item l = texts_before (texts_in l.texts.items) (all_texts_of (items_view (drop l.item-index l.items))) ≡ all_texts_of (items_view l.items)
+invariant-loop-item l = before (texts_in l.texts.items) (all_texts_of (items_view (drop l.item-index l.items))) ≡ all_texts_of (items_view l.items)

@@ -1,0 +1,50 @@
+-- What `check` says of the bytes of a program file, and its exit status.
+-- It is this server's own.
+use Rattle.std.specs.Prelude.{◌≡◌, ◌≢◌, ◌⊎◌, ◌==◌, ℕ, List, ◌++◌, length, codes, Option, Result, Err, if◌then◌else◌}
+use Rattle.std.specs.Fmt.{decimal}
+use Rattle.std.specs.Io.KnownBytes.{Appends}
+use Rattle.wq_code.specs.File.{file_at}
+use Rattle.wq_code.specs.FileFault.{number_of as file_number}
+use Rattle.wq_code.specs.Spelling.{IsSpelling}
+use Rattle.wq_code.specs.declared.fault.FileFault.TheVariants.{NoMemory as NoFileMemory}
+use Rattle.wq_code.specs.declared.raw.Raw.{Raw}
+use Rattle.wq_verify.specs.Budget.{budget_of}
+use Rattle.wq_verify.specs.ProgramFault.{number_of as program_number}
+use Rattle.wq_verify.specs.Typing.{IsFirstFault, IsValid}
+use Rattle.wq_verify.specs.declared.fault.ProgramFault.TheVariants.{NoMemory as NoProgramMemory}
+use Rattle.wq_check.specs.declared.answer.Answer.{Answer}
+use Rattle.wq_check.specs.declared.answer.Answer.TheVariants.{Accepted, WrongFile, WrongProgram}
+
+-- the longest name of a file, for which a budget is told
+abbrev pub longest_name : ℕ
+longest_name = 4096
+
+-- what the bytes of a file are: a program that may run, or the first thing that is wrong with the
+-- file or the program, unless memory ran out
+abbrev pub IsAnswer : List ℕ → Answer → Type 0
+IsAnswer bytes (Accepted instructions budget) = (raw : Raw) × IsSpelling raw bytes × IsValid raw
+    × (instructions ≡ length raw.code) × (budget ≡ budget_of raw longest_name)
+IsAnswer bytes (WrongFile fault) = fault ≢ NoFileMemory → file_at bytes ≡ Err fault
+IsAnswer bytes (WrongProgram fault at) = (raw : Raw) × IsSpelling raw bytes
+    × (fault ≢ NoProgramMemory → IsFirstFault raw fault at)
+
+-- the line that says an answer
+abbrev pub line_of : Answer → List ℕ
+line_of (Accepted instructions budget) =
+    codes "ok " ++ (decimal instructions ++ (codes " " ++ (decimal budget ++ codes "\n")))
+line_of (WrongFile fault) = codes "refused F" ++ (decimal (file_number fault) ++ codes "\n")
+line_of (WrongProgram fault at) =
+    codes "refused Y" ++ (decimal (program_number fault) ++ (codes " at " ++ (decimal at ++ codes "\n")))
+
+-- the exit status: 0 for a program that may run, and 3 for any other file
+abbrev pub status_of : Answer → ℕ
+status_of (Accepted _ _) = 0
+status_of (WrongFile _) = 3
+status_of (WrongProgram _ _) = 3
+
+-- the line of what the bytes are was written, and the status is its own; or the status is 1
+abbrev pub Checks : List ℕ → Option (List ℕ) → Option (List ℕ) → ℕ → Type 0
+Checks bytes before after status =
+    ((answer : Answer) × IsAnswer bytes answer × Appends before after (line_of answer)
+    × (status ≡ status_of answer))
+    ⊎ (status ≡ 1)

@@ -1,0 +1,51 @@
+//! What the bytes of a program file are.
+ghost use Rattle.std.specs.Prelude.{◌≡◌};
+ghost use Rattle.wq_check.specs.Answer.{IsAnswer, status_of};
+
+use std::alloc::Global;
+use wq_code::{FileFault, decode};
+use wq_verify::{MAX_NAME, ProgramFault, Refusal, verify};
+
+/// How many bytes a file may have that `check` looks at.
+pub const MAX_FILE: usize = 16_777_216;
+
+/// What `check` says of a file.
+#[derive(Clone, Copy, Debug, Drop)]
+pub enum Answer {
+    /// The program may run: how many instructions it has, and the most that it can cost on a name of
+    /// [`MAX_NAME`] bytes.
+    Accepted { instructions: usize, budget: u64 },
+    /// The bytes are no program file.
+    WrongFile(FileFault),
+    /// The program may not run, for this fault of the instruction at this place, counted from 0.
+    WrongProgram { fault: ProgramFault, at: usize },
+}
+
+impl Answer {
+    /// What the bytes of a file are.
+    pub fn of(alloc: Global, bytes: &[u8]) -> Answer
+        ensures { IsAnswer bytes.now result }
+    {
+        let raw = match decode(alloc, bytes) {
+            Ok(raw) => raw,
+            Err(fault) => return Answer::WrongFile(fault),
+        };
+        match verify(alloc, raw) {
+            Ok(program) => Answer::Accepted {
+                instructions: program.raw().code.len(),
+                budget: program.budget(MAX_NAME),
+            },
+            Err((_, Refusal { fault, at })) => Answer::WrongProgram { fault, at },
+        }
+    }
+
+    /// The exit status: 0 for a program that may run, and 3 for any other file.
+    pub fn status(self) -> u8
+        ensures { result ≡ status_of self }
+    {
+        match self {
+            Answer::Accepted { .. } => 0,
+            Answer::WrongFile(_) | Answer::WrongProgram { .. } => 3,
+        }
+    }
+}

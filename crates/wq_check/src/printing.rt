@@ -1,0 +1,43 @@
+//! The line that `check` prints.
+ghost use Rattle.std.specs.Prelude.{◌≡◌, IfOk};
+ghost use Rattle.wq_check.specs.Answer.{Checks, line_of};
+
+use crate::answer::Answer;
+use std::alloc::{AllocError, Global};
+use std::io::Write;
+
+/// The exit status where the line could not be written.
+pub const FAULT: u8 = 1;
+
+/// Prints what the bytes of a file are, and gives the exit status.
+///
+/// The line is `ok <instructions> <budget>`, `refused F<n>` for a file that is none, or `refused Y<n> at <place>` for a
+/// program that may not run. The status is 0, 3 and 3; or [`FAULT`] where the line could not be written.
+pub fn check<W: Write>(alloc: Global, bytes: &[u8], writer: &mut W) -> u8
+    ensures { Checks bytes.now (W.contents writer.old) (W.contents writer.new) result }
+{
+    let answer = Answer::of(alloc, bytes);
+    let Ok(line) = line_of(alloc, answer) else {
+        return FAULT;
+    };
+    match writer.write_all(line.as_bytes()) {
+        Ok(()) => answer.status(),
+        Err(_) => FAULT,
+    }
+}
+
+/// The line that says an answer.
+fn line_of(alloc: Global, answer: Answer) -> Result<String, AllocError>
+    ensures { IfOk result (λ line. line.bytes.items ≡ line_of answer) }
+{
+    match answer {
+        Answer::Accepted {
+            instructions,
+            budget,
+        } => format!(in alloc; "ok {instructions} {budget}\n"),
+        Answer::WrongFile(fault) => format!(in alloc; "refused F{}\n", fault.number()),
+        Answer::WrongProgram { fault, at } => {
+            format!(in alloc; "refused Y{} at {at}\n", fault.number())
+        }
+    }
+}

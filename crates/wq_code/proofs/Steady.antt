@@ -1,0 +1,184 @@
+-- Bytes that follow change nothing of what was read before them, nor of what was found wrong, but where the bytes
+-- were cut short.
+use Rattle.std.proofs.Common.{◌≡◌, ℕ, zero, suc, Bool, true, false, cond, ltb, leb, eqb, List, [], ◌∷◌, ◌++◌, length, Result, Ok, Err, refl, arith, inl, inr}
+use Rattle.std.specs.Prelude.{codes}
+use Rattle.std.proofs.lemmas.Bool.{cases_lt, lt-ltb, le-ltb}
+use Rattle.std.proofs.lemmas.List.{length-append, take-append-le, drop-append-le}
+use Rattle.wq_code.specs.Limit.{max_rows, max_text_length}
+use Rattle.wq_code.specs.Word.{op_of_code, with_a, with_b}
+use Rattle.wq_code.specs.Reading.{◌>>=◌, Reader, or_fault, bytes_at, byte_at, exact_at, many_at, short_at, count_at, number_at, text_at, list_at, flags_of, pattern_at, op_at}
+use Rattle.wq_code.specs.File.{head_at, counts_at, tables_at, raw_at}
+use Rattle.wq_code.specs.declared.fault.FileFault.{FileFault}
+use Rattle.wq_code.specs.declared.fault.FileFault.TheVariants.{WrongMagic, OtherVersion, CutShort, BytesAfterEnd, UnknownOperation, BadOperand, OverLimit, NoMemory}
+use Rattle.wq_code.specs.declared.file.Counts.{Counts}
+
+-- a second reading, of more bytes, gives what the first gave, lists_after; nothing is said where the first was cut short
+abbrev pub Steady : {A : Type 0} → (A → A) → Result A FileFault → Result A FileFault → Type 0
+Steady grow (Ok x) second = second ≡ Ok (grow x)
+Steady grow (Err CutShort) second = Unit {0}
+Steady grow (Err fault) second = second ≡ Err fault
+
+-- a value with more bytes behind it
+abbrev pub with_more : {A : Type 0} → List ℕ → A × List ℕ → A × List ℕ
+with_more more x = (x.0, x.1 ++ more)
+
+-- a field that is read alike whatever bytes follow
+abbrev pub IsSteady : {A : Type 0} → Reader A → Type 0
+IsSteady field = (bytes more : List ℕ) → Steady (with_more more) (field bytes) (field (bytes ++ more))
+
+-- one reading after the other
+steady_then : {A B : Type 0} (grow : A → A) (grow_next : B → B) (first second : Result A FileFault)
+    (next next_second : A → Result B FileFault) → Steady grow first second
+    → ((x : A) → Steady grow_next (next x) (next_second (grow x)))
+    → Steady grow_next (first >>= next) (second >>= next_second)
+steady_then grow grow_next (Ok x) second next next_second h later = rw h (later x)
+steady_then grow grow_next (Err CutShort) second next next_second h later = tt
+steady_then grow grow_next (Err WrongMagic) second next next_second h later = rw h refl
+steady_then grow grow_next (Err OtherVersion) second next next_second h later = rw h refl
+steady_then grow grow_next (Err BytesAfterEnd) second next next_second h later = rw h refl
+steady_then grow grow_next (Err UnknownOperation) second next next_second h later = rw h refl
+steady_then grow grow_next (Err BadOperand) second next next_second h later = rw h refl
+steady_then grow grow_next (Err OverLimit) second next next_second h later = rw h refl
+steady_then grow grow_next (Err NoMemory) second next next_second h later = rw h refl
+
+-- a fault that stays
+steady_fault : {A : Type 0} (grow : A → A) (fault : FileFault) → Steady grow (Err fault) (Err fault)
+steady_fault grow CutShort = tt
+steady_fault grow WrongMagic = refl
+steady_fault grow OtherVersion = refl
+steady_fault grow BytesAfterEnd = refl
+steady_fault grow UnknownOperation = refl
+steady_fault grow BadOperand = refl
+steady_fault grow OverLimit = refl
+steady_fault grow NoMemory = refl
+
+-- what reads no bytes
+steady_same : {A : Type 0} (read : Result A FileFault) → Steady (λ x. x) read read
+steady_same (Ok x) = refl
+steady_same (Err fault) = steady_fault (λ x. x) fault
+
+bytes_steady : (n : ℕ) → IsSteady (bytes_at n)
+unfolding bytes_at
+bytes_steady n bytes more =
+    elim (cases_lt (length bytes) n) [
+      | inl short ↦ rw (lt-ltb _ _ short) tt
+      | inr long ↦ rw (
+        le-ltb _ _ long,
+        le-ltb (length (bytes ++ more)) n (omega (arith, length-append bytes more)),
+        take-append-le n bytes more long,
+        drop-append-le n bytes more long,
+      ) refl
+    ]
+
+byte_steady : IsSteady byte_at
+byte_steady [] more = tt
+byte_steady (b ∷ bytes) more = refl
+
+same_byte : (fault : FileFault) (more : List ℕ) (same : Bool) (first second : Result (List ℕ) FileFault)
+    → Steady (λ rest. rest ++ more) first second
+    → Steady (λ rest. rest ++ more) (cond same first (Err fault)) (cond same second (Err fault))
+same_byte fault more true first second h = h
+same_byte fault more false first second h = steady_fault (λ rest. rest ++ more) fault
+
+exact_steady : (fault : FileFault) (xs bytes more : List ℕ)
+    → Steady (λ rest. rest ++ more) (exact_at fault xs bytes) (exact_at fault xs (bytes ++ more))
+exact_steady fault [] bytes more = refl
+exact_steady fault (x ∷ xs) [] more = tt
+exact_steady fault (x ∷ xs) (b ∷ bytes) more =
+    same_byte fault more (eqb b x) (exact_at fault xs bytes) (exact_at fault xs (bytes ++ more)) (exact_steady fault xs bytes more)
+
+many_steady : {A : Type 0} (field : Reader A) → IsSteady field → (n : ℕ) → IsSteady (many_at field n)
+unfolding many_at
+many_steady field h zero bytes more = refl
+many_steady field h (suc n) bytes more =
+    steady_then (with_more more) (with_more more) (field bytes) _ _ _ (h bytes more) (λ first.
+    steady_then (with_more more) (with_more more) (many_at field n first.1) _ _ _ (many_steady field h n first.1 more) (λ others. refl))
+
+short_steady : IsSteady short_at
+unfolding short_at
+short_steady bytes more = steady_then (with_more more) (with_more more) (bytes_at 2 bytes) _ _ _ (bytes_steady 2 bytes more) (λ x. refl)
+
+count_tested : (more : List ℕ) (x : ℕ × List ℕ) (few : Bool)
+    → Steady (with_more more) (cond few (Ok x) (Err OverLimit)) (cond few (Ok (with_more more x)) (Err OverLimit))
+count_tested more x true = refl
+count_tested more x false = refl
+
+count_steady : (limit : ℕ) → IsSteady (count_at limit)
+unfolding count_at
+count_steady limit bytes more =
+    steady_then (with_more more) (with_more more) (short_at bytes) _ _ _ (short_steady bytes more) (λ x. count_tested more x (leb x.0 limit))
+
+number_steady : IsSteady number_at
+unfolding number_at
+number_steady bytes more = steady_then (with_more more) (with_more more) (bytes_at 8 bytes) _ _ _ (bytes_steady 8 bytes more) (λ x. refl)
+
+text_steady : IsSteady text_at
+unfolding text_at
+text_steady bytes more =
+    steady_then (with_more more) (with_more more) (count_at max_text_length bytes) _ _ _ (count_steady max_text_length bytes more)
+    (λ x. bytes_steady x.0 x.1 more)
+
+list_steady : IsSteady list_at
+unfolding list_at
+list_steady bytes more =
+    steady_then (with_more more) (with_more more) (short_at bytes) _ _ _ (short_steady bytes more)
+    (λ x. many_steady text_at text_steady x.0 x.1 more)
+
+pattern_steady : IsSteady pattern_at
+unfolding pattern_at
+pattern_steady bytes more =
+    steady_then (with_more more) (with_more more) (byte_at bytes) _ _ _ (byte_steady bytes more) (λ bits.
+    steady_then (λ flags. flags) (with_more more) (cond (ltb bits.0 16) (Ok (flags_of bits.0)) (Err BadOperand)) _ _ _
+    (steady_same (cond (ltb bits.0 16) (Ok (flags_of bits.0)) (Err BadOperand))) (λ flags.
+    steady_then (with_more more) (with_more more) (byte_at bits.1) _ _ _ (byte_steady bits.1 more) (λ n.
+    steady_then (with_more more) (with_more more) (bytes_at n.0 n.1) _ _ _ (bytes_steady n.0 n.1 more) (λ text. refl))))
+
+op_steady : IsSteady op_at
+unfolding op_at
+op_steady bytes more =
+    steady_then (with_more more) (with_more more) (byte_at bytes) _ _ _ (byte_steady bytes more) (λ code.
+    steady_then (λ op. op) (with_more more) (or_fault (op_of_code code.0) UnknownOperation) _ _ _
+    (steady_same (or_fault (op_of_code code.0) UnknownOperation)) (λ blank.
+    steady_then (with_more more) (with_more more) (byte_at code.1) _ _ _ (byte_steady code.1 more) (λ a.
+    steady_then (λ op. op) (with_more more) (or_fault (with_a blank a.0) BadOperand) _ _ _
+    (steady_same (or_fault (with_a blank a.0) BadOperand)) (λ half.
+    steady_then (with_more more) (with_more more) (short_at a.1) _ _ _ (short_steady a.1 more) (λ b.
+    steady_then (λ op. op) (with_more more) (or_fault (with_b half b.0) BadOperand) _ _ _
+    (steady_same (or_fault (with_b half b.0) BadOperand)) (λ op. refl))))))
+
+head_steady : (bytes more : List ℕ) → Steady (λ rest. rest ++ more) (head_at bytes) (head_at (bytes ++ more))
+unfolding head_at
+head_steady bytes more =
+    steady_then (λ rest. rest ++ more) (λ rest. rest ++ more) (exact_at WrongMagic (codes "WQPF") bytes) _ _ _
+    (exact_steady WrongMagic (codes "WQPF") bytes more) (λ rest. exact_steady OtherVersion (1 ∷ []) rest more)
+
+counts_steady : IsSteady counts_at
+unfolding counts_at
+counts_steady bytes more =
+    steady_then (with_more more) (with_more more) (count_at max_rows bytes) _ _ _ (count_steady max_rows bytes more) (λ a.
+    steady_then (with_more more) (with_more more) (count_at max_rows a.1) _ _ _ (count_steady max_rows a.1 more) (λ b.
+    steady_then (with_more more) (with_more more) (count_at max_rows b.1) _ _ _ (count_steady max_rows b.1 more) (λ c.
+    steady_then (with_more more) (with_more more) (count_at max_rows c.1) _ _ _ (count_steady max_rows c.1 more) (λ d.
+    steady_then (with_more more) (with_more more) (count_at max_rows d.1) _ _ _ (count_steady max_rows d.1 more) (λ e. refl)))))
+
+tables_steady : (counts : Counts) → IsSteady (tables_at counts)
+unfolding tables_at
+tables_steady counts bytes more =
+    steady_then (with_more more) (with_more more) (many_at number_at counts.numbers bytes) _ _ _
+    (many_steady number_at number_steady counts.numbers bytes more) (λ a.
+    steady_then (with_more more) (with_more more) (many_at text_at counts.texts a.1) _ _ _
+    (many_steady text_at text_steady counts.texts a.1 more) (λ b.
+    steady_then (with_more more) (with_more more) (many_at list_at counts.lists b.1) _ _ _
+    (many_steady list_at list_steady counts.lists b.1 more) (λ c.
+    steady_then (with_more more) (with_more more) (many_at pattern_at counts.patterns c.1) _ _ _
+    (many_steady pattern_at pattern_steady counts.patterns c.1 more) (λ d.
+    steady_then (with_more more) (with_more more) (many_at op_at counts.code d.1) _ _ _
+    (many_steady op_at op_steady counts.code d.1 more) (λ e. refl)))))
+
+-- a program is read alike whatever bytes follow
+pub raw_steady : IsSteady raw_at
+unfolding raw_at
+raw_steady bytes more =
+    steady_then (λ rest. rest ++ more) (with_more more) (head_at bytes) _ _ _ (head_steady bytes more) (λ rest.
+    steady_then (with_more more) (with_more more) (counts_at rest) _ _ _ (counts_steady rest more)
+    (λ counts. tables_steady counts.0 counts.1 more))

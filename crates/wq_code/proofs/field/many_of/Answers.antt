@@ -1,0 +1,19 @@
+use Rattle.std.proofs.lemmas.Result.{err_from_is_err_and}
+use Rattle.wq_code.proofs.Many.{goes_on, ends, is_done}
+use Rattle.wq_code.proofs.field.many_of.Goals as goal
+
+pub returns-in_err-row : goal.returns-in_err-row
+returns-in_err-row g c =
+    let p = err_from_is_err_and c.from_residual.result c.from_residual.ensures.1 in
+    rw (p.1, p.2) (ends g.F.Field.reading c.in_err-row.field-0.0 c.loop.rows.items c.args.count c.loop.counter c.loop.rest.now
+    _ c.loop-test.true c.in_err-row.ensures c.loop.invariant)
+
+pub loop-preserved : goal.loop-preserved
+loop-preserved g c =
+    rw c.in_ok-push.ensures.items (goes_on g.F.Field.reading c.loop.rows.items c.args.count c.loop.counter c.loop.rest.now
+    c.in_ok-row.row c.in_ok-row.after.now _ c.loop-test.true c.in_ok-row.ensures c.loop.invariant)
+
+pub returns : goal.returns
+returns g c =
+    rw c.from_vec.ensures (is_done g.F.Field.reading c.loop.rows.items c.args.count c.loop.counter c.loop.rest.now
+    _ c.loop-test.false c.loop.invariant)

@@ -1,0 +1,37 @@
+-- What the reading of program files and their spelling have to do with each other.
+-- This server's own format.
+use Rattle.std.specs.Prelude.{◌≡◌, ◌≢◌, ◌↔◌, ℕ, List, [], ◌++◌, Ok, Err}
+use Rattle.wq_code.specs.File.{file_at}
+use Rattle.wq_code.specs.Spelling.{AreBytes, IsSpelling}
+use Rattle.wq_code.specs.declared.fault.FileFault.{FileFault}
+use Rattle.wq_code.specs.declared.fault.FileFault.TheVariants.{CutShort}
+use Rattle.wq_code.specs.declared.raw.Raw.{Raw}
+
+-- bytes are read as a program exactly where they are its spelling
+abbrev pub FilesAreSpellings : Type 0
+FilesAreSpellings = (bytes : List ℕ) (raw : Raw) → AreBytes bytes
+    → (file_at bytes ≡ Ok raw) ↔ IsSpelling raw bytes
+
+-- what is spelled is read back
+abbrev pub SpellingsAreReadBack : Type 0
+SpellingsAreReadBack = (bytes : List ℕ) (raw : Raw) → IsSpelling raw bytes → file_at bytes ≡ Ok raw
+
+-- a program has one spelling
+abbrev pub OneSpelling : Type 0
+OneSpelling = (raw : Raw) (bytes other : List ℕ) → IsSpelling raw bytes → IsSpelling raw other
+    → bytes ≡ other
+
+-- no spelling begins another, of whatever program
+abbrev pub NoneBeginsAnother : Type 0
+NoneBeginsAnother = (raw other : Raw) (bytes more : List ℕ) → IsSpelling raw bytes
+    → IsSpelling other (bytes ++ more) → (more ≡ []) × (raw ≡ other)
+
+-- what was found wrong stays wrong whatever bytes follow, unless the bytes were cut short
+abbrev pub FaultsStay : Type 0
+FaultsStay = (bytes more : List ℕ) (fault : FileFault) → fault ≢ CutShort
+    → file_at bytes ≡ Err fault → file_at (bytes ++ more) ≡ Err fault
+
+-- each front of a spelling that is not all of it is cut short
+abbrev pub FrontsAreCutShort : Type 0
+FrontsAreCutShort = (raw : Raw) (front more : List ℕ) → more ≢ [] → IsSpelling raw (front ++ more)
+    → file_at front ≡ Err CutShort

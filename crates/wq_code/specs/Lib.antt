@@ -1,0 +1,14 @@
+pub mod Limit
+pub mod Signature
+pub mod Flow
+pub mod Constant
+pub mod Item
+pub mod Name
+pub mod Machine
+pub mod Word
+pub mod Fits
+pub mod Reading
+pub mod File
+pub mod Spelling
+pub mod Law
+pub mod FileFault

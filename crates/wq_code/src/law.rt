@@ -1,0 +1,38 @@
+//! Laws about program files, each a function without a body whose contract is the law.
+//! A proof of another crate gets a law by a call, which costs nothing.
+ghost use Rattle.wq_code.specs.Law.{FilesAreSpellings, SpellingsAreReadBack, OneSpelling, NoneBeginsAnother, FaultsStay, FrontsAreCutShort};
+
+/// Bytes are read as a program exactly where they are its spelling.
+pub fn files_are_spellings()
+    ensures { FilesAreSpellings }
+{}
+
+/// What is spelled is read back.
+#[tactic(auto, using(crate::proofs::FileLaws::spellings_are_read_back))]
+pub fn spellings_are_read_back()
+    ensures { SpellingsAreReadBack }
+{}
+
+/// A program has one spelling.
+#[tactic(auto, using(crate::proofs::FileLaws::one_spelling))]
+pub fn one_spelling()
+    ensures { OneSpelling }
+{}
+
+/// No spelling begins another, of whatever program.
+#[tactic(auto, using(crate::proofs::FileLaws::none_begins_another))]
+pub fn none_begins_another()
+    ensures { NoneBeginsAnother }
+{}
+
+/// What was found wrong stays wrong whatever bytes follow, unless the bytes were cut short.
+#[tactic(auto, using(crate::proofs::FileLaws::faults_stay))]
+pub fn faults_stay()
+    ensures { FaultsStay }
+{}
+
+/// Each front of a spelling that is not all of it is cut short.
+#[tactic(auto, using(crate::proofs::FileLaws::fronts_are_cut_short))]
+pub fn fronts_are_cut_short()
+    ensures { FrontsAreCutShort }
+{}

@@ -1,0 +1,35 @@
+//! Programs of the matching machine: their instructions, what running them means, and the files
+//! that hold them.
+//!
+//! A [`Raw`] is a program that nobody has looked at: tables of constants and a list of
+//! instructions. [`decode`] makes one of the bytes of a file or names the first thing that is wrong
+//! with them, and [`encode`] gives back the one file of a raw. What a program does is defined in
+//! `specs/Machine.antt`; whether it may run is for others to say.
+#![tactic(auto)]
+
+mod fault;
+mod field;
+mod file;
+mod flow;
+mod law;
+mod limit;
+mod operation;
+mod raw;
+mod row;
+mod signature;
+mod table;
+mod word;
+
+pub use fault::FileFault;
+pub use file::{decode, encode};
+pub use flow::Flow;
+pub use law::{
+    faults_stay, files_are_spellings, fronts_are_cut_short, none_begins_another, one_spelling,
+    spellings_are_read_back,
+};
+pub use limit::{MAX_ENTRIES, MAX_ROWS, MAX_TEXT};
+pub use operation::{Case, CellKind, Op, Relation};
+pub use raw::Raw;
+pub use signature::Need;
+pub use table::Table;
+pub use word::Word;

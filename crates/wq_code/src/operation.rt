@@ -1,0 +1,94 @@
+//! The instructions of a program. What each needs, leaves and does stands in
+//! `specs/Signature.antt`, `specs/Flow.antt` and `specs/Machine.antt`, and how it is written in
+//! `specs/Word.antt`.
+
+/// What a cell of the machine's stack holds.
+#[derive(Clone, Copy, Debug)]
+pub enum CellKind {
+    /// Yes or no.
+    Flag,
+    /// A whole number of 64 bits, with a sign.
+    Number,
+    /// Bytes.
+    Text,
+}
+
+/// How the first of two numbers stands to the second.
+#[derive(Clone, Copy, Debug)]
+pub enum Relation {
+    Eq,
+    Ne,
+    Lt,
+    Le,
+    Gt,
+    Ge,
+}
+
+/// How the letters of two texts are compared.
+#[derive(Clone, Copy, Debug)]
+pub enum Case {
+    /// Byte by byte.
+    Exact,
+    /// A to Z as a to z.
+    Folded,
+}
+
+/// An instruction. A number inside is the place of a constant in its table, or of an instruction in
+/// the code; both count from 0.
+#[derive(Clone, Copy, Debug)]
+pub enum Op {
+    /// `flag`: puts this flag on the stack.
+    Flag(bool),
+    /// `num`: puts a constant of the numbers on the stack.
+    Number(u16),
+    /// `text`: puts a constant of the texts on the stack.
+    Text(u16),
+    /// `wholename`: the file's name, relative to its root.
+    WholeName,
+    /// `basename`: what follows the last slash of the name.
+    BaseName,
+    /// `suffix`: what follows the last dot of the basename, or the empty text.
+    Suffix,
+    /// `size`: the file's size in bytes.
+    Size,
+    /// `mtime`: the file's modification time in seconds of the Unix epoch, rounded down.
+    Mtime,
+    /// `oclock`: the tick at which the file was last seen to change.
+    Oclock,
+    /// `cclock`: the tick at which the file was seen to come.
+    Cclock,
+    /// `osec`: the second of the pass at `oclock`.
+    Osec,
+    /// `csec`: the second of the pass at `cclock`.
+    Csec,
+    /// `kind`: the ASCII code of the letter of the file's kind.
+    Kind,
+    /// `exists`: whether the file exists.
+    Exists,
+    /// `cmp`: whether the number below the top stands in this relation to the one on top.
+    Compare(Relation),
+    /// `eq`: whether two texts are equal.
+    Equal(Case),
+    /// `depth`: how many slashes the name below the top has behind the directory on top, or -1.
+    Depth(Case),
+    /// `oneof`: whether a text is an entry of a constant of the lists.
+    OneOf(Case, u16),
+    /// `match`: whether a text fits a constant of the patterns.
+    Match(u16),
+    /// `not`
+    Not,
+    /// `and`
+    And,
+    /// `or`
+    Or,
+    /// `drop`: takes the top away.
+    Drop,
+    /// `jump`: goes on at a place.
+    Jump(u16),
+    /// `jf`: goes on at a place if the flag on top is no.
+    JumpIfNot(u16),
+    /// `jt`: goes on at a place if the flag on top is yes.
+    JumpIf(u16),
+    /// `ret`: ends with the flag that is alone on the stack.
+    Return,
+}

@@ -1,0 +1,40 @@
+//! A program that nobody has looked at.
+ghost use Rattle.std.specs.Prelude.{◌≡◌};
+ghost use Rattle.wq_code.specs.Fits.{fits};
+
+use crate::field::all_fit;
+use crate::limit::MAX_ROWS;
+use crate::operation::Op;
+use crate::table::Table;
+use wq_glob::Pattern;
+
+/// A program as it was read or put together: nothing is known of it.
+#[derive(Debug, Drop)]
+pub struct Raw {
+    /// The constants of `num`.
+    pub numbers: Table<i64>,
+    /// The constants of `text`, as bytes.
+    pub texts: Table<Table<u8>>,
+    /// The constants of `oneof`, each a list of texts.
+    pub lists: Table<Table<Table<u8>>>,
+    /// The constants of `match`.
+    pub patterns: Table<Pattern>,
+    /// The instructions.
+    pub code: Table<Op>,
+}
+
+impl Raw {
+    /// Whether the program keeps to the limits of a file: at most [`MAX_ROWS`] rows of each table,
+    /// texts of at most [`MAX_TEXT`](crate::limit::MAX_TEXT) bytes and lists of at most
+    /// [`MAX_ENTRIES`](crate::limit::MAX_ENTRIES).
+    #[tactic(auto, unfolding(crate::specs::Fits::fits))]
+    pub fn fits(&self) -> bool
+        ensures { result ≡ fits self.now }
+    {
+        self.numbers.len() <= MAX_ROWS
+            && (self.texts.len() <= MAX_ROWS && all_fit(self.texts.as_slice()))
+            && (self.lists.len() <= MAX_ROWS && all_fit(self.lists.as_slice()))
+            && (self.patterns.len() <= MAX_ROWS && all_fit(self.patterns.as_slice()))
+            && self.code.len() <= MAX_ROWS
+    }
+}

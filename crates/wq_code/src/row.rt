@@ -1,0 +1,196 @@
+//! The rows of a program file's tables: how each is read and written, and its limits.
+ghost use Rattle.std.specs.Prelude.{◌≡◌};
+ghost use Rattle.wq_code.specs.Reading.{flags_of};
+ghost use Rattle.wq_code.specs.Spelling.{flags_byte};
+
+use crate::fault::FileFault;
+use crate::field::{
+    Field, all_fit, byte_of, bytes_of, count_of, many_of, put_many, put_short, short_of,
+};
+use crate::limit::{MAX_ENTRIES, MAX_TEXT};
+use crate::operation::Op;
+use crate::table::Table;
+use crate::word::{op_of_byte, take_a, take_b};
+use std::alloc::{AllocError, Global};
+use wq_glob::{Flags, MAX_PATTERN, Pattern, PatternFault};
+
+impl Field for i64 {
+    ghost use Rattle.wq_code.specs.Reading.{number_at};
+    ghost use Rattle.wq_code.specs.Spelling.{number};
+    ghost use Rattle.wq_code.specs.Fits.{is_any};
+
+    ghost reading = { number_at };
+
+    ghost spelling = { number };
+
+    ghost within = { is_any };
+
+    #[tactic(auto, unfolding(crate::specs::Reading::number_at, crate::specs::Reading::bytes_at))]
+    fn read(_alloc: Global, bytes: &[u8]) -> Result<(i64, &[u8]), FileFault> {
+        if bytes.len() < 8 {
+            return Err(FileFault::CutShort);
+        }
+        let (digits, rest) = bytes.split_at(8);
+        let number = i64::from_be_bytes([
+            digits[0], digits[1], digits[2], digits[3], digits[4], digits[5], digits[6], digits[7],
+        ]);
+        Ok((number, rest))
+    }
+
+    fn write(&self, out: &mut Vec<u8>) -> Result<(), AllocError> {
+        out.extend_from_slice(&self.to_be_bytes())
+    }
+
+    fn fits(&self) -> bool {
+        true
+    }
+}
+
+impl Field for Table<u8> {
+    ghost use Rattle.wq_code.specs.Reading.{text_at};
+    ghost use Rattle.wq_code.specs.Spelling.{text};
+    ghost use Rattle.wq_code.specs.Fits.{is_text};
+
+    ghost reading = { text_at };
+
+    ghost spelling = { text };
+
+    ghost within = { is_text };
+
+    #[tactic(auto, unfolding(crate::specs::Reading::text_at))]
+    fn read(alloc: Global, bytes: &[u8]) -> Result<(Table<u8>, &[u8]), FileFault> {
+        let (len, rest) = count_of(MAX_TEXT, bytes)?;
+        let (text, rest) = bytes_of(len, rest)?;
+        Ok((Table::from_vec(Vec::from_slice(alloc, text)?), rest))
+    }
+
+    fn write(&self, out: &mut Vec<u8>) -> Result<(), AllocError> {
+        put_short(out, self.len())?;
+        out.extend_from_slice(self.as_slice())
+    }
+
+    fn fits(&self) -> bool {
+        self.len() <= MAX_TEXT
+    }
+}
+
+impl Field for Table<Table<u8>> {
+    ghost use Rattle.wq_code.specs.Reading.{list_at};
+    ghost use Rattle.wq_code.specs.Spelling.{entries};
+    ghost use Rattle.wq_code.specs.Fits.{is_list};
+
+    ghost reading = { list_at };
+
+    ghost spelling = { entries };
+
+    ghost within = { is_list };
+
+    #[tactic(auto, unfolding(crate::specs::Reading::list_at))]
+    fn read(alloc: Global, bytes: &[u8]) -> Result<(Table<Table<u8>>, &[u8]), FileFault> {
+        let (count, rest) = short_of(bytes)?;
+        many_of(alloc, count as usize, rest)
+    }
+
+    fn write(&self, out: &mut Vec<u8>) -> Result<(), AllocError> {
+        put_short(out, self.len())?;
+        put_many(out, self.as_slice())
+    }
+
+    fn fits(&self) -> bool {
+        self.len() <= MAX_ENTRIES && all_fit(self.as_slice())
+    }
+}
+
+impl Field for Pattern {
+    ghost use Rattle.wq_code.specs.Reading.{pattern_at};
+    ghost use Rattle.wq_code.specs.Spelling.{pattern};
+    ghost use Rattle.wq_code.specs.Fits.{is_pattern};
+
+    ghost reading = { pattern_at };
+
+    ghost spelling = { pattern };
+
+    ghost within = { is_pattern };
+
+    #[tactic(auto, unfolding(crate::specs::Reading::pattern_at))]
+    fn read(alloc: Global, bytes: &[u8]) -> Result<(Pattern, &[u8]), FileFault> {
+        let (bits, rest) = byte_of(bytes)?;
+        if bits >= 16 {
+            return Err(FileFault::BadOperand);
+        }
+        let (len, rest) = byte_of(rest)?;
+        let (text, rest) = bytes_of(len as usize, rest)?;
+        match Pattern::parse(alloc, text, flags_of_bits(bits)) {
+            Ok(pattern) => Ok((pattern, rest)),
+            Err(PatternFault::NoMemory) => Err(FileFault::NoMemory),
+            Err(PatternFault::TooLong) => unreachable!(),
+        }
+    }
+
+    fn write(&self, out: &mut Vec<u8>) -> Result<(), AllocError> {
+        let text = self.text();
+        out.push(bits_of_flags(self.flags()))?;
+        out.push(text.len() as u8)?;
+        out.extend_from_slice(text)
+    }
+
+    fn fits(&self) -> bool {
+        self.text().len() <= MAX_PATTERN
+    }
+}
+
+/// The flags of a pattern as the lowest four bits of a byte.
+fn bits_of_flags(flags: Flags) -> u8
+    ensures { result ≡ flags_byte flags }
+{
+    flags.wholename as u8
+        + 2 * (flags.dotfiles as u8)
+        + 4 * (flags.noescape as u8)
+        + 8 * (flags.fold as u8)
+}
+
+/// The flags of a pattern from the lowest four bits of a byte.
+fn flags_of_bits(bits: u8) -> Flags
+    ensures { result ≡ flags_of bits }
+{
+    Flags {
+        wholename: bits & 1 != 0,
+        dotfiles: bits & 2 != 0,
+        noescape: bits & 4 != 0,
+        fold: bits & 8 != 0,
+    }
+}
+
+impl Field for Op {
+    ghost use Rattle.wq_code.specs.Reading.{op_at};
+    ghost use Rattle.wq_code.specs.Spelling.{instruction};
+    ghost use Rattle.wq_code.specs.Fits.{is_any};
+
+    ghost reading = { op_at };
+
+    ghost spelling = { instruction };
+
+    ghost within = { is_any };
+
+    #[tactic(auto, unfolding(crate::specs::Reading::op_at))]
+    fn read(_alloc: Global, bytes: &[u8]) -> Result<(Op, &[u8]), FileFault> {
+        let (code, rest) = byte_of(bytes)?;
+        let op = op_of_byte(code).ok_or(FileFault::UnknownOperation)?;
+        let (a, rest) = byte_of(rest)?;
+        let op = take_a(op, a).ok_or(FileFault::BadOperand)?;
+        let (b, rest) = short_of(rest)?;
+        let op = take_b(op, b).ok_or(FileFault::BadOperand)?;
+        Ok((op, rest))
+    }
+
+    fn write(&self, out: &mut Vec<u8>) -> Result<(), AllocError> {
+        let word = self.word();
+        out.push(word.op)?;
+        out.push(word.a)?;
+        out.extend_from_slice(&word.b.to_be_bytes())
+    }
+
+    fn fits(&self) -> bool {
+        true
+    }
+}

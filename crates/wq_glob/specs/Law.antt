@@ -1,0 +1,9 @@
+-- What the test of a pattern and the cuts of a text have to do with each other.
+-- This library's own.
+use Rattle.std.specs.Prelude.{ℕ, List, ◌↔◌, IsTrue}
+use Rattle.wq_glob.specs.Pattern.{PatternData, fits, Fits}
+
+-- the test of a pattern holds at a text exactly where that text can be cut for it
+abbrev pub FitsWhereItCanBeCut : Type 0
+FitsWhereItCanBeCut = (pattern : PatternData) (text : List ℕ)
+    → IsTrue (fits pattern text) ↔ Fits pattern text

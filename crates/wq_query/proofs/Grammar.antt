@@ -1,0 +1,253 @@
+-- What a value asks is what the grammar has written by it.
+use Rattle.std.proofs.Common.{◌≡◌, ℕ, ℤ, Bool, true, false, not, ◌||◌, List, [], ◌∷◌, codes, Option}
+use Rattle.std.proofs.Common.{Some, None, Result, Ok, Err, refl, sym, ap, subst, ◌∙◌}
+use Rattle.std.specs.Option.{MatchOption, is_some}
+use Rattle.std.specs.Result.{result_ok}
+use Rattle.std.specs.List.{AllByRecursion}
+use Rattle.std.proofs.lemmas.Option.{same_Some}
+use Rattle.serde_json.specs.Data.{Data, boolean, string, array, Items, no_items, item}
+use Rattle.serde_json.specs.Find.{get, as_bool}
+use Rattle.wq_base.specs.Fault.{is_true, or_fault, or_its_fault, unless_fault}
+use Rattle.wq_base.proofs.Fault.{or_fault-ok, or_its_fault-ok, unless_fault-ok, with_first-some}
+use Rattle.wq_base.proofs.Table.{named-name}
+use Rattle.wq_clock.specs.Instance.{InstanceData}
+use Rattle.wq_clock.specs.declared.bound.Bound.{Bound}
+use Rattle.wq_clock.specs.declared.bound.Bound.TheVariants.{Fresh}
+use Rattle.wq_term.specs.Argument.{bound_in, whole_number_of}
+use Rattle.wq_term.specs.Expr.{ExprData, always}
+use Rattle.wq_term.specs.Law.{BoundsSayWhatTheyWrite, NumbersSayWhatTheyWrite}
+use Rattle.wq_term.specs.Law.{ValuesSayWhatTheyWrite}
+use Rattle.wq_term.specs.ArgumentGrammar.{IsWhole, IsBound}
+use Rattle.wq_query.specs.declared.fault.QueryFault.{QueryFault}
+use Rattle.wq_query.specs.declared.fault.QueryFault.TheVariants.{LeftOutKey, Expression}
+use Rattle.wq_query.specs.declared.fault.QueryFault.TheVariants.{UnknownField, BadClockSpec}
+use Rattle.wq_query.specs.declared.fault.QueryFault.TheVariants.{WrongValue}
+use Rattle.wq_query.specs.declared.field.Field.{Field}
+use Rattle.wq_query.specs.declared.field.Field.TheVariants.{Name, Exists, New, Size, Kind, Cclock}
+use Rattle.wq_query.specs.declared.field.Field.TheVariants.{Oclock, Mtime, MtimeMs}
+use Rattle.wq_query.specs.Field.{field_name, field_named, fields, default_fields}
+use Rattle.wq_query.specs.Query.{QueryData}
+use Rattle.wq_query.specs.Reading.{asks, left_out_keys, has_key_of, has_left_out_key, is_plain_case}
+use Rattle.wq_query.specs.Reading.{expression_of, field_of, fields_in, fields_of, since_of, flag_of}
+use Rattle.wq_query.specs.Reading.{is_whole}
+use Rattle.wq_query.specs.Grammar.{IsExpression, AreNamed, AreFields, IsWrittenBy}
+use Rattle.wq_query.specs.Law.{ValuesAskWhatTheyWrite}
+
+-- what is right is one value
+same_Ok : {A E : Type 0} (x y : A) → ◌≡◌ {A = Result A E} (Ok x) (Ok y) → x ≡ y
+same_Ok x y e = cc
+
+-- keys that are not there
+none-found : (keys : List (List ℕ)) (d : Data) → has_key_of keys d ≡ false
+    → AllByRecursion (λ key. get key d ≡ None) keys
+none-found [] d e = tt
+none-found (key ∷ keys) d e = at (get key d) (none-found keys d) e
+  where
+    at : (o : Option Data)
+        → (has_key_of keys d ≡ false → AllByRecursion (λ key. get key d ≡ None) keys)
+        → (is_some o || has_key_of keys d) ≡ false
+        → (o ≡ None) × AllByRecursion (λ key. get key d ≡ None) keys
+    at None rest e = (refl, rest e)
+    at (Some v) rest e = cc
+
+none-reads : (keys : List (List ℕ)) (d : Data) → AllByRecursion (λ key. get key d ≡ None) keys
+    → has_key_of keys d ≡ false
+none-reads [] d h = refl
+none-reads (key ∷ keys) d h = rw h.0 (none-reads keys d h.1)
+
+-- `case_sensitive`
+plain-found : (o : Option Data) → is_plain_case o ≡ true
+    → MatchOption o (Unit {0}) (λ value. value ≡ boolean true)
+plain-found None e = tt
+plain-found (Some (boolean true)) e = refl
+plain-found (Some _) e = cc
+
+plain-reads : (o : Option Data) → MatchOption o (Unit {0}) (λ value. value ≡ boolean true)
+    → is_plain_case o ≡ true
+plain-reads None h = refl
+plain-reads (Some d) h = ap (λ v. is_true (as_bool v)) h
+
+-- both of them
+neither : (a b : Bool) → not (a || not b) ≡ true → (a ≡ false) × (b ≡ true)
+neither false true e = (refl, refl)
+neither false false e = cc
+neither true b e = cc
+
+-- the expression
+expression-found : ValuesSayWhatTheyWrite
+    → (instance : InstanceData) (o : Option Data) (t : ExprData)
+    → expression_of instance o ≡ Ok t → MatchOption o (t ≡ always) (IsExpression instance t)
+expression-found law instance None t e = sym (same_Ok always t e)
+expression-found law instance (Some d) t e = (law instance t d).0 e
+
+expression-reads : ValuesSayWhatTheyWrite
+    → (instance : InstanceData) (o : Option Data) (t : ExprData)
+    → MatchOption o (t ≡ always) (IsExpression instance t) → expression_of instance o ≡ Ok t
+expression-reads law instance None t h = ap Ok (sym h)
+expression-reads law instance (Some d) t h = (law instance t d).1 h
+
+-- a field
+field-found : (d : Data) (field : Field) → field_of d ≡ Some field → d ≡ string (field_name field)
+unfolding field_named
+field-found (string w) field e = ap string (named-name field_name fields w field e)
+field-found _ field e = cc
+
+field-reads : (field : Field) → field_of (string (field_name field)) ≡ Some field
+unfolding field_named
+field-reads Name = refl
+field-reads Exists = refl
+field-reads New = refl
+field-reads Size = refl
+field-reads Kind = refl
+field-reads Cclock = refl
+field-reads Oclock = refl
+field-reads Mtime = refl
+field-reads MtimeMs = refl
+
+-- the fields of a list
+named-found : (ds : Items) (fs : List Field) → fields_in ds ≡ Some fs → AreNamed fs ds
+named-found no_items fs e = subst (λ gs. AreNamed gs no_items) (same_Some [] fs e) tt
+named-found (item d ds) fs e =
+    with_first-some (field_of d) (fields_in ds) fs e (λ g gs first rest is.
+    subst (λ hs. AreNamed hs (item d ds)) is (field-found d g first, named-found ds gs rest))
+
+named-reads : (ds : Items) (fs : List Field) → AreNamed fs ds → fields_in ds ≡ Some fs
+named-reads no_items [] h = refl
+named-reads (item d ds) (f ∷ fs) h = rw (h.0, field-reads f, named-reads ds fs h.1) refl
+named-reads no_items (f ∷ fs) h = absurd h
+named-reads (item d ds) [] h = absurd h
+
+-- the fields
+some-found : (d : Data) (ds : Items) (fs : List Field) → AreNamed fs (item d ds)
+    → AreFields fs (array (item d ds))
+some-found d ds [] h = absurd h
+some-found d ds (f ∷ fs) h = h
+
+some-reads : (fs : List Field) (d : Data) → AreFields fs d → fields_of (Some d) ≡ Some fs
+some-reads (f ∷ fs) (array (item d ds)) h = named-reads (item d ds) (f ∷ fs) h
+some-reads _ _ h = absurd h
+
+fields-found : (o : Option Data) (fs : List Field) → fields_of o ≡ Some fs
+    → MatchOption o (fs ≡ default_fields) (AreFields fs)
+fields-found None fs e = sym (same_Some default_fields fs e)
+fields-found (Some (array (item d ds))) fs e = some-found d ds fs (named-found (item d ds) fs e)
+fields-found (Some _) fs e = cc
+
+fields-reads : (o : Option Data) (fs : List Field)
+    → MatchOption o (fs ≡ default_fields) (AreFields fs) → fields_of o ≡ Some fs
+fields-reads None fs h = ap Some (sym h)
+fields-reads (Some d) fs h = some-reads fs d h
+
+-- `since`
+right : {A E : Type 0} (r : Result A E) (a : A) → result_ok r ≡ Some a → r ≡ Ok a
+right (Ok x) a e = ap Ok (same_Some x a e)
+right (Err fault) a e = cc
+
+since-found : BoundsSayWhatTheyWrite → (instance : InstanceData) (o : Option Data) (bound : Bound)
+    → since_of instance o ≡ Some bound → MatchOption o (bound ≡ Fresh) (IsBound instance bound)
+since-found law instance None bound e = sym (same_Some Fresh bound e)
+since-found law instance (Some d) bound e =
+    (law instance bound d).0 (right (bound_in instance d) bound e)
+
+since-reads : BoundsSayWhatTheyWrite → (instance : InstanceData) (o : Option Data) (bound : Bound)
+    → MatchOption o (bound ≡ Fresh) (IsBound instance bound) → since_of instance o ≡ Some bound
+since-reads law instance None bound h = ap Some (sym h)
+since-reads law instance (Some d) bound h = ap result_ok ((law instance bound d).1 h)
+
+-- `empty_on_fresh_instance`
+flag-found : (o : Option Data) (b : Bool) → flag_of o ≡ Some b
+    → MatchOption o (b ≡ false) (λ value. value ≡ boolean b)
+flag-found None b e = sym (same_Some false b e)
+flag-found (Some (boolean a)) b e = ap boolean (same_Some a b e)
+flag-found (Some _) b e = cc
+
+flag-reads : (o : Option Data) (b : Bool) → MatchOption o (b ≡ false) (λ value. value ≡ boolean b)
+    → flag_of o ≡ Some b
+flag-reads None b h = ap Some (sym h)
+flag-reads (Some d) b h = ap as_bool h
+
+-- `sync_timeout`
+whole-found : NumbersSayWhatTheyWrite → (o : Option Data) → is_whole o ≡ true
+    → MatchOption o (Unit {0}) (λ value. (n : ℤ) × IsWhole n value)
+whole-found law None e = tt
+whole-found law (Some d) e = at (whole_number_of d) refl e
+  where
+    at : (n : Option ℤ) → whole_number_of d ≡ n → is_some n ≡ true → (n : ℤ) × IsWhole n d
+    at None is e = cc
+    at (Some n) is e = (n, (law n d).0 is)
+
+whole-reads : NumbersSayWhatTheyWrite → (o : Option Data)
+    → MatchOption o (Unit {0}) (λ value. (n : ℤ) × IsWhole n value) → is_whole o ≡ true
+whole-reads law None h = refl
+whole-reads law (Some d) h = ap is_some ((law h.0 d).1 h.1)
+
+-- the chain of faults from `sync_timeout` on
+abbrev pub from_whole : Data → QueryData → Result QueryData QueryFault
+from_whole d query = unless_fault WrongValue (is_whole (get (codes "sync_timeout") d)) (Ok query)
+
+-- from `empty_on_fresh_instance` on
+abbrev pub from_flag : Data → ExprData → List Field → Bound → Result QueryData QueryFault
+from_flag d t fs bound =
+    or_fault WrongValue (flag_of (get (codes "empty_on_fresh_instance") d)) (λ flag.
+    from_whole d (record { expression = t; fields = fs; bound = bound; empty_on_fresh_instance = flag }))
+
+-- from `since` on
+abbrev pub from_since : InstanceData → Data → ExprData → List Field → Result QueryData QueryFault
+from_since instance d t fs =
+    or_fault BadClockSpec (since_of instance (get (codes "since") d)) (λ bound. from_flag d t fs bound)
+
+-- from `fields` on
+abbrev pub from_fields : InstanceData → Data → ExprData → Result QueryData QueryFault
+from_fields instance d t =
+    or_fault UnknownField (fields_of (get (codes "fields") d)) (λ fs. from_since instance d t fs)
+
+-- from `expression` on
+abbrev pub from_expression : InstanceData → Data → Result QueryData QueryFault
+from_expression instance d =
+    or_its_fault Expression (expression_of instance (get (codes "expression") d)) (λ t. from_fields instance d t)
+
+-- what is asked is written
+found : ValuesSayWhatTheyWrite → BoundsSayWhatTheyWrite → NumbersSayWhatTheyWrite
+    → (instance : InstanceData) (query : QueryData) (d : Data) → asks instance d ≡ Ok query
+    → IsWrittenBy instance query d
+found values bounds numbers instance query d e =
+    unless_fault-ok LeftOutKey (not (has_left_out_key d)) (from_expression instance d) query e (λ none e1.
+    or_its_fault-ok Expression (expression_of instance (get (codes "expression") d)) (λ t. from_fields instance d t) query e1 (λ t said e2.
+    or_fault-ok UnknownField (fields_of (get (codes "fields") d)) (λ fs. from_since instance d t fs) query e2 (λ fs named e3.
+    or_fault-ok BadClockSpec (since_of instance (get (codes "since") d)) (λ bound. from_flag d t fs bound) query e3 (λ bound sets e4.
+    or_fault-ok WrongValue (flag_of (get (codes "empty_on_fresh_instance") d)) (λ flag.
+    from_whole d (record { expression = t; fields = fs; bound = bound; empty_on_fresh_instance = flag })) query e4 (λ flag on e5.
+    unless_fault-ok WrongValue (is_whole (get (codes "sync_timeout") d))
+    (Ok (record { expression = t; fields = fs; bound = bound; empty_on_fresh_instance = flag })) query e5 (λ whole is.
+    let parts = neither (has_key_of left_out_keys d) (is_plain_case (get (codes "case_sensitive") d)) none in
+    subst (λ q. IsWrittenBy instance q d) (same_Ok _ query is) (record {
+      none_left_out = none-found left_out_keys d parts.0;
+      case_sensitive = plain-found (get (codes "case_sensitive") d) parts.1;
+      expression = expression-found values instance (get (codes "expression") d) t said;
+      fields = fields-found (get (codes "fields") d) fs named;
+      since = since-found bounds instance (get (codes "since") d) bound sets;
+      empty_on_fresh_instance = flag-found (get (codes "empty_on_fresh_instance") d) flag on;
+      sync_timeout = whole-found numbers (get (codes "sync_timeout") d) whole;
+    })))))))
+
+-- what is written is asked
+reads : ValuesSayWhatTheyWrite → BoundsSayWhatTheyWrite → NumbersSayWhatTheyWrite
+    → (instance : InstanceData) (query : QueryData) (d : Data) → IsWrittenBy instance query d
+    → asks instance d ≡ Ok query
+reads values bounds numbers instance query d h =
+    let none = none-reads left_out_keys d h.none_left_out in
+    let plain = plain-reads (get (codes "case_sensitive") d) h.case_sensitive in
+    let said = expression-reads values instance (get (codes "expression") d) query.expression h.expression in
+    let named = fields-reads (get (codes "fields") d) query.fields h.fields in
+    let sets = since-reads bounds instance (get (codes "since") d) query.bound h.since in
+    let on = flag-reads (get (codes "empty_on_fresh_instance") d) query.empty_on_fresh_instance h.empty_on_fresh_instance in
+    let whole = whole-reads numbers (get (codes "sync_timeout") d) h.sync_timeout in
+    let allowed : has_left_out_key d ≡ false =
+    ap (λ b. b || not (is_plain_case (get (codes "case_sensitive") d))) none ∙ ap not plain in
+    rw (allowed, said, named, sets, on, whole) refl
+
+-- both ways
+pub values_ask : ValuesSayWhatTheyWrite → BoundsSayWhatTheyWrite → NumbersSayWhatTheyWrite
+    → ValuesAskWhatTheyWrite
+values_ask values bounds numbers instance query d =
+    (found values bounds numbers instance query d, reads values bounds numbers instance query d)

@@ -1,0 +1,57 @@
+-- The grammar of queries: by which JSON values each of them may be written.
+-- The keys are those of Watchman's documentation of file queries.
+use Rattle.std.specs.Prelude.{ℤ, ◌≡◌, ◌≤◌, false, true, List, [], ◌∷◌, codes, None}
+use Rattle.std.specs.Option.{MatchOption}
+use Rattle.std.specs.List.{AllByRecursion}
+use Rattle.serde_json.specs.Data.{Data, boolean, array, Items, no_items, item}
+use Rattle.serde_json.specs.Find.{get}
+use Rattle.wq_clock.specs.Instance.{InstanceData}
+use Rattle.wq_clock.specs.declared.bound.Bound.TheVariants.{Fresh}
+use Rattle.wq_term.specs.Limit.{max_depth}
+use Rattle.wq_term.specs.Expr.{ExprData, always, depth_of}
+use Rattle.wq_term.specs.Grammar.{IsWrittenBy as IsTermWrittenBy}
+use Rattle.wq_term.specs.ArgumentGrammar.{IsWord, IsWhole, IsBound}
+use Rattle.wq_query.specs.declared.field.Field.{Field}
+use Rattle.wq_query.specs.Field.{field_name, default_fields}
+use Rattle.wq_query.specs.Query.{QueryData}
+use Rattle.wq_query.specs.Reading.{left_out_keys}
+
+-- an expression that is not too deep
+abbrev pub IsExpression : InstanceData → ExprData → Data → Type 0
+IsExpression instance t d = IsTermWrittenBy instance t d × (depth_of t ≤ max_depth)
+
+-- fields by their names, one behind the other
+abbrev pub AreNamed : List Field → Items → Type 0
+AreNamed [] no_items = Unit {0}
+AreNamed (field ∷ fields) (item d ds) = IsWord (field_name field) d × AreNamed fields ds
+AreNamed _ _ = ⊥
+
+-- a list of fields, of which there is one at least
+abbrev pub AreFields : List Field → Data → Type 0
+AreFields (field ∷ fields) (array ds) = AreNamed (field ∷ fields) ds
+AreFields _ _ = ⊥
+
+-- the query is written by this value, at this instance: each key is missing, and then the first
+-- thing holds, or it is there, and the second holds of its value
+pub record IsWrittenBy (instance : InstanceData) (query : QueryData) (d : Data) : Type 0 where
+  -- no key that would change the answer otherwise
+  pub none_left_out : AllByRecursion (λ key. get key d ≡ None) left_out_keys
+  -- names are compared byte by byte
+  pub case_sensitive : MatchOption (get (codes "case_sensitive") d)
+      (Unit {0}) (λ value. value ≡ boolean true)
+  -- every file, or those that an expression matches
+  pub expression : MatchOption (get (codes "expression") d)
+      (query.expression ≡ always) (IsExpression instance query.expression)
+  -- the default fields, or others
+  pub fields : MatchOption (get (codes "fields") d)
+      (query.fields ≡ default_fields) (AreFields query.fields)
+  -- nothing is known to the client, or a bound
+  pub since : MatchOption (get (codes "since") d)
+      (query.bound ≡ Fresh) (IsBound instance query.bound)
+  -- a fresh list has all files, or is empty
+  pub empty_on_fresh_instance : MatchOption (get (codes "empty_on_fresh_instance") d)
+      (query.empty_on_fresh_instance ≡ false)
+      (λ value. value ≡ boolean query.empty_on_fresh_instance)
+  -- any whole number, which changes nothing here
+  pub sync_timeout : MatchOption (get (codes "sync_timeout") d)
+      (Unit {0}) (λ value. (n : ℤ) × IsWhole n value)

@@ -1,0 +1,32 @@
+-- What the code's reading of a query gives, where the memory may run out.
+-- No public document is behind it.
+use Rattle.std.specs.Prelude.{◌≡◌, List, Option, Some, None, Result, Ok, Err, Vec}
+use Rattle.std.specs.declared.alloc.Global.{Global}
+use Rattle.wq_term.specs.declared.expr.Expr.{Expr}
+use Rattle.wq_term.specs.declared.fault.TermFault.{TermFault}
+use Rattle.wq_term.specs.Expr.{ExprData, term_of}
+use Rattle.wq_query.specs.declared.fault.QueryFault.{QueryFault}
+use Rattle.wq_query.specs.declared.fault.QueryFault.TheVariants.{Expression, UnknownField, NoMemory}
+use Rattle.wq_query.specs.declared.field.Field.{Field}
+use Rattle.wq_query.specs.declared.query.Query.{Query}
+use Rattle.wq_query.specs.Query.{QueryData, asked_of}
+
+-- the result of the code is this answer, or the memory ran out
+abbrev pub Gives : Result Query QueryFault → Result QueryData QueryFault → Type 0
+Gives (Ok query) answer = answer ≡ Ok (asked_of query)
+Gives (Err NoMemory) answer = Unit {0}
+Gives (Err fault) answer = answer ≡ Err fault
+
+-- the same of an expression
+abbrev pub GivesExpression : Result Expr QueryFault → Result ExprData TermFault → Type 0
+GivesExpression (Ok e) answer = answer ≡ Ok (term_of e)
+GivesExpression (Err (Expression fault)) answer = answer ≡ Err fault
+GivesExpression (Err NoMemory) answer = Unit {0}
+GivesExpression (Err _) answer = ⊥
+
+-- the same of a list of fields
+abbrev pub GivesFields : Result (Vec Field Global) QueryFault → Option (List Field) → Type 0
+GivesFields (Ok fields) answer = answer ≡ Some fields.items
+GivesFields (Err UnknownField) answer = answer ≡ None
+GivesFields (Err NoMemory) answer = Unit {0}
+GivesFields (Err _) answer = ⊥

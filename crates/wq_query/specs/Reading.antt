@@ -1,0 +1,96 @@
+-- What a JSON object asks as a query, or its first fault.
+-- The keys are those of Watchman's documentation of file queries.
+use Rattle.std.specs.Prelude.{ℕ, Bool, true, false, not, ◌||◌, List, [], ◌∷◌, codes}
+use Rattle.std.specs.Prelude.{Option, Some, None, is_some, Result, Ok}
+use Rattle.std.specs.Result.{result_ok}
+use Rattle.std.specs.List.{list_any}
+use Rattle.serde_json.specs.Data.{Data, string, array, Items, no_items, item}
+use Rattle.serde_json.specs.Find.{get, as_bool}
+use Rattle.wq_base.specs.Fault.{is_true, or_fault, or_its_fault, unless_fault, with_first}
+use Rattle.wq_clock.specs.Instance.{InstanceData}
+use Rattle.wq_clock.specs.declared.bound.Bound.{Bound}
+use Rattle.wq_clock.specs.declared.bound.Bound.TheVariants.{Fresh}
+use Rattle.wq_term.specs.declared.fault.TermFault.{TermFault}
+use Rattle.wq_term.specs.Limit.{max_depth}
+use Rattle.wq_term.specs.Argument.{bound_in, whole_number_of}
+use Rattle.wq_term.specs.Expr.{ExprData, always}
+use Rattle.wq_term.specs.Reading.{reads_as}
+use Rattle.wq_query.specs.declared.fault.QueryFault.{QueryFault}
+use Rattle.wq_query.specs.declared.fault.QueryFault.TheVariants.{LeftOutKey, Expression}
+use Rattle.wq_query.specs.declared.fault.QueryFault.TheVariants.{UnknownField, BadClockSpec}
+use Rattle.wq_query.specs.declared.fault.QueryFault.TheVariants.{WrongValue}
+use Rattle.wq_query.specs.declared.field.Field.{Field}
+use Rattle.wq_query.specs.Field.{field_named, default_fields}
+use Rattle.wq_query.specs.Query.{QueryData}
+
+-- the keys that would change the answer and are not there
+abbrev pub left_out_keys : List (List ℕ)
+left_out_keys =
+    codes "relative_root" ∷ codes "settle_period" ∷ codes "settle_timeout" ∷ codes "glob"
+    ∷ codes "glob_includedotfiles" ∷ codes "program" ∷ codes "suffix" ∷ codes "path" ∷ []
+
+-- whether the query has one of these keys
+abbrev pub has_key_of : List (List ℕ) → Data → Bool
+has_key_of keys d = list_any (λ key. is_some (get key d)) keys
+
+-- the one value of `case_sensitive` that changes nothing
+abbrev pub is_plain_case : Option Data → Bool
+is_plain_case None = true
+is_plain_case (Some d) = is_true (as_bool d)
+
+-- whether the query has a key that is left out
+abbrev pub has_left_out_key : Data → Bool
+has_left_out_key d =
+    has_key_of left_out_keys d || not (is_plain_case (get (codes "case_sensitive") d))
+
+-- the expression: every file where there is none
+abbrev pub expression_of : InstanceData → Option Data → Result ExprData TermFault
+expression_of instance None = Ok always
+expression_of instance (Some d) = reads_as instance max_depth d
+
+-- the field of a text
+abbrev pub field_of : Data → Option Field
+field_of (string name) = field_named name
+field_of _ = None
+
+-- the fields of a list of texts
+abbrev pub fields_in : Items → Option (List Field)
+fields_in no_items = Some []
+fields_in (item d ds) = with_first (field_of d) (fields_in ds)
+
+-- the fields: a list of texts that is not empty
+abbrev pub fields_of : Option Data → Option (List Field)
+fields_of None = Some default_fields
+fields_of (Some (array (item d ds))) = fields_in (item d ds)
+fields_of (Some _) = None
+
+-- the bound that `since` sets at an instance: fresh where it is not there; a cursor sets none
+abbrev pub since_of : InstanceData → Option Data → Option Bound
+since_of instance None = Some Fresh
+since_of instance (Some d) = result_ok (bound_in instance d)
+
+-- true or false; false where it is not there
+abbrev pub flag_of : Option Data → Option Bool
+flag_of None = Some false
+flag_of (Some d) = as_bool d
+
+-- whether it is a whole number, or not there
+abbrev pub is_whole : Option Data → Bool
+is_whole None = true
+is_whole (Some d) = is_some (whole_number_of d)
+
+-- what a query object asks at an instance: its faults are looked for in this order
+abbrev pub asks : InstanceData → Data → Result QueryData QueryFault
+asks instance d =
+    unless_fault LeftOutKey (not (has_left_out_key d)) (
+    or_its_fault Expression (expression_of instance (get (codes "expression") d)) (λ expression.
+    or_fault UnknownField (fields_of (get (codes "fields") d)) (λ fields.
+    or_fault BadClockSpec (since_of instance (get (codes "since") d)) (λ bound.
+    or_fault WrongValue (flag_of (get (codes "empty_on_fresh_instance") d)) (λ flag.
+    unless_fault WrongValue (is_whole (get (codes "sync_timeout") d)) (
+    Ok (record {
+      expression = expression;
+      fields = fields;
+      bound = bound;
+      empty_on_fresh_instance = flag;
+    })))))))

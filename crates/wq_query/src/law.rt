@@ -1,0 +1,17 @@
+//! Laws about queries, each a function whose contract is the law. A proof of another crate gets a
+//! law by a call, which costs nothing.
+ghost use Rattle.wq_query.specs.Law.{ValuesAskWhatTheyWrite};
+
+use wq_term::{
+    bounds_say_what_they_write, numbers_say_what_they_write, values_say_what_they_write,
+};
+
+/// What [`Query::read`](crate::Query::read) reads is the grammar of queries, no value more and none
+/// less.
+pub fn values_ask_what_they_write()
+    ensures { ValuesAskWhatTheyWrite }
+{
+    values_say_what_they_write();
+    bounds_say_what_they_write();
+    numbers_say_what_they_write();
+}

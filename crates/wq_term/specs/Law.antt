@@ -1,0 +1,32 @@
+-- What reading expressions and their grammar have to do with each other.
+-- No public document is behind it.
+use Rattle.std.specs.Prelude.{ℤ, ◌≡◌, ◌≤◌, ◌↔◌, Ok, Some}
+use Rattle.serde_json.specs.Data.{Data}
+use Rattle.wq_clock.specs.Instance.{InstanceData}
+use Rattle.wq_clock.specs.declared.bound.Bound.{Bound}
+use Rattle.wq_term.specs.Limit.{max_depth}
+use Rattle.wq_term.specs.Argument.{bound_in, whole_number_of}
+use Rattle.wq_term.specs.ArgumentGrammar.{IsBound, IsWhole}
+use Rattle.wq_term.specs.Expr.{ExprData, depth_of}
+use Rattle.wq_term.specs.Reading.{reads_as}
+use Rattle.wq_term.specs.Grammar.{IsWrittenBy}
+
+-- a value is read as an expression exactly where the grammar has it as a writing of that
+-- expression, which is at most 64 terms deep
+abbrev pub ValuesSayWhatTheyWrite : Type 0
+ValuesSayWhatTheyWrite = (instance : InstanceData) (t : ExprData) (d : Data)
+    → (reads_as instance max_depth d ≡ Ok t) ↔ (IsWrittenBy instance t d × (depth_of t ≤ max_depth))
+
+-- so an expression that is read is at most 64 terms deep
+abbrev pub ReadExpressionsAreShallow : Type 0
+ReadExpressionsAreShallow = (instance : InstanceData) (t : ExprData) (d : Data)
+    → reads_as instance max_depth d ≡ Ok t → depth_of t ≤ max_depth
+
+-- a value is read as a bound exactly where the grammar has it as a writing of that bound
+abbrev pub BoundsSayWhatTheyWrite : Type 0
+BoundsSayWhatTheyWrite = (instance : InstanceData) (bound : Bound) (d : Data)
+    → (bound_in instance d ≡ Ok bound) ↔ IsBound instance bound d
+
+-- and as a whole number exactly where it is an integer from -2^62 to 2^62
+abbrev pub NumbersSayWhatTheyWrite : Type 0
+NumbersSayWhatTheyWrite = (n : ℤ) (d : Data) → (whole_number_of d ≡ Some n) ↔ IsWhole n d

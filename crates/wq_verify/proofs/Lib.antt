@@ -1,0 +1,5 @@
+pub mod Tests
+pub mod Fronts
+pub mod Shapes
+pub mod Budgets
+pub mod Steps

@@ -1,0 +1,34 @@
+-- What a program can cost at most, on a name of a given length.
+-- This server's own measure of cost: the charges of wq_code's machine.
+use Rattle.std.specs.Prelude.{ℕ, ◌+◌, ◌*◌, max, List, [], ◌∷◌, length, sum_by, slice_get}
+use Rattle.std.specs.Option.{option_map_or}
+use Rattle.wq_glob.specs.Pattern.{PatternData, atoms_of}
+use Rattle.wq_code.specs.declared.operation.Op.{Op}
+use Rattle.wq_code.specs.declared.operation.Op.TheVariants.{OneOf, Match}
+use Rattle.wq_code.specs.declared.raw.Raw.{Raw}
+
+-- the length of the longest text
+abbrev pub longest_len : List (List ℕ) → ℕ
+longest_len [] = 0
+longest_len (text ∷ texts) = max (length text) (longest_len texts)
+
+-- the most bytes that a text on the stack can have
+abbrev pub width_of : Raw → ℕ → ℕ
+width_of raw name_len = max name_len (longest_len raw.texts)
+
+-- the most that a pattern can cost on a text of this width: a cell for each atom and one more, at
+-- each byte and once more
+abbrev pub pattern_cost : ℕ → PatternData → ℕ
+pattern_cost width p = (length (atoms_of p) + 1) * (width + 1)
+
+-- the most that an instruction can cost with texts of this width: 1; for `Match` the cost of its
+-- pattern more, for `OneOf` the entries of its list
+abbrev pub cost : Raw → ℕ → Op → ℕ
+cost raw width (Match place) =
+    1 + option_map_or (pattern_cost width) (slice_get raw.patterns place) 0
+cost raw width (OneOf _ place) = 1 + option_map_or length (slice_get raw.lists place) 0
+cost raw width _ = 1
+
+-- the sum over all instructions, executed or not
+unfoldable pub budget_of : Raw → ℕ → ℕ
+budget_of raw name_len = sum_by (cost raw (width_of raw name_len)) raw.code

@@ -1,0 +1,9 @@
+pub mod Limit
+pub mod Kinds
+pub mod Fault
+pub mod Typing
+pub mod Budget
+pub mod Shape
+pub mod Run
+pub mod Law
+pub mod ProgramFault

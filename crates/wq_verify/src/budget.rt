@@ -1,0 +1,93 @@
+//! What a program can cost at most.
+ghost use Rattle.std.specs.Prelude.{◌≡◌, ◌≤◌, IsTrue, length, slice_get};
+ghost use Rattle.std.specs.Option.{option_map_or};
+ghost use Rattle.wq_code.specs.Fits.{fits};
+ghost use Rattle.wq_verify.specs.Budget.{cost, pattern_cost, longest_len, width_of, budget_of};
+
+use crate::program::Program;
+use wq_code::{Op, Raw, Table};
+
+/// How many bytes a name may have.
+pub const MAX_NAME: u64 = 4096;
+
+/// The length of the longest text.
+fn longest_len(texts: &[Table<u8>]) -> usize
+    ensures { result ≡ longest_len texts.now }
+{
+    let mut most = 0;
+    let mut left = texts;
+    while let Some((text, others)) = left.split_first() {
+        most = most.max(text.len());
+        left = others;
+    }
+    most
+}
+
+/// The most bytes that a text on the stack can have.
+fn width_of(raw: &Raw, name_len: u64) -> u64
+    requires limits { IsTrue (fits raw.now) }
+    requires short { name_len ≤ MAX_NAME }
+    ensures value { result ≡ width_of raw.now name_len }
+    ensures low { result ≤ MAX_NAME }
+{
+    name_len.max(longest_len(raw.texts.as_slice()) as u64)
+}
+
+/// The most that a pattern can cost on texts of this width.
+fn pattern_cost(raw: &Raw, width: u64, place: u16) -> u64
+    requires { width ≤ MAX_NAME }
+    ensures value { result ≡
+        option_map_or (pattern_cost width) (slice_get raw.now.patterns place) 0 }
+    ensures low { result ≤ 1048832 }
+{
+    match raw.patterns.as_slice().get(place as usize) {
+        Some(pattern) => (pattern.atoms() as u64 + 1) * (width + 1),
+        None => 0,
+    }
+}
+
+/// How many entries a list has.
+fn list_cost(raw: &Raw, place: u16) -> u64
+    requires { IsTrue (fits raw.now) }
+    ensures value { result ≡ option_map_or length (slice_get raw.now.lists place) 0 }
+    ensures low { result ≤ 65535 }
+{
+    match raw.lists.as_slice().get(place as usize) {
+        Some(entries) => entries.len() as u64,
+        None => 0,
+    }
+}
+
+/// The most that an instruction can cost with texts of this width.
+fn cost(raw: &Raw, width: u64, op: Op) -> u64
+    requires limits { IsTrue (fits raw.now) }
+    requires narrow { width ≤ MAX_NAME }
+    ensures value { result ≡ cost raw.now width op }
+    ensures low { result ≤ 1048833 }
+{
+    match op {
+        Op::Match(place) => 1 + pattern_cost(raw, width, place),
+        Op::OneOf(_, place) => 1 + list_cost(raw, place),
+        _ => 1,
+    }
+}
+
+impl Program {
+    /// The most that the program can cost on a name of `name_len` bytes, at most [`MAX_NAME`]: the
+    /// sum over all instructions, executed or not, of 1, of a cell for each atom of a pattern and
+    /// one at each byte of the widest text and one, and of the entries of a list. It takes no
+    /// memory.
+    #[tactic(auto, unfolding(crate::specs::Budget::budget_of))]
+    pub fn budget(&self, name_len: u64) -> u64
+        requires { name_len ≤ MAX_NAME }
+        ensures { result ≡ budget_of self.now name_len }
+    {
+        let raw = self.raw();
+        let width = width_of(raw, name_len);
+        let mut total = 0;
+        for op in raw.code.as_slice() {
+            total += cost(raw, width, *op);
+        }
+        total
+    }
+}

@@ -1,0 +1,36 @@
+//! Laws about typings and about the runs of programs that may run, each a function without a body
+//! whose contract is the law. A proof of another crate gets a law by a call, which costs nothing.
+ghost use Rattle.wq_verify.specs.Law.{FrontsAreUnique, FrontsGrow, ValidAreTyped, ValidAreAccepted, RunsBeginWell, StepsGoWell};
+
+/// There is at most one front typing to a place.
+pub fn fronts_are_unique()
+    ensures { FrontsAreUnique }
+{}
+
+/// A front typing grows by an instruction that has no fault.
+#[tactic(auto, using(crate::proofs::Fronts::front_grows))]
+pub fn fronts_grow()
+    ensures { FrontsGrow }
+{}
+
+/// A program that may run has a typing.
+pub fn valid_are_typed()
+    ensures { ValidAreTyped }
+{}
+
+/// No program that may run has a first fault, so each is accepted.
+pub fn valid_are_accepted()
+    ensures { ValidAreAccepted }
+{}
+
+/// A run of a program that may run begins with a state that fits its typing.
+#[tactic(auto, using(crate::proofs::Steps::runs_begin_well))]
+pub fn runs_begin_well()
+    ensures { RunsBeginWell }
+{}
+
+/// From a state that fits the typing, one step leads to a later place whose state fits, or to an
+/// answer within the sum of all costs, and never to a trap.
+pub fn steps_go_well()
+    ensures { StepsGoWell }
+{}

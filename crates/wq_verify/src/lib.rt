@@ -1,0 +1,26 @@
+//! Which programs may run. A program is accepted where the kinds of the cells on its stack are
+//! known at each place, whatever way led there: then it runs on every file to a yes or a no, never
+//! short of an operand or outside its code and constants, and within a budget that is known
+//! beforehand.
+//!
+//! Whether a program may run is defined in `specs/Typing.antt`, by the existence of such kinds, and
+//! what is wrong with one that may not in `specs/Fault.antt`. This crate runs no programs.
+#![tactic(auto)]
+
+mod budget;
+mod fault;
+mod law;
+mod pass;
+mod program;
+mod rule;
+mod shape;
+mod stack;
+
+pub use budget::MAX_NAME;
+pub use fault::{ProgramFault, Refusal};
+pub use law::{
+    fronts_are_unique, fronts_grow, runs_begin_well, steps_go_well, valid_are_accepted,
+    valid_are_typed,
+};
+pub use program::{Program, verify};
+pub use shape::MAX_CELLS;
