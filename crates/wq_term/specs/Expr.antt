@@ -38,7 +38,6 @@ mutual
     all_of : ExprsData → ExprData
     any_of : ExprsData → ExprData
 
-  -- a list of them
   pub data ExprsData : Type 0 where
     no_terms : ExprsData
     term : ExprData → ExprsData → ExprsData
