@@ -1,6 +1,6 @@
 -- What `check` says of the bytes of a program file, and its exit status.
 -- It is this server's own.
-use Rattle.std.specs.Prelude.{◌≡◌, ◌≢◌, ◌⊎◌, ◌==◌, ℕ, List, ◌++◌, length, codes, Option, Result, Err, if◌then◌else◌}
+use Rattle.std.specs.Prelude.{◌≡◌, ◌≢◌, ◌⊎◌, ℕ, List, ◌++◌, length, codes, Option, Err}
 use Rattle.std.specs.Fmt.{decimal}
 use Rattle.std.specs.Io.KnownBytes.{Appends}
 use Rattle.wq_code.specs.File.{file_at}
@@ -34,7 +34,8 @@ line_of (Accepted instructions budget) =
     codes "ok " ++ (decimal instructions ++ (codes " " ++ (decimal budget ++ codes "\n")))
 line_of (WrongFile fault) = codes "refused F" ++ (decimal (file_number fault) ++ codes "\n")
 line_of (WrongProgram fault at) =
-    codes "refused Y" ++ (decimal (program_number fault) ++ (codes " at " ++ (decimal at ++ codes "\n")))
+    codes "refused Y" ++ (decimal (program_number fault)
+    ++ (codes " at " ++ (decimal at ++ codes "\n")))
 
 -- the exit status: 0 for a program that may run, and 3 for any other file
 abbrev pub status_of : Answer → ℕ

@@ -4,16 +4,19 @@ ghost use Rattle.wq_check.specs.Answer.{IsAnswer, status_of};
 
 use std::alloc::Global;
 use wq_code::{FileFault, decode};
-use wq_verify::{MAX_NAME, ProgramFault, Refusal, verify};
+use wq_verify::{ProgramFault, Refusal, verify};
 
 /// How many bytes a file may have that `check` looks at.
 pub const MAX_FILE: usize = 16_777_216;
+
+/// How many bytes the longest name of a file has: a budget is told for it.
+pub const LONGEST_NAME: u64 = 4096;
 
 /// What `check` says of a file.
 #[derive(Clone, Copy, Debug, Drop)]
 pub enum Answer {
     /// The program may run: how many instructions it has, and the most that it can cost on a name of
-    /// [`MAX_NAME`] bytes.
+    /// [`LONGEST_NAME`] bytes.
     Accepted { instructions: usize, budget: u64 },
     /// The bytes are no program file.
     WrongFile(FileFault),
@@ -33,7 +36,7 @@ impl Answer {
         match verify(alloc, raw) {
             Ok(program) => Answer::Accepted {
                 instructions: program.raw().code.len(),
-                budget: program.budget(MAX_NAME),
+                budget: program.budget(LONGEST_NAME),
             },
             Err((_, Refusal { fault, at })) => Answer::WrongProgram { fault, at },
         }

@@ -5,5 +5,5 @@
 mod answer;
 mod printing;
 
-pub use answer::{Answer, MAX_FILE};
+pub use answer::{Answer, LONGEST_NAME, MAX_FILE};
 pub use printing::{FAULT, check};

@@ -29,7 +29,8 @@ entries texts = short (length texts) ++ flat_map text texts
 -- the flags of a pattern as bits of a byte, from the lowest on
 abbrev pub flags_byte : Flags → ℕ
 flags_byte f =
-    flag_code f.wholename + 2 * flag_code f.dotfiles + 4 * flag_code f.noescape + 8 * flag_code f.fold
+    flag_code f.wholename + 2 * flag_code f.dotfiles
+    + 4 * flag_code f.noescape + 8 * flag_code f.fold
 
 -- a pattern: its flags, its length and its bytes
 abbrev pub pattern : PatternData → List ℕ

@@ -5,11 +5,13 @@ use Rattle.serde_json.specs.Data.{Data, boolean, number, string, array, object}
 use Rattle.serde_json.specs.Data.{Members, no_members, member, put as with_member}
 use Rattle.serde_json.specs.Find.{of_integer}
 use Rattle.serde_json.specs.View.{items_of}
+use Rattle.wq_base.specs.Version.{version}
 use Rattle.wq_clock.specs.Instance.{InstanceData}
 use Rattle.wq_clock.specs.ClockText.{clock_text}
 use Rattle.wq_clock.specs.declared.bound.Bound.{Bound}
 use Rattle.wq_view.specs.Kind.{letter_of}
-use Rattle.wq_view.specs.RecordData.{RecordData, seconds_of}
+use Rattle.wq_base.specs.Name.{seconds_of}
+use Rattle.wq_view.specs.RecordData.{RecordData}
 use Rattle.wq_view.specs.View.{ViewData}
 use Rattle.wq_query.specs.declared.field.Field.{Field}
 use Rattle.wq_query.specs.declared.field.Field.TheVariants.{Name, Exists, New, Size, Kind}
@@ -53,4 +55,4 @@ reply_of plan instance view =
     object (member (codes "clock") (string (clock_text instance view.tick))
     (member (codes "files") (array (items_of (files_data plan instance view.records)))
     (member (codes "is_fresh_instance") (boolean (is_fresh plan.bound))
-    (member (codes "version") (string (codes "wq-1")) no_members))))
+    (member (codes "version") (string version) no_members))))

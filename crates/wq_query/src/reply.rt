@@ -14,7 +14,7 @@ use crate::listing::{is_empty, is_fresh, is_listed, is_new};
 use crate::query::Plan;
 use serde_json::{Map, Value, json};
 use std::alloc::{AllocError, Global};
-use wq_base::MAX_NUMBER;
+use wq_base::{MAX_NUMBER, VERSION};
 use wq_clock::{Bound, Instance, print};
 use wq_view::{Kind, Record, View};
 
@@ -35,7 +35,7 @@ pub fn answer(
         "clock": clock.as_str(),
         "files": files,
         "is_fresh_instance": is_fresh(plan.bound),
-        "version": "wq-1",
+        "version": VERSION,
     })
 }
 

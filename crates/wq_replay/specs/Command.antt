@@ -1,7 +1,8 @@
 -- The commands that a client may give, by their names.
 -- From Watchman's documentation of its commands.
-use Rattle.std.specs.Prelude.{ℕ, List, [], ◌∷◌, bytes_eq, codes, Option, Result, find}
+use Rattle.std.specs.Prelude.{ℕ, List, [], ◌∷◌, codes, Option, Result}
 use Rattle.serde_json.specs.Data.{Data, Items}
+use Rattle.wq_base.specs.Table.{named}
 use Rattle.wq_clock.specs.Instance.{InstanceData}
 use Rattle.wq_view.specs.View.{ViewData}
 use Rattle.wq_replay.specs.Query.{answer_query}
@@ -21,7 +22,7 @@ command_name Clock = codes "clock"
 
 -- the command of a name
 abbrev pub command_named : List ℕ → Option Command
-command_named name = find (λ command. bytes_eq name (command_name command)) all_commands
+command_named = named command_name all_commands
 
 -- what is answered to a command with these arguments
 abbrev pub answer_command : InstanceData → ViewData → Command → Items → Result Data Refusal

@@ -7,7 +7,8 @@ use Rattle.serde_json.specs.Find.{as_str}
 use Rattle.wq_base.specs.Fault.{or_fault, or_its_fault, unless_fault}
 use Rattle.wq_clock.specs.Instance.{InstanceData}
 use Rattle.wq_view.specs.View.{ViewData}
-use Rattle.wq_query.specs.Asked.{QueryData, asks}
+use Rattle.wq_query.specs.Query.{QueryData, plan_of}
+use Rattle.wq_query.specs.Reading.{asks}
 use Rattle.wq_query.specs.Reply.{reply_of}
 use Rattle.wq_replay.specs.Root.{is_root}
 use Rattle.wq_replay.specs.declared.refusal.Refusal.{Refusal}
@@ -25,7 +26,7 @@ arguments_of no_items = None
 
 -- what is answered to a query that was read, at the bound that it sets
 abbrev pub answer_asked : InstanceData → ViewData → QueryData → Data
-answer_asked instance view query = reply_of query query.bound instance view
+answer_asked instance view query = reply_of (plan_of query) instance view
 
 -- what is answered to a query of a root
 abbrev pub answer_at : InstanceData → ViewData → List ℕ × Data → Result Data Refusal

@@ -51,8 +51,8 @@ Plays stage (line ∷ lines) written after = (next : StageData) × (first later 
 
 -- so many first lines of a script were played, their replies were written, the script stands
 -- here, and these lines are left; of the passes that were added, neighbours differ
-pub record FirstLines (script : List ℕ) (before after : Option (List ℕ)) (count : ℕ) (at : StageData)
-    (left : List (List ℕ)) : Type 0 where
+pub record FirstLines (script : List ℕ) (before after : Option (List ℕ)) (count : ℕ)
+    (at : StageData) (left : List (List ℕ)) : Type 0 where
   pub first : List (List ℕ)
   pub written : List ℕ
   pub lines : lines_of script ≡ first ++ left

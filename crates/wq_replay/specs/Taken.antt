@@ -35,7 +35,7 @@ TakesPart bytes before false after rest =
     × (before ++ kept (max_kept - length before) bytes
     ≡ after ++ kept (max_kept - length after) left)
 
--- some bytes begin with this line, and those are behind it; or their first line is too long, as this is
+-- some bytes begin with this line, and those are behind it; or both are too long
 abbrev pub BeginsWith : List ℕ → List ℕ → List ℕ → Type 0
 BeginsWith bytes line left =
     (lines_of bytes ≡ line ∷ lines_of left)

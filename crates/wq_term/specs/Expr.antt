@@ -38,6 +38,7 @@ mutual
     all_of : ExprsData → ExprData
     any_of : ExprsData → ExprData
 
+  -- the terms of a list
   pub data ExprsData : Type 0 where
     no_terms : ExprsData
     term : ExprData → ExprsData → ExprsData

@@ -4,7 +4,8 @@ use Rattle.std.specs.Prelude.{ℕ, ℤ, Bool, not, int_lt, int_le, nat_lt}
 use Rattle.std.specs.Ordering.{int_eq}
 use Rattle.wq_clock.specs.declared.bound.Bound.{Bound}
 use Rattle.wq_clock.specs.declared.bound.Bound.TheVariants.{Fresh, Tick, Second}
-use Rattle.wq_view.specs.RecordData.{RecordData, seconds_of}
+use Rattle.wq_base.specs.Name.{seconds_of}
+use Rattle.wq_view.specs.RecordData.{RecordData}
 use Rattle.wq_term.specs.declared.expr.Relation.{Relation}
 use Rattle.wq_term.specs.declared.expr.Relation.TheVariants.{Eq, Ne, Gt, Ge, Lt, Le}
 use Rattle.wq_term.specs.declared.expr.Since.{Since}

@@ -2,13 +2,11 @@
 ghost use Rattle.std.specs.Prelude.{◌≡◌, ◌≤◌, IsTrue, length, slice_get};
 ghost use Rattle.std.specs.Option.{option_map_or};
 ghost use Rattle.wq_code.specs.Fits.{fits};
+ghost use Rattle.wq_verify.specs.Limit.{max_name_length};
 ghost use Rattle.wq_verify.specs.Budget.{cost, pattern_cost, longest_len, width_of, budget_of};
 
 use crate::program::Program;
 use wq_code::{Op, Raw, Table};
-
-/// How many bytes a name may have.
-pub const MAX_NAME: u64 = 4096;
 
 /// The length of the longest text.
 fn longest_len(texts: &[Table<u8>]) -> usize
@@ -26,16 +24,16 @@ fn longest_len(texts: &[Table<u8>]) -> usize
 /// The most bytes that a text on the stack can have.
 fn width_of(raw: &Raw, name_len: u64) -> u64
     requires limits { IsTrue (fits raw.now) }
-    requires short { name_len ≤ MAX_NAME }
+    requires short { name_len ≤ max_name_length }
     ensures value { result ≡ width_of raw.now name_len }
-    ensures low { result ≤ MAX_NAME }
+    ensures low { result ≤ max_name_length }
 {
     name_len.max(longest_len(raw.texts.as_slice()) as u64)
 }
 
 /// The most that a pattern can cost on texts of this width.
 fn pattern_cost(raw: &Raw, width: u64, place: u16) -> u64
-    requires { width ≤ MAX_NAME }
+    requires { width ≤ max_name_length }
     ensures value { result ≡
         option_map_or (pattern_cost width) (slice_get raw.now.patterns place) 0 }
     ensures low { result ≤ 1048832 }
@@ -61,7 +59,7 @@ fn list_cost(raw: &Raw, place: u16) -> u64
 /// The most that an instruction can cost with texts of this width.
 fn cost(raw: &Raw, width: u64, op: Op) -> u64
     requires limits { IsTrue (fits raw.now) }
-    requires narrow { width ≤ MAX_NAME }
+    requires narrow { width ≤ max_name_length }
     ensures value { result ≡ cost raw.now width op }
     ensures low { result ≤ 1048833 }
 {
@@ -73,13 +71,13 @@ fn cost(raw: &Raw, width: u64, op: Op) -> u64
 }
 
 impl Program {
-    /// The most that the program can cost on a name of `name_len` bytes, at most [`MAX_NAME`]: the
+    /// The most that the program can cost on a name of `name_len` bytes, at most 4,096: the
     /// sum over all instructions, executed or not, of 1, of a cell for each atom of a pattern and
     /// one at each byte of the widest text and one, and of the entries of a list. It takes no
     /// memory.
     #[tactic(auto, unfolding(crate::specs::Budget::budget_of))]
     pub fn budget(&self, name_len: u64) -> u64
-        requires { name_len ≤ MAX_NAME }
+        requires { name_len ≤ max_name_length }
         ensures { result ≡ budget_of self.now name_len }
     {
         let raw = self.raw();

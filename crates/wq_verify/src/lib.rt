@@ -16,7 +16,6 @@ mod rule;
 mod shape;
 mod stack;
 
-pub use budget::MAX_NAME;
 pub use fault::{ProgramFault, Refusal};
 pub use law::{
     fronts_are_unique, fronts_grow, runs_begin_well, steps_go_well, valid_are_accepted,

@@ -1,8 +1,9 @@
 -- The plan is of that query and its bound, and no reply to a query has a float.
-use Rattle.std.proofs.Common.{ap, ◌∙◌}
+use Rattle.std.proofs.Common.{◌≡◌, ap, ◌∙◌}
 use Rattle.std.proofs.lemmas.Result.{IfOk-weaker}
 use Rattle.wq_clock.specs.Instance.{instance_data}
-use Rattle.wq_query.specs.Query.{asked_of}
+use Rattle.wq_clock.specs.declared.bound.Bound.{Bound}
+use Rattle.wq_query.specs.Query.{PlanData, asked_of, plan_of, planned}
 use Rattle.wq_query.specs.Reply.{reply_of}
 use Rattle.wq_query.proofs.NoFloat.{reply}
 use Rattle.wq_replay.proofs.command.query.answer_read.Goals as goal
@@ -12,8 +13,7 @@ returns c =
     let query = asked_of c.args.query in
     let instance = instance_data c.args.instance.now in
     let view = c.args.view.now in
-    let planned = c.plan_plain-plan.ensures.query in
-    let bounded = c.plan_plain-plan.ensures.bound ∙ c.bound-bound.ensures in
-    let same = ap (λ q. reply_of q c.plan_plain-plan.result.bound instance view) planned
-    ∙ ap (λ bound. reply_of query bound instance view) bounded in
-    IfOk-weaker c.answer.result _ _ (λ value is. (is ∙ same, reply query query.bound instance view)) c.answer.ensures
+    let with_bound : Bound → PlanData = λ bound. record { query = query; bound = bound } in
+    let plan : planned c.plan_plain-plan.result ≡ plan_of query = c.plan_plain-plan.ensures ∙ ap with_bound c.bound-bound.ensures in
+    IfOk-weaker c.answer.result _ _ (λ value is.
+    (is ∙ ap (λ p. reply_of p instance view) plan, reply (plan_of query) instance view)) c.answer.ensures
