@@ -3,6 +3,7 @@
 import os
 import subprocess
 import sys
+import tempfile
 from pathlib import Path
 from typing import Iterable, List, NamedTuple, Optional, Sequence, Union
 
@@ -35,6 +36,14 @@ def run(words: Sequence[Union[str, bytes]], script: bytes = b"", program: Option
 
 def replay(script: bytes, program: Optional[Path] = None) -> Ended:
     return run(["replay"], script, program)
+
+
+def check(file: bytes) -> Ended:
+    """What the program says of a program file with these bytes."""
+    with tempfile.NamedTemporaryFile() as named:
+        named.write(file)
+        named.flush()
+        return run(["check", named.name])
 
 
 class Tally:

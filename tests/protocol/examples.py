@@ -2,18 +2,21 @@
 
 import json
 import re
-from typing import Any, Callable, Dict, Iterator, List, NamedTuple, Tuple
+from typing import Any, Callable, Dict, Iterator, List, NamedTuple, Optional, Tuple
 
 from document import Cell, Element, Page, Table
 
 
 class Example(NamedTuple):
-    """A script, what it has to write in words, and the test of what it wrote."""
+    """A script, what it has to write in words, and the test of what it wrote. Or a program file in the script's place,
+    with the exit status that it has to have."""
 
     name: str
     script: str
     expected: str
     is_right: Callable[[str], bool]
+    file: Optional[bytes] = None
+    status: int = 0
 
 
 Examples = Iterator[Example]
@@ -278,6 +281,18 @@ def script_of_sizes(seen: str) -> str:
     return "".join(f"pass {second}\n{sight}end\n" for second, sight in zip((10, 20, 30), sights))
 
 
+# Tables of program files.
+
+def program_files(element: Element, page: Page) -> Examples:
+    """`program files`: the bytes of a file as hexadecimal digits, and the line that `wqd check` prints."""
+    for row in Table(element.lines).examples():
+        line = row["prints"].codes()[0] + "\n"
+        status = 3 if line.startswith("refused ") else 0
+        for digits in row["file"].json_examples():
+            example = writes(digits, "", line)
+            yield example._replace(file=bytes.fromhex(digits), status=status)
+
+
 RULES: List[Tuple[str, Callable[[Element, Page], Examples]]] = [
     ("script ", keep_script),
     ("output of the last line of ", output_of_last_line),
@@ -296,4 +311,5 @@ RULES: List[Tuple[str, Callable[[Element, Page], Examples]]] = [
     ("terms on names", terms_on_names),
     ("clock specs", clock_specs),
     ("what passes saw", what_passes_saw),
+    ("program files", program_files),
 ]

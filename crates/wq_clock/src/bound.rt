@@ -40,9 +40,9 @@ impl Bound {
 
 /// The bound that a read clock spec sets at `instance`.
 ///
-/// An id of this instance is its tick, also where the view has not come so far. An id of another
-/// instance, and an old id, are fresh. `None` is for a cursor, whose tick the server keeps under
-/// its name.
+/// Of an id with the three numbers of `instance` it is the tick, which the view need not have
+/// reached. Every other id is fresh, an old one too. A cursor has no bound of its own, so it gives
+/// `None`: the server keeps a tick under its name.
 ///
 /// At start 7, process 9 and root 1, `c:7:9:1:99` is `Bound::Tick(99)`, and `c:7:8:1:1` is
 /// `Bound::Fresh`.

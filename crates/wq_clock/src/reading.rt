@@ -32,10 +32,9 @@ pub struct ClockFault;
 
 /// Reads a clock spec, of the forms in Watchman's documentation of clockspecs.
 ///
-/// Numbers are decimal, without sign and leading zeros, and at most 2^62. A cursor's name is any 1
-/// to 255 bytes.
-/// So `c:7:9:1:42` is a clock id, `c:9:42` an old one and `n:build` a cursor; `c:7:9:1:042` is
-/// refused.
+/// Numbers are decimal, without sign and leading zeros, and at most 2^62. A cursor's name has 1 to
+/// 255 bytes, of any kind. So `c:7:9:1:42` is a clock id, `c:9:42` an old one and `n:build` a
+/// cursor; `c:7:9:1:042` is refused.
 pub fn parse(text: &str) -> Result<Spec<'_>, ClockFault>
     ensures read { IfOk result (λ spec. clock_spec_of text.now ≡ Some (spec_data spec)) }
     ensures refused { OnErr result (clock_spec_of text.now ≡ None) }

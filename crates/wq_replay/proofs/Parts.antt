@@ -124,7 +124,7 @@ taken_as bytes before part left room false true last is split all ends lasts =
     rw lasts (left, refl, ap (λ l. before ++ l) split ∙ sym (append_assoc before part left), ap (λ r. before ++ kept_of r bytes) (sym is) ∙ ap (λ l. before ++ l) (ends refl))
 taken_as bytes before part left room false false last is split all ends lasts =
     let rest : max_kept - length (before ++ part) ≡ room - length part = ap (λ n. max_kept - n) (length-append before part) ∙ room_left (length before) max_kept (length part) ∙ ap (λ r. r - length part) (sym is) in
-    rw (lasts, rest) (left, refl, ap (λ l. before ++ l) split ∙ sym (append_assoc before part left), ap (λ r. before ++ kept r bytes) (sym is) ∙ ap (λ l. before ++ l) all ∙ sym (append_assoc before part (kept_of (room - length part) left)))
+    rw (lasts, rest) (left, refl, ap (λ l. before ++ l) split ∙ sym (append_assoc before part left), ap (λ r. before ++ kept_of r bytes) (sym is) ∙ ap (λ l. before ++ l) all ∙ sym (append_assoc before part (kept_of (room - length part) left)))
 
 -- what a reader showed is taken as far as it is kept
 pub part_taken : (known rest : Option (List ℕ)) (before after shown : List ℕ) (count : ℕ) (last : Bool) → Consumes known rest (take count shown)

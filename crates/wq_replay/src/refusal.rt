@@ -11,7 +11,7 @@ use wq_term::TermFault;
 pub enum Refusal {
     /// A line of over [`MAX_LINE`](crate::command::MAX_LINE) bytes.
     LineTooLong,
-    /// The line is not one JSON value in UTF-8.
+    /// A line in which there is something else than one JSON value, or bytes that are no UTF-8.
     NotJson,
     /// The value is no array headed by a text.
     NotACommand,

@@ -42,7 +42,7 @@ fn since_sets_a_bound(rt: HostRuntime) -> Result<(), Fail> {
             ("{}", Fresh),
             (r#"{"since":"c:7:9:1:1"}"#, Tick(1)),
             (r#"{"since":"c:7:9:1:0"}"#, Tick(0)),
-            // A tick beyond the view's is kept as it is.
+            // A bound may lie behind every tick of the view.
             (
                 r#"{"since":"c:7:9:1:4611686018427387904"}"#,
                 Tick(MAX_NUMBER),

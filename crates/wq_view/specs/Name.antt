@@ -11,7 +11,8 @@ abbrev pub is_plain_part : List ℕ → Bool
 is_plain_part part =
     not (bytes_eq part []) && not (bytes_eq part (codes ".")) && not (bytes_eq part (codes ".."))
 
--- a name is UTF-8 of 1 to 4,096 bytes without byte 0, each of whose parts is plain
+-- a name: a text in UTF-8, neither empty nor over 4,096 bytes, in which no byte is 0 and each part
+-- between slashes is plain
 unfoldable pub is_valid_name : List ℕ → Bool
 is_valid_name bytes =
     nat_le 1 (length bytes) && nat_le (length bytes) max_name_length

@@ -62,7 +62,7 @@ record_code =
 abbrev pub last_stat : RecordData → Stat
 last_stat r = record { kind = r.kind; size = r.size; mtime_ms = r.mtime_ms }
 
--- a valid name, numbers in range, and ticks of at most 2^62
+-- the name is valid, the numbers are in range, and neither tick is over the limit
 pub record IsLawful (r : RecordData) : Type 0 where
   pub name : IsTrue (is_valid_name r.name)
   pub stat : IsTrue (is_in_range (last_stat r))

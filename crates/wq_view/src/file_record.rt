@@ -36,7 +36,7 @@ pub struct Record {
     /// The second of the Unix epoch of the pass `otick`.
     pub osec: i64,
     pub kind: Kind,
-    /// Whether the last pass saw the file. Kind, size and time are those of the last pass that did.
+    /// Whether the last pass saw the file. Where it did not, kind, size and time say what was last seen.
     pub exists: bool,
 }
 

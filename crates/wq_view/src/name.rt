@@ -68,8 +68,9 @@ impl Name {
     }
 }
 
-/// Whether bytes are a name: UTF-8 of 1 to 4,096 bytes without byte 0, whose parts between slashes are
-/// not empty, `.` or `..`. So a name neither begins nor ends with a slash.
+/// Whether bytes are a name: a text in UTF-8, neither empty nor over 4,096 bytes, in which no byte is 0.
+/// Slashes part it into steps, each of at least one byte and neither `.` nor `..`. So a name neither begins
+/// nor ends with a slash.
 #[tactic(auto, unfolding(crate::specs::Name::is_valid_name))]
 pub fn is_valid_name(bytes: &[u8]) -> bool
     ensures { result ≡ is_valid_name bytes.now }
