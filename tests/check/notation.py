@@ -1,9 +1,9 @@
 """The notation in which cases and examples write program files.
 
-The code is written as `exists; jf 3; drop; ret`, with the operands behind the name: the relation of `cmp` by its name,
-`fold` for letters without case, and a place or the number of a flag as a number. The constants are JSON: numbers, texts,
-lists of texts, and patterns as pairs of the flags' byte and the text. `{{TEXT*N}}` is the text, N times. A character
-stands for the byte of its number.
+The code is written as `exists; jf 3; drop; ret`, with the operands behind the name: the relation of `cmp` by its
+name, `fold` for letters without case, and a place or a flag as a number. The constants are JSON: numbers, texts, lists
+of texts, and patterns as pairs of the flags' byte and the text. `{{TEXT*N}}` is the text, N times. A character stands
+for the byte of its number.
 """
 
 import json
