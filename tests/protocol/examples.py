@@ -5,18 +5,18 @@ import re
 from typing import Any, Callable, Dict, Iterator, List, NamedTuple, Optional, Tuple
 
 from document import Cell, Element, Page, Table
+from instructions import BY_NAME
+from notation import file_of
 
 
 class Example(NamedTuple):
-    """A script, what it has to write in words, and the test of what it wrote. Or a program file in the script's place,
-    with the exit status that it has to have."""
+    """A script, what it has to write in words, and the test of what it wrote. Or a program file that is checked."""
 
     name: str
     script: str
     expected: str
     is_right: Callable[[str], bool]
     file: Optional[bytes] = None
-    status: int = 0
 
 
 Examples = Iterator[Example]
@@ -283,14 +283,69 @@ def script_of_sizes(seen: str) -> str:
 
 # Tables of program files.
 
-def program_files(element: Element, page: Page) -> Examples:
-    """`program files`: the bytes of a file as hexadecimal digits, and the line that `wqd check` prints."""
+def says(name: str, file: bytes, line: str) -> Example:
+    return Example(name, "", line, lambda written: written == line + "\n", file)
+
+
+def checks_of_programs(element: Element, page: Page) -> Examples:
+    """`checks of programs`: a program in its notation, its constants, and the line."""
     for row in Table(element.lines).examples():
-        line = row["prints"].codes()[0] + "\n"
-        status = 3 if line.startswith("refused ") else 0
-        for digits in row["file"].json_examples():
-            example = writes(digits, "", line)
-            yield example._replace(file=bytes.fromhex(digits), status=status)
+        tables = dict(code.split(": ", 1) for code in row["constants"].codes())
+        for program in row["program"].text_examples():
+            yield says(program, file_of(program, **tables), row["line"].codes()[0])
+
+
+def parts_of_file(element: Element, page: Page) -> Examples:
+    """`parts of a file that says LINE`: the bytes of all rows are one file. Without its last byte it is cut short."""
+    line = element.mark.split(" says ", 1)[1]
+    file = bytes.fromhex("".join("".join(row["bytes"].codes()) for row in Table(element.lines).examples()))
+    yield says("the whole file", file, line)
+    yield says("the file without its last byte", file[:-1], "refused F3")
+
+
+def refused_files(element: Element, page: Page) -> Examples:
+    """`refused files`: files in hexadecimal that have this fault."""
+    for row in Table(element.lines).examples():
+        for digits in [*row["examples"].codes(), *row["examples"].marks_of("run")]:
+            yield says(digits, bytes.fromhex(digits), f"refused {row['fault'].codes()[0]}")
+
+
+def refused_programs(element: Element, page: Page) -> Examples:
+    """`refused programs`: programs in their notation that have this fault at this place."""
+    for row in Table(element.lines).examples():
+        for program in row["examples"].text_examples():
+            line = f"refused {row['fault'].codes()[0]} at {row['place'].shown}"
+            yield says(program or "no instruction", file_of(program), line)
+
+
+# Instructions that put a cell of a kind on the stack, and that make a flag of one.
+PUTS = {"flag": "exists", "number": "size", "text": "basename"}
+MAKES_FLAG = {"flag": "not", "number": "size; cmp eq", "text": "basename; eq"}
+
+
+def instructions(element: Element, page: Page) -> Examples:
+    """`instructions`: the table of instructions. Each takes its cells and none other, and leaves what it leaves."""
+    for row in Table(element.lines).examples():
+        byte, name, takes, leaves = (row[key].shown.strip("`") for key in ("byte", "name", "takes", "leaves"))
+        assert BY_NAME[name].byte == int(byte, 16), f"another byte: {name}"
+        for kinds in ([[kind] for kind in PUTS] if takes == "any" else [takes.split(", ") if takes else []]):
+            before = [PUTS[kind] for kind in kinds]
+            operand = len(before) + 1 if row["b"].shown == "place" else 0
+            after = MAKES_FLAG[leaves] if leaves else "exists"
+            code = before + [f"{name} {operand}" if row["b"].shown else name]
+            whole = "; ".join(code if name == "ret" else code + [after, "ret"])
+            yield Example(whole, "", "ok", lambda written: written.startswith("ok "), file_with_constants(whole))
+            if kinds and name != "ret":
+                fewer = "; ".join(code[1:] + ["ret"])
+                yield says(fewer, file_with_constants(fewer), f"refused Y2 at {len(before) - 1}")
+            if kinds and takes != "any":
+                other = "; ".join(["exists" if kinds[0] != "flag" else "size", *code[1:], "ret"])
+                fault = "Y10" if name == "ret" else "Y3"
+                yield says(other, file_with_constants(other), f"refused {fault} at {len(before)}")
+
+
+def file_with_constants(code: str) -> bytes:
+    return file_of(code, numbers="0", texts='"a"', lists='["a"]', patterns='[0,"a"]')
 
 
 RULES: List[Tuple[str, Callable[[Element, Page], Examples]]] = [
@@ -311,5 +366,9 @@ RULES: List[Tuple[str, Callable[[Element, Page], Examples]]] = [
     ("terms on names", terms_on_names),
     ("clock specs", clock_specs),
     ("what passes saw", what_passes_saw),
-    ("program files", program_files),
+    ("checks of programs", checks_of_programs),
+    ("parts of a file that says ", parts_of_file),
+    ("refused files", refused_files),
+    ("refused programs", refused_programs),
+    ("instructions", instructions),
 ]
