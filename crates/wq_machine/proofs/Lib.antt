@@ -1,0 +1,4 @@
+pub mod Slots
+pub mod Parts
+pub mod Operands
+pub mod Runs

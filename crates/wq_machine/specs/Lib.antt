@@ -1,0 +1,4 @@
+pub mod Limit
+pub mod Item
+pub mod Stack
+pub mod Run
