@@ -20,13 +20,13 @@ abbrev pub longest_name : ℕ
 longest_name = 4096
 
 -- what the bytes of a file are: a program that may run, or the first thing that is wrong with the
--- file or the program, unless memory ran out
+-- file or the program; or that memory ran out, for a program at place 0
 abbrev pub IsAnswer : List ℕ → Answer → Type 0
 IsAnswer bytes (Accepted instructions budget) = (raw : Raw) × IsSpelling raw bytes × IsValid raw
     × (instructions ≡ length raw.code) × (budget ≡ budget_of raw longest_name)
 IsAnswer bytes (WrongFile fault) = fault ≢ NoFileMemory → file_at bytes ≡ Err fault
 IsAnswer bytes (WrongProgram fault at) = (raw : Raw) × IsSpelling raw bytes
-    × (fault ≢ NoProgramMemory → IsFirstFault raw fault at)
+    × (IsFirstFault raw fault at ⊎ ((fault ≡ NoProgramMemory) × (at ≡ 0)))
 
 -- the line that says an answer
 abbrev pub line_of : Answer → List ℕ

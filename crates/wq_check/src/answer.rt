@@ -38,7 +38,7 @@ impl Answer {
                 instructions: program.raw().code.len(),
                 budget: program.budget(LONGEST_NAME),
             },
-            Err((_, Refusal { fault, at })) => Answer::WrongProgram { fault, at },
+            Err((_, Refusal { code: fault, at })) => Answer::WrongProgram { fault, at },
         }
     }
 

@@ -50,11 +50,11 @@ head_at-takes bytes rest e =
 
 -- the counts
 abbrev pub counts : Counts → List ℕ
-counts c = short c.numbers ++ (short c.texts ++ (short c.lists ++ (short c.patterns ++ short c.code)))
+counts c = short c.nums ++ (short c.texts ++ (short c.lists ++ (short c.patterns ++ short c.code)))
 
 -- each count is within its limit
 pub record AreCounts (c : Counts) : Type 0 where
-  pub numbers : c.numbers ≤ max_rows
+  pub nums : c.nums ≤ max_rows
   pub texts : c.texts ≤ max_rows
   pub lists : c.lists ≤ max_rows
   pub patterns : c.patterns ≤ max_rows
@@ -86,13 +86,13 @@ counts_takes bytes x fits e =
     let p2 = joined a.1 (short b.0) b.1 (short c.0 ++ (short d.0 ++ short f.0)) f.1 tb.0 p3 in
     let p1 = joined bytes (short a.0) a.1 (short b.0 ++ (short c.0 ++ (short d.0 ++ short f.0))) f.1 ta.0 p2 in
     subst (λ (y : Counts × List ℕ). (bytes ≡ counts y.0 ++ y.1) × AreCounts y.0) (ok_is _ x e)
-    (p1, record { numbers = ta.1; texts = tb.1; lists = tc.1; patterns = td.1; code = tf.1 }))))))
+    (p1, record { nums = ta.1; texts = tb.1; lists = tc.1; patterns = td.1; code = tf.1 }))))))
 
 counts_again : (c : Counts) (rest : List ℕ) → AreCounts c → counts_at (counts c ++ rest) ≡ Ok (c, rest)
 unfolding counts_at
 counts_again c rest h =
     rw (
-      count.again c.numbers _ h.numbers,
+      count.again c.nums _ h.nums,
       count.again c.texts _ h.texts,
       count.again c.lists _ h.lists,
       count.again c.patterns _ h.patterns,
@@ -106,7 +106,7 @@ counts-form = record { takes = counts_takes; again = counts_again }
 -- the tables
 abbrev pub tables : Raw → List ℕ
 tables raw =
-    flat_map number raw.numbers ++ (flat_map text raw.texts ++ (flat_map entries raw.lists
+    flat_map number raw.nums ++ (flat_map text raw.texts ++ (flat_map entries raw.lists
     ++ (flat_map pattern raw.patterns ++ flat_map instruction raw.code)))
 
 abbrev IsRow : {A : Type 0} → (A → Type 0) → ℕ → List A → Type 0
@@ -114,7 +114,7 @@ IsRow Good n rows = (length rows ≡ n) × All Good rows
 
 -- the tables have so many rows, each of them good
 pub record AreTables (c : Counts) (raw : Raw) : Type 0 where
-  pub numbers : IsRow (λ n. FitsSigned w64 n) c.numbers raw.numbers
+  pub nums : IsRow (λ n. FitsSigned w64 n) c.nums raw.nums
   pub texts : IsRow IsText c.texts raw.texts
   pub lists : IsRow IsList c.lists raw.lists
   pub patterns : IsRow IsPattern c.patterns raw.patterns
@@ -124,8 +124,8 @@ tables_takes : (counts : Counts) (bytes : List ℕ) (x : Raw × List ℕ) → Ar
     → (bytes ≡ tables x.0 ++ x.1) × AreTables counts x.0
 unfolding tables_at
 tables_takes counts bytes x fits e =
-    bind_then (many_at number_at counts.numbers bytes) _ x e (λ a ea e.
-    let ta = (many-form _ _ _ number-form counts.numbers).takes bytes a fits ea in
+    bind_then (many_at number_at counts.nums bytes) _ x e (λ a ea e.
+    let ta = (many-form _ _ _ number-form counts.nums).takes bytes a fits ea in
     let fa = rest_are_bytes bytes (flat_map number a.0) a.1 fits ta.0 in
     bind_then (many_at text_at counts.texts a.1) _ x e (λ b eb e.
     let tb = (many-form _ _ _ text-form counts.texts).takes a.1 b fa eb in
@@ -145,16 +145,16 @@ tables_takes counts bytes x fits e =
     let p1 = joined bytes (flat_map number a.0) a.1
     (flat_map text b.0 ++ (flat_map entries c.0 ++ (flat_map pattern d.0 ++ flat_map instruction f.0))) f.1 ta.0 p2 in
     subst (λ (y : Raw × List ℕ). (bytes ≡ tables y.0 ++ y.1) × AreTables counts y.0) (ok_is _ x e)
-    (p1, record { numbers = ta.1; texts = tb.1; lists = tc.1; patterns = td.1; code = tf.1 }))))))
+    (p1, record { nums = ta.1; texts = tb.1; lists = tc.1; patterns = td.1; code = tf.1 }))))))
 
 tables_again : (c : Counts) (raw : Raw) (rest : List ℕ) → AreTables c raw → tables_at c (tables raw ++ rest) ≡ Ok (raw, rest)
 unfolding tables_at
 tables_again c raw rest h =
-    let regrouped : tables raw ++ rest ≡ flat_map number raw.numbers ++ (flat_map text raw.texts
+    let regrouped : tables raw ++ rest ≡ flat_map number raw.nums ++ (flat_map text raw.texts
     ++ (flat_map entries raw.lists ++ (flat_map pattern raw.patterns ++ (flat_map instruction raw.code ++ rest)))) = simp append_assoc in
     ap (tables_at c) regrouped
     ∙ rw (
-      (many-form _ _ _ number-form c.numbers).again raw.numbers _ h.numbers,
+      (many-form _ _ _ number-form c.nums).again raw.nums _ h.nums,
       (many-form _ _ _ text-form c.texts).again raw.texts _ h.texts,
       (many-form _ _ _ list-form c.lists).again raw.lists _ h.lists,
       (many-form _ _ _ pattern-form c.patterns).again raw.patterns _ h.patterns,
@@ -166,7 +166,7 @@ tables_again c raw rest h =
 -- how many rows the tables of a program have
 abbrev pub counts_in : Raw → Counts
 counts_in raw = record {
-  numbers = length raw.numbers;
+  nums = length raw.nums;
   texts = length raw.texts;
   lists = length raw.lists;
   patterns = length raw.patterns;
@@ -180,7 +180,7 @@ IsFile raw = (fits raw ≡ true) × IsInRange raw
 file_from : (c : Counts) (raw : Raw) → AreCounts c → AreTables c raw → IsFile raw
 file_from c raw few good = (
   fits-within raw (record {
-    numbers = omega (arith, few.numbers, good.numbers.0);
+    nums = omega (arith, few.nums, good.nums.0);
     texts = omega (arith, few.texts, good.texts.0);
     lists = omega (arith, few.lists, good.lists.0);
     patterns = omega (arith, few.patterns, good.patterns.0);
@@ -190,7 +190,7 @@ file_from c raw few good = (
     each_pattern = list_all-from_AllPass is_pattern raw.patterns (All-weaker IsPattern (λ t. is_pattern t ≡ true) (λ _ h. h.0) raw.patterns good.patterns.1);
   }),
   record {
-    numbers = good.numbers.1;
+    nums = good.nums.1;
     texts = All-weaker IsText AreBytes (λ _ h. h.1) raw.texts good.texts.1;
     lists = All-weaker IsList (All AreBytes) (λ _ h. h.1) raw.lists good.lists.1;
     patterns = All-weaker IsPattern (λ p. AreBytes p.text) (λ _ h. h.1) raw.patterns good.patterns.1;
@@ -201,13 +201,13 @@ file_from c raw few good = (
 counts_from : (raw : Raw) → IsFile raw → AreCounts (counts_in raw)
 counts_from raw h =
     let w = within raw h.0 in
-    record { numbers = w.numbers; texts = w.texts; lists = w.lists; patterns = w.patterns; code = w.code }
+    record { nums = w.nums; texts = w.texts; lists = w.lists; patterns = w.patterns; code = w.code }
 
 tables_from : (raw : Raw) → IsFile raw → AreTables (counts_in raw) raw
 tables_from raw h =
     let w = within raw h.0 in
     record {
-      numbers = (refl, h.1.numbers);
+      nums = (refl, h.1.nums);
       texts = (refl, all_both (λ t. is_text t ≡ true) AreBytes raw.texts (AllPass-from_list_all is_text raw.texts w.each_text) h.1.texts);
       lists = (refl, all_both (λ t. is_list t ≡ true) (All AreBytes) raw.lists (AllPass-from_list_all is_list raw.lists w.each_list) h.1.lists);
       patterns = (refl, all_both (λ t. is_pattern t ≡ true) (λ p. AreBytes p.text) raw.patterns (AllPass-from_list_all is_pattern raw.patterns w.each_pattern) h.1.patterns);
@@ -227,7 +227,7 @@ raw_takes bytes x fits e =
     let t = tables_takes c.0 c.1 x fc e in
     let whole = joined bytes head r (counts c.0 ++ tables x.0) x.1 tr (joined r (counts c.0) c.1 (tables x.0) x.1 tc.0 t.0) in
     let same : counts c.0 ≡ counts (counts_in x.0) =
-    rw (t.1.numbers.0, t.1.texts.0, t.1.lists.0, t.1.patterns.0, t.1.code.0) refl in
+    rw (t.1.nums.0, t.1.texts.0, t.1.lists.0, t.1.patterns.0, t.1.code.0) refl in
     (whole ∙ ap (λ (f : List ℕ). (head ++ (f ++ tables x.0)) ++ x.1) same, file_from c.0 x.0 tc.1 t.1)))
 
 raw_again : (raw : Raw) (rest : List ℕ) → IsFile raw → raw_at (spelling raw ++ rest) ≡ Ok (raw, rest)

@@ -8,7 +8,7 @@ use Rattle.wq_code.specs.declared.raw.Raw.{Raw}
 
 -- each limit by itself
 pub record IsWithin (raw : Raw) : Type 0 where
-  pub numbers : length raw.numbers ≤ max_rows
+  pub nums : length raw.nums ≤ max_rows
   pub texts : length raw.texts ≤ max_rows
   pub lists : length raw.lists ≤ max_rows
   pub patterns : length raw.patterns ≤ max_rows
@@ -29,7 +29,7 @@ within raw h =
     let lists = and_parts _ _ c.1 in
     let patterns = and_parts _ _ b.1 in
     record {
-      numbers = leb-true _ _ d.0;
+      nums = leb-true _ _ d.0;
       texts = leb-true _ _ texts.0;
       lists = leb-true _ _ lists.0;
       patterns = leb-true _ _ patterns.0;
@@ -43,7 +43,7 @@ within raw h =
 pub fits-within : (raw : Raw) → IsWithin raw → fits raw ≡ true
 unfolding fits
 fits-within raw h =
-    and_from _ _ (and_from _ _ (and_from _ _ (and_from _ _ (le-leb _ _ h.numbers)
+    and_from _ _ (and_from _ _ (and_from _ _ (and_from _ _ (le-leb _ _ h.nums)
     (and_from _ _ (le-leb _ _ h.texts) h.each_text)) (and_from _ _ (le-leb _ _ h.lists) h.each_list))
     (and_from _ _ (le-leb _ _ h.patterns) h.each_pattern)) (le-leb _ _ h.code)
 

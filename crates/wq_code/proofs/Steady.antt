@@ -164,8 +164,8 @@ counts_steady bytes more =
 tables_steady : (counts : Counts) → IsSteady (tables_at counts)
 unfolding tables_at
 tables_steady counts bytes more =
-    steady_then (with_more more) (with_more more) (many_at number_at counts.numbers bytes) _ _ _
-    (many_steady number_at number_steady counts.numbers bytes more) (λ a.
+    steady_then (with_more more) (with_more more) (many_at number_at counts.nums bytes) _ _ _
+    (many_steady number_at number_steady counts.nums bytes more) (λ a.
     steady_then (with_more more) (with_more more) (many_at text_at counts.texts a.1) _ _ _
     (many_steady text_at text_steady counts.texts a.1 more) (λ b.
     steady_then (with_more more) (with_more more) (many_at list_at counts.lists b.1) _ _ _

@@ -17,14 +17,14 @@ head_at bytes = do
 -- the counts of the tables' rows
 unfoldable pub counts_at : Reader Counts
 counts_at bytes = do
-  (numbers, bytes) ← count_at max_rows bytes
+  (nums, bytes) ← count_at max_rows bytes
   (texts, bytes) ← count_at max_rows bytes
   (lists, bytes) ← count_at max_rows bytes
   (patterns, bytes) ← count_at max_rows bytes
   (code, bytes) ← count_at max_rows bytes
   Ok (
     record {
-      numbers = numbers;
+      nums = nums;
       texts = texts;
       lists = lists;
       patterns = patterns;
@@ -36,14 +36,14 @@ counts_at bytes = do
 -- the tables, with so many rows
 unfoldable pub tables_at : Counts → Reader Raw
 tables_at counts bytes = do
-  (numbers, bytes) ← many_at number_at counts.numbers bytes
+  (nums, bytes) ← many_at number_at counts.nums bytes
   (texts, bytes) ← many_at text_at counts.texts bytes
   (lists, bytes) ← many_at list_at counts.lists bytes
   (patterns, bytes) ← many_at pattern_at counts.patterns bytes
   (code, bytes) ← many_at op_at counts.code bytes
   Ok (
     record {
-      numbers = numbers;
+      nums = nums;
       texts = texts;
       lists = lists;
       patterns = patterns;

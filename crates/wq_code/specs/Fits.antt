@@ -30,6 +30,6 @@ is_pattern pattern = nat_le (length pattern.text) max_pattern_length
 -- each of the five tables, and each text, list and pattern in them
 unfoldable pub fits : Raw → Bool
 fits raw =
-    is_table raw.numbers && (is_table raw.texts && list_all is_text raw.texts)
+    is_table raw.nums && (is_table raw.texts && list_all is_text raw.texts)
     && (is_table raw.lists && list_all is_list raw.lists)
     && (is_table raw.patterns && list_all is_pattern raw.patterns) && is_table raw.code

@@ -44,9 +44,9 @@ instruction op = code_of op ∷ a_of op ∷ short (b_of op)
 unfoldable pub spelling : Raw → List ℕ
 spelling raw =
     codes "WQPF" ++ (1 ∷ []
-    ++ (short (length raw.numbers) ++ (short (length raw.texts) ++ (short (length raw.lists)
+    ++ (short (length raw.nums) ++ (short (length raw.texts) ++ (short (length raw.lists)
     ++ (short (length raw.patterns) ++ (short (length raw.code)
-    ++ (flat_map number raw.numbers ++ (flat_map text raw.texts ++ (flat_map entries raw.lists
+    ++ (flat_map number raw.nums ++ (flat_map text raw.texts ++ (flat_map entries raw.lists
     ++ (flat_map pattern raw.patterns ++ flat_map instruction raw.code))))))))))
 
 -- a list of bytes
@@ -55,7 +55,7 @@ AreBytes bytes = All (λ b. b < 256) bytes
 
 -- each number, byte and operand has room in its field: so it is of every `Raw` in memory
 pub record IsInRange (raw : Raw) : Type 0 where
-  pub numbers : All (λ n. FitsSigned w64 n) raw.numbers
+  pub nums : All (λ n. FitsSigned w64 n) raw.nums
   pub texts : All AreBytes raw.texts
   pub lists : All (All AreBytes) raw.lists
   pub patterns : All (λ p. AreBytes p.text) raw.patterns

@@ -15,7 +15,7 @@ use std::alloc::{AllocError, Global};
 /// How many rows the tables of a file have.
 #[derive(Clone, Copy)]
 pub(crate) struct Counts {
-    numbers: usize,
+    nums: usize,
     texts: usize,
     lists: usize,
     patterns: usize,
@@ -36,13 +36,13 @@ fn head_of(bytes: &[u8]) -> Result<&[u8], FileFault>
 fn counts_of(bytes: &[u8]) -> Result<(Counts, &[u8]), FileFault>
     ensures { Gives (λ x. (x.0, x.1.now)) result (counts_at bytes.now) }
 {
-    let (numbers, rest) = count_of(MAX_ROWS, bytes)?;
+    let (nums, rest) = count_of(MAX_ROWS, bytes)?;
     let (texts, rest) = count_of(MAX_ROWS, rest)?;
     let (lists, rest) = count_of(MAX_ROWS, rest)?;
     let (patterns, rest) = count_of(MAX_ROWS, rest)?;
     let (code, rest) = count_of(MAX_ROWS, rest)?;
     let counts = Counts {
-        numbers,
+        nums,
         texts,
         lists,
         patterns,
@@ -56,13 +56,13 @@ fn counts_of(bytes: &[u8]) -> Result<(Counts, &[u8]), FileFault>
 fn tables_of(alloc: Global, counts: Counts, bytes: &[u8]) -> Result<(Raw, &[u8]), FileFault>
     ensures { Gives (λ x. (x.0, x.1.now)) result (tables_at counts bytes.now) }
 {
-    let (numbers, rest) = many_of(alloc, counts.numbers, bytes)?;
+    let (nums, rest) = many_of(alloc, counts.nums, bytes)?;
     let (texts, rest) = many_of(alloc, counts.texts, rest)?;
     let (lists, rest) = many_of(alloc, counts.lists, rest)?;
     let (patterns, rest) = many_of(alloc, counts.patterns, rest)?;
     let (code, rest) = many_of(alloc, counts.code, rest)?;
     let raw = Raw {
-        numbers,
+        nums,
         texts,
         lists,
         patterns,
@@ -121,12 +121,12 @@ pub fn encode(alloc: Global, raw: &Raw) -> Result<Vec<u8>, AllocError>
     let mut out = Vec::new(alloc);
     out.extend_from_slice(b"WQPF")?;
     out.push(1)?;
-    put_short(&mut out, raw.numbers.len())?;
+    put_short(&mut out, raw.nums.len())?;
     put_short(&mut out, raw.texts.len())?;
     put_short(&mut out, raw.lists.len())?;
     put_short(&mut out, raw.patterns.len())?;
     put_short(&mut out, raw.code.len())?;
-    put_many(&mut out, raw.numbers.as_slice())?;
+    put_many(&mut out, raw.nums.as_slice())?;
     put_many(&mut out, raw.texts.as_slice())?;
     put_many(&mut out, raw.lists.as_slice())?;
     put_many(&mut out, raw.patterns.as_slice())?;

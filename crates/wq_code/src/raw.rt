@@ -12,7 +12,7 @@ use wq_glob::Pattern;
 #[derive(Debug, Drop)]
 pub struct Raw {
     /// The constants of `num`.
-    pub numbers: Table<i64>,
+    pub nums: Table<i64>,
     /// The constants of `text`, as bytes.
     pub texts: Table<Table<u8>>,
     /// The constants of `oneof`, each a list of texts.
@@ -26,12 +26,12 @@ pub struct Raw {
 impl Raw {
     /// Whether the program keeps to the limits of a file: at most [`MAX_ROWS`] rows of each table,
     /// texts of at most [`MAX_TEXT`](crate::limit::MAX_TEXT) bytes and lists of at most
-    /// [`MAX_ENTRIES`](crate::limit::MAX_ENTRIES).
+    /// [`MAX_ENTRIES`](crate::limit::MAX_ENTRIES). A pattern has at most 255 bytes anyway.
     #[tactic(auto, unfolding(crate::specs::Fits::fits))]
     pub fn fits(&self) -> bool
         ensures { result ≡ fits self.now }
     {
-        self.numbers.len() <= MAX_ROWS
+        self.nums.len() <= MAX_ROWS
             && (self.texts.len() <= MAX_ROWS && all_fit(self.texts.as_slice()))
             && (self.lists.len() <= MAX_ROWS && all_fit(self.lists.as_slice()))
             && (self.patterns.len() <= MAX_ROWS && all_fit(self.patterns.as_slice()))

@@ -25,13 +25,6 @@ impl<T> Table<T> {
         Table { rows }
     }
 
-    /// The rows of the table. It takes no memory.
-    pub fn into_vec(self) -> Vec<T>
-        ensures { result.items ≡ self }
-    {
-        self.rows
-    }
-
     /// The rows of the table.
     pub fn as_slice(&self) -> &[T]
         ensures { result.now ≡ self.now }

@@ -154,7 +154,7 @@ leaves : (raw : Raw) (item : Item) (width : ℕ) (op : Op) (cells : List Cell) �
 unfolding cells_after
 leaves raw item width (Flag x) cells s w m k n = record { after = flag x ∷ cells; is = refl; kinds = refl; narrow = (tt, n) }
 leaves raw item width (Number place) cells s w m k n =
-    let c = there raw.numbers place k in record { after = number c.0 ∷ cells; is = rw c.1 refl; kinds = refl; narrow = (tt, n) }
+    let c = there raw.nums place k in record { after = number c.0 ∷ cells; is = rw c.1 refl; kinds = refl; narrow = (tt, n) }
 leaves raw item width (Text place) cells s w m k n =
     let c = there raw.texts place k in
     record { after = text c.0 ∷ cells; is = rw c.1 refl; kinds = refl; narrow = (omega (arith, longest_len_at raw.texts place c.0 c.1, w.texts), n) }

@@ -71,9 +71,9 @@ fn cost(raw: &Raw, width: u64, op: Op) -> u64
 }
 
 impl Program {
-    /// The most that the program can cost on a name of `name_len` bytes, at most 4,096: the
-    /// sum over all instructions, executed or not, of 1, of a cell for each atom of a pattern and
-    /// one at each byte of the widest text and one, and of the entries of a list. It takes no
+    /// The most that the program can cost on a name of `name_len` bytes, at most 4,096: each
+    /// instruction once, whether a run meets it or not, for 1, for a cell for each atom of a pattern
+    /// and one at each byte of the widest text and one, and for the entries of a list. It takes no
     /// memory.
     #[tactic(auto, unfolding(crate::specs::Budget::budget_of))]
     pub fn budget(&self, name_len: u64) -> u64

@@ -2,7 +2,7 @@
 //! whose contract is the law. A proof of another crate gets a law by a call, which costs nothing.
 ghost use Rattle.wq_verify.specs.Law.{FrontsAreUnique, FrontsGrow, ValidAreTyped, ValidAreAccepted, RunsBeginWell, StepsGoWell};
 
-/// There is at most one front typing to a place.
+/// Two typings of the same first places are equal.
 pub fn fronts_are_unique()
     ensures { FrontsAreUnique }
 {}

@@ -1,7 +1,6 @@
 //! Which programs may run. A program is accepted where the kinds of the cells on its stack are
-//! known at each place, whatever way led there: then it runs on every file to a yes or a no, never
-//! short of an operand or outside its code and constants, and within a budget that is known
-//! beforehand.
+//! known at each place, whatever way led there. Such a program ends on every file, always finds the
+//! cells and constants that it uses, and costs no more than a number that is known beforehand.
 //!
 //! Whether a program may run is defined in `specs/Typing.antt`, by the existence of such kinds, and
 //! what is wrong with one that may not in `specs/Fault.antt`. This crate runs no programs.

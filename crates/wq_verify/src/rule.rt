@@ -37,7 +37,7 @@ fn has_constant(raw: &Raw, op: Op) -> bool
     ensures { result ≡ has_constant raw.now (constant op) }
 {
     match op {
-        Op::Number(place) => (place as usize) < raw.numbers.len(),
+        Op::Number(place) => (place as usize) < raw.nums.len(),
         Op::Text(place) => (place as usize) < raw.texts.len(),
         Op::OneOf(_, place) => (place as usize) < raw.lists.len(),
         Op::Match(place) => (place as usize) < raw.patterns.len(),

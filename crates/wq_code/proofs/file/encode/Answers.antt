@@ -3,7 +3,7 @@ use Rattle.wq_code.proofs.FitsLemmas.{within, list_all-always}
 use Rattle.wq_code.proofs.file.encode.Goals as goal
 
 pub put_short-requires : goal.put_short-requires
-put_short-requires c = omega (arith, c.len.ensures, (within c.args.raw.now c.requires).numbers)
+put_short-requires c = omega (arith, c.len.ensures, (within c.args.raw.now c.requires).nums)
 
 pub put_short-requires-2 : goal.put_short-requires-2
 put_short-requires-2 c = omega (arith, c.len-2.ensures, (within c.args.raw.now c.requires).texts)

@@ -6,7 +6,7 @@ pub returns : goal.returns
 unfolding tables_at
 returns c =
     rw (
-      c.in_ok-numbers.ensures,
+      c.in_ok-nums.ensures,
       c.in_ok-texts.ensures,
       c.in_ok-lists.ensures,
       c.in_ok-patterns.ensures,
