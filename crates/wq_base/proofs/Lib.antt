@@ -1,4 +1,4 @@
 pub mod Unsigned
 pub mod Signed
 pub mod Fault
-pub mod Table
+pub mod Named

@@ -1,6 +1,8 @@
 pub mod Limit
 pub mod Byte
 pub mod Name
+pub mod Compare
+pub mod Directory
 pub mod Decimal
 pub mod Fault
 pub mod Table

@@ -1,11 +1,21 @@
-//! What several crates of the server need once: numbers in their one decimal text, and the limit of all numbers.
-//! The bytes of paths and the forms of definitions that more than one crate uses stand in `specs/`.
+//! What several crates of the server need once: numbers in their one decimal text, and the limit of all numbers; how
+//! numbers and texts are compared, which names lie below a directory, and lists and texts that contracts see
+//! as plain lists. The bytes and parts of paths and the forms
+//! of definitions that more than one crate uses stand in `specs/`.
 #![tactic(auto)]
 
+mod compare;
 mod decimal;
+mod directory;
 mod limit;
+mod table;
+mod text;
 mod version;
 
+pub use compare::{Case, Relation, is_suffix};
 pub use decimal::{signed_number, unsigned_number};
+pub use directory::{rest_below, slashes};
 pub use limit::{MAX_NUMBER, MAX_SIGNED};
+pub use table::Table;
+pub use text::Text;
 pub use version::VERSION;

@@ -18,10 +18,10 @@ use Rattle.wq_glob.specs.Pattern.{PatternData}
 use Rattle.wq_glob.specs.declared.flag.Flags.{Flags}
 use Rattle.wq_code.specs.declared.fault.FileFault.{FileFault}
 use Rattle.wq_code.specs.declared.fault.FileFault.TheVariants.{CutShort, OverLimit, BadOperand, UnknownOperation}
-use Rattle.wq_code.specs.declared.operation.Case.{Case}
-use Rattle.wq_code.specs.declared.operation.Case.TheVariants.{Exact, Folded}
-use Rattle.wq_code.specs.declared.operation.Relation.{Relation}
-use Rattle.wq_code.specs.declared.operation.Relation.TheVariants.{Eq, Ne, Lt, Le, Gt, Ge}
+use Rattle.wq_base.specs.declared.compare.Case.{Case}
+use Rattle.wq_base.specs.declared.compare.Case.TheVariants.{Exact, Folded}
+use Rattle.wq_base.specs.declared.compare.Relation.{Relation}
+use Rattle.wq_base.specs.declared.compare.Relation.TheVariants.{Eq, Ne, Lt, Le, Gt, Ge}
 use Rattle.wq_code.specs.declared.operation.Op.{Op}
 use Rattle.wq_code.specs.declared.operation.Op.TheVariants.{Flag, Number, Text, Compare, Equal, Depth, OneOf, Match, Jump, JumpIfNot, JumpIf}
 use Rattle.wq_code.specs.Word.{code_of, a_of, b_of, blank_ops, flag_code, case_code, relation_code, op_of_code, flag_of_code, case_of_code, relation_of_code, with_a, with_b}

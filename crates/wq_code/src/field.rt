@@ -6,8 +6,8 @@ ghost use Rattle.wq_code.specs.Spelling.{short};
 ghost use Rattle.wq_code.specs.Reading.{Gives, bytes_at, byte_at, exact_at, end_at, short_at, count_at, many_at};
 
 use crate::fault::FileFault;
-use crate::table::Table;
 use std::alloc::{AllocError, Global};
+use wq_base::Table;
 
 /// A value that has a form of its own in files.
 pub(crate) trait Field: Drop + Sized {

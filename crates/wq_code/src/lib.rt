@@ -17,7 +17,6 @@ mod operation;
 mod raw;
 mod row;
 mod signature;
-mod table;
 mod word;
 
 pub use fault::FileFault;
@@ -28,8 +27,8 @@ pub use law::{
     spellings_are_read_back,
 };
 pub use limit::{MAX_ENTRIES, MAX_ROWS, MAX_TEXT};
-pub use operation::{Case, CellKind, Op, Relation};
+pub use operation::{CellKind, Op};
 pub use raw::Raw;
 pub use signature::Need;
-pub use table::Table;
 pub use word::Word;
+pub use wq_base::{Case, Relation, Table};

@@ -2,6 +2,8 @@
 //! `specs/Signature.antt`, `specs/Flow.antt` and `specs/Machine.antt`, and how it is written in
 //! `specs/Word.antt`.
 
+use wq_base::{Case, Relation};
+
 /// What a cell of the machine's stack holds.
 #[derive(Clone, Copy, Debug)]
 pub enum CellKind {
@@ -11,26 +13,6 @@ pub enum CellKind {
     Number,
     /// Bytes.
     Text,
-}
-
-/// How the first of two numbers stands to the second.
-#[derive(Clone, Copy, Debug)]
-pub enum Relation {
-    Eq,
-    Ne,
-    Lt,
-    Le,
-    Gt,
-    Ge,
-}
-
-/// How the letters of two texts are compared.
-#[derive(Clone, Copy, Debug)]
-pub enum Case {
-    /// Byte by byte.
-    Exact,
-    /// A to Z as a to z.
-    Folded,
 }
 
 /// An instruction. A number inside is the place of a constant in its table, or of an instruction in

@@ -5,7 +5,7 @@ ghost use Rattle.wq_code.specs.Fits.{fits};
 use crate::field::all_fit;
 use crate::limit::MAX_ROWS;
 use crate::operation::Op;
-use crate::table::Table;
+use wq_base::Table;
 use wq_glob::Pattern;
 
 /// A program as it was read or put together: nothing is known of it.

@@ -9,9 +9,9 @@ use crate::field::{
 };
 use crate::limit::{MAX_ENTRIES, MAX_TEXT};
 use crate::operation::Op;
-use crate::table::Table;
 use crate::word::{op_of_byte, take_a, take_b};
 use std::alloc::{AllocError, Global};
+use wq_base::Table;
 use wq_glob::{Flags, MAX_PATTERN, Pattern, PatternFault};
 
 impl Field for i64 {

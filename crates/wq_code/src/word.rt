@@ -3,7 +3,8 @@
 ghost use Rattle.std.specs.Prelude.{◌≡◌};
 ghost use Rattle.wq_code.specs.Word.{word_of, case_code, relation_code, op_of_code, flag_of_code, case_of_code, relation_of_code, with_a, with_b};
 
-use crate::operation::{Case, Op, Relation};
+use crate::operation::Op;
+use wq_base::{Case, Relation};
 
 /// An instruction as a file has it. Operands that an instruction does not have are 0.
 #[derive(Clone, Copy, Debug)]

@@ -16,7 +16,7 @@ use Rattle.serde_json.specs.Find.{as_i64, as_integer}
 use Rattle.wq_base.specs.Limit.{max_number}
 use Rattle.wq_base.specs.Fault.{or_fault}
 use Rattle.wq_base.proofs.Fault.{or_fault-ok, with_first-some}
-use Rattle.wq_base.proofs.Table.{named-name}
+use Rattle.wq_base.proofs.Named.{named-name}
 use Rattle.wq_clock.specs.Instance.{InstanceData}
 use Rattle.wq_clock.specs.ClockSpec.{clock_spec_of}
 use Rattle.wq_clock.specs.Bound.{bound_of}
@@ -26,8 +26,8 @@ use Rattle.wq_clock.specs.declared.bound.Bound.TheVariants.{Second}
 use Rattle.wq_view.specs.declared.kind.Kind.{Kind}
 use Rattle.wq_view.specs.declared.kind.Kind.TheVariants.{File, Dir, Link, Block, Char, Fifo, Socket}
 use Rattle.wq_view.specs.declared.kind.Kind.TheVariants.{Door, Unknown}
-use Rattle.wq_term.specs.declared.expr.Relation.{Relation}
-use Rattle.wq_term.specs.declared.expr.Relation.TheVariants.{Eq, Ne, Gt, Ge, Lt, Le}
+use Rattle.wq_base.specs.declared.compare.Relation.{Relation}
+use Rattle.wq_base.specs.declared.compare.Relation.TheVariants.{Eq, Ne, Gt, Ge, Lt, Le}
 use Rattle.wq_term.specs.declared.expr.Scope.{Scope}
 use Rattle.wq_term.specs.declared.expr.Scope.TheVariants.{Basename, Wholename}
 use Rattle.wq_term.specs.declared.expr.Depth.{Depth}

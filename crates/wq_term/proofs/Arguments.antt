@@ -5,7 +5,7 @@ use Rattle.serde_json.specs.Data.{Data}
 use Rattle.serde_json.specs.View.{items_view}
 use Rattle.serde_json.specs.declared.value.Value.{Value}
 use Rattle.wq_clock.specs.Instance.{InstanceData}
-use Rattle.wq_term.specs.declared.expr.Case.{Case}
+use Rattle.wq_base.specs.declared.compare.Case.{Case}
 use Rattle.wq_term.specs.declared.fault.TermFault.TheVariants.{WrongArguments}
 use Rattle.wq_term.specs.Expr.{ExprData}
 use Rattle.wq_term.specs.Argument.{comparison_of}

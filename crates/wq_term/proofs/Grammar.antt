@@ -6,12 +6,12 @@ use Rattle.std.proofs.lemmas.Option.{same_Some}
 use Rattle.serde_json.specs.Data.{Data, string, array, Items, no_items, item}
 use Rattle.wq_base.specs.Fault.{or_fault, or_own_fault}
 use Rattle.wq_base.proofs.Fault.{or_fault-ok, or_own_fault-ok}
-use Rattle.wq_base.proofs.Table.{named-name}
+use Rattle.wq_base.proofs.Named.{named-name}
 use Rattle.wq_clock.specs.Instance.{InstanceData}
 use Rattle.wq_clock.specs.Law.{TextsSayWhatTheySpell}
 use Rattle.wq_glob.specs.Pattern.{PatternData}
-use Rattle.wq_term.specs.declared.expr.Case.{Case}
-use Rattle.wq_term.specs.declared.expr.Case.TheVariants.{Exact, Folded}
+use Rattle.wq_base.specs.declared.compare.Case.{Case}
+use Rattle.wq_base.specs.declared.compare.Case.TheVariants.{Exact, Folded}
 use Rattle.wq_term.specs.declared.fault.TermFault.TheVariants.{UnknownTerm, WrongArguments}
 use Rattle.wq_term.specs.declared.head.Head.{Head}
 use Rattle.wq_term.specs.declared.head.Head.TheVariants.{True, False, Exists, Empty, KindIs, Name}

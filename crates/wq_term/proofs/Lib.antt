@@ -6,3 +6,4 @@ mod ArgumentGrammar
 mod PatternGrammar
 mod TermGrammar
 mod Grammar
+mod KeptLimits

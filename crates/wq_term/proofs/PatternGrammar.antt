@@ -13,7 +13,7 @@ use Rattle.wq_base.proofs.Fault.{unless_fault-ok}
 use Rattle.wq_glob.specs.Limit.{max_pattern_length}
 use Rattle.wq_glob.specs.Pattern.{PatternData}
 use Rattle.wq_glob.specs.declared.flag.Flags.{Flags}
-use Rattle.wq_term.specs.declared.expr.Case.{Case}
+use Rattle.wq_base.specs.declared.compare.Case.{Case}
 use Rattle.wq_term.specs.declared.expr.Scope.{Scope}
 use Rattle.wq_term.specs.declared.expr.Scope.TheVariants.{Basename, Wholename}
 use Rattle.wq_term.specs.declared.fault.TermFault.TheVariants.{PatternTooLong}

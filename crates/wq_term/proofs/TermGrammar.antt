@@ -8,10 +8,10 @@ use Rattle.wq_clock.specs.Instance.{InstanceData}
 use Rattle.wq_clock.specs.Law.{TextsSayWhatTheySpell}
 use Rattle.wq_glob.specs.Pattern.{PatternData}
 use Rattle.wq_view.specs.declared.kind.Kind.{Kind}
-use Rattle.wq_term.specs.declared.expr.Case.{Case}
+use Rattle.wq_base.specs.declared.compare.Case.{Case}
 use Rattle.wq_term.specs.declared.expr.Depth.{Depth}
 use Rattle.wq_term.specs.declared.expr.Depth.TheVariants.{Any}
-use Rattle.wq_term.specs.declared.expr.Relation.{Relation}
+use Rattle.wq_base.specs.declared.compare.Relation.{Relation}
 use Rattle.wq_term.specs.declared.expr.Scope.{Scope}
 use Rattle.wq_term.specs.declared.expr.Scope.TheVariants.{Basename}
 use Rattle.wq_term.specs.declared.expr.Since.{Since as SinceData}

@@ -14,7 +14,7 @@ use Rattle.wq_clock.specs.Bound.{bound_of}
 use Rattle.wq_clock.specs.declared.bound.Bound.{Bound}
 use Rattle.wq_clock.specs.declared.bound.Bound.TheVariants.{Second}
 use Rattle.wq_view.specs.declared.kind.Kind.{Kind}
-use Rattle.wq_term.specs.declared.expr.Relation.{Relation}
+use Rattle.wq_base.specs.declared.compare.Relation.{Relation}
 use Rattle.wq_term.specs.declared.expr.Scope.{Scope}
 use Rattle.wq_term.specs.declared.expr.Depth.{Depth}
 use Rattle.wq_term.specs.declared.expr.Depth.TheVariants.{Is}

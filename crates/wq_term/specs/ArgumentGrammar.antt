@@ -21,7 +21,7 @@ use Rattle.wq_glob.specs.Pattern.{PatternData}
 use Rattle.wq_glob.specs.declared.flag.Flags.{Flags}
 use Rattle.wq_term.specs.declared.expr.Depth.{Depth}
 use Rattle.wq_term.specs.declared.expr.Depth.TheVariants.{Is}
-use Rattle.wq_term.specs.declared.expr.Relation.{Relation}
+use Rattle.wq_base.specs.declared.compare.Relation.{Relation}
 use Rattle.wq_term.specs.declared.expr.Scope.TheVariants.{Basename}
 use Rattle.wq_term.specs.Limit.{max_text_length}
 use Rattle.wq_term.specs.Word.{kind_name, scope_name, relation_name}

@@ -9,14 +9,15 @@ use Rattle.wq_view.specs.declared.kind.Kind.TheVariants.{File, Dir}
 use Rattle.wq_view.specs.Kind.{letter_of}
 use Rattle.wq_view.specs.RecordData.{RecordData}
 use Rattle.wq_glob.specs.Pattern.{PatternData}
-use Rattle.wq_term.specs.declared.expr.Case.{Case}
+use Rattle.wq_base.specs.declared.compare.Case.{Case}
 use Rattle.wq_term.specs.declared.expr.Scope.{Scope}
-use Rattle.wq_term.specs.declared.expr.Relation.{Relation}
+use Rattle.wq_base.specs.declared.compare.Relation.{Relation}
 use Rattle.wq_term.specs.declared.expr.Since.{Since}
 use Rattle.wq_term.specs.declared.expr.Depth.{Depth}
 use Rattle.wq_term.specs.declared.expr.Expr.{Expr, fold-Expr}
 use Rattle.wq_term.specs.declared.expr.Expr.TheOpen.{Expr-F}
-use Rattle.wq_term.specs.Number.{compares, is_since}
+use Rattle.wq_base.specs.Compare.{compares}
+use Rattle.wq_term.specs.Number.{is_since}
 use Rattle.wq_term.specs.Text.{is_named, has_suffix, is_below}
 use Rattle.wq_term.specs.NameFit.{name_fits}
 

@@ -3,8 +3,8 @@
 use Rattle.std.specs.Prelude.{◌≡◌, if◌then◌else◌}
 use Rattle.serde_json.specs.Data.{Data, string, array, Items, no_items, item}
 use Rattle.wq_clock.specs.Instance.{InstanceData}
-use Rattle.wq_term.specs.declared.expr.Case.{Case}
-use Rattle.wq_term.specs.declared.expr.Case.TheVariants.{Exact, Folded}
+use Rattle.wq_base.specs.declared.compare.Case.{Case}
+use Rattle.wq_base.specs.declared.compare.Case.TheVariants.{Exact, Folded}
 use Rattle.wq_term.specs.declared.expr.Depth.TheVariants.{Any}
 use Rattle.wq_term.specs.declared.expr.Scope.TheVariants.{Basename}
 use Rattle.wq_term.specs.declared.expr.Since.{Since as SinceData}

@@ -1,6 +1,6 @@
 -- What reading expressions and their grammar have to do with each other.
 -- No public document is behind it.
-use Rattle.std.specs.Prelude.{ℤ, ◌≡◌, ◌≤◌, ◌↔◌, Ok, Some}
+use Rattle.std.specs.Prelude.{ℤ, ◌≡◌, ◌≤◌, ◌↔◌, true, Ok, Some}
 use Rattle.serde_json.specs.Data.{Data}
 use Rattle.wq_clock.specs.Instance.{InstanceData}
 use Rattle.wq_clock.specs.declared.bound.Bound.{Bound}
@@ -8,6 +8,7 @@ use Rattle.wq_term.specs.Limit.{max_depth}
 use Rattle.wq_term.specs.Argument.{bound_in, whole_number_of}
 use Rattle.wq_term.specs.ArgumentGrammar.{IsBound, IsWhole}
 use Rattle.wq_term.specs.Expr.{ExprData, depth_of}
+use Rattle.wq_term.specs.Fits.{fits}
 use Rattle.wq_term.specs.Reading.{reads_as}
 use Rattle.wq_term.specs.Grammar.{IsWrittenBy}
 
@@ -21,6 +22,11 @@ ValuesSayWhatTheyWrite = (instance : InstanceData) (t : ExprData) (d : Data)
 abbrev pub ReadExpressionsAreShallow : Type 0
 ReadExpressionsAreShallow = (instance : InstanceData) (t : ExprData) (d : Data)
     → reads_as instance max_depth d ≡ Ok t → depth_of t ≤ max_depth
+
+-- and its texts and numbers keep their limits
+abbrev pub ReadExpressionsFit : Type 0
+ReadExpressionsFit = (instance : InstanceData) (t : ExprData) (d : Data)
+    → reads_as instance max_depth d ≡ Ok t → fits t ≡ true
 
 -- a value is read as a bound exactly where the grammar has it as a writing of that bound
 abbrev pub BoundsSayWhatTheyWrite : Type 0

@@ -3,6 +3,8 @@ pub mod Number
 pub mod Text
 pub mod NameFit
 pub mod Expr
+pub mod CodeLength
+pub mod Fits
 pub mod Head
 pub mod Word
 pub mod Argument

@@ -6,8 +6,8 @@ use Rattle.serde_json.specs.Data.{Data, boolean, object, Members, no_members, me
 use Rattle.serde_json.specs.Find.{get, as_bool}
 use Rattle.wq_base.specs.Fault.{is_true}
 use Rattle.wq_glob.specs.declared.flag.Flags.{Flags}
-use Rattle.wq_term.specs.declared.expr.Case.{Case}
-use Rattle.wq_term.specs.declared.expr.Case.TheVariants.{Exact, Folded}
+use Rattle.wq_base.specs.declared.compare.Case.{Case}
+use Rattle.wq_base.specs.declared.compare.Case.TheVariants.{Exact, Folded}
 use Rattle.wq_term.specs.declared.expr.Scope.{Scope}
 use Rattle.wq_term.specs.declared.expr.Scope.TheVariants.{Basename, Wholename}
 

@@ -6,8 +6,8 @@ use Rattle.wq_base.specs.Fault.{or_fault, or_own_fault, unless_fault}
 use Rattle.wq_clock.specs.Instance.{InstanceData}
 use Rattle.wq_glob.specs.Limit.{max_pattern_length}
 use Rattle.wq_glob.specs.declared.flag.Flags.{Flags}
-use Rattle.wq_term.specs.declared.expr.Case.{Case}
-use Rattle.wq_term.specs.declared.expr.Case.TheVariants.{Exact, Folded}
+use Rattle.wq_base.specs.declared.compare.Case.{Case}
+use Rattle.wq_base.specs.declared.compare.Case.TheVariants.{Exact, Folded}
 use Rattle.wq_term.specs.declared.expr.Depth.{Depth}
 use Rattle.wq_term.specs.declared.expr.Depth.TheVariants.{Any}
 use Rattle.wq_term.specs.declared.expr.Scope.{Scope}

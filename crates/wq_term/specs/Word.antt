@@ -6,8 +6,8 @@ use Rattle.wq_view.specs.declared.kind.Kind.{Kind}
 use Rattle.wq_view.specs.declared.kind.Kind.TheVariants.{File, Dir, Link, Block, Char}
 use Rattle.wq_view.specs.declared.kind.Kind.TheVariants.{Fifo, Socket, Door}
 use Rattle.wq_view.specs.Kind.{letter_of}
-use Rattle.wq_term.specs.declared.expr.Relation.{Relation}
-use Rattle.wq_term.specs.declared.expr.Relation.TheVariants.{Eq, Ne, Gt, Ge, Lt, Le}
+use Rattle.wq_base.specs.declared.compare.Relation.{Relation}
+use Rattle.wq_base.specs.declared.compare.Relation.TheVariants.{Eq, Ne, Gt, Ge, Lt, Le}
 use Rattle.wq_term.specs.declared.expr.Scope.{Scope}
 use Rattle.wq_term.specs.declared.expr.Scope.TheVariants.{Basename, Wholename}
 use Rattle.wq_term.specs.declared.reading.word.Field.{Field}

@@ -1,6 +1,7 @@
 //! The expressions, one variant for each term. Terms that differ in letter case alone are one
 //! variant.
 
+use wq_base::{Case, Relation};
 use wq_clock::Bound;
 use wq_glob::Pattern;
 use wq_view::Kind;
@@ -50,32 +51,12 @@ pub enum Expr {
     AnyOf(Vec<Expr>),
 }
 
-/// How texts are compared.
-#[derive(Clone, Copy)]
-pub enum Case {
-    /// Byte by byte.
-    Exact,
-    /// With A to Z as a to z, and each other byte as it is.
-    Folded,
-}
-
 /// Which part of a name is compared.
 #[derive(Clone, Copy)]
 pub enum Scope {
     /// What follows the last slash.
     Basename,
     Wholename,
-}
-
-/// How a number of a file stands to a number that is asked for.
-#[derive(Clone, Copy)]
-pub enum Relation {
-    Eq,
-    Ne,
-    Gt,
-    Ge,
-    Lt,
-    Le,
 }
 
 /// What happened to a file, and strictly after which point.

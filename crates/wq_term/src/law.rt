@@ -1,7 +1,8 @@
 //! Laws about reading expressions, each a function whose contract is the law. A proof of another
 //! crate gets a law by a call, which costs nothing.
 ghost use Rattle.wq_term.specs.Law.{BoundsSayWhatTheyWrite, NumbersSayWhatTheyWrite};
-ghost use Rattle.wq_term.specs.Law.{ReadExpressionsAreShallow, ValuesSayWhatTheyWrite};
+ghost use Rattle.wq_term.specs.Law.{ReadExpressionsAreShallow, ReadExpressionsFit};
+ghost use Rattle.wq_term.specs.Law.{ValuesSayWhatTheyWrite};
 
 use wq_clock::texts_say_what_they_spell;
 
@@ -16,6 +17,13 @@ pub fn values_say_what_they_write()
 /// An expression that is read is at most 64 terms deep.
 pub fn read_expressions_are_shallow()
     ensures { ReadExpressionsAreShallow }
+{
+    texts_say_what_they_spell();
+}
+
+/// An expression that is read keeps the limits that [`Expr::fits`](crate::Expr::fits) tests.
+pub fn read_expressions_fit()
+    ensures { ReadExpressionsFit }
 {
     texts_say_what_they_spell();
 }

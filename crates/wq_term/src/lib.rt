@@ -2,18 +2,22 @@
 //! Which records are asked, and by which program, is not said here.
 #![tactic(auto)]
 
+mod code_length;
 mod expr;
 mod fault;
+mod fitting;
 mod head;
 mod law;
 mod meaning;
 mod reading;
 
-pub use expr::{Case, Depth, Expr, Relation, Scope, Since};
+pub use code_length::code_len;
+pub use expr::{Depth, Expr, Scope, Since};
 pub use fault::TermFault;
 pub use law::{
     bounds_say_what_they_write, numbers_say_what_they_write, read_expressions_are_shallow,
-    values_say_what_they_write,
+    read_expressions_fit, values_say_what_they_write,
 };
 pub use meaning::holds;
 pub use reading::{MAX_DEPTH, MAX_TEXT, read_bound, read_expr, whole_number};
+pub use wq_base::{Case, Relation};

@@ -1,9 +1,10 @@
 //! Reading an expression from a JSON value: the terms, their heads and how they nest. What the
 //! arguments of one term say is read in the modules below; what a term means is not said here.
-ghost use Rattle.std.specs.Prelude.{◌≡◌};
+ghost use Rattle.std.specs.Prelude.{◌≡◌, IfOk, IsTrue};
 ghost use Rattle.serde_json.specs.View.{view as data_of, items_view};
 ghost use Rattle.wq_clock.specs.Instance.{instance_data};
 ghost use Rattle.wq_term.specs.Outcome.{Gives, GivesAll};
+ghost use Rattle.wq_term.specs.Fits.{fits};
 ghost use Rattle.wq_term.specs.Limit.{max_depth};
 ghost use Rattle.wq_term.specs.Reading.{read_plain, read_negation, read_all, read_named, reads_as};
 ghost use Rattle.wq_term.specs.Expr.{term_of};
@@ -14,14 +15,16 @@ mod number;
 mod pattern;
 mod word;
 
-use crate::expr::{Case, Expr};
+use crate::expr::Expr;
 use crate::fault::TermFault;
 use crate::head::Head;
+use crate::law::read_expressions_fit;
 use argument::parts;
 pub use argument::{MAX_TEXT, whole_number};
 pub use number::read_bound;
 use serde_json::Value;
 use std::alloc::Global;
+use wq_base::Case;
 use wq_clock::Instance;
 
 /// How many terms may stand inside one another, the outermost counted.
@@ -33,8 +36,11 @@ pub const MAX_DEPTH: u32 = 64;
 /// array of it alone. The first fault refuses the value: see [`TermFault`]. Which values are read is
 /// also said as a grammar: see [`values_say_what_they_write`](crate::values_say_what_they_write).
 pub fn read_expr(alloc: Global, value: &Value, instance: &Instance) -> Result<Expr, TermFault>
-    ensures { Gives result (reads_as (instance_data instance.now) max_depth (data_of value.now)) }
+    ensures read { Gives result
+        (reads_as (instance_data instance.now) max_depth (data_of value.now)) }
+    ensures limits { IfOk result (λ expr. IsTrue (fits (term_of expr))) }
 {
+    read_expressions_fit();
     read_term(alloc, value, instance, MAX_DEPTH)
 }
 

@@ -13,7 +13,8 @@ use Rattle.wq_glob.specs.Pattern.{PatternData, atoms_of, fits}
 use Rattle.wq_code.specs.Item.{Item}
 use Rattle.wq_base.specs.Name.{basename_of, suffix_of, seconds_of}
 use Rattle.wq_base.specs.Byte.{is_dot}
-use Rattle.wq_code.specs.Name.{compares, same_text, depth_of}
+use Rattle.wq_base.specs.Compare.{compares, same_text}
+use Rattle.wq_code.specs.Name.{depth_of}
 use Rattle.wq_code.specs.Flow.{flow}
 use Rattle.wq_code.specs.Signature.{signature}
 use Rattle.wq_code.specs.Constant.{constant, has_constant}

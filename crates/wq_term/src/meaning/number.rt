@@ -1,26 +1,10 @@
 //! How the numbers of a record stand to those of a term.
 ghost use Rattle.std.specs.Prelude.{◌≡◌};
-ghost use Rattle.wq_term.specs.Number.{compares, is_after, is_since};
+ghost use Rattle.wq_term.specs.Number.{is_after, is_since};
 
-use crate::expr::{Relation, Since};
+use crate::expr::Since;
 use wq_clock::Bound;
 use wq_view::Record;
-
-impl Relation {
-    /// Whether the first number stands in this relation to the second.
-    pub(crate) fn holds(self, left: i64, right: i64) -> bool
-        ensures { result ≡ compares self left right }
-    {
-        match self {
-            Relation::Eq => left == right,
-            Relation::Ne => left != right,
-            Relation::Gt => left > right,
-            Relation::Ge => left >= right,
-            Relation::Lt => left < right,
-            Relation::Le => left <= right,
-        }
-    }
-}
 
 impl Since {
     /// Whether what it asks for happened to the file after its point.

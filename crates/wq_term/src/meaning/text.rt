@@ -1,12 +1,11 @@
 //! How the texts of a term stand to the name of a file.
-ghost use Rattle.std.specs.Prelude.{◌≡◌, ◌≤◌, IfSome, option_map, count_by, length, pos};
-ghost use Rattle.std.specs.Str.{str_eq_ignore_ascii_case};
-ghost use Rattle.wq_base.specs.Byte.{is_slash};
+ghost use Rattle.std.specs.Prelude.{◌≡◌, ◌≤◌, length};
 ghost use Rattle.wq_term.specs.Expr.{texts_in};
-ghost use Rattle.wq_term.specs.Text.{same_text, part_of, is_named, is_suffix, has_suffix, is_below};
-ghost use Rattle.wq_term.specs.Text.{rest_below, after_slash, has_depth};
+ghost use Rattle.wq_term.specs.Text.{part_of, is_named, has_suffix};
+ghost use Rattle.wq_term.specs.Text.{has_depth, is_below};
 
-use crate::expr::{Case, Depth, Scope};
+use crate::expr::{Depth, Scope};
+use wq_base::{Case, is_suffix, rest_below, slashes};
 use wq_view::{MAX_NAME, Record};
 
 /// Whether a part of the file's name is one of the texts.
@@ -15,7 +14,7 @@ pub(super) fn is_named(case: Case, scope: Scope, texts: &[Vec<u8>], file: &Recor
 {
     let part = part_of(scope, file);
     for text in texts {
-        if same_text(case, text, part) {
+        if case.is_same(text, part) {
             return true;
         }
     }
@@ -57,65 +56,6 @@ pub(super) fn part_of(scope: Scope, file: &Record) -> &[u8]
     }
 }
 
-/// Whether a text is this suffix, with A to Z as a to z; an empty one is none.
-fn is_suffix(text: &[u8], suffix: &[u8]) -> bool
-    ensures { result ≡ is_suffix text.now suffix.now }
-{
-    !text.is_empty() && same_folded(text, suffix)
-}
-
-/// Whether two texts are one.
-fn same_text(case: Case, left: &[u8], right: &[u8]) -> bool
-    ensures { result ≡ same_text case left.now right.now }
-{
-    match case {
-        Case::Exact => left == right,
-        Case::Folded => same_folded(left, right),
-    }
-}
-
-/// What follows the directory and a slash in a name below it: all of it below the empty one.
-fn rest_below<'a>(case: Case, dir: &[u8], name: &'a [u8]) -> Option<&'a [u8]>
-    ensures value { option_map (λ rest. rest.now) result ≡ rest_below case dir.now name.now }
-    ensures bound { IfSome result (λ rest. length rest.now ≤ length name.now) }
-{
-    if dir.is_empty() {
-        return Some(name);
-    }
-    let (start, rest) = name.split_at_checked(dir.len())?;
-    if same_text(case, start, dir) {
-        after_slash(rest)
-    } else {
-        None
-    }
-}
-
-/// Whether two texts are one with A to Z as a to z.
-fn same_folded(left: &[u8], right: &[u8]) -> bool
-    ensures { result ≡ str_eq_ignore_ascii_case left.now right.now }
-{
-    if left.len() != right.len() {
-        return false;
-    }
-    for (i, byte) in left.iter().enumerate() {
-        if !byte.eq_ignore_ascii_case(&right[i]) {
-            return false;
-        }
-    }
-    true
-}
-
-/// What follows a slash that stands first.
-fn after_slash(text: &[u8]) -> Option<&[u8]>
-    ensures value { option_map (λ rest. rest.now) result ≡ after_slash text.now }
-    ensures bound { IfSome result (λ rest. length rest.now ≤ length text.now) }
-{
-    match text.split_first() {
-        Some((b'/', rest)) => Some(rest),
-        _ => None,
-    }
-}
-
 /// Whether what follows a directory, a part of a name, has as many slashes as is asked for.
 fn has_depth(depth: Depth, rest: &[u8]) -> bool
     requires { length rest.now ≤ MAX_NAME }
@@ -123,14 +63,6 @@ fn has_depth(depth: Depth, rest: &[u8]) -> bool
 {
     match depth {
         Depth::Any => true,
-        Depth::Is(relation, depth) => relation.holds(slashes(rest), depth),
+        Depth::Is(relation, depth) => relation.holds(slashes(rest) as i64, depth),
     }
-}
-
-/// How many slashes there are in a part of a name.
-fn slashes(text: &[u8]) -> i64
-    requires { length text.now ≤ MAX_NAME }
-    ensures { result ≡ pos (count_by is_slash text.now) }
-{
-    text.iter().filter(|b| **b == b'/').count() as i64
 }

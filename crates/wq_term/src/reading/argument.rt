@@ -8,12 +8,12 @@ ghost use Rattle.wq_term.specs.Argument.{comparison_of};
 ghost use Rattle.wq_term.specs.Outcome.{GivesAs, GivesTexts};
 ghost use Rattle.wq_term.specs.declared.fault.TermFault.TheVariants.{WrongArguments};
 
-use crate::expr::{Relation, Scope};
+use crate::expr::Scope;
 use crate::fault::TermFault;
 use crate::reading::word::{relation_named, scope_named};
 use serde_json::Value;
 use std::alloc::Global;
-use wq_base::MAX_SIGNED;
+use wq_base::{MAX_SIGNED, Relation};
 use wq_clock::Bound;
 
 /// The most bytes of a text in `name`, `suffix` and `dirname`, as it is given.

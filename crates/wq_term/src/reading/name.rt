@@ -7,12 +7,13 @@ ghost use Rattle.wq_term.specs.Reading.{below_at, name_in, read_dirname, read_ki
 ghost use Rattle.wq_term.specs.Reading.{read_suffix};
 ghost use Rattle.wq_term.specs.Text.{without_end_slashes};
 
-use crate::expr::{Case, Depth, Expr, Scope};
+use crate::expr::{Depth, Expr, Scope};
 use crate::fault::TermFault;
 use crate::reading::argument::{comparison, parts, read_texts, scope, text};
 use crate::reading::word::kind_named;
 use serde_json::Value;
 use std::alloc::Global;
+use wq_base::Case;
 use wq_view::Kind;
 
 /// `type` of one letter.

@@ -6,11 +6,12 @@ ghost use Rattle.wq_term.specs.Outcome.{Gives};
 ghost use Rattle.wq_term.specs.PatternArgument.{are_flags, flags_of, is_flag, is_set, plain_flags};
 ghost use Rattle.wq_term.specs.Reading.{match_with, read_match};
 
-use crate::expr::{Case, Expr, Scope};
+use crate::expr::{Expr, Scope};
 use crate::fault::TermFault;
 use crate::reading::argument::scope;
 use serde_json::{Map, Value};
 use std::alloc::Global;
+use wq_base::Case;
 use wq_glob::{Flags, Pattern, PatternFault};
 
 /// `match` and `imatch` of a pattern, a scope and flags.

@@ -2,7 +2,8 @@
 ghost use Rattle.std.specs.Prelude.{◌≡◌};
 ghost use Rattle.wq_term.specs.Word.{kind_named, scope_named, relation_named, field_named};
 
-use crate::expr::{Relation, Scope};
+use crate::expr::Scope;
+use wq_base::Relation;
 use wq_view::Kind;
 
 /// What `since` compares.

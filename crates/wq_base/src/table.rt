@@ -1,6 +1,7 @@
-//! A table of a program: a list in memory that contracts see as a plain list.
-ghost use Rattle.std.specs.Prelude.{◌≡◌, length};
+//! A list in memory that contracts see as a plain list. So a definition can speak of a type that has lists in it.
+ghost use Rattle.std.specs.Prelude.{◌≡◌, [], ◌∷◌, ◌++◌, length, OnErr, OnOk};
 
+use std::alloc::{AllocError, Global};
 use std::marker::Model;
 
 /// A list of rows. Contracts see the rows alone, and not where they lie in memory.
@@ -15,6 +16,26 @@ impl<T> Model for Table<T> {
     ghost Value = { List T };
 
     ghost view = { λ t. t.rows.items };
+}
+
+impl<T: Drop> Table<T> {
+    /// The table without rows. It takes no memory.
+    pub fn new(alloc: Global) -> Table<T>
+        ensures { result ≡ [] }
+    {
+        Table {
+            rows: Vec::new(alloc),
+        }
+    }
+
+    /// Puts a row behind the others.
+    pub fn push(&mut self, row: T) -> Result<(), AllocError>
+        ensures ok { OnOk result (self.new ≡ self.old ++ row ∷ []) }
+        ensures err { OnErr result (self.new ≡ self.old) }
+    {
+        self.rows.push(row)?;
+        Ok(())
+    }
 }
 
 impl<T> Table<T> {
