@@ -9,3 +9,6 @@ mod Histories
 mod Showing
 mod ViewSteps
 mod Lookups
+mod Suffixes
+mod Positions
+mod NamesBelow

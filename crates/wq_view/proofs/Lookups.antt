@@ -1,23 +1,26 @@
 -- Where a name stands among records in order.
-use Rattle.std.proofs.Common.{Option, IfNone, IfSome, ◌≡◌, ℕ, zero, suc, ◌<◌, ◌≢◌, true, false, cond, List, [], ◌∷◌, length, get_or, slice_get, Some, None, Result, Ok, Err, MatchOption, inl, inr, sym, refl, ap, subst, ◌∙◌, arith}
+use Rattle.std.proofs.Common.{Option, ◌⊎◌, ◌==◌, ◌≤◌, IfNone, IfSome, ◌≡◌, ℕ, zero, suc, ◌<◌, ◌≢◌, true, false, cond, List, [], ◌∷◌, length, get_or, slice_get, Some, None, Result, Ok, Err, MatchOption, inl, inr, sym, refl, ap, subst, ◌∙◌, arith}
 use mathlib.Core.Bool.{false≢true}
 use Rattle.std.specs.declared.cmp.Ordering.{Ordering}
 use Rattle.std.specs.declared.cmp.Ordering.TheVariants.{Less, Equal, Greater}
 use Rattle.std.specs.Ordering.{is_lt, is_eq, eq_by_cmp, ordering_reverse}
 use Rattle.std.specs.FinMap.{is_sorted}
 use Rattle.std.specs.FinMap.Entries.{below_all}
-use Rattle.std.specs.List.Sorted.{IsBinarySearchResult, IsSearchInRange, IsSortedBy}
+use Rattle.std.specs.List.Sorted.{IsBinarySearchResult, IsPartitionPoint, IsSearchInRange, IsSortedBy}
 use Rattle.std.specs.Result.{result_ok}
-use Rattle.std.proofs.lemmas.Bool.{cases_lt}
+use Rattle.std.proofs.lemmas.Bool.{cases_lt, cases_order, ne_eqb, eq-eqb}
+use Rattle.std.proofs.lemmas.Map.Text.{is_eq-slice_cmp}
+use Rattle.std.proofs.lemmas.Option.{slice_get-get_or, slice_get_past}
 use native.Mathlib.Numerals.{unary_clauses}
 use Rattle.std.proofs.lemmas.List.Sorted.{searchable_from_sorted}
 use Rattle.wq_view.specs.Listing.{name_cmp}
 use Rattle.wq_view.specs.RecordData.{RecordData, blank_record, by_name, record_named}
+use Rattle.wq_view.specs.Position.{has_name, passes_at}
 use Rattle.wq_view.proofs.NameOrder.{names_total, names_exact, both_true, less_from_lt}
 use Rattle.wq_view.proofs.Listings.{tie_is_same, name_ties_itself}
 
 -- a record past the end
-nobody : RecordData
+pub nobody : RecordData
 nobody = blank_record []
 
 below_at : (x : List ℕ) (rs : List RecordData) (at : ℕ) (d : RecordData) → below_all name_cmp x (by_name rs) ≡ true → at < length rs → name_cmp x (get_or rs at d).name ≡ Less
@@ -30,6 +33,14 @@ rest_sorted r rs e = (both_true (below_all name_cmp r.name (by_name rs)) (is_sor
 
 head_below : (r : RecordData) (rs : List RecordData) → is_sorted name_cmp (by_name (r ∷ rs)) ≡ true → below_all name_cmp r.name (by_name rs) ≡ true
 head_below r rs e = (both_true (below_all name_cmp r.name (by_name rs)) (is_sorted name_cmp (by_name rs)) e).0
+
+-- of records in the order of their names a later one has the later name
+pub rise_at : (rs : List RecordData) (i j : ℕ) (d : RecordData) → is_sorted name_cmp (by_name rs) ≡ true → i < j → j < length rs → name_cmp (get_or rs i d).name (get_or rs j d).name ≡ Less
+rise_at [] i j d e low h = absurd (omega arith)
+rise_at (r ∷ rs) zero zero d e low h = absurd (omega arith)
+rise_at (r ∷ rs) zero (suc j) d e low h = below_at r.name rs j d (head_below r rs e) (omega arith)
+rise_at (r ∷ rs) (suc i) zero d e low h = absurd (omega arith)
+rise_at (r ∷ rs) (suc i) (suc j) d e low h = rise_at rs i j d (rest_sorted r rs e) (omega arith) (omega arith)
 
 -- neighbours rise, as a binary search asks
 neighbours : (rs : List RecordData) → is_sorted name_cmp (by_name rs) ≡ true → IsSortedBy (λ a b. is_lt (name_cmp a.name b.name)) rs
@@ -73,6 +84,25 @@ searched q rs (Err at) sorted in_range parted =
       | inl low ↦ cc (parts.0 k nobody (omega arith) low)
       | inr high ↦ cc (parts.1 k nobody high h)
     ])
+
+-- of the names at all positions a binary search finds the one sought, and no other
+pub alone : (q : List ℕ) (rs : List RecordData) (r : Result ℕ ℕ) → is_sorted name_cmp (by_name rs) ≡ true → IsSearchInRange r (length rs) → IsBinarySearchResult (λ a. name_cmp a.name q) rs r → MatchOption (result_ok r) ((j : ℕ) → passes_at (has_name q) rs j ≡ false) (λ i. (j : ℕ) → passes_at (has_name q) rs j ≡ (j == i))
+alone q rs (Ok i) sorted in_range equal = λ j. at j (cases_lt j (length rs)) (cases_order j i)
+  where
+    found : (get_or rs i nobody).name ≡ q
+    found = names_exact _ _ (equal nobody)
+
+    at : (j : ℕ) → (j < length rs) ⊎ (length rs ≤ j) → (j ≡ i) ⊎ ((j < i) ⊎ (i < j)) → passes_at (has_name q) rs j ≡ (j == i)
+    at j (inr past) _ = rw (slice_get_past rs j past, ne_eqb j i (λ s. omega (arith, past, in_range, s))) refl
+    at j (inl h) (inl s) = rw (slice_get-get_or rs j nobody h, eq-eqb j i s) (sym (is_eq-slice_cmp (get_or rs j nobody).name q) ∙ ap is_eq (ap (λ k. name_cmp (get_or rs k nobody).name q) s ∙ equal nobody))
+    at j (inl h) (inr (inl less)) = rw (slice_get-get_or rs j nobody h, ne_eqb j i (λ s. omega (arith, less, s))) (sym (is_eq-slice_cmp (get_or rs j nobody).name q) ∙ ap is_eq (subst (λ n. name_cmp (get_or rs j nobody).name n ≡ Less) found (rise_at rs j i nobody sorted less in_range)))
+    at j (inl h) (inr (inr more)) = rw (slice_get-get_or rs j nobody h, ne_eqb j i (λ s. omega (arith, more, s))) (sym (is_eq-slice_cmp (get_or rs j nobody).name q) ∙ ap is_eq (names_total.antisymm (get_or rs j nobody).name q ∙ ap ordering_reverse (subst (λ n. name_cmp n (get_or rs j nobody).name ≡ Less) found (rise_at rs i j nobody sorted more h))))
+alone q rs (Err i) sorted in_range parted = λ j. at j (cases_lt j (length rs)) (cases_lt j i) (parted (searchable_from_sorted names_total (λ (a : RecordData). a.name) rs q (neighbours rs sorted)))
+  where
+    at : (j : ℕ) → (j < length rs) ⊎ (length rs ≤ j) → (j < i) ⊎ (i ≤ j) → IsPartitionPoint (λ a. name_cmp a.name q ≡ Less) (λ a. name_cmp a.name q ≡ Greater) rs i → passes_at (has_name q) rs j ≡ false
+    at j (inr past) _ parts = rw (slice_get_past rs j past) refl
+    at j (inl h) (inl low) parts = rw (slice_get-get_or rs j nobody h) (sym (is_eq-slice_cmp (get_or rs j nobody).name q) ∙ ap is_eq (parts.0 j nobody (omega arith) low))
+    at j (inl h) (inr high) parts = rw (slice_get-get_or rs j nobody h) (sym (is_eq-slice_cmp (get_or rs j nobody).name q) ∙ ap is_eq (parts.1 j nobody high h))
 
 -- of two cases the one without a value
 pub absent_from : {A : Type 0} (P : Type 0) (Q : A → Type 0) (o : Option A) → MatchOption o P Q → IfNone o P

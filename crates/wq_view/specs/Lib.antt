@@ -8,3 +8,5 @@ pub mod Record
 pub mod History
 pub mod View
 pub mod Merge
+pub mod Position
+pub mod Below

@@ -6,12 +6,14 @@ ghost use Rattle.wq_view.specs.Name.{is_valid_name};
 ghost use Rattle.wq_view.specs.Seen.{stat_of, same_stat, is_lawful_row, is_count};
 ghost use Rattle.wq_view.specs.Listing.{name_cmp};
 ghost use Rattle.wq_base.specs.Name.{seconds_of};
+ghost use Rattle.wq_view.specs.Below.{order_below};
 ghost use Rattle.wq_view.specs.RecordData.{last_stat, blank_record, after_change, after_creation, record_after};
 
+use crate::below::order_below;
 use crate::kind::Kind;
 use crate::limit::MAX_TICK;
 use crate::listing::Seen;
-use crate::name::{Name, after_last};
+use crate::name::{Name, after_last, suffix_of};
 use std::alloc::AllocError;
 use std::cmp::Ordering;
 use std::marker::Model;
@@ -67,7 +69,7 @@ impl Record {
     pub fn suffix(&self) -> &[u8]
         ensures { result.now ≡ suffix_of self.now.name }
     {
-        after_last(b'.', self.basename()).unwrap_or(b"")
+        suffix_of(self.name.as_bytes())
     }
 
     /// The modification time in whole seconds of the Unix epoch, rounded down: -1 ms lies in second -1.
@@ -117,6 +119,13 @@ impl Record {
         ensures { result ≡ name_cmp self.now.name name.now }
     {
         self.name.as_bytes().cmp(name)
+    }
+
+    /// How the record's name stands to the names strictly below a directory that is not empty.
+    pub(crate) fn order_below(&self, dir: &[u8]) -> Ordering
+        ensures { result ≡ order_below dir.now self.now.name }
+    {
+        order_below(dir, self.name.as_bytes())
     }
 
     /// Whether the row has the record's name.

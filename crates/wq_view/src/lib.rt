@@ -12,6 +12,7 @@
 //! ```
 #![tactic(auto)]
 
+mod below;
 mod file_record;
 mod kind;
 mod law;
@@ -23,7 +24,7 @@ mod view;
 
 pub use file_record::Record;
 pub use kind::Kind;
-pub use law::history_has_one_view;
+pub use law::{history_has_one_view, kept_positions_filter, positions_are_there, positions_filter};
 pub use limit::{MAX_RECORDS, MAX_ROWS, MAX_TICK};
 pub use listing::{Pass, PassFault, Seen};
 pub use name::{MAX_NAME, Name, is_valid_name};

@@ -5,9 +5,10 @@ ghost use Rattle.std.specs.Arc.{arc_slice_items};
 ghost use Rattle.std.specs.List.{after_last, list_all, list_any, slice_split};
 ghost use Rattle.std.specs.Str.{is_utf8};
 ghost use Rattle.wq_base.specs.Byte.{is_slash};
+ghost use Rattle.wq_base.specs.Name.{suffix_of};
 ghost use Rattle.wq_view.specs.Name.{is_plain_part, is_valid_name};
 
-use memchr::memrchr;
+use memchr::{memrchr, memrchr2};
 use std::alloc::AllocError;
 use std::marker::Model;
 use std::sync::ArcSlice;
@@ -111,4 +112,19 @@ pub(crate) fn after_last(byte: u8, bytes: &[u8]) -> Option<&[u8]>
         return None;
     };
     Some(bytes.split_at(at + 1).1)
+}
+
+/// What follows the last dot of the basename, and nothing where it has no dot. No byte before that dot is read, and
+/// none before the basename.
+pub(crate) fn suffix_of(name: &[u8]) -> &[u8]
+    ensures { result.now ≡ suffix_of name.now }
+{
+    let Some(at) = memrchr2(b'.', b'/', name) else {
+        return b"";
+    };
+    if name[at] == b'.' {
+        name.split_at(at + 1).1
+    } else {
+        b""
+    }
 }

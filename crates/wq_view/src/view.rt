@@ -1,9 +1,11 @@
 //! The view of a root: the records of all files that its passes saw, in the byte order of their names.
 //! Lookups take no memory; only a pass that sees new names, and a copy, do.
-ghost use Rattle.std.specs.Prelude.{◌≡◌, ◌≢◌, ◌+◌, ◌≤◌, ◌<◌, ◌↔◌, List, [], ◌∷◌, ◌++◌, Ok, Err, Some, None, true, false, length, IfOk, OnOk, OnErr, IfErr, IfNone, IfSome, IsTrue, slice_get};
+ghost use Rattle.std.specs.Prelude.{MatchOption, ℕ, nat_le, nat_lt, ◌==◌, ◌&&◌, ◌≡◌, ◌≢◌, ◌+◌, ◌≤◌, ◌<◌, ◌↔◌, List, [], ◌∷◌, ◌++◌, Ok, Err, Some, None, true, false, length, IfOk, OnOk, OnErr, IfErr, IfNone, IfSome, IsTrue, slice_get};
 ghost use Rattle.wq_view.specs.RecordData.{record_named};
 ghost use Rattle.wq_view.specs.History.{History, last_stats};
+ghost use Rattle.wq_view.specs.Below.{is_below};
 ghost use Rattle.wq_view.specs.Limit.{max_records, max_tick};
+ghost use Rattle.wq_view.specs.Position.{has_name, passes_at};
 ghost use Rattle.wq_view.specs.View.{IsViewOf, NamesRise};
 
 use crate::file_record::Record;
@@ -163,11 +165,39 @@ impl View {
         ensures absent { IfNone result (record_named name.now self.now.records ≡ None) }
         ensures found { IfSome result (λ i. (i < length self.now.records)
             × (slice_get self.now.records i ≡ record_named name.now self.now.records)) }
+        ensures only { MatchOption result
+            ((j : ℕ) → passes_at (has_name name.now) self.now.records j ≡ false)
+            (λ i. (j : ℕ) → passes_at (has_name name.now) self.now.records j ≡ (j == i)) }
+        ensures bound { IfSome result (λ i. i < max_records) }
     {
         let name = name.as_bytes();
         self.records
             .binary_search_by(|record| record.name_order(name))
             .ok()
+    }
+
+    /// The range of the positions of the records strictly below a directory: from the first number on, up to the
+    /// second, which is not in it. Below the empty directory lie all.
+    ///
+    /// Found by binary search.
+    pub fn below(&self, dir: &str) -> (usize, usize)
+        ensures exact { (i : ℕ) → passes_at (is_below dir.now) self.now.records i
+            ≡ (nat_le result.0 i && nat_lt i result.1) }
+        ensures rise { result.0 ≤ result.1 }
+        ensures bound { result.1 ≤ length self.now.records }
+        ensures few { result.1 ≤ max_records }
+    {
+        let dir = dir.as_bytes();
+        if dir.is_empty() {
+            return (0, self.records.len());
+        }
+        let start = self
+            .records
+            .partition_point(|record| record.order_below(dir).is_lt());
+        let end = self
+            .records
+            .partition_point(|record| record.order_below(dir).is_le());
+        (start, end)
     }
 
     /// An equal view, whose records share their names with this one's.

@@ -1,0 +1,4 @@
+pub mod Positions
+pub mod Unions
+pub mod Paths
+pub mod Whether

@@ -1,0 +1,10 @@
+-- the positions found so far
+use Rattle.std.proofs.Common.{◌≡◌, filter}
+use Rattle.std.specs.List.{range_with_len}
+use Rattle.wq_view.specs.Position.{passes_at}
+use Rattle.wq_gen.specs.Candidate.{is_under}
+use Rattle.wq_gen.proofs.path.under.Given as goal
+
+abbrev pub invariant-loop-i : goal.invariant-loop-i
+invariant-loop-i l =
+    l.found.items ≡ filter (passes_at (is_under l.path) l.view.records) (range_with_len 0 l.i)

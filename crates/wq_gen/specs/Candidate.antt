@@ -1,0 +1,73 @@
+-- Which records the generators of a query give, asked of one record by itself; deleted ones too.
+-- From Watchman's documentation of the generators `since`, `suffix` and `path` of file queries.
+use Rattle.std.specs.Prelude.{ℕ, ℤ, pos, negsuc, Bool, true, false, not, ◌&&◌, ◌||◌, ◌==◌}
+use Rattle.std.specs.Prelude.{nat_lt, int_le, count_by, List, Option, Some, None, is_some}
+use Rattle.std.specs.List.{list_any}
+use Rattle.std.specs.Option.{option_map_or}
+use Rattle.std.specs.Ordering.{int_eq}
+use Rattle.std.specs.Str.{byte}
+use Rattle.wq_base.specs.Byte.{is_slash}
+use Rattle.wq_base.specs.Compare.{is_suffix}
+use Rattle.wq_base.specs.Directory.{rest_below}
+use Rattle.wq_base.specs.Name.{suffix_of}
+use Rattle.wq_base.specs.declared.compare.Case.TheVariants.{Exact}
+use Rattle.wq_clock.specs.declared.bound.Bound.{Bound}
+use Rattle.wq_clock.specs.declared.bound.Bound.TheVariants.{Fresh, Tick, Second}
+use Rattle.wq_view.specs.Kind.{letter_of}
+use Rattle.wq_view.specs.Position.{has_name}
+use Rattle.wq_view.specs.RecordData.{RecordData}
+use Rattle.wq_gen.specs.declared.generators.Generators.{Generators}
+use Rattle.wq_gen.specs.declared.generators.PathGen.{PathGen}
+
+-- whether the file was seen to change after a tick, or at a second or after it; a fresh bound gives
+-- nothing
+abbrev pub is_since : Bound → RecordData → Bool
+is_since Fresh r = false
+is_since (Tick tick) r = nat_lt tick r.otick
+is_since (Second second) r = int_le second r.osec
+
+-- whether the suffix of the name is one of these texts, with A to Z as a to z; an empty one is none
+abbrev pub has_suffix : List (List ℕ) → RecordData → Bool
+has_suffix suffixes r = list_any (λ text. is_suffix text (suffix_of r.name)) suffixes
+
+-- whether what follows a directory in a name has at most so many slashes; -1 is without limit
+abbrev pub is_within : ℤ → List ℕ → Bool
+is_within depth rest = int_eq depth (negsuc 0) || int_le (pos (count_by is_slash rest)) depth
+
+-- whether the file lies strictly below a path, and no deeper than it says
+abbrev pub is_under : PathGen → RecordData → Bool
+is_under p r = option_map_or (is_within p.depth) (rest_below Exact p.path r.name) false
+
+-- whether the file is a path itself, and was not last seen as a directory
+abbrev pub is_itself : PathGen → RecordData → Bool
+is_itself p r = has_name p.path r && not (letter_of r.kind == byte "d")
+
+-- whether the file is one of these paths itself, or lies below one of them
+abbrev pub is_on_path : List PathGen → RecordData → Bool
+is_on_path paths r = list_any (λ p. is_itself p r || is_under p r) paths
+
+-- whether a generator is there and gives the record
+abbrev pub gives : {A : Type 0} → (A → RecordData → Bool) → Option A → RecordData → Bool
+gives test None r = false
+gives test (Some generator) r = test generator r
+
+-- whether some generator gives the record
+abbrev pub is_given : Generators → RecordData → Bool
+is_given generators r =
+    gives is_since generators.since r || gives has_suffix generators.suffix r
+    || gives is_on_path generators.path r
+
+-- whether there is a bound that is not fresh
+abbrev pub is_bounded : Option Bound → Bool
+is_bounded None = false
+is_bounded (Some Fresh) = false
+is_bounded (Some _) = true
+
+-- whether some generator is there
+abbrev pub is_any_there : Generators → Bool
+is_any_there generators =
+    is_bounded generators.since || is_some generators.suffix || is_some generators.path
+
+-- whether the record is a candidate: no generator is there, or some generator gives it
+abbrev pub is_candidate : Generators → RecordData → Bool
+is_candidate generators r = not (is_any_there generators) || is_given generators r

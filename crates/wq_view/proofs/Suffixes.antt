@@ -1,0 +1,173 @@
+-- What follows the last dot of a basename, where the last dot or slash of a name is known.
+use Rattle.std.proofs.Common.{◌≡◌, ℕ, zero, suc, ◌+◌, ◌-◌, ◌<◌, Bool, true, false, not, ◌||◌, List, [], ◌∷◌, ◌++◌, length, drop, take, refl, sym, ap, ◌∙◌, arith}
+use Rattle.std.specs.Prelude.{slice_index}
+use Rattle.std.specs.List.{after_last, list_any, suffix_len}
+use Rattle.std.proofs.lemmas.Bool.{eqb-true}
+use Rattle.std.proofs.lemmas.List.{reverse-append, drop-append-le, take-append-drop, append_assoc, append-nil, length-append}
+use Rattle.std.proofs.lemmas.List.Sums.{suffix_len-le-length}
+use Rattle.std.proofs.lemmas.List.Folds.{list_any-append}
+use Rattle.std.proofs.Math.Seq.{drop-cons}
+use Rattle.std.specs.Str.{byte}
+use Rattle.memchr.specs.Find.{NoneAfter, Nowhere, Passes, is_byte2}
+use Rattle.wq_base.specs.Byte.{is_slash, is_dot}
+use Rattle.wq_base.specs.Name.{basename_of, suffix_of}
+
+-- neither holds
+neither : (a b : Bool) → (a || b) ≡ false → (a ≡ false) × (b ≡ false)
+neither true b h = absurd cc
+neither false b h = (refl, h)
+
+-- a test that does not hold fails
+fails : (b : Bool) → (b ≡ true → ⊥) → b ≡ false
+fails true isnt = absurd (isnt refl)
+fails false isnt = refl
+
+-- bytes that all fail a test are counted first
+tail_counts : (p : ℕ → Bool) (front tail : List ℕ) → list_any p tail ≡ false
+    → suffix_len (λ x. not (p x)) (front ++ tail) ≡ length tail + suffix_len (λ x. not (p x)) front
+tail_counts p front [] none =
+    let e : 0 + suffix_len (λ x. not (p x)) front ≡ suffix_len (λ x. not (p x)) front = omega
+    arith in
+    rw (append-nil front, e) refl
+tail_counts p front (x ∷ tail) none =
+    let parts = neither (p x) (list_any p tail) none in
+    let last : suffix_len (λ x. not (p x)) (front ++ x ∷ []) ≡ 1 + suffix_len (λ x. not (p x))
+    front =
+    rw (reverse-append front (x ∷ []), parts.0) refl in
+    let more = tail_counts p (front ++ x ∷ []) tail parts.1 in
+    let here = append_assoc front (x ∷ []) tail in
+    rw here at more ∙ omega (arith, last)
+
+-- and stay behind what follows the last that passes
+after_last-front : (p : ℕ → Bool) (front tail : List ℕ) → list_any p tail ≡ false
+    → after_last p (front ++ tail) ≡ after_last p front ++ tail
+after_last-front p front tail none =
+    let s = suffix_len (λ x. not (p x)) front in
+    let low = suffix_len-le-length (λ x. not (p x)) front in
+    let count : length (front ++ tail) - suffix_len (λ x. not (p x)) (front ++ tail) ≡ length
+    front - s =
+    omega (arith, tail_counts p front tail none, length-append front tail, low) in
+    rw count (drop-append-le (length front - s) front tail (omega arith))
+
+-- nothing is behind the end
+past : (xs : List ℕ) → drop (length xs) xs ≡ []
+past [] = refl
+past (x ∷ xs) = past xs
+
+-- what follows one that passes, where none behind it does
+after_last-here : (p : ℕ → Bool) (front tail : List ℕ) (x : ℕ) → p x ≡ true
+    → list_any p tail ≡ false
+    → after_last p (front ++ x ∷ tail) ≡ tail
+after_last-here p front tail x here none =
+    let last : suffix_len (λ x. not (p x)) (front ++ x ∷ []) ≡ 0 = rw
+    (reverse-append front (x ∷ []), here) refl in
+    let all = front ++ x ∷ [] in
+    let e : length all - 0 ≡ length all = omega arith in
+    let gone : after_last p (front ++ x ∷ []) ≡ [] = rw (last, e) (past (front ++ x ∷ [])) in
+    let parts = after_last-front p (front ++ x ∷ []) tail none in
+    rw (append_assoc front (x ∷ []) tail, gone) at parts
+
+-- where none passes, all of it
+after_last-none : (p : ℕ → Bool) (xs : List ℕ) → list_any p xs ≡ false → after_last p xs ≡ xs
+after_last-none p xs none = after_last-front p [] xs none
+
+-- bytes of which none passes from a place on
+rest_fails : (test : ℕ → Bool) (bytes : List ℕ) (n : ℕ)
+    → Nowhere (Passes test bytes) n (length bytes)
+    → list_any test (drop n bytes) ≡ false
+rest_fails test [] zero none = refl
+rest_fails test [] (suc n) none = refl
+rest_fails test (b ∷ bytes) zero none =
+    rw (fails (test b) (none 0 (omega arith) (omega arith)))
+    (rest_fails test bytes zero (λ k low high. none (suc k) (omega arith) (omega arith)))
+rest_fails test (b ∷ bytes) (suc n) none =
+    rest_fails test bytes n (λ k low high. none (suc k) (omega arith) (omega arith))
+
+-- neither a dot nor a slash is neither of them
+no_dot : (bytes : List ℕ) → list_any (is_byte2 (byte ".") (byte "/")) bytes ≡ false
+    → list_any is_dot bytes ≡ false
+no_dot [] none = refl
+no_dot (b ∷ bytes) none =
+    let parts = neither (is_byte2 (byte ".") (byte "/") b)
+    (list_any (is_byte2 (byte ".") (byte "/")) bytes) none in
+    rw ((neither (is_dot b) (is_slash b) parts.0).0) (no_dot bytes parts.1)
+
+no_slash : (bytes : List ℕ) → list_any (is_byte2 (byte ".") (byte "/")) bytes ≡ false
+    → list_any is_slash bytes ≡ false
+no_slash [] none = refl
+no_slash (b ∷ bytes) none =
+    let parts = neither (is_byte2 (byte ".") (byte "/") b)
+    (list_any (is_byte2 (byte ".") (byte "/")) bytes) none in
+    rw ((neither (is_dot b) (is_slash b) parts.0).1) (no_slash bytes parts.1)
+
+-- a byte that is there joins what stands in front of it and behind it
+parted : (name : List ℕ) (at : ℕ) → at < length name
+    → take at name ++ slice_index name at ∷ drop (at + 1) name ≡ name
+parted name at inside =
+    let e : at + 1 ≡ suc at = omega arith in
+    rw (e, sym (drop-cons name at 0 inside)) (take-append-drop at name)
+
+-- where neither a dot nor a slash stands there is no suffix
+pub no_suffix : (name : List ℕ)
+    → Nowhere (Passes (is_byte2 (byte ".") (byte "/")) name) 0 (length name) → suffix_of name ≡ []
+no_suffix name none =
+    let all = rest_fails (is_byte2 (byte ".") (byte "/")) name 0 none in
+    rw (after_last-none is_slash name (no_slash name all), no_dot name all) refl
+
+-- a dot is no slash
+not_slash : (x : ℕ) → is_dot x ≡ true → is_slash x ≡ false
+not_slash x dot = let e : x ≡ byte "." = eqb-true x (byte ".") dot in rw e refl
+
+-- the other of two
+is_other : (x : ℕ) → is_byte2 (byte ".") (byte "/") x ≡ true → is_dot x ≡ false → is_slash x ≡ true
+is_other x either other = rw other at either
+
+-- behind a dot
+from_dot : (front rest : List ℕ) (x : ℕ) → is_dot x ≡ true → list_any is_dot rest ≡ false
+    → list_any is_slash rest ≡ false
+    → suffix_of (front ++ x ∷ rest) ≡ rest
+from_dot front rest x dot dots slashes =
+    let behind : list_any is_slash (x ∷ rest) ≡ false = rw (not_slash x dot, slashes) refl in
+    let base = after_last-front is_slash front (x ∷ rest) behind in
+    let some : list_any is_dot (basename_of front ++ x ∷ rest) ≡ true =
+    list_any-append is_dot (basename_of front) (x ∷ rest) ∙ rw dot
+    (or_true (list_any is_dot (basename_of front))) in
+    rw (base, some) (after_last-here is_dot (basename_of front) rest x dot dots)
+  where
+    or_true : (b : Bool) → (b || true) ≡ true
+    or_true true = refl
+    or_true false = refl
+
+-- behind a slash
+from_slash : (front rest : List ℕ) (x : ℕ) → is_slash x ≡ true → list_any is_dot rest ≡ false
+    → list_any is_slash rest ≡ false
+    → suffix_of (front ++ x ∷ rest) ≡ []
+from_slash front rest x slash dots slashes =
+    rw (after_last-here is_slash front rest x slash slashes, dots) refl
+
+-- where the last dot or slash is a dot, the suffix stands behind it
+pub suffix_after : (name : List ℕ) (at : ℕ)
+    → NoneAfter (Passes (is_byte2 (byte ".") (byte "/")) name) 0 (length name) at
+    → slice_index name at ≡ byte "."
+    → drop (at + 1) name ≡ suffix_of name
+suffix_after name at place is =
+    let dot : is_dot (slice_index name at) ≡ true = rw is refl in
+    let all = rest_fails (is_byte2 (byte ".") (byte "/")) name (at + 1) place.after in
+    let rest = drop (at + 1) name in
+    sym (from_dot (take at name) rest (slice_index name at) dot (no_dot rest all)
+    (no_slash rest all))
+    ∙ ap suffix_of (parted name at place.high)
+
+-- where it is a slash, there is none
+pub no_suffix_after : (name : List ℕ) (at : ℕ)
+    → NoneAfter (Passes (is_byte2 (byte ".") (byte "/")) name) 0 (length name) at
+    → Passes (is_byte2 (byte ".") (byte "/")) name at → (slice_index name at ≡ byte "." → ⊥)
+    → suffix_of name ≡ []
+no_suffix_after name at place here isnt =
+    let other = fails (is_dot (slice_index name at))
+    (λ dot. isnt (eqb-true (slice_index name at) (byte ".") dot)) in
+    let all = rest_fails (is_byte2 (byte ".") (byte "/")) name (at + 1) place.after in
+    let rest = drop (at + 1) name in
+    ap suffix_of (sym (parted name at place.high))
+    ∙ from_slash (take at name) rest (slice_index name at)
+    (is_other (slice_index name at) here other) (no_dot rest all) (no_slash rest all)
