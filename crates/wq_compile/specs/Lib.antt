@@ -1,0 +1,5 @@
+pub mod Instruction
+pub mod Draft
+pub mod Code
+pub mod Large
+pub mod Meaning
