@@ -9,7 +9,7 @@ use Rattle.serde_json.specs.Data.{Data, boolean, string, array, Items, no_items,
 use Rattle.serde_json.specs.Find.{get, as_bool}
 use Rattle.wq_base.specs.Fault.{is_true, or_fault, or_its_fault, unless_fault}
 use Rattle.wq_base.proofs.Fault.{or_fault-ok, or_its_fault-ok, unless_fault-ok, with_first-some}
-use Rattle.wq_base.proofs.Table.{named-name}
+use Rattle.wq_base.proofs.Named.{named-name}
 use Rattle.wq_clock.specs.Instance.{InstanceData}
 use Rattle.wq_clock.specs.declared.bound.Bound.{Bound}
 use Rattle.wq_clock.specs.declared.bound.Bound.TheVariants.{Fresh}
@@ -92,7 +92,7 @@ unfolding field_named
 field-found (string w) field e = ap string (named-name field_name fields w field e)
 field-found _ field e = cc
 
-field-reads : (field : Field) → field_of (string (field_name field)) ≡ Some field
+pub field-reads : (field : Field) → field_of (string (field_name field)) ≡ Some field
 unfolding field_named
 field-reads Name = refl
 field-reads Exists = refl

@@ -4,5 +4,7 @@ pub mod Reading
 pub mod Outcome
 pub mod Listing
 pub mod Reply
+pub mod Printing
 pub mod Grammar
 pub mod Law
+pub mod Meaning

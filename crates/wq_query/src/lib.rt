@@ -4,11 +4,15 @@
 
 mod fault;
 mod field;
+mod form;
 mod law;
 mod listing;
+mod planning;
+mod printing;
 mod query;
 mod reading;
 mod reply;
+mod room;
 
 pub use fault::QueryFault;
 pub use field::Field;

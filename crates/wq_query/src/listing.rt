@@ -1,12 +1,78 @@
-//! Which files a plan lists, one record at a time.
-ghost use Rattle.std.specs.Prelude.{◌≡◌};
-ghost use Rattle.wq_query.specs.Listing.{is_candidate, is_empty, is_fresh, is_listed, is_new};
+//! Which files a plan lists: candidates for which its program answers yes.
+ghost use Rattle.std.specs.Prelude.{◌≡◌, IfOk, filter};
+ghost use Rattle.wq_view.specs.Position.{passes_at, positions_of, records_at};
+ghost use Rattle.wq_query.specs.Listing.{AreWithin, files_of};
+ghost use Rattle.wq_query.specs.Listing.{is_empty, is_fresh, is_listed, is_match, is_new};
 ghost use Rattle.wq_query.specs.Query.{planned};
 
 use crate::query::Plan;
+use std::alloc::{AllocError, Global};
 use wq_clock::Bound;
-use wq_term::holds;
-use wq_view::Record;
+use wq_eval::filter;
+use wq_gen::{Generators, candidates};
+use wq_view::{Record, View, positions_are_there, positions_filter};
+
+/// The places of the files that the plan lists, in the view's order.
+pub(crate) fn listed(alloc: Global, plan: &Plan, view: &View) -> Result<Vec<u32>, AllocError>
+    ensures within { IfOk result (λ places. AreWithin view.now.records places.items) }
+    ensures files { IfOk result (λ places. records_at view.now.records places.items
+        ≡ files_of (planned plan.now) view.now.records) }
+{
+    if is_empty(plan) {
+        return Ok(Vec::new(alloc));
+    }
+    positions_filter();
+    positions_are_there();
+    listed_places(alloc, plan, view)
+}
+
+/// The places of the files that the plan lists, whether or not it is to list nothing.
+#[tactic(auto, using(crate::proofs::Places::places_existing, crate::proofs::Places::places_listed))]
+fn listed_places(alloc: Global, plan: &Plan, view: &View) -> Result<Vec<u32>, AllocError>
+    ensures { IfOk result (λ places. places.items
+        ≡ positions_of (is_listed (planned plan.now)) view.now.records) }
+{
+    positions_are_there();
+    let places = matching(alloc, plan, view)?;
+    if is_fresh(plan.bound) {
+        existing(alloc, view, &places)
+    } else {
+        Ok(places)
+    }
+}
+
+/// The places of the candidates for which the program of the plan answers yes.
+#[tactic(auto, using(crate::proofs::Places::places_matching))]
+fn matching(alloc: Global, plan: &Plan, view: &View) -> Result<Vec<u32>, AllocError>
+    ensures { IfOk result (λ places. places.items
+        ≡ positions_of (is_match (planned plan.now)) view.now.records) }
+{
+    // What the contract of a view says of its length is for the proof alone.
+    view.len();
+    positions_are_there();
+    let generators = Generators {
+        since: Some(plan.bound),
+        suffix: None,
+        path: None,
+    };
+    let places = candidates(alloc, view, &generators)?;
+    filter(alloc, &plan.program, view, &places)
+}
+
+/// Those of some places whose files exist.
+fn existing(alloc: Global, view: &View, places: &[u32]) -> Result<Vec<u32>, AllocError>
+    requires { AreWithin view.now.records places.now }
+    ensures { IfOk result (λ kept. kept.items
+        ≡ filter (passes_at (λ r. r.exists) view.now.records) places.now) }
+{
+    let mut kept = Vec::new(alloc);
+    for place in places {
+        if view.get(*place as usize).exists {
+            kept.push(*place)?;
+        }
+    }
+    Ok(kept)
+}
 
 /// Whether the client knows nothing.
 pub(crate) fn is_fresh(bound: Bound) -> bool
@@ -15,17 +81,6 @@ pub(crate) fn is_fresh(bound: Bound) -> bool
     match bound {
         Bound::Fresh => true,
         Bound::Tick(_) | Bound::Second(_) => false,
-    }
-}
-
-/// Whether the file was observed to change after the bound: of a second, at it or after it.
-pub(crate) fn is_candidate(bound: Bound, file: &Record) -> bool
-    ensures { result ≡ is_candidate bound file.now }
-{
-    match bound {
-        Bound::Fresh => true,
-        Bound::Tick(tick) => tick < file.otick,
-        Bound::Second(second) => second <= file.osec,
     }
 }
 
@@ -38,15 +93,6 @@ pub(crate) fn is_new(bound: Bound, file: &Record) -> bool
         Bound::Tick(tick) => tick < file.ctick,
         Bound::Second(second) => second < file.csec,
     }
-}
-
-/// Whether the plan lists the file.
-pub(crate) fn is_listed(plan: &Plan, file: &Record) -> bool
-    ensures { result ≡ is_listed (planned plan.now) file.now }
-{
-    is_candidate(plan.bound, file)
-        && holds(&plan.query.expr, file)
-        && (!is_fresh(plan.bound) || file.exists)
 }
 
 /// Whether the plan lists nothing, whatever there is.

@@ -1,19 +1,15 @@
-//! A query, and the plan of answering it with a bound.
-ghost use Rattle.std.specs.Prelude.{◌≡◌};
-ghost use Rattle.serde_json.specs.View.{view as data_of};
-ghost use Rattle.wq_clock.specs.Instance.{instance_data};
+//! A query and the plan of answering it, as they are kept. What can be done with them stands in
+//! `planning`.
+ghost use Rattle.std.specs.Prelude.{IsTrue};
 ghost use Rattle.wq_term.specs.Expr.{term_of};
-ghost use Rattle.wq_query.specs.Outcome.{Gives};
-ghost use Rattle.wq_query.specs.Query.{asked_of, planned};
-ghost use Rattle.wq_query.specs.Reading.{asks};
+ghost use Rattle.wq_term.specs.Fits.{fits};
+ghost use Rattle.wq_query.specs.Meaning.{SaysMeaning};
 
-use crate::fault::QueryFault;
 use crate::field::Field;
-use crate::reading;
-use serde_json::Value;
-use std::alloc::Global;
-use wq_clock::{Bound, Instance};
+use std::sync::Arc;
+use wq_clock::Bound;
 use wq_term::Expr;
+use wq_verify::Program;
 
 /// What a client asks of a view: which files, what of each, and what where nothing is known to it.
 #[derive(Drop)]
@@ -22,66 +18,15 @@ pub struct Query {
     pub(crate) fields: Vec<Field>,
     pub(crate) bound: Bound,
     pub(crate) empty_on_fresh_instance: bool,
+    ghost limits: { IsTrue (fits (term_of expr)) },
 }
 
-/// A query with the bound from which its files are candidates.
+/// A query with the bound from which its files are candidates, and the program that says which of
+/// them match.
 #[derive(Drop)]
 pub struct Plan {
     pub(crate) query: Query,
     pub(crate) bound: Bound,
-}
-
-impl Query {
-    /// What a JSON object asks, at this instance of the server. The first fault refuses it: see
-    /// [`QueryFault`].
-    ///
-    /// Keys that are not known are ignored, and so are `dedup_results`, `defer` and `drop`. The
-    /// value of `sync_timeout` is tested here, and used by who crawls. A value that is no object
-    /// has no keys.
-    pub fn read(alloc: Global, value: &Value, instance: &Instance) -> Result<Query, QueryFault>
-        ensures { Gives result (asks (instance_data instance.now) (data_of value.now)) }
-    {
-        if reading::has_left_out_key(value) {
-            return Err(QueryFault::LeftOutKey);
-        }
-        let expr = reading::expression(alloc, value.get("expression"), instance)?;
-        let fields = reading::fields(alloc, value.get("fields"))?;
-        let Some(bound) = reading::since(value.get("since"), instance) else {
-            return Err(QueryFault::BadClockSpec);
-        };
-        let Some(empty_on_fresh_instance) = reading::flag(value.get("empty_on_fresh_instance"))
-        else {
-            return Err(QueryFault::WrongValue);
-        };
-        if !reading::is_whole(value.get("sync_timeout")) {
-            return Err(QueryFault::WrongValue);
-        }
-        Ok(Query {
-            expr,
-            fields,
-            bound,
-            empty_on_fresh_instance,
-        })
-    }
-
-    /// Which files the query asks for.
-    pub fn expr(&self) -> &Expr
-        ensures { term_of result.now ≡ (asked_of self.now).expression }
-    {
-        &self.expr
-    }
-
-    /// The bound that the query sets: fresh where it has no `since`.
-    pub fn bound(&self) -> Bound
-        ensures { result ≡ (asked_of self.now).bound }
-    {
-        self.bound
-    }
-
-    /// The plan of answering the query with this bound, whichever the query sets.
-    pub fn plan_plain(self, bound: Bound) -> Plan
-        ensures { planned result ≡ record { query = asked_of self; bound = bound } }
-    {
-        Plan { query: self, bound }
-    }
+    pub(crate) program: Arc<Program>,
+    ghost meaning: { SaysMeaning program.value (term_of query.expr) },
 }

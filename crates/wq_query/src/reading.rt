@@ -1,7 +1,9 @@
 //! Reading the keys of a query from a JSON object, one function for each.
-ghost use Rattle.std.specs.Prelude.{◌≡◌, map, option_map};
+ghost use Rattle.std.specs.Prelude.{◌≡◌, map, option_map, IfOk, IsTrue};
 ghost use Rattle.serde_json.specs.View.{view as data_of, items_view};
 ghost use Rattle.wq_clock.specs.Instance.{instance_data};
+ghost use Rattle.wq_term.specs.Expr.{always, term_of};
+ghost use Rattle.wq_term.specs.Fits.{fits};
 ghost use Rattle.wq_query.specs.Outcome.{GivesExpression, GivesFields};
 ghost use Rattle.wq_query.specs.Reading.{has_key_of, has_left_out_key, is_plain_case};
 ghost use Rattle.wq_query.specs.Reading.{expression_of, field_of, fields_in, fields_of, since_of};
@@ -46,22 +48,31 @@ fn has_key_of(query: &Value, keys: &[&str]) -> bool
 }
 
 /// The expression: every file where there is none.
+#[tactic(auto, using(crate::proofs::Places::always_fits))]
 pub(crate) fn expression(
     alloc: Global,
     value: Option<&Value>,
     instance: &Instance,
 ) -> Result<Expr, QueryFault>
-    ensures { GivesExpression result (expression_of (instance_data instance.now)
+    ensures read { GivesExpression result (expression_of (instance_data instance.now)
         (option_map (λ v. data_of v.now) value.entry)) }
+    ensures limits { IfOk result (λ expr. IsTrue (fits (term_of expr))) }
 {
     let Some(value) = value else {
-        return Ok(Expr::True);
+        return Ok(every_file());
     };
     match read_expr(alloc, value, instance) {
         Ok(expr) => Ok(expr),
         Err(TermFault::NoMemory) => Err(QueryFault::NoMemory),
         Err(fault) => Err(QueryFault::Expression(fault)),
     }
+}
+
+/// The expression that stands for none.
+fn every_file() -> Expr
+    ensures { term_of result ≡ always }
+{
+    Expr::True
 }
 
 /// The bound that `since` sets: fresh where it is not there, and none where it is no clock spec or

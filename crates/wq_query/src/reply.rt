@@ -7,11 +7,17 @@ ghost use Rattle.wq_clock.specs.ClockText.{clock_text};
 ghost use Rattle.wq_clock.specs.Instance.{instance_data};
 ghost use Rattle.wq_view.specs.Kind.{letter_of};
 ghost use Rattle.wq_query.specs.Query.{planned};
-ghost use Rattle.wq_query.specs.Reply.{field_data, file_data, files_data, reply_of};
+ghost use Rattle.wq_query.specs.Listing.{AreWithin};
+ghost use Rattle.wq_view.specs.Position.{records_at};
+ghost use Rattle.wq_query.specs.Reply.{field_data, file_data, reply_of};
 
 use crate::field::Field;
-use crate::listing::{is_empty, is_fresh, is_listed, is_new};
+use crate::form::Form;
+use crate::listing::{is_fresh, is_new, listed};
+use crate::printing::print_reply;
 use crate::query::Plan;
+use crate::room::room_of;
+use json::Writer;
 use serde_json::{Map, Value, json};
 use std::alloc::{AllocError, Global};
 use wq_base::{MAX_NUMBER, VERSION};
@@ -29,7 +35,8 @@ pub fn answer(
     ensures { IfOk result (λ v. data_of v
         ≡ reply_of (planned plan.now) (instance_data instance.now) view.now) }
 {
-    let files = Value::Array(files(alloc, plan, instance, view)?);
+    let places = listed(alloc, plan, view)?;
+    let files = Value::Array(files(alloc, plan, instance, view, &places)?);
     let clock = print(instance, view.tick());
     json!(in alloc; {
         "clock": clock.as_str(),
@@ -49,28 +56,32 @@ pub fn answer_bytes(
     ensures { IfOk result (λ text. text.items
         ≡ compact_text (reply_of (planned plan.now) (instance_data instance.now) view.now)) }
 {
-    answer(alloc, plan, instance, view)?.to_vec(alloc)
+    let places = listed(alloc, plan, view)?;
+    let form = Form::of(alloc, &plan.query.fields)?;
+    let room = room_of(instance, view, &places, &form);
+    let mut out = Writer::new(Vec::with_capacity(alloc, room)?);
+    print_reply(&mut out, plan, instance, view, &places, &form)?;
+    let text = out.into_inner();
+    Ok(text)
 }
 
-/// What the plan tells of each file that it lists.
+/// What the plan tells of the files at these places.
 fn files(
     alloc: Global,
     plan: &Plan,
     instance: &Instance,
     view: &View,
+    places: &[u32],
 ) -> Result<Vec<Value>, AllocError>
+    requires { AreWithin view.now.records places.now }
     ensures { IfOk result (λ files. map data_of files.items
-        ≡ files_data (planned plan.now) (instance_data instance.now) view.now.records) }
+        ≡ map (file_data (planned plan.now).query.fields (instance_data instance.now)
+        (planned plan.now).bound) (records_at view.now.records places.now)) }
 {
-    let mut files = Vec::new(alloc);
-    if is_empty(plan) {
-        return Ok(files);
-    }
-    for file in view.records() {
-        if is_listed(plan, file) {
-            let told = file_value(alloc, &plan.query.fields, instance, plan.bound, file)?;
-            files.push(told)?;
-        }
+    let mut files = Vec::with_capacity(alloc, places.len())?;
+    for place in places {
+        let file = view.get(*place as usize);
+        files.push(file_value(alloc, &plan.query.fields, instance, plan.bound, file)?)?;
     }
     Ok(files)
 }

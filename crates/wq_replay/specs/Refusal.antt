@@ -5,7 +5,7 @@ use Rattle.wq_term.specs.declared.fault.TermFault.TheVariants.{UnknownTerm, Wron
 use Rattle.wq_query.specs.declared.fault.QueryFault.{QueryFault}
 use Rattle.wq_query.specs.declared.fault.QueryFault.TheVariants.{LeftOutKey, Expression, UnknownField, BadClockSpec, WrongValue, NoMemory as NoQueryMemory}
 use Rattle.wq_replay.specs.declared.refusal.Refusal.{Refusal}
-use Rattle.wq_replay.specs.declared.refusal.Refusal.TheVariants.{LineTooLong, NotJson, NotACommand, UnknownCommand, WrongArguments, Bser, NotWatched, Query, NoMemory}
+use Rattle.wq_replay.specs.declared.refusal.Refusal.TheVariants.{LineTooLong, NotJson, NotACommand, UnknownCommand, WrongArguments, Bser, NotWatched, Query, ProgramTooLarge, NoMemory}
 
 -- why an expression is refused
 abbrev pub term_text : TermFault → List ℕ
@@ -36,4 +36,5 @@ refusal_text WrongArguments = codes "E5: wrong arguments"
 refusal_text Bser = codes "E6: BSER is not spoken here"
 refusal_text NotWatched = codes "E14: root is not watched"
 refusal_text (Query fault) = query_text fault
+refusal_text ProgramTooLarge = codes "E30: program too large"
 refusal_text NoMemory = codes "E60: no memory"

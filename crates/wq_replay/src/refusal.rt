@@ -25,6 +25,8 @@ pub enum Refusal {
     NotWatched,
     /// The query is refused.
     Query(QueryFault),
+    /// The query's expression has no program: its code or a list in it is too long.
+    ProgramTooLarge,
     /// A growth was refused.
     NoMemory,
 }
@@ -43,6 +45,7 @@ impl Refusal {
             Refusal::Bser => "E6: BSER is not spoken here",
             Refusal::NotWatched => "E14: root is not watched",
             Refusal::Query(fault) => query_text(fault),
+            Refusal::ProgramTooLarge => "E30: program too large",
             Refusal::NoMemory => NO_MEMORY,
         }
     }

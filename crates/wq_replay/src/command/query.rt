@@ -2,7 +2,9 @@
 ghost use Rattle.std.specs.Prelude.{◌≡◌, IfOk, option_map};
 ghost use Rattle.serde_json.specs.View.{view as data_of, items_view};
 ghost use Rattle.wq_clock.specs.Instance.{instance_data};
-ghost use Rattle.wq_query.specs.Query.{asked_of};
+ghost use Rattle.wq_compile.specs.Meaning.{AnswersMeaning};
+ghost use Rattle.wq_query.specs.Query.{asked_of, plan_of};
+ghost use Rattle.wq_query.specs.Reply.{reply_of};
 ghost use Rattle.wq_replay.specs.Query.{answer_asked, answer_query, arguments_of, only_object};
 ghost use Rattle.wq_replay.specs.Gives.{Gives, IsReply};
 
@@ -10,8 +12,11 @@ use crate::refusal::Refusal;
 use crate::root::is_root;
 use serde_json::Value;
 use std::alloc::{AllocError, Global};
+use std::sync::Arc;
 use wq_clock::Instance;
+use wq_compile::{CompileFault, compile};
 use wq_query::{Query, QueryFault, answer};
+use wq_verify::Program;
 use wq_view::View;
 
 /// What is answered to the arguments of `query`.
@@ -31,7 +36,7 @@ pub(crate) fn answer_query(
         return Err(Refusal::NotWatched);
     }
     match Query::read(alloc, query, instance) {
-        Ok(query) => Ok(answer_read(alloc, query, instance, view)?),
+        Ok(query) => answer_read(alloc, query, instance, view),
         Err(QueryFault::NoMemory) => Err(Refusal::NoMemory),
         Err(fault) => Err(Refusal::Query(fault)),
     }
@@ -43,12 +48,31 @@ fn answer_read(
     query: Query,
     instance: &Instance,
     view: &View,
+) -> Result<Value, Refusal>
+    ensures { Gives result
+        (answer_asked (instance_data instance.now) view.now (asked_of query)) }
+{
+    match compile(alloc, query.expr()) {
+        Ok(program) => Ok(answer_by(alloc, query, program, instance, view)?),
+        Err(CompileFault::TooLarge) => Err(Refusal::ProgramTooLarge),
+        Err(CompileFault::NoMemory) => Err(Refusal::NoMemory),
+    }
+}
+
+/// The same by the program of its expression.
+fn answer_by(
+    alloc: Global,
+    query: Query,
+    program: Program,
+    instance: &Instance,
+    view: &View,
 ) -> Result<Value, AllocError>
+    requires { AnswersMeaning program (asked_of query).expression }
     ensures { IfOk result
-        (IsReply (answer_asked (instance_data instance.now) view.now (asked_of query))) }
+        (IsReply (reply_of (plan_of (asked_of query)) (instance_data instance.now) view.now)) }
 {
     let bound = query.bound();
-    let plan = query.plan_plain(bound);
+    let plan = query.plan(bound, Arc::new(alloc, program)?);
     answer(alloc, &plan, instance, view)
 }
 

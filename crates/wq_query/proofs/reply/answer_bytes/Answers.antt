@@ -1,13 +1,17 @@
--- The text of data that has no float.
-use Rattle.std.proofs.Common.{ap, ◌∙◌}
-use Rattle.std.proofs.lemmas.Result.{IfOk-weaker}
-use Rattle.serde_json.specs.Written.{has_float, compact_text}
+-- The text of what is printed.
+use Rattle.std.proofs.Common.{◌++◌, ap, ◌∙◌}
+use Rattle.json.specs.Tree.{json_tokens}
+use Rattle.serde_json.specs.Written.{outline}
 use Rattle.wq_clock.specs.Instance.{instance_data}
 use Rattle.wq_query.specs.Query.{planned}
-use Rattle.wq_query.proofs.NoFloat.{reply}
+use Rattle.wq_query.specs.Reply.{reply_of}
+use Rattle.wq_query.proofs.Tokens.{text-of}
 use Rattle.wq_query.proofs.reply.answer_bytes.Goals as goal
 
 pub returns : goal.returns
 returns c =
-    let none = reply (planned c.args.plan.now) (instance_data c.args.instance.now) c.args.view.now in
-    IfOk-weaker c.to_vec.result _ _ (λ text written. written (ap has_float c.in_ok-answer.ensures ∙ none) ∙ ap compact_text c.in_ok-answer.ensures) c.to_vec.ensures.text
+    let reply = reply_of (planned c.args.plan.now) (instance_data c.args.instance.now) c.args.view.now in
+    text-of c.into_inner-text.result.items c.print_reply.new.out.before c.print_reply.new.out.tokens reply
+    c.into_inner-text.ensures.items
+    (c.in_ok-print_reply.ensures.0 ∙ c.new-out.ensures.before ∙ c.in_ok-with_capacity.ensures.items)
+    (c.in_ok-print_reply.ensures.1 ∙ ap (λ ts. ts ++ json_tokens (outline reply)) c.new-out.ensures.tokens)

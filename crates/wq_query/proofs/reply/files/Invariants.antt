@@ -1,15 +1,13 @@
--- what is told of the files so far
-use Rattle.std.proofs.Common.{◌≡◌, map, take}
-use Rattle.std.specs.List.{filter}
+-- what is told so far and then what is left is told of the files
+use Rattle.std.proofs.Common.{◌≡◌, ◌++◌, map, drop}
 use Rattle.serde_json.specs.View.{view as data_of}
 use Rattle.wq_clock.specs.Instance.{instance_data}
-use Rattle.wq_query.specs.Listing.{is_listed}
-use Rattle.wq_query.specs.Query.{planned}
+use Rattle.wq_view.specs.Position.{records_at}
 use Rattle.wq_query.specs.Reply.{file_data}
 use Rattle.wq_query.proofs.reply.files.Given as goal
 
-abbrev pub invariant-loop-file : goal.invariant-loop-file
-invariant-loop-file l =
+abbrev pub invariant-loop-place : goal.invariant-loop-place
+invariant-loop-place l =
     map data_of l.files.items
-    ≡ map (file_data l.plan.query.fields.items (instance_data l.instance) l.plan.bound)
-    (filter (is_listed (planned l.plan)) (take l.file-index l.file-items))
+    ++ map (file_data l.plan.query.fields.items (instance_data l.instance) l.plan.bound) (records_at l.view.records (drop l.place-index l.places))
+    ≡ map (file_data l.plan.query.fields.items (instance_data l.instance) l.plan.bound) (records_at l.view.records l.places)

@@ -11,7 +11,7 @@ pub returns : goal.returns
 returns c =
     asks_at (instance_data c.args.instance.now) (data_of c.args.value.now) (term_of c.in_ok-expr.expr) c.in_ok-fields.fields.items c.in-Some.bound c.in-Some-flag.empty_on_fresh_instance true
     (sym c.has_left_out_key.ensures ∙ c.if-has_left_out_key.false)
-    (ap (expression_of (instance_data c.args.instance.now)) (sym c.get.ensures) ∙ c.in_ok-expr.ensures)
+    (ap (expression_of (instance_data c.args.instance.now)) (sym c.get.ensures) ∙ c.in_ok-expr.ensures.read)
     (ap fields_of (sym c.get-2.ensures) ∙ c.in_ok-fields.ensures)
     (ap (since_of (instance_data c.args.instance.now)) (sym c.get-3.ensures) ∙ sym c.in-Some.ensures)
     (ap flag_of (sym c.get-4.ensures) ∙ sym c.in-Some-flag.ensures)
@@ -21,7 +21,7 @@ pub returns-then-not-is_whole : goal.returns-then-not-is_whole
 returns-then-not-is_whole c =
     asks_at (instance_data c.args.instance.now) (data_of c.args.value.now) (term_of c.in_ok-expr.expr) c.in_ok-fields.fields.items c.in-Some.bound c.in-Some-flag.empty_on_fresh_instance false
     (sym c.has_left_out_key.ensures ∙ c.if-has_left_out_key.false)
-    (ap (expression_of (instance_data c.args.instance.now)) (sym c.get.ensures) ∙ c.in_ok-expr.ensures)
+    (ap (expression_of (instance_data c.args.instance.now)) (sym c.get.ensures) ∙ c.in_ok-expr.ensures.read)
     (ap fields_of (sym c.get-2.ensures) ∙ c.in_ok-fields.ensures)
     (ap (since_of (instance_data c.args.instance.now)) (sym c.get-3.ensures) ∙ sym c.in-Some.ensures)
     (ap flag_of (sym c.get-4.ensures) ∙ sym c.in-Some-flag.ensures)
@@ -31,7 +31,7 @@ pub returns-in_default-flag : goal.returns-in_default-flag
 returns-in_default-flag c =
     asks_unflagged (instance_data c.args.instance.now) (data_of c.args.value.now) (term_of c.in_ok-expr.expr) c.in_ok-fields.fields.items c.in-Some.bound
     (sym c.has_left_out_key.ensures ∙ c.if-has_left_out_key.false)
-    (ap (expression_of (instance_data c.args.instance.now)) (sym c.get.ensures) ∙ c.in_ok-expr.ensures)
+    (ap (expression_of (instance_data c.args.instance.now)) (sym c.get.ensures) ∙ c.in_ok-expr.ensures.read)
     (ap fields_of (sym c.get-2.ensures) ∙ c.in_ok-fields.ensures)
     (ap (since_of (instance_data c.args.instance.now)) (sym c.get-3.ensures) ∙ sym c.in-Some.ensures)
     (ap flag_of (sym c.get-4.ensures) ∙ sym c.in_default-flag.ensures)

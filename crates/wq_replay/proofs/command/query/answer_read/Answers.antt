@@ -1,19 +1,8 @@
--- The plan is of that query and its bound, and no reply to a query has a float.
-use Rattle.std.proofs.Common.{◌≡◌, ap, ◌∙◌}
-use Rattle.std.proofs.lemmas.Result.{IfOk-weaker}
-use Rattle.wq_clock.specs.Instance.{instance_data}
-use Rattle.wq_clock.specs.declared.bound.Bound.{Bound}
-use Rattle.wq_query.specs.Query.{PlanData, asked_of, plan_of, planned}
-use Rattle.wq_query.specs.Reply.{reply_of}
-use Rattle.wq_query.proofs.NoFloat.{reply}
+-- The program is that of the query's expression.
+use Rattle.std.proofs.Common.{subst}
+use Rattle.wq_compile.specs.Meaning.{AnswersMeaning}
 use Rattle.wq_replay.proofs.command.query.answer_read.Goals as goal
 
-pub returns : goal.returns
-returns c =
-    let query = asked_of c.args.query in
-    let instance = instance_data c.args.instance.now in
-    let view = c.args.view.now in
-    let with_bound : Bound → PlanData = λ bound. record { query = query; bound = bound } in
-    let plan : planned c.plan_plain-plan.result ≡ plan_of query = c.plan_plain-plan.ensures ∙ ap with_bound c.bound-bound.ensures in
-    IfOk-weaker c.answer.result _ _ (λ value is.
-    (is ∙ ap (λ p. reply_of p instance view) plan, reply (plan_of query) instance view)) c.answer.ensures
+pub answer_by-requires : goal.answer_by-requires
+answer_by-requires c =
+    subst (AnswersMeaning c.in-Ok.program) c.expr.ensures.value c.in-Ok.ensures.meaning

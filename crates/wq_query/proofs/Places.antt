@@ -1,0 +1,85 @@
+-- The places of the files that a plan lists.
+use Rattle.std.proofs.Common.{◌≡◌, ℕ, Bool, true, false, not, List, [], ◌∷◌, Option, Some, None, refl, sym, ap, ◌∙◌}
+use Rattle.std.specs.Prelude.{◌&&◌, ◌||◌, filter, slice_get, if◌then◌else◌}
+use Rattle.std.specs.Option.{option_map_or}
+use Rattle.wq_view.specs.RecordData.{RecordData}
+use Rattle.wq_view.specs.Position.{passes_at, positions_of, all_positions}
+use Rattle.wq_code.specs.declared.raw.Raw.{Raw}
+use Rattle.wq_verify.specs.Typing.{IsValid}
+use Rattle.wq_compile.specs.Meaning.{AnswersMeaning}
+use Rattle.wq_eval.specs.Answer.{AnswersAreSaid, says_yes}
+use Rattle.wq_gen.specs.Candidate.{is_candidate}
+use Rattle.wq_term.specs.Expr.{ExprData, always, means}
+use Rattle.wq_term.specs.Fits.{fits}
+use Rattle.wq_query.specs.Listing.{generators_of, is_fresh, is_listed, is_match}
+use Rattle.wq_query.specs.Meaning.{SaysMeaning}
+use Rattle.wq_query.specs.Query.{PlanData}
+
+-- the expression that stands for none keeps the limits
+pub always_fits : fits always ≡ true
+unfolding fits
+always_fits = refl
+
+-- a program that answers what an expression means says it
+pub says_meaning : (raw : Raw) (t : ExprData) → AnswersAreSaid → IsValid raw → AnswersMeaning raw t → SaysMeaning raw t
+says_meaning raw t law valid answers r = sym (law raw r (means t r) (answers r).0 valid (answers r).1)
+
+-- two filters are one
+filter-both : (p q : ℕ → Bool) (xs : List ℕ) → filter q (filter p xs) ≡ filter (λ x. p x && q x) xs
+filter-both p q [] = refl
+filter-both p q (x ∷ xs) = at (p x) (filter-both p q xs)
+  where
+    at : (a : Bool) → filter q (filter p xs) ≡ filter (λ y. p y && q y) xs
+        → filter q (if a then x ∷ filter p xs else filter p xs)
+        ≡ (if a && q x then x ∷ filter (λ y. p y && q y) xs else filter (λ y. p y && q y) xs)
+    at true h = ap (λ ys. if q x then x ∷ ys else ys) h
+    at false h = h
+
+-- filters by tests that agree are one
+filter-same : (f g : ℕ → Bool) → ((x : ℕ) → f x ≡ g x) → (xs : List ℕ) → filter f xs ≡ filter g xs
+filter-same f g same [] = refl
+filter-same f g same (x ∷ xs) =
+    ap (λ b. if b then x ∷ filter f xs else filter f xs) (same x)
+    ∙ ap (λ ys. if g x then x ∷ ys else ys) (filter-same f g same xs)
+
+-- of the places that pass one test, those that pass another
+passing : (p q whole : RecordData → Bool) (records : List RecordData) → ((r : RecordData) → (p r && q r) ≡ whole r)
+    → filter (passes_at q records) (positions_of p records) ≡ positions_of whole records
+passing p q whole records same =
+    filter-both (passes_at p records) (passes_at q records) (all_positions records)
+    ∙ filter-same (λ i. passes_at p records i && passes_at q records i) (passes_at whole records)
+    (λ i. at (slice_get records i)) (all_positions records)
+  where
+    at : (o : Option RecordData) → (option_map_or p o false && option_map_or q o false) ≡ option_map_or whole o false
+    at None = refl
+    at (Some r) = same r
+
+-- the candidates for which the program answers yes are those that match
+pub places_matching : (plan : PlanData) (raw : Raw) (records : List RecordData) → SaysMeaning raw (plan.query).expression
+    → filter (passes_at (says_yes raw) records) (positions_of (is_candidate (generators_of plan)) records)
+    ≡ positions_of (is_match plan) records
+places_matching plan raw records says =
+    passing (is_candidate (generators_of plan)) (says_yes raw) (is_match plan) records
+    (λ r. ap (λ b. is_candidate (generators_of plan) r && b) (says r))
+
+-- at a fresh bound those that match and exist are listed
+pub places_existing : (plan : PlanData) (records : List RecordData) → is_fresh plan.bound ≡ true
+    → filter (passes_at (λ r. r.exists) records) (positions_of (is_match plan) records) ≡ positions_of (is_listed plan) records
+places_existing plan records fresh =
+    passing (is_match plan) (λ r. r.exists) (is_listed plan) records
+    (λ r. ap (λ b. is_match plan r && (not b || r.exists)) (sym fresh))
+
+-- at another bound all that match
+pub places_listed : (plan : PlanData) (records : List RecordData) → is_fresh plan.bound ≡ false
+    → positions_of (is_match plan) records ≡ positions_of (is_listed plan) records
+places_listed plan records other =
+    filter-same (passes_at (is_match plan) records) (passes_at (is_listed plan) records)
+    (λ i. at (slice_get records i)) (all_positions records)
+  where
+    and-true : (b : Bool) → b ≡ (b && true)
+    and-true true = refl
+    and-true false = refl
+
+    at : (o : Option RecordData) → option_map_or (is_match plan) o false ≡ option_map_or (is_listed plan) o false
+    at None = refl
+    at (Some r) = and-true (is_match plan r) ∙ ap (λ b. is_match plan r && (not b || r.exists)) (sym other)

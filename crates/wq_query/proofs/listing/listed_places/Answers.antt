@@ -1,0 +1,11 @@
+-- The places of what matches are places of the view.
+use Rattle.std.proofs.Common.{◌<◌, All, length, sym, subst, ◌∙◌}
+use Rattle.wq_query.specs.Listing.{is_match}
+use Rattle.wq_query.specs.Query.{planned}
+use Rattle.wq_query.proofs.listing.listed_places.Goals as goal
+
+pub existing-requires : goal.existing-requires
+existing-requires c =
+    let records = c.args.view.now.records in
+    subst (All (λ i. i < length records)) (sym (c.deref.ensures.value ∙ c.in_ok-places.ensures))
+    (c.positions_are_there.ensures (is_match (planned c.args.plan.now)) records).0

@@ -1,0 +1,86 @@
+//! Reading a query, and planning its answer.
+ghost use Rattle.std.specs.Prelude.{◌≡◌, IsTrue};
+ghost use Rattle.serde_json.specs.View.{view as data_of};
+ghost use Rattle.wq_clock.specs.Instance.{instance_data};
+ghost use Rattle.wq_term.specs.Expr.{term_of};
+ghost use Rattle.wq_term.specs.Fits.{fits};
+ghost use Rattle.wq_compile.specs.Meaning.{AnswersMeaning};
+ghost use Rattle.wq_query.specs.Outcome.{Gives};
+ghost use Rattle.wq_query.specs.Query.{asked_of, planned};
+ghost use Rattle.wq_query.specs.Reading.{asks};
+
+use crate::fault::QueryFault;
+use crate::query::{Plan, Query};
+use crate::reading;
+use serde_json::Value;
+use std::alloc::Global;
+use std::sync::Arc;
+use wq_clock::{Bound, Instance};
+use wq_eval::answers_are_said;
+use wq_term::Expr;
+use wq_verify::Program;
+
+impl Query {
+    /// What a JSON object asks, at this instance of the server. The first fault refuses it: see
+    /// [`QueryFault`].
+    ///
+    /// Keys that are not known are ignored, and so are `dedup_results`, `defer` and `drop`. The
+    /// value of `sync_timeout` is tested here, and used by who crawls. A value that is no object
+    /// has no keys.
+    pub fn read(alloc: Global, value: &Value, instance: &Instance) -> Result<Query, QueryFault>
+        ensures { Gives result (asks (instance_data instance.now) (data_of value.now)) }
+    {
+        if reading::has_left_out_key(value) {
+            return Err(QueryFault::LeftOutKey);
+        }
+        let expr = reading::expression(alloc, value.get("expression"), instance)?;
+        let fields = reading::fields(alloc, value.get("fields"))?;
+        let Some(bound) = reading::since(value.get("since"), instance) else {
+            return Err(QueryFault::BadClockSpec);
+        };
+        let Some(empty_on_fresh_instance) = reading::flag(value.get("empty_on_fresh_instance"))
+        else {
+            return Err(QueryFault::WrongValue);
+        };
+        if !reading::is_whole(value.get("sync_timeout")) {
+            return Err(QueryFault::WrongValue);
+        }
+        Ok(Query {
+            expr,
+            fields,
+            bound,
+            empty_on_fresh_instance,
+        })
+    }
+
+    /// Which files the query asks for.
+    pub fn expr(&self) -> &Expr
+        ensures value { term_of result.now ≡ (asked_of self.now).expression }
+        ensures limits { IsTrue (fits (term_of result.now)) }
+    {
+        &self.expr
+    }
+
+    /// The bound that the query sets: fresh where it has no `since`.
+    pub fn bound(&self) -> Bound
+        ensures { result ≡ (asked_of self.now).bound }
+    {
+        self.bound
+    }
+
+    /// The plan of answering the query with this bound, whichever the query sets, by a program that
+    /// answers on every record what the query's expression means.
+    #[tactic(auto, using(crate::proofs::Places::says_meaning))]
+    pub fn plan(self, bound: Bound, program: Arc<Program>) -> Plan
+        requires { AnswersMeaning program.value (asked_of self).expression }
+        ensures { planned result ≡ record { query = asked_of self; bound = bound } }
+    {
+        answers_are_said();
+        program.raw();
+        Plan {
+            query: self,
+            bound,
+            program,
+        }
+    }
+}
