@@ -15,8 +15,10 @@ WRONG_TERM_ARGUMENTS = "E25: wrong term arguments"
 TOO_DEEP = "E26: expression too deep"
 CURSOR_IN_TERM = "E27: cursor in a term"
 PATTERN_TOO_LONG = "E28: pattern too long"
+PROGRAM_TOO_LARGE = "E30: program too large"
 WRONG_QUERY_VALUE = "E37: wrong query value"
 
+# All but the one for expressions that are too long to be drawn: tests/size has those.
 ALL = [
     LINE_TOO_LONG, NOT_JSON, NOT_A_COMMAND, UNKNOWN_COMMAND, WRONG_ARGUMENTS, BINARY, NOT_WATCHED, LEFT_OUT_KEY,
     UNKNOWN_FIELD, BAD_CLOCK_SPEC, UNKNOWN_TERM, WRONG_TERM_ARGUMENTS, TOO_DEEP, CURSOR_IN_TERM, PATTERN_TOO_LONG,

@@ -1,5 +1,6 @@
 """Wildmatch patterns: a pattern is a row of atoms, and fits a text that can be cut into one part for each."""
 
+from functools import lru_cache
 from typing import AbstractSet, FrozenSet, List, NamedTuple, Optional, Tuple
 
 SLASH, DOT, STAR, QUESTION, BACKSLASH, DASH = b"/.*?\\-"
@@ -90,6 +91,7 @@ def is_leading_dot(text: bytes, place: int) -> bool:
     return text[place] == DOT and (place == 0 or text[place - 1] == SLASH)
 
 
+@lru_cache(maxsize=1_000)
 def atoms_of(pattern: bytes, flags: Flags) -> List[Atom]:
     atoms: List[Atom] = []
     place = 0

@@ -64,7 +64,7 @@ fn absorb(alloc: Global, view: &mut View, text: &str) -> Result<bool> {
 }
 
 /// The view after a history; `moves` gets a word for each pass.
-fn view_of(alloc: Global, history: &str, moves: &mut String) -> Result<View> {
+pub(crate) fn view_of(alloc: Global, history: &str, moves: &mut String) -> Result<View> {
     let mut view = View::new(alloc);
     for pass in history.split(';') {
         if !pass.is_empty() {

@@ -12,6 +12,7 @@
 
 mod clock;
 mod file;
+mod generator;
 mod history;
 mod pattern;
 mod word;
@@ -47,6 +48,7 @@ fn file_answer(alloc: Global, call: &str, words: &[Vec<u8>]) -> Result<String> {
         "pass" => history::pass_case(alloc, words),
         "history" => history::history_case(alloc, words),
         "find" => history::find_case(alloc, words),
+        "candidates" => generator::candidates_case(alloc, words),
         _ => bail!("no such call"),
     }
 }

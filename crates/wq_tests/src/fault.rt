@@ -4,6 +4,7 @@ use std::alloc::Global;
 use std::fmt::Display;
 use std::process::Abort;
 use std::test::Fail;
+use wq_compile::CompileFault;
 use wq_query::QueryFault::{self, Expression, LeftOutKey, UnknownField, WrongValue};
 use wq_term::TermFault;
 
@@ -28,6 +29,18 @@ fn faults_of_expressions_have_words(rt: HostRuntime) -> Result<(), Fail> {
             (TermFault::CursorInTerm, "cursor in a term"),
             (TermFault::PatternTooLong, "pattern too long"),
             (TermFault::NoMemory, "no memory"),
+        ],
+    )
+}
+
+#[test]
+fn faults_of_compiling_have_words(rt: HostRuntime) -> Result<(), Fail> {
+    check_words(
+        &rt,
+        rt.alloc(),
+        &[
+            (CompileFault::TooLarge, "program too large"),
+            (CompileFault::NoMemory, "no memory"),
         ],
     )
 }

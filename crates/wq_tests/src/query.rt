@@ -4,10 +4,12 @@ use crate::tree::pass;
 use serde_json::Value;
 use std::alloc::Global;
 use std::process::Abort;
+use std::sync::Arc;
 use std::test::Fail;
 use wq_base::{MAX_NUMBER, MAX_SIGNED};
 use wq_clock::Bound::{self, Fresh, Second, Tick};
 use wq_clock::Instance;
+use wq_compile::compile;
 use wq_query::{Field, Query, answer};
 use wq_term::Expr;
 use wq_view::{Kind, View};
@@ -109,7 +111,9 @@ fn fields_have_names(rt: HostRuntime) {
 fn answers_the_value_of_the_reply(rt: HostRuntime) -> Result<(), Fail> {
     let mut view = View::new(rt.alloc());
     view.absorb(&pass(rt.alloc(), &[b"src/a.c", b"b.txt"], 100)?)?;
-    let plan = read(rt.alloc(), r#"{"fields":["name"]}"#)?.plan_plain(Fresh);
+    let query = read(rt.alloc(), r#"{"fields":["name"]}"#)?;
+    let program = compile(rt.alloc(), query.expr())?;
+    let plan = query.plan(Fresh, Arc::new(rt.alloc(), program)?);
     let value = answer(rt.alloc(), &plan, &INSTANCE, &view)?;
     let want =
         r#"{"version":"wq-1","is_fresh_instance":true,"files":["b.txt","src/a.c"],"clock":"c:7:9:1:1"}"#;

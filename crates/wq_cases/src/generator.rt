@@ -1,0 +1,74 @@
+//! Calls on the generators of a query. A list of suffixes is `list (c) (h)`, one of paths with their depths
+//! `list (-1 src) (0 )`; `list` alone is empty, and `none` is no generator.
+
+use crate::history::view_of;
+use crate::word::{cut, number, text};
+use anyhow::{Context, Result, bail};
+use std::alloc::Global;
+use wq_base::{Table, Text};
+use wq_clock::Bound;
+use wq_gen::{Generators, PathGen, candidates};
+
+/// `candidates HISTORY SINCE SUFFIXES PATHS`: the candidates in the view after the history, each with its position.
+pub(crate) fn candidates_case(alloc: Global, words: &[Vec<u8>]) -> Result<String> {
+    let mut moves = String::new(alloc);
+    let view = view_of(alloc, text(words, 1)?, &mut moves)?;
+    let generators = Generators {
+        since: since(text(words, 2)?)?,
+        suffix: suffixes(alloc, text(words, 3)?)?,
+        path: paths(alloc, text(words, 4)?)?,
+    };
+    let found = candidates(alloc, &view, &generators)?;
+    let mut answer = format!(in alloc; "{} found", found.len())?;
+    for position in found {
+        let file = view.records().get(position as usize).context("no record")?;
+        answer.push_str(format!(in alloc; "; {position} {}", file.name.as_str())?.as_str())?;
+    }
+    Ok(answer)
+}
+
+/// `none`, `fresh`, `tick 1` or `second 100`.
+fn since(text: &str) -> Result<Option<Bound>> {
+    if text == "none" {
+        return Ok(None);
+    }
+    if text == "fresh" {
+        return Ok(Some(Bound::Fresh));
+    }
+    let (kind, rest) = cut(text, ' ')?;
+    match kind {
+        "tick" => Ok(Some(Bound::Tick(rest.parse::<u64>()?))),
+        "second" => Ok(Some(Bound::Second(number(rest)?))),
+        _ => bail!("no such bound"),
+    }
+}
+
+fn suffixes(alloc: Global, list: &str) -> Result<Option<Table<Text>>> {
+    if list == "none" {
+        return Ok(None);
+    }
+    let mut suffixes = Vec::new(alloc);
+    for piece in list.split('(') {
+        if let Some(suffix) = piece.trim_end().strip_suffix(')') {
+            suffixes.push(Text::from_string(String::from_str(alloc, suffix)?))?;
+        }
+    }
+    Ok(Some(Table::from_vec(suffixes)))
+}
+
+fn paths(alloc: Global, list: &str) -> Result<Option<Table<PathGen>>> {
+    if list == "none" {
+        return Ok(None);
+    }
+    let mut paths = Vec::new(alloc);
+    for piece in list.split('(') {
+        if let Some(path) = piece.trim_end().strip_suffix(')') {
+            let (depth, path) = cut(path, ' ')?;
+            paths.push(PathGen {
+                path: Text::from_string(String::from_str(alloc, path)?),
+                depth: number(depth)?,
+            })?;
+        }
+    }
+    Ok(Some(Table::from_vec(paths)))
+}
