@@ -1,9 +1,9 @@
 pub mod Lists
 mod Texts
 mod Arguments
-mod Slashes
-mod ArgumentGrammar
+pub mod Slashes
+pub mod ArgumentGrammar
 mod PatternGrammar
-mod TermGrammar
+pub mod TermGrammar
 mod Grammar
 mod KeptLimits

@@ -8,6 +8,8 @@ use Rattle.std.specs.List.{repeat, prefix_len, suffix_len}
 use Rattle.std.proofs.Math.Seq.{take-append_seam}
 use Rattle.std.proofs.lemmas.Bool.{eqb-true}
 use Rattle.std.proofs.lemmas.List.{reverse-append, reverse-reverse, take-append-drop, length-append}
+use Rattle.std.proofs.lemmas.Str.{IsUtf8-nil, IsUtf8-append, IsUtf8-encode, IsCharBoundary-at_seam}
+use Rattle.std.specs.Str.{IsUtf8, IsCharBoundary}
 use Rattle.wq_base.specs.Byte.{is_slash}
 use Rattle.wq_term.specs.Text.{without_end_slashes}
 
@@ -61,6 +63,12 @@ length_slashes : (n : ℕ) → length (slashes n) ≡ n
 length_slashes zero = refl
 length_slashes (suc n) = ap suc (length_slashes n)
 
+-- they are characters
+plain : (n : ℕ) → IsUtf8 (slashes n)
+unfolding lib.Utf8.encode
+plain zero = IsUtf8-nil
+plain (suc n) = IsUtf8-append (codes "/") (slashes n) (IsUtf8-encode (byte "/") refl) (plain n)
+
 -- a text, cut before the slashes at its end
 cut : (text : List ℕ)
     → (text ≡ reverse (drop (suffix_len is_slash text) (reverse text)) ++ slashes (suffix_len is_slash text))
@@ -99,3 +107,14 @@ dropped text dir e =
     ap (prefix_len is_slash) (reverse-reverse (drop n (reverse text))) ∙ behind (reverse text) in
     let is : front ≡ dir = sym same ∙ e in
     (subst (λ f. suffix_len is_slash f ≡ 0) is none, (n, subst (λ f. text ≡ f ++ slashes n) is whole))
+
+-- it may be cut there
+pub seam : (text : List ℕ) → IsCharBoundary text (length text - suffix_len is_slash text)
+seam text =
+    let n = suffix_len is_slash text in
+    let front = reverse (drop n (reverse text)) in
+    let whole : text ≡ front ++ slashes n = cut text in
+    let long : length text ≡ length front + n =
+    ap length whole ∙ length-append front (slashes n) ∙ ap (λ k. length front + k) (length_slashes n) in
+    let rest : length front ≡ length text - n = omega (arith, long) in
+    subst (IsCharBoundary text) rest (IsCharBoundary-at_seam text front (slashes n) whole (plain n))

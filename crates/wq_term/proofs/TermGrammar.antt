@@ -123,7 +123,7 @@ name-reads case (item d (item f no_items)) scope texts h =
 name-reads case _ scope texts h = absurd h
 
 -- a directory
-dir-found : (d : Data) (text : List ℕ) → text_of d ≡ Some text
+pub dir-found : (d : Data) (text : List ℕ) → text_of d ≡ Some text
     → IsDirectory (without_end_slashes text) d
 dir-found d text some =
     let p = dropped text (without_end_slashes text) refl in

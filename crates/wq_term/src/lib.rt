@@ -19,5 +19,7 @@ pub use law::{
     read_expressions_fit, values_say_what_they_write,
 };
 pub use meaning::holds;
-pub use reading::{MAX_DEPTH, MAX_TEXT, read_bound, read_expr, whole_number};
+pub use reading::{
+    MAX_DEPTH, MAX_TEXT, read_bound, read_expr, text, whole_number, without_end_slashes,
+};
 pub use wq_base::{Case, Relation};

@@ -20,7 +20,7 @@ use crate::fault::TermFault;
 use crate::head::Head;
 use crate::law::read_expressions_fit;
 use argument::parts;
-pub use argument::{MAX_TEXT, whole_number};
+pub use argument::{MAX_TEXT, text, whole_number, without_end_slashes};
 pub use number::read_bound;
 use serde_json::Value;
 use std::alloc::Global;

@@ -5,7 +5,7 @@ use std::fmt::Display;
 use std::process::Abort;
 use std::test::Fail;
 use wq_compile::CompileFault;
-use wq_query::QueryFault::{self, Expression, LeftOutKey, UnknownField, WrongValue};
+use wq_query::QueryFault::{self, BadGenerator, Expression, LeftOutKey, UnknownField, WrongValue};
 use wq_term::TermFault;
 
 /// Asserts the words of each fault.
@@ -55,6 +55,7 @@ fn faults_of_queries_have_words(rt: HostRuntime) -> Result<(), Fail> {
             (Expression(TermFault::UnknownTerm), "unknown term"),
             (Expression(TermFault::TooDeep), "expression too deep"),
             (UnknownField, "unknown field"),
+            (BadGenerator, "bad generator"),
             (QueryFault::BadClockSpec, "bad clockspec"),
             (WrongValue, "wrong query value"),
             (QueryFault::NoMemory, "no memory"),

@@ -10,7 +10,7 @@ use wq_base::{MAX_NUMBER, MAX_SIGNED};
 use wq_clock::Bound::{self, Fresh, Second, Tick};
 use wq_clock::Instance;
 use wq_compile::compile;
-use wq_query::{Field, Query, answer};
+use wq_query::{Field, Plan, Query, answer, answer_bytes};
 use wq_term::Expr;
 use wq_view::{Kind, View};
 
@@ -107,16 +107,22 @@ fn fields_have_names(rt: HostRuntime) {
     assert_eq!(rt; Field::named("kind"), None);
 }
 
+/// The plan of a query at a fresh bound.
+fn planned(alloc: Global, query: Query) -> Result<Plan, Fail> {
+    let program = compile(alloc, query.expr())?;
+    Ok(query.plan(Fresh, Arc::new(alloc, program)?))
+}
+
 #[test]
-fn answers_the_value_of_the_reply(rt: HostRuntime) -> Result<(), Fail> {
+fn answers_the_value_and_the_text_of_the_reply(rt: HostRuntime) -> Result<(), Fail> {
     let mut view = View::new(rt.alloc());
     view.absorb(&pass(rt.alloc(), &[b"src/a.c", b"b.txt"], 100)?)?;
-    let query = read(rt.alloc(), r#"{"fields":["name"]}"#)?;
-    let program = compile(rt.alloc(), query.expr())?;
-    let plan = query.plan(Fresh, Arc::new(rt.alloc(), program)?);
-    let value = answer(rt.alloc(), &plan, &INSTANCE, &view)?;
+    let plan = planned(rt.alloc(), read(rt.alloc(), r#"{"fields":["name"]}"#)?)?;
     let want =
-        r#"{"version":"wq-1","is_fresh_instance":true,"files":["b.txt","src/a.c"],"clock":"c:7:9:1:1"}"#;
+        r#"{"clock":"c:7:9:1:1","files":["b.txt","src/a.c"],"is_fresh_instance":true,"version":"wq-1"}"#;
+    let value = answer(rt.alloc(), &plan, &INSTANCE, &view)?;
+    let bytes = answer_bytes(rt.alloc(), &plan, &INSTANCE, &view)?;
     assert!(rt; value == Value::from_str(rt.alloc(), want)?);
+    assert!(rt; bytes.as_slice() == want.as_bytes());
     Ok(())
 }

@@ -1,11 +1,14 @@
 //! What one argument of a term, or a few of them, say. Which term has which arguments is not said
 //! here.
-ghost use Rattle.std.specs.Prelude.{◌≡◌, ok_or, option_map};
+ghost use Rattle.std.specs.Prelude.{◌≡◌, ◌-◌, length, ok_or, option_map};
+ghost use Rattle.std.specs.List.{suffix_len};
 ghost use Rattle.serde_json.specs.View.{view as data_of, items_view};
+ghost use Rattle.wq_base.specs.Byte.{is_slash};
 ghost use Rattle.wq_term.specs.Argument.{parts_of, text_of, all_texts_of, texts_of};
 ghost use Rattle.wq_term.specs.Argument.{whole_number_of, second_of, scope_of, relation_of};
 ghost use Rattle.wq_term.specs.Argument.{comparison_of};
 ghost use Rattle.wq_term.specs.Outcome.{GivesAs, GivesTexts};
+ghost use Rattle.wq_term.specs.Text.{without_end_slashes};
 ghost use Rattle.wq_term.specs.declared.fault.TermFault.TheVariants.{WrongArguments};
 
 use crate::expr::Scope;
@@ -34,14 +37,33 @@ pub(super) fn parts(value: &Value) -> Option<(&str, &[Value])>
     }
 }
 
-/// The bytes of a text, of which there are at most 4,096.
-pub(super) fn text(value: &Value) -> Option<&[u8]>
+/// A text of at most 4,096 bytes.
+pub fn text(value: &Value) -> Option<&str>
     ensures { option_map (λ text. text.now) result ≡ text_of (data_of value.now) }
 {
     match value {
-        Value::String(text) if text.len() <= MAX_TEXT => Some(text.as_bytes()),
+        Value::String(text) if text.len() <= MAX_TEXT => Some(text.as_str()),
         _ => None,
     }
+}
+
+/// A text without the slashes at its end.
+#[tactic(auto, using(crate::proofs::Slashes::seam))]
+pub fn without_end_slashes(text: &str) -> &str
+    ensures { result.now ≡ without_end_slashes text.now }
+{
+    &text[..before_end_slashes(text.as_bytes())]
+}
+
+/// How many bytes stand before the slashes at the end.
+fn before_end_slashes(text: &[u8]) -> usize
+    ensures { result ≡ length text.now - suffix_len is_slash text.now }
+{
+    let mut end = text.len();
+    while end > 0 && text[end - 1] == b'/' {
+        end -= 1;
+    }
+    end
 }
 
 /// A copy of a text.
@@ -50,7 +72,7 @@ fn read_text(alloc: Global, value: &Value) -> Result<Vec<u8>, TermFault>
         (ok_or (text_of (data_of value.now)) WrongArguments) }
 {
     match text(value) {
-        Some(text) => Ok(Vec::from_slice(alloc, text)?),
+        Some(text) => Ok(Vec::from_slice(alloc, text.as_bytes())?),
         None => Err(TermFault::WrongArguments),
     }
 }

@@ -5,11 +5,10 @@ ghost use Rattle.wq_term.specs.Argument.{depth_argument, kind_of};
 ghost use Rattle.wq_term.specs.Outcome.{Gives};
 ghost use Rattle.wq_term.specs.Reading.{below_at, name_in, read_dirname, read_kind, read_name};
 ghost use Rattle.wq_term.specs.Reading.{read_suffix};
-ghost use Rattle.wq_term.specs.Text.{without_end_slashes};
 
 use crate::expr::{Depth, Expr, Scope};
 use crate::fault::TermFault;
-use crate::reading::argument::{comparison, parts, read_texts, scope, text};
+use crate::reading::argument::{comparison, parts, read_texts, scope, text, without_end_slashes};
 use crate::reading::word::kind_named;
 use serde_json::Value;
 use std::alloc::Global;
@@ -96,7 +95,7 @@ fn below_at(alloc: Global, case: Case, depth: Depth, dir: &Value) -> Result<Expr
     let Some(dir) = text(dir) else {
         return Err(TermFault::WrongArguments);
     };
-    let dir = Vec::from_slice(alloc, without_end_slashes(dir))?;
+    let dir = Vec::from_slice(alloc, without_end_slashes(dir).as_bytes())?;
     Ok(Expr::Dirname { case, dir, depth })
 }
 
@@ -109,15 +108,4 @@ fn depth(value: &Value) -> Option<Depth>
     };
     let (relation, number) = comparison(arguments)?;
     Some(Depth::Is(relation, number))
-}
-
-/// A text without the slashes at its end.
-fn without_end_slashes(text: &[u8]) -> &[u8]
-    ensures { result.now ≡ without_end_slashes text.now }
-{
-    let mut end = text.len();
-    while end > 0 && text[end - 1] == b'/' {
-        end -= 1;
-    }
-    &text[..end]
 }
