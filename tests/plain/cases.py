@@ -5,7 +5,9 @@ from typing import Any, Dict, Iterator, List
 
 import clocks
 import errors
+from generators import ANY_DEPTH
 from json_values import NotJson, read
+from limits import MAX_NUMBER
 from patterns import Flags, atoms_of
 from queries import FIELDS, LEFT_OUT_KEYS, Query, listed_records, read_query
 from replay import Malformed, Turn, turns
@@ -29,6 +31,8 @@ def expected_cases() -> List[str]:
     cases += ["script ends well"] + [f"script line: {fault}" for fault in SCRIPT_FAULTS]
     cases += [f"field {name}" for name in FIELDS] + [f"bound: {bound}" for bound in BOUNDS]
     cases += [f"new is {value} after a {kind}" for kind in ("tick", "second") for value in ("true", "false")]
+    cases += [f"generator {name} with {bound}" for name in ("suffix", "path") for bound in BOUNDS]
+    cases += ["generator with no entry", "path to any depth", "path to a depth", "deleted file by a generator"]
     cases += [f"left out key {key}" for key in LEFT_OUT_KEYS]
     cases += [f"term {name} {answer}" for name in [*COMBINATIONS, *TERMS] for answer in answers_of(name)]
     cases += [f"since {field} with a {kind}" for field in SINCE_FIELDS for kind in ("fresh", "tick", "second")
@@ -83,12 +87,23 @@ def count_query(asked: Dict[str, Any], view: View, counts: Counter) -> None:
     counts[f"bound: {bound_case(asked, query, view)}"] += 1
     counts["empty on fresh instance"] += query.bound.kind == "fresh" and query.is_empty_on_fresh
     count_fields(asked, query, counts)
+    count_generators(asked, query, view, counts)
     for record in files:
         is_new = "true" if FIELDS["new"](record, query.bound) else "false"
         counts[f"new is {is_new} after a {query.bound.kind}"] += "new" in query.fields
     if "expression" in asked:
         for term in terms_in(asked["expression"]):
             count_term(term, view, counts)
+
+
+def count_generators(asked: Dict[str, Any], query: Query, view: View, counts: Counter) -> None:
+    for name in ("suffix", "path"):
+        counts[f"generator {name} with {bound_case(asked, query, view)}"] += name in asked
+        counts["generator with no entry"] += asked.get(name) == []
+    for path in query.generators.paths or []:
+        counts["path to any depth" if path.depth == ANY_DEPTH else "path to a depth"] += 1
+    alone = query._replace(bound=query.bound._replace(number=MAX_NUMBER)) if query.bound.kind != "fresh" else query
+    counts["deleted file by a generator"] += any(not record.exists for record in listed_records(alone, view))
 
 
 def bound_case(asked: Dict[str, Any], query: Query, view: View) -> str:

@@ -9,6 +9,7 @@ BINARY = "E6: BSER is not spoken here"
 NOT_WATCHED = "E14: root is not watched"
 LEFT_OUT_KEY = "E20: query key is left out"
 UNKNOWN_FIELD = "E21: unknown field"
+BAD_GENERATOR = "E22: bad generator"
 BAD_CLOCK_SPEC = "E23: bad clockspec"
 UNKNOWN_TERM = "E24: unknown term"
 WRONG_TERM_ARGUMENTS = "E25: wrong term arguments"
@@ -21,8 +22,8 @@ WRONG_QUERY_VALUE = "E37: wrong query value"
 # All but the one for expressions that are too long to be drawn: tests/size has those.
 ALL = [
     LINE_TOO_LONG, NOT_JSON, NOT_A_COMMAND, UNKNOWN_COMMAND, WRONG_ARGUMENTS, BINARY, NOT_WATCHED, LEFT_OUT_KEY,
-    UNKNOWN_FIELD, BAD_CLOCK_SPEC, UNKNOWN_TERM, WRONG_TERM_ARGUMENTS, TOO_DEEP, CURSOR_IN_TERM, PATTERN_TOO_LONG,
-    WRONG_QUERY_VALUE,
+    UNKNOWN_FIELD, BAD_GENERATOR, BAD_CLOCK_SPEC, UNKNOWN_TERM, WRONG_TERM_ARGUMENTS, TOO_DEEP, CURSOR_IN_TERM,
+    PATTERN_TOO_LONG, WRONG_QUERY_VALUE,
 ]
 
 

@@ -9,7 +9,7 @@ import sys
 from typing import Dict, List, Tuple
 
 from draws import Draws, array, json_object
-from generate_terms import MAX, WRONG_NUMBERS, World, clock_spec, expression
+from generate_terms import MAX, WRONG_NUMBERS, World, clock_spec, expression, paths, suffixes
 
 NAMES = [
     "a", "a.c", "A.C", ".a.c", "b.txt", "src", "src/a.c", "src/A.c", "Src/a.c", "src/b/c.TXT", "src/.y/a.c",
@@ -28,10 +28,7 @@ LETTERS = "fffffffddddlbcpsD?"
 WRONG_FIELDS = [
     '"name"', "[]", '["name",7]', '["mode"]', '["Name"]', "null", "{}", '[["name"]]', '[""]', '["name",null]',
 ]
-LEFT_OUT_KEYS = [
-    "suffix", "path", "glob", "glob_includedotfiles", "program", "relative_root", "settle_period",
-    "settle_timeout",
-]
+LEFT_OUT_KEYS = ["glob", "glob_includedotfiles", "program", "relative_root", "settle_period", "settle_timeout"]
 IGNORED_KEYS = ["dedup_results", "defer", "drop", "frob", "", "Fields", "case_sensitive "]
 ANY_VALUES = ["true", "null", "[]", '{"a":[1,2]}', '"x"', "1.5", "-0", '"\\ud83d\\ude00"']
 ROOTS = ['"/r"', '"/r/"', '"/r///"', '"\\u002fr"']
@@ -211,6 +208,10 @@ def query(draws: Draws, world: World) -> str:
         members.append(("fields", fields(draws)))
     if draws.one_in(2):
         members.append(("since", clock_spec(draws, world)))
+    if draws.one_in(4):
+        members.append(("suffix", suffixes(draws)))
+    if draws.one_in(4):
+        members.append(("path", paths(draws, world)))
     if draws.one_in(6):
         members.append(("empty_on_fresh_instance", draws.pick(["true"] * 4 + ["false"] * 3 + ["null", "1", '"true"'])))
     if draws.one_in(6):

@@ -119,9 +119,45 @@ def suffix_term(draws: Draws, world: World, head: str) -> str:
     if draws.one_in(20):
         wrong = [[], [draws.pick(WRONG_TEXTS)], ['"c"', '"c"'], [long_text(draws, 4096)]]
         return array(draws, ['"suffix"'] + draws.pick(wrong))
+    return array(draws, ['"suffix"', some_suffixes(draws)])
+
+
+def some_suffixes(draws: Draws) -> str:
     suffixes = ["c", "C", "txt", "TXT", "php", "", "ü", "Ü", ".c", "c.c"]
     texts = [json_text(draws, text) for text in draws.some(suffixes, 3)]
-    return array(draws, ['"suffix"', texts[0] if len(texts) == 1 and draws.one_in(2) else array(draws, texts)])
+    return texts[0] if len(texts) == 1 and draws.one_in(2) else array(draws, texts)
+
+
+def suffixes(draws: Draws) -> str:
+    """The value of the query key `suffix`."""
+    if draws.one_in(20):
+        return draws.pick([draws.pick(WRONG_TEXTS), long_text(draws, 4096)])
+    return some_suffixes(draws)
+
+
+def paths(draws: Draws, world: World) -> str:
+    """The value of the query key `path`."""
+    if draws.one_in(20):
+        return draws.pick(['"a"', "7", "null", "{}", '{"path":"a","depth":0}'])
+    return array(draws, [path(draws, world) for _ in range(draws.between(0, 3))])
+
+
+def path(draws: Draws, world: World) -> str:
+    if draws.one_in(40):
+        wrong = ["7", "null", '["a"]', "{}", '{"path":"a"}', '{"depth":0}', '{"path":7,"depth":0}']
+        return draws.pick(wrong + [long_text(draws, 4096)])
+    text = json_text(draws, directory_text(draws, world))
+    if draws.one_in(2):
+        return text
+    depth = draws.pick(WRONG_NUMBERS + ["-2"]) if draws.one_in(40) else str(draws.pick([-1, 0, 0, 1, 2, MAX]))
+    members = [("path", text), ("depth", depth)]
+    return json_object(draws, members + [("frob", "null")] if draws.one_in(10) else members)
+
+
+def directory_text(draws: Draws, world: World) -> str:
+    """A text that may name a directory or a file, maybe with slashes at its end."""
+    name = draws.pick(world.names)
+    return draws.pick([name, "", name.rsplit("/", 1)[0], name.split("/", 1)[0]]) + draws.pick(["", "", "/", "//"])
 
 
 def dirname_term(draws: Draws, world: World, head: str) -> str:
@@ -129,10 +165,8 @@ def dirname_term(draws: Draws, world: World, head: str) -> str:
         wrong = [[], ["7"], ['["a"]'], [long_text(draws, 4096)], ['"a"', "null"], ['"a"', '["eq",0]'],
                  ['"a"', '["Depth","eq",0]'], ['"a"', '["depth","eq",0]', "null"], ['"a"', '"depth"']]
         return array(draws, [f'"{head}"'] + draws.pick(wrong))
-    name = draws.pick(world.names)
-    directory = draws.pick([name, "", name.rsplit("/", 1)[0], name.split("/", 1)[0]])
+    directory = directory_text(draws, world)
     directory = draws.pick([directory, directory, directory.upper(), directory.lower()])
-    directory += draws.pick(["", "", "/", "//"])
     depth = draws.pick([[], [array(draws, ['"depth"'] + comparison(draws))]])
     return array(draws, [f'"{head}"', json_text(draws, directory)] + depth)
 

@@ -5,13 +5,12 @@ from typing import Any, Callable, Dict, List, NamedTuple
 import clocks
 from clocks import FRESH, Bound, clock_id
 from errors import BAD_CLOCK_SPEC, LEFT_OUT_KEY, UNKNOWN_FIELD, WRONG_QUERY_VALUE, Refused
+from generators import Generators, candidate_test, read_generators
 from json_values import is_whole_number
 from terms import Test, read_term
 from views import Record, View
 
-LEFT_OUT_KEYS = [
-    "suffix", "path", "glob", "glob_includedotfiles", "program", "relative_root", "settle_period", "settle_timeout",
-]
+LEFT_OUT_KEYS = ["glob", "glob_includedotfiles", "program", "relative_root", "settle_period", "settle_timeout"]
 DEFAULT_FIELDS = ["name", "exists", "new", "size"]
 
 # What a field says of a record. Of `new` the bound decides.
@@ -33,6 +32,7 @@ class Query(NamedTuple):
     fields: List[str]
     bound: Bound
     is_empty_on_fresh: bool
+    generators: Generators = Generators()
 
 
 def read_query(asked: Dict[str, Any]) -> Query:
@@ -41,11 +41,12 @@ def read_query(asked: Dict[str, Any]) -> Query:
         raise Refused(LEFT_OUT_KEY)
     matches = read_term(asked.get("expression", "true"))
     fields = read_fields(asked.get("fields", DEFAULT_FIELDS))
+    generators = read_generators(asked)
     bound = read_since(asked["since"]) if "since" in asked else FRESH
     is_empty_on_fresh = asked.get("empty_on_fresh_instance", False)
     if not isinstance(is_empty_on_fresh, bool) or not is_whole_number(asked.get("sync_timeout", 0)):
         raise Refused(WRONG_QUERY_VALUE)
-    return Query(matches, fields, bound, is_empty_on_fresh)
+    return Query(matches, fields, bound, is_empty_on_fresh, generators)
 
 
 def read_fields(value: Any) -> List[str]:
@@ -76,15 +77,9 @@ def reply_to(query: Query, view: View) -> Dict[str, Any]:
 def listed_records(query: Query, view: View) -> List[Record]:
     if query.bound.kind == "fresh" and query.is_empty_on_fresh:
         return []
-    return [record for record in view.records if is_candidate(record, query.bound) and query.matches(record)]
-
-
-def is_candidate(record: Record, bound: Bound) -> bool:
-    if bound.kind == "tick":
-        return record.otick > bound.number
-    if bound.kind == "second":
-        return record.osec >= bound.number
-    return record.exists
+    is_candidate = candidate_test(query.bound, query.generators)
+    files = [record for record in view.records if is_candidate(record) and query.matches(record)]
+    return [record for record in files if record.exists] if query.bound.kind == "fresh" else files
 
 
 def is_new(record: Record, bound: Bound) -> bool:

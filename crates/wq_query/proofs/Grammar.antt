@@ -1,6 +1,6 @@
 -- What a value asks is what the grammar has written by it.
 use Rattle.std.proofs.Common.{◌≡◌, ℕ, ℤ, Bool, true, false, not, ◌||◌, List, [], ◌∷◌, codes, Option}
-use Rattle.std.proofs.Common.{Some, None, Result, Ok, Err, refl, sym, ap, subst, ◌∙◌}
+use Rattle.std.proofs.Common.{Some, None, option_map, Result, Ok, Err, refl, sym, ap, subst, ◌∙◌}
 use Rattle.std.specs.Option.{MatchOption, is_some}
 use Rattle.std.specs.Result.{result_ok}
 use Rattle.std.specs.List.{AllByRecursion}
@@ -13,15 +13,17 @@ use Rattle.wq_base.proofs.Named.{named-name}
 use Rattle.wq_clock.specs.Instance.{InstanceData}
 use Rattle.wq_clock.specs.declared.bound.Bound.{Bound}
 use Rattle.wq_clock.specs.declared.bound.Bound.TheVariants.{Fresh}
-use Rattle.wq_term.specs.Argument.{bound_in, whole_number_of}
+use Rattle.wq_gen.specs.declared.generators.PathGen.{PathGen}
+use Rattle.wq_term.specs.Argument.{bound_in, texts_of, whole_number_of}
+use Rattle.wq_term.proofs.ArgumentGrammar.{mapped, texts-found, texts-reads}
 use Rattle.wq_term.specs.Expr.{ExprData, always}
 use Rattle.wq_term.specs.Law.{BoundsSayWhatTheyWrite, NumbersSayWhatTheyWrite}
 use Rattle.wq_term.specs.Law.{ValuesSayWhatTheyWrite}
 use Rattle.wq_term.specs.ArgumentGrammar.{IsWhole, IsBound}
 use Rattle.wq_query.specs.declared.fault.QueryFault.{QueryFault}
 use Rattle.wq_query.specs.declared.fault.QueryFault.TheVariants.{LeftOutKey, Expression}
-use Rattle.wq_query.specs.declared.fault.QueryFault.TheVariants.{UnknownField, BadClockSpec}
-use Rattle.wq_query.specs.declared.fault.QueryFault.TheVariants.{WrongValue}
+use Rattle.wq_query.specs.declared.fault.QueryFault.TheVariants.{UnknownField, BadGenerator}
+use Rattle.wq_query.specs.declared.fault.QueryFault.TheVariants.{BadClockSpec, WrongValue}
 use Rattle.wq_query.specs.declared.field.Field.{Field}
 use Rattle.wq_query.specs.declared.field.Field.TheVariants.{Name, Exists, New, Size, Kind, Cclock}
 use Rattle.wq_query.specs.declared.field.Field.TheVariants.{Oclock, Mtime, MtimeMs}
@@ -30,7 +32,9 @@ use Rattle.wq_query.specs.Query.{QueryData}
 use Rattle.wq_query.specs.Reading.{asks, left_out_keys, has_key_of, has_left_out_key, is_plain_case}
 use Rattle.wq_query.specs.Reading.{expression_of, field_of, fields_in, fields_of, since_of, flag_of}
 use Rattle.wq_query.specs.Reading.{is_whole}
-use Rattle.wq_query.specs.Grammar.{IsExpression, AreNamed, AreFields, IsWrittenBy}
+use Rattle.wq_query.specs.Generator.{suffixes_of, paths_in, paths_of}
+use Rattle.wq_query.specs.Grammar.{IsExpression, AreNamed, AreFields, AreSuffixes, ArePaths, IsWrittenBy}
+use Rattle.wq_query.proofs.Paths.{paths-found, paths-read}
 use Rattle.wq_query.specs.Law.{ValuesAskWhatTheyWrite}
 
 -- what is right is one value
@@ -138,6 +142,38 @@ fields-reads : (o : Option Data) (fs : List Field)
 fields-reads None fs h = ap Some (sym h)
 fields-reads (Some d) fs h = some-reads fs d h
 
+-- `suffix`
+suffix-found : (o : Option Data) (suffix : Option (List (List ℕ))) → suffixes_of o ≡ Some suffix
+    → MatchOption o (suffix ≡ None) (AreSuffixes suffix)
+suffix-found None suffix e = sym (same_Some None suffix e)
+suffix-found (Some d) suffix e =
+    mapped Some (texts_of d) suffix e (λ texts some is.
+    subst (λ s. AreSuffixes s d) is (texts-found d texts some))
+
+suffix-reads : (o : Option Data) (suffix : Option (List (List ℕ)))
+    → MatchOption o (suffix ≡ None) (AreSuffixes suffix) → suffixes_of o ≡ Some suffix
+suffix-reads None suffix h = ap Some (sym h)
+suffix-reads (Some d) (Some texts) h = ap (option_map Some) (texts-reads d texts h)
+suffix-reads (Some d) None h = absurd h
+
+-- `path`
+path-found : (o : Option Data) (path : Option (List PathGen)) → paths_of o ≡ Some path
+    → MatchOption o (path ≡ None) (ArePaths path)
+path-found None path e = sym (same_Some None path e)
+path-found (Some (array ds)) path e =
+    mapped Some (paths_in ds) path e (λ paths some is.
+    subst (λ p. ArePaths p (array ds)) is (paths-found ds paths some))
+path-found (Some _) path e = cc
+
+some-paths : (path : Option (List PathGen)) (d : Data) → ArePaths path d → paths_of (Some d) ≡ Some path
+some-paths (Some paths) (array ds) h = ap (option_map Some) (paths-read ds paths h)
+some-paths _ _ h = absurd h
+
+path-reads : (o : Option Data) (path : Option (List PathGen))
+    → MatchOption o (path ≡ None) (ArePaths path) → paths_of o ≡ Some path
+path-reads None path h = ap Some (sym h)
+path-reads (Some d) path h = some-paths path d h
+
 -- `since`
 right : {A E : Type 0} (r : Result A E) (a : A) → result_ok r ≡ Some a → r ≡ Ok a
 right (Ok x) a e = ap Ok (same_Some x a e)
@@ -181,25 +217,51 @@ whole-reads : NumbersSayWhatTheyWrite → (o : Option Data)
 whole-reads law None h = refl
 whole-reads law (Some d) h = ap is_some ((law h.0 d).1 h.1)
 
+-- the query whose keys say this
+abbrev pub with_keys : ExprData → List Field → Option (List (List ℕ)) → Option (List PathGen) → Bound
+    → Bool → QueryData
+with_keys t fs suffix path bound flag = record {
+  expression = t;
+  fields = fs;
+  bound = bound;
+  suffix = suffix;
+  path = path;
+  empty_on_fresh_instance = flag;
+}
+
 -- the chain of faults from `sync_timeout` on
 abbrev pub from_whole : Data → QueryData → Result QueryData QueryFault
 from_whole d query = unless_fault WrongValue (is_whole (get (codes "sync_timeout") d)) (Ok query)
 
 -- from `empty_on_fresh_instance` on
-abbrev pub from_flag : Data → ExprData → List Field → Bound → Result QueryData QueryFault
-from_flag d t fs bound =
+abbrev pub from_flag : Data → ExprData → List Field → Option (List (List ℕ))
+    → Option (List PathGen) → Bound → Result QueryData QueryFault
+from_flag d t fs suffix path bound =
     or_fault WrongValue (flag_of (get (codes "empty_on_fresh_instance") d)) (λ flag.
-    from_whole d (record { expression = t; fields = fs; bound = bound; empty_on_fresh_instance = flag }))
+    from_whole d (with_keys t fs suffix path bound flag))
 
 -- from `since` on
-abbrev pub from_since : InstanceData → Data → ExprData → List Field → Result QueryData QueryFault
-from_since instance d t fs =
-    or_fault BadClockSpec (since_of instance (get (codes "since") d)) (λ bound. from_flag d t fs bound)
+abbrev pub from_since : InstanceData → Data → ExprData → List Field → Option (List (List ℕ))
+    → Option (List PathGen) → Result QueryData QueryFault
+from_since instance d t fs suffix path =
+    or_fault BadClockSpec (since_of instance (get (codes "since") d)) (λ bound.
+    from_flag d t fs suffix path bound)
+
+-- from `path` on
+abbrev pub from_path : InstanceData → Data → ExprData → List Field → Option (List (List ℕ))
+    → Result QueryData QueryFault
+from_path instance d t fs suffix =
+    or_fault BadGenerator (paths_of (get (codes "path") d)) (λ path. from_since instance d t fs suffix path)
+
+-- from `suffix` on
+abbrev pub from_suffix : InstanceData → Data → ExprData → List Field → Result QueryData QueryFault
+from_suffix instance d t fs =
+    or_fault BadGenerator (suffixes_of (get (codes "suffix") d)) (λ suffix. from_path instance d t fs suffix)
 
 -- from `fields` on
 abbrev pub from_fields : InstanceData → Data → ExprData → Result QueryData QueryFault
 from_fields instance d t =
-    or_fault UnknownField (fields_of (get (codes "fields") d)) (λ fs. from_since instance d t fs)
+    or_fault UnknownField (fields_of (get (codes "fields") d)) (λ fs. from_suffix instance d t fs)
 
 -- from `expression` on
 abbrev pub from_expression : InstanceData → Data → Result QueryData QueryFault
@@ -213,22 +275,26 @@ found : ValuesSayWhatTheyWrite → BoundsSayWhatTheyWrite → NumbersSayWhatThey
 found values bounds numbers instance query d e =
     unless_fault-ok LeftOutKey (not (has_left_out_key d)) (from_expression instance d) query e (λ none e1.
     or_its_fault-ok Expression (expression_of instance (get (codes "expression") d)) (λ t. from_fields instance d t) query e1 (λ t said e2.
-    or_fault-ok UnknownField (fields_of (get (codes "fields") d)) (λ fs. from_since instance d t fs) query e2 (λ fs named e3.
-    or_fault-ok BadClockSpec (since_of instance (get (codes "since") d)) (λ bound. from_flag d t fs bound) query e3 (λ bound sets e4.
+    or_fault-ok UnknownField (fields_of (get (codes "fields") d)) (λ fs. from_suffix instance d t fs) query e2 (λ fs named e3.
+    or_fault-ok BadGenerator (suffixes_of (get (codes "suffix") d)) (λ suffix. from_path instance d t fs suffix) query e3 (λ suffix ends e4.
+    or_fault-ok BadGenerator (paths_of (get (codes "path") d)) (λ path. from_since instance d t fs suffix path) query e4 (λ path stands e5.
+    or_fault-ok BadClockSpec (since_of instance (get (codes "since") d)) (λ bound. from_flag d t fs suffix path bound) query e5 (λ bound sets e6.
     or_fault-ok WrongValue (flag_of (get (codes "empty_on_fresh_instance") d)) (λ flag.
-    from_whole d (record { expression = t; fields = fs; bound = bound; empty_on_fresh_instance = flag })) query e4 (λ flag on e5.
+    from_whole d (with_keys t fs suffix path bound flag)) query e6 (λ flag on e7.
     unless_fault-ok WrongValue (is_whole (get (codes "sync_timeout") d))
-    (Ok (record { expression = t; fields = fs; bound = bound; empty_on_fresh_instance = flag })) query e5 (λ whole is.
+    (Ok (with_keys t fs suffix path bound flag)) query e7 (λ whole is.
     let parts = neither (has_key_of left_out_keys d) (is_plain_case (get (codes "case_sensitive") d)) none in
     subst (λ q. IsWrittenBy instance q d) (same_Ok _ query is) (record {
       none_left_out = none-found left_out_keys d parts.0;
       case_sensitive = plain-found (get (codes "case_sensitive") d) parts.1;
       expression = expression-found values instance (get (codes "expression") d) t said;
       fields = fields-found (get (codes "fields") d) fs named;
+      suffix = suffix-found (get (codes "suffix") d) suffix ends;
+      path = path-found (get (codes "path") d) path stands;
       since = since-found bounds instance (get (codes "since") d) bound sets;
       empty_on_fresh_instance = flag-found (get (codes "empty_on_fresh_instance") d) flag on;
       sync_timeout = whole-found numbers (get (codes "sync_timeout") d) whole;
-    })))))))
+    })))))))))
 
 -- what is written is asked
 reads : ValuesSayWhatTheyWrite → BoundsSayWhatTheyWrite → NumbersSayWhatTheyWrite
@@ -239,12 +305,14 @@ reads values bounds numbers instance query d h =
     let plain = plain-reads (get (codes "case_sensitive") d) h.case_sensitive in
     let said = expression-reads values instance (get (codes "expression") d) query.expression h.expression in
     let named = fields-reads (get (codes "fields") d) query.fields h.fields in
+    let ends = suffix-reads (get (codes "suffix") d) query.suffix h.suffix in
+    let stands = path-reads (get (codes "path") d) query.path h.path in
     let sets = since-reads bounds instance (get (codes "since") d) query.bound h.since in
     let on = flag-reads (get (codes "empty_on_fresh_instance") d) query.empty_on_fresh_instance h.empty_on_fresh_instance in
     let whole = whole-reads numbers (get (codes "sync_timeout") d) h.sync_timeout in
     let allowed : has_left_out_key d ≡ false =
     ap (λ b. b || not (is_plain_case (get (codes "case_sensitive") d))) none ∙ ap not plain in
-    rw (allowed, said, named, sets, on, whole) refl
+    rw (allowed, said, named, ends, stands, sets, on, whole) refl
 
 -- both ways
 pub values_ask : ValuesSayWhatTheyWrite → BoundsSayWhatTheyWrite → NumbersSayWhatTheyWrite

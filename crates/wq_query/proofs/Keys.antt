@@ -1,6 +1,6 @@
 -- What is asked, from what each key says.
-use Rattle.std.proofs.Common.{◌≡◌, Bool, false, ◌==◌, List, [], ◌∷◌, length, codes}
-use Rattle.std.proofs.Common.{Some, None, Result, Ok, Err, Vec, refl, sym, ap, subst}
+use Rattle.std.proofs.Common.{◌≡◌, ℕ, Bool, false, ◌==◌, List, [], ◌∷◌, length, codes}
+use Rattle.std.proofs.Common.{Option, Some, None, Result, Ok, Err, Vec, refl, sym, ap, subst}
 use mathlib.Core.Bool.{false≢true}
 use Rattle.std.specs.declared.alloc.Global.{Global}
 use Rattle.serde_json.specs.Data.{Data, null, boolean, number, string, array, object, Items}
@@ -11,19 +11,24 @@ use Rattle.serde_json.specs.declared.value.Value.{Value}
 use Rattle.wq_base.specs.Fault.{unless_fault}
 use Rattle.wq_clock.specs.Instance.{InstanceData}
 use Rattle.wq_clock.specs.declared.bound.Bound.{Bound}
+use Rattle.wq_gen.specs.declared.generators.PathGen.{PathGen}
 use Rattle.wq_term.specs.Expr.{ExprData}
 use Rattle.wq_query.specs.declared.fault.QueryFault.{QueryFault}
 use Rattle.wq_query.specs.declared.fault.QueryFault.TheVariants.{WrongValue}
 use Rattle.wq_query.specs.declared.field.Field.{Field}
+use Rattle.wq_query.specs.Generator.{suffixes_of, paths_of}
 use Rattle.wq_query.specs.Outcome.{GivesFields}
 use Rattle.wq_query.specs.Reading.{asks, has_left_out_key, expression_of, fields_in, fields_of}
 use Rattle.wq_query.specs.Reading.{since_of, flag_of, is_whole}
 
 -- a query whose keys say this, but for the last
-pub asks_at : (instance : InstanceData) (d : Data) (t : ExprData) (fields : List Field) (bound : Bound)
+pub asks_at : (instance : InstanceData) (d : Data) (t : ExprData) (fields : List Field)
+    (suffix : Option (List (List ℕ))) (path : Option (List PathGen)) (bound : Bound)
     (flag whole : Bool) → has_left_out_key d ≡ false
     → expression_of instance (get (codes "expression") d) ≡ Ok t
     → fields_of (get (codes "fields") d) ≡ Some fields
+    → suffixes_of (get (codes "suffix") d) ≡ Some suffix
+    → paths_of (get (codes "path") d) ≡ Some path
     → since_of instance (get (codes "since") d) ≡ Some bound
     → flag_of (get (codes "empty_on_fresh_instance") d) ≡ Some flag
     → is_whole (get (codes "sync_timeout") d) ≡ whole
@@ -31,20 +36,25 @@ pub asks_at : (instance : InstanceData) (d : Data) (t : ExprData) (fields : List
       expression = t;
       fields = fields;
       bound = bound;
+      suffix = suffix;
+      path = path;
       empty_on_fresh_instance = flag;
     }))
-asks_at instance d t fields bound flag whole none expression named since said is =
-    rw (none, expression, named, since, said, is) refl
+asks_at instance d t fields suffix path bound flag whole none expression named ends at since said is =
+    rw (none, expression, named, ends, at, since, said, is) refl
 
 -- a query whose flag is none
 pub asks_unflagged : (instance : InstanceData) (d : Data) (t : ExprData) (fields : List Field)
-    (bound : Bound) → has_left_out_key d ≡ false
+    (suffix : Option (List (List ℕ))) (path : Option (List PathGen)) (bound : Bound)
+    → has_left_out_key d ≡ false
     → expression_of instance (get (codes "expression") d) ≡ Ok t
     → fields_of (get (codes "fields") d) ≡ Some fields
+    → suffixes_of (get (codes "suffix") d) ≡ Some suffix
+    → paths_of (get (codes "path") d) ≡ Some path
     → since_of instance (get (codes "since") d) ≡ Some bound
     → flag_of (get (codes "empty_on_fresh_instance") d) ≡ None → asks instance d ≡ Err WrongValue
-asks_unflagged instance d t fields bound none expression named since said =
-    rw (none, expression, named, since, said) refl
+asks_unflagged instance d t fields suffix path bound none expression named ends at since said =
+    rw (none, expression, named, ends, at, since, said) refl
 
 -- a value that has items is their array
 array_from : (d : Data) (ds : Items) → Some ds ≡ as_array d → d ≡ array ds

@@ -1,30 +1,54 @@
--- Reading the names of fields from the front: what is read, and what is left.
+-- Reading the items of a list from the front: what is read, and what is left.
 use Rattle.std.proofs.Common.{◌≡◌, ℕ, ◌+◌, ◌<◌, List, [], ◌∷◌, ◌++◌, length, drop, get_or}
-use Rattle.std.proofs.Common.{Option, Some, None, sym, ap, ◌∙◌}
+use Rattle.std.proofs.Common.{Option, Some, None, Err, sym, ap, ◌∙◌}
+use Rattle.serde_json.specs.Data.{Data, Items, item}
 use Rattle.serde_json.specs.View.{view as data_of, items_view}
 use Rattle.serde_json.specs.declared.value.Value.{Value}
 use Rattle.wq_base.specs.Fault.{with_first}
 use Rattle.wq_base.proofs.Fault.{before, before-push, before-none}
 use Rattle.wq_term.proofs.Lists.{items_from}
-use Rattle.wq_query.specs.declared.field.Field.{Field}
-use Rattle.wq_query.specs.Reading.{field_of, fields_in}
+use Rattle.wq_query.specs.declared.fault.QueryFault.{QueryFault}
+use Rattle.wq_query.specs.declared.fault.QueryFault.TheVariants.{LeftOutKey, Expression}
+use Rattle.wq_query.specs.declared.fault.QueryFault.TheVariants.{UnknownField, BadGenerator}
+use Rattle.wq_query.specs.declared.fault.QueryFault.TheVariants.{BadClockSpec, WrongValue, NoMemory}
+use Rattle.wq_query.specs.Outcome.{GivesGenerator}
 
--- one more name is read
-pub read_more : (values : List Value) (i : ℕ) (v : Value) (fs : List Field) (f : Field)
-    (all : Option (List Field)) → i < length values → v ≡ get_or values i v
-    → field_of (data_of v) ≡ Some f → before fs (fields_in (items_view (drop i values))) ≡ all
-    → before (fs ++ f ∷ []) (fields_in (items_view (drop (i + 1) values))) ≡ all
-read_more values i v fs f all h here is so_far =
-    before-push fs f (fields_in (items_view (drop (i + 1) values)))
-    ∙ ap (λ o. before fs (with_first o (fields_in (items_view (drop (i + 1) values))))) (sym is)
-    ∙ ap (λ ds. before fs (fields_in ds)) (sym (items_from values i v h here)) ∙ so_far
+-- each item is read by itself, and a list in which one is none is none
+abbrev pub ReadsEach : {A : Type 0} → (Data → Option A) → (Items → Option (List A)) → Type 0
+ReadsEach one all = (d : Data) (ds : Items) → all (item d ds) ≡ with_first (one d) (all ds)
 
--- a name that is none
-pub read_none : (values : List Value) (i : ℕ) (v : Value) (fs : List Field)
-    (all : Option (List Field)) → i < length values → v ≡ get_or values i v
-    → field_of (data_of v) ≡ None → before fs (fields_in (items_view (drop i values))) ≡ all
-    → all ≡ None
-read_none values i v fs all h here is so_far =
-    sym so_far ∙ ap (λ ds. before fs (fields_in ds)) (items_from values i v h here)
-    ∙ ap (λ o. before fs (with_first o (fields_in (items_view (drop (i + 1) values))))) is
-    ∙ before-none fs
+-- one more item is read
+pub read_more : {A : Type 0} (one : Data → Option A) (all : Items → Option (List A))
+    → ReadsEach one all → (values : List Value) (i : ℕ) (v : Value) (xs : List A) (x : A)
+    (whole : Option (List A)) → i < length values → v ≡ get_or values i v
+    → one (data_of v) ≡ Some x → before xs (all (items_view (drop i values))) ≡ whole
+    → before (xs ++ x ∷ []) (all (items_view (drop (i + 1) values))) ≡ whole
+read_more one all each values i v xs x whole h here is so_far =
+    before-push xs x (all (items_view (drop (i + 1) values)))
+    ∙ ap (λ o. before xs (with_first o (all (items_view (drop (i + 1) values))))) (sym is)
+    ∙ ap (before xs) (sym (each (data_of v) (items_view (drop (i + 1) values))))
+    ∙ ap (λ ds. before xs (all ds)) (sym (items_from values i v h here)) ∙ so_far
+
+-- an item that is none
+pub read_none : {A : Type 0} (one : Data → Option A) (all : Items → Option (List A))
+    → ReadsEach one all → (values : List Value) (i : ℕ) (v : Value) (xs : List A)
+    (whole : Option (List A)) → i < length values → v ≡ get_or values i v
+    → one (data_of v) ≡ None → before xs (all (items_view (drop i values))) ≡ whole
+    → whole ≡ None
+read_none one all each values i v xs whole h here is so_far =
+    sym so_far ∙ ap (λ ds. before xs (all ds)) (items_from values i v h here)
+    ∙ ap (before xs) (each (data_of v) (items_view (drop (i + 1) values)))
+    ∙ ap (λ o. before xs (with_first o (all (items_view (drop (i + 1) values))))) is
+    ∙ before-none xs
+
+-- a fault that an item has is one of the list
+pub refused : {A B : Type 0} (fault : QueryFault) (one : Option A) (all : Option B)
+    → GivesGenerator {A = A} (Err fault) one → (one ≡ None → all ≡ None)
+    → GivesGenerator {A = B} (Err fault) all
+refused BadGenerator one all h none = none h
+refused NoMemory one all h none = tt
+refused LeftOutKey one all h none = absurd h
+refused (Expression fault) one all h none = absurd h
+refused UnknownField one all h none = absurd h
+refused BadClockSpec one all h none = absurd h
+refused WrongValue one all h none = absurd h

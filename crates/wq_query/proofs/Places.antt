@@ -8,7 +8,9 @@ use Rattle.wq_code.specs.declared.raw.Raw.{Raw}
 use Rattle.wq_verify.specs.Typing.{IsValid}
 use Rattle.wq_compile.specs.Meaning.{AnswersMeaning}
 use Rattle.wq_eval.specs.Answer.{AnswersAreSaid, says_yes}
+use Rattle.wq_clock.specs.declared.bound.Bound.{Bound}
 use Rattle.wq_gen.specs.Candidate.{is_candidate}
+use Rattle.wq_gen.specs.declared.generators.Generators.{Generators}
 use Rattle.wq_term.specs.Expr.{ExprData, always, means}
 use Rattle.wq_term.specs.Fits.{fits}
 use Rattle.wq_query.specs.Listing.{generators_of, is_fresh, is_listed, is_match}
@@ -23,6 +25,11 @@ always_fits = refl
 -- a program that answers what an expression means says it
 pub says_meaning : (raw : Raw) (t : ExprData) → AnswersAreSaid → IsValid raw → AnswersMeaning raw t → SaysMeaning raw t
 says_meaning raw t law valid answers r = sym (law raw r (means t r) (answers r).0 valid (answers r).1)
+
+-- generators with this bound
+pub with_bound : (g : Generators) (bound : Bound) → g.since ≡ Some bound
+    → g ≡ record { since = Some bound; suffix = g.suffix; path = g.path }
+with_bound g bound is = ap (λ since. record { since = since; suffix = g.suffix; path = g.path }) is
 
 -- two filters are one
 filter-both : (p q : ℕ → Bool) (xs : List ℕ) → filter q (filter p xs) ≡ filter (λ x. p x && q x) xs

@@ -1,16 +1,21 @@
 -- The grammar of queries: by which JSON values each of them may be written.
 -- The keys are those of Watchman's documentation of file queries.
-use Rattle.std.specs.Prelude.{ℤ, ◌≡◌, ◌≤◌, false, true, List, [], ◌∷◌, codes, None}
+use Rattle.std.specs.Prelude.{ℕ, ℤ, pos, negsuc, ◌≡◌, ◌≤◌, false, true, List, [], ◌∷◌, codes}
+use Rattle.std.specs.Prelude.{Option, Some, None}
 use Rattle.std.specs.Option.{MatchOption}
 use Rattle.std.specs.List.{AllByRecursion}
-use Rattle.serde_json.specs.Data.{Data, boolean, array, Items, no_items, item}
+use Rattle.serde_json.specs.Data.{Data, boolean, string, array}
+use Rattle.serde_json.specs.Data.{Items, no_items, item}
 use Rattle.serde_json.specs.Find.{get}
+use Rattle.wq_base.specs.Limit.{max_number}
 use Rattle.wq_clock.specs.Instance.{InstanceData}
 use Rattle.wq_clock.specs.declared.bound.Bound.TheVariants.{Fresh}
+use Rattle.wq_gen.specs.declared.generators.PathGen.{PathGen}
 use Rattle.wq_term.specs.Limit.{max_depth}
 use Rattle.wq_term.specs.Expr.{ExprData, always, depth_of}
 use Rattle.wq_term.specs.Grammar.{IsWrittenBy as IsTermWrittenBy}
-use Rattle.wq_term.specs.ArgumentGrammar.{IsWord, IsWhole, IsBound}
+use Rattle.wq_term.specs.ArgumentGrammar.{AreTexts, IsBetween, IsDirectory, IsWord}
+use Rattle.wq_term.specs.ArgumentGrammar.{IsWhole, IsBound}
 use Rattle.wq_query.specs.declared.field.Field.{Field}
 use Rattle.wq_query.specs.Field.{field_name, default_fields}
 use Rattle.wq_query.specs.Query.{QueryData}
@@ -31,6 +36,30 @@ abbrev pub AreFields : List Field → Data → Type 0
 AreFields (field ∷ fields) (array ds) = AreNamed (field ∷ fields) ds
 AreFields _ _ = ⊥
 
+-- texts: they stand in a list, or there is one
+abbrev pub AreSuffixes : Option (List (List ℕ)) → Data → Type 0
+AreSuffixes (Some texts) d = AreTexts texts d
+AreSuffixes None d = ⊥
+
+-- a path, with slashes at its end or not: a text, which is without limit, or an object with a depth
+-- from -1 to 2^62
+abbrev pub IsPath : PathGen → Data → Type 0
+IsPath p (string text) = IsDirectory p.path (string text) × (p.depth ≡ negsuc 0)
+IsPath p d =
+    MatchOption (get (codes "path") d) ⊥ (IsDirectory p.path)
+    × MatchOption (get (codes "depth") d) ⊥ (IsBetween (negsuc 0) (pos max_number) p.depth)
+
+-- paths, one behind the other
+abbrev pub AreListed : List PathGen → Items → Type 0
+AreListed [] no_items = Unit {0}
+AreListed (p ∷ ps) (item d ds) = IsPath p d × AreListed ps ds
+AreListed _ _ = ⊥
+
+-- a list of paths
+abbrev pub ArePaths : Option (List PathGen) → Data → Type 0
+ArePaths (Some paths) (array ds) = AreListed paths ds
+ArePaths _ _ = ⊥
+
 -- the query is written by this value, at this instance: each key is missing, and then the first
 -- thing holds, or it is there, and the second holds of its value
 pub record IsWrittenBy (instance : InstanceData) (query : QueryData) (d : Data) : Type 0 where
@@ -45,6 +74,10 @@ pub record IsWrittenBy (instance : InstanceData) (query : QueryData) (d : Data) 
   -- the default fields, or others
   pub fields : MatchOption (get (codes "fields") d)
       (query.fields ≡ default_fields) (AreFields query.fields)
+  -- files of every suffix, or those with some
+  pub suffix : MatchOption (get (codes "suffix") d) (query.suffix ≡ None) (AreSuffixes query.suffix)
+  -- files at every path, or those at some
+  pub path : MatchOption (get (codes "path") d) (query.path ≡ None) (ArePaths query.path)
   -- nothing is known to the client, or a bound
   pub since : MatchOption (get (codes "since") d)
       (query.bound ≡ Fresh) (IsBound instance query.bound)

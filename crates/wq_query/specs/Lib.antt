@@ -1,4 +1,5 @@
 pub mod Field
+pub mod Generator
 pub mod Query
 pub mod Reading
 pub mod Outcome

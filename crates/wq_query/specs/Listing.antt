@@ -1,6 +1,6 @@
 -- Which files a plan lists: one filter over the records of the view, in their order.
 -- From Watchman's documentation of file queries and of clockspecs.
-use Rattle.std.specs.Prelude.{Bool, true, false, not, ◌&&◌, ◌||◌, nat_lt, int_lt, Some, None}
+use Rattle.std.specs.Prelude.{Bool, true, false, not, ◌&&◌, ◌||◌, nat_lt, int_lt, Some}
 use Rattle.std.specs.Prelude.{if◌then◌else◌, List, [], filter, ℕ, ◌<◌, length}
 use Rattle.std.specs.List.{All}
 use Rattle.wq_clock.specs.declared.bound.Bound.{Bound}
@@ -22,9 +22,13 @@ is_new Fresh r = true
 is_new (Tick t) r = nat_lt t r.ctick
 is_new (Second s) r = int_lt s r.csec
 
--- where the candidates of a plan come from: its bound alone
+-- where the candidates of a plan come from: its bound, and the suffixes and paths of its query
 abbrev pub generators_of : PlanData → Generators
-generators_of plan = record { since = Some plan.bound; suffix = None; path = None }
+generators_of plan = record {
+  since = Some plan.bound;
+  suffix = (plan.query).suffix;
+  path = (plan.query).path;
+}
 
 -- whether the file is a candidate, and the expression matches it
 abbrev pub is_match : PlanData → RecordData → Bool

@@ -6,7 +6,8 @@ use Rattle.wq_term.specs.declared.expr.Expr.{Expr}
 use Rattle.wq_term.specs.declared.fault.TermFault.{TermFault}
 use Rattle.wq_term.specs.Expr.{ExprData, term_of}
 use Rattle.wq_query.specs.declared.fault.QueryFault.{QueryFault}
-use Rattle.wq_query.specs.declared.fault.QueryFault.TheVariants.{Expression, UnknownField, NoMemory}
+use Rattle.wq_query.specs.declared.fault.QueryFault.TheVariants.{Expression, UnknownField, BadGenerator}
+use Rattle.wq_query.specs.declared.fault.QueryFault.TheVariants.{NoMemory}
 use Rattle.wq_query.specs.declared.field.Field.{Field}
 use Rattle.wq_query.specs.declared.query.Query.{Query}
 use Rattle.wq_query.specs.Query.{QueryData, asked_of}
@@ -30,3 +31,10 @@ GivesFields (Ok fields) answer = answer ≡ Some fields.items
 GivesFields (Err UnknownField) answer = answer ≡ None
 GivesFields (Err NoMemory) answer = Unit {0}
 GivesFields (Err _) answer = ⊥
+
+-- the same of a generator, or of a part of one
+abbrev pub GivesGenerator : {A : Type 0} → Result A QueryFault → Option A → Type 0
+GivesGenerator (Ok generator) answer = answer ≡ Some generator
+GivesGenerator (Err BadGenerator) answer = answer ≡ None
+GivesGenerator (Err NoMemory) answer = Unit {0}
+GivesGenerator (Err _) answer = ⊥

@@ -17,17 +17,18 @@ use Rattle.wq_term.specs.Expr.{ExprData, always}
 use Rattle.wq_term.specs.Reading.{reads_as}
 use Rattle.wq_query.specs.declared.fault.QueryFault.{QueryFault}
 use Rattle.wq_query.specs.declared.fault.QueryFault.TheVariants.{LeftOutKey, Expression}
-use Rattle.wq_query.specs.declared.fault.QueryFault.TheVariants.{UnknownField, BadClockSpec}
-use Rattle.wq_query.specs.declared.fault.QueryFault.TheVariants.{WrongValue}
+use Rattle.wq_query.specs.declared.fault.QueryFault.TheVariants.{UnknownField, BadGenerator}
+use Rattle.wq_query.specs.declared.fault.QueryFault.TheVariants.{BadClockSpec, WrongValue}
 use Rattle.wq_query.specs.declared.field.Field.{Field}
 use Rattle.wq_query.specs.Field.{field_named, default_fields}
+use Rattle.wq_query.specs.Generator.{suffixes_of, paths_of}
 use Rattle.wq_query.specs.Query.{QueryData}
 
 -- the keys that would change the answer and are not there
 abbrev pub left_out_keys : List (List ℕ)
 left_out_keys =
     codes "relative_root" ∷ codes "settle_period" ∷ codes "settle_timeout" ∷ codes "glob"
-    ∷ codes "glob_includedotfiles" ∷ codes "program" ∷ codes "suffix" ∷ codes "path" ∷ []
+    ∷ codes "glob_includedotfiles" ∷ codes "program" ∷ []
 
 -- whether the query has one of these keys
 abbrev pub has_key_of : List (List ℕ) → Data → Bool
@@ -85,6 +86,8 @@ asks instance d =
     unless_fault LeftOutKey (not (has_left_out_key d)) (
     or_its_fault Expression (expression_of instance (get (codes "expression") d)) (λ expression.
     or_fault UnknownField (fields_of (get (codes "fields") d)) (λ fields.
+    or_fault BadGenerator (suffixes_of (get (codes "suffix") d)) (λ suffix.
+    or_fault BadGenerator (paths_of (get (codes "path") d)) (λ path.
     or_fault BadClockSpec (since_of instance (get (codes "since") d)) (λ bound.
     or_fault WrongValue (flag_of (get (codes "empty_on_fresh_instance") d)) (λ flag.
     unless_fault WrongValue (is_whole (get (codes "sync_timeout") d)) (
@@ -92,5 +95,7 @@ asks instance d =
       expression = expression;
       fields = fields;
       bound = bound;
+      suffix = suffix;
+      path = path;
       empty_on_fresh_instance = flag;
-    })))))))
+    })))))))))

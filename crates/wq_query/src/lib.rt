@@ -5,6 +5,7 @@
 mod fault;
 mod field;
 mod form;
+mod generating;
 mod law;
 mod listing;
 mod planning;

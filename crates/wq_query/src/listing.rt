@@ -1,7 +1,7 @@
 //! Which files a plan lists: candidates for which its program answers yes.
 ghost use Rattle.std.specs.Prelude.{◌≡◌, IfOk, filter};
 ghost use Rattle.wq_view.specs.Position.{passes_at, positions_of, records_at};
-ghost use Rattle.wq_query.specs.Listing.{AreWithin, files_of};
+ghost use Rattle.wq_query.specs.Listing.{AreWithin, files_of, generators_of};
 ghost use Rattle.wq_query.specs.Listing.{is_empty, is_fresh, is_listed, is_match, is_new};
 ghost use Rattle.wq_query.specs.Query.{planned};
 
@@ -50,13 +50,16 @@ fn matching(alloc: Global, plan: &Plan, view: &View) -> Result<Vec<u32>, AllocEr
     // What the contract of a view says of its length is for the proof alone.
     view.len();
     positions_are_there();
-    let generators = Generators {
-        since: Some(plan.bound),
-        suffix: None,
-        path: None,
-    };
-    let places = candidates(alloc, view, &generators)?;
+    let places = candidates(alloc, view, generators(plan))?;
     filter(alloc, &plan.program, view, &places)
+}
+
+/// Where the candidates of the plan come from.
+#[tactic(auto, using(crate::proofs::Places::with_bound))]
+fn generators(plan: &Plan) -> &Generators
+    ensures { result.now ≡ generators_of (planned plan.now) }
+{
+    &plan.query.generators
 }
 
 /// Those of some places whose files exist.

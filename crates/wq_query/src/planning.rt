@@ -11,12 +11,13 @@ ghost use Rattle.wq_query.specs.Reading.{asks};
 
 use crate::fault::QueryFault;
 use crate::query::{Plan, Query};
-use crate::reading;
+use crate::{generating, reading};
 use serde_json::Value;
 use std::alloc::Global;
 use std::sync::Arc;
 use wq_clock::{Bound, Instance};
 use wq_eval::answers_are_said;
+use wq_gen::Generators;
 use wq_term::Expr;
 use wq_verify::Program;
 
@@ -35,6 +36,8 @@ impl Query {
         }
         let expr = reading::expression(alloc, value.get("expression"), instance)?;
         let fields = reading::fields(alloc, value.get("fields"))?;
+        let suffix = generating::suffixes(alloc, value.get("suffix"))?;
+        let path = generating::paths(alloc, value.get("path"))?;
         let Some(bound) = reading::since(value.get("since"), instance) else {
             return Err(QueryFault::BadClockSpec);
         };
@@ -49,6 +52,11 @@ impl Query {
             expr,
             fields,
             bound,
+            generators: Generators {
+                since: None,
+                suffix,
+                path,
+            },
             empty_on_fresh_instance,
         })
     }
@@ -71,12 +79,13 @@ impl Query {
     /// The plan of answering the query with this bound, whichever the query sets, by a program that
     /// answers on every record what the query's expression means.
     #[tactic(auto, using(crate::proofs::Places::says_meaning))]
-    pub fn plan(self, bound: Bound, program: Arc<Program>) -> Plan
+    pub fn plan(mut self, bound: Bound, program: Arc<Program>) -> Plan
         requires { AnswersMeaning program.value (asked_of self).expression }
         ensures { planned result ≡ record { query = asked_of self; bound = bound } }
     {
         answers_are_said();
         program.raw();
+        self.generators.since = Some(bound);
         Plan {
             query: self,
             bound,

@@ -1,6 +1,6 @@
 //! A query and the plan of answering it, as they are kept. What can be done with them stands in
 //! `planning`.
-ghost use Rattle.std.specs.Prelude.{IsTrue};
+ghost use Rattle.std.specs.Prelude.{◌≡◌, IsTrue, Some};
 ghost use Rattle.wq_term.specs.Expr.{term_of};
 ghost use Rattle.wq_term.specs.Fits.{fits};
 ghost use Rattle.wq_query.specs.Meaning.{SaysMeaning};
@@ -8,6 +8,7 @@ ghost use Rattle.wq_query.specs.Meaning.{SaysMeaning};
 use crate::field::Field;
 use std::sync::Arc;
 use wq_clock::Bound;
+use wq_gen::Generators;
 use wq_term::Expr;
 use wq_verify::Program;
 
@@ -17,6 +18,8 @@ pub struct Query {
     pub(crate) expr: Expr,
     pub(crate) fields: Vec<Field>,
     pub(crate) bound: Bound,
+    /// Its suffixes and its paths. Their bound is the one of the plan, once there is one.
+    pub(crate) generators: Generators,
     pub(crate) empty_on_fresh_instance: bool,
     ghost limits: { IsTrue (fits (term_of expr)) },
 }
@@ -28,5 +31,6 @@ pub struct Plan {
     pub(crate) query: Query,
     pub(crate) bound: Bound,
     pub(crate) program: Arc<Program>,
+    ghost since: { (query.generators).since ≡ Some bound },
     ghost meaning: { SaysMeaning program.value (term_of query.expr) },
 }

@@ -17,15 +17,13 @@ use wq_clock::{Bound, Instance};
 use wq_term::{Expr, TermFault, read_bound, read_expr, whole_number};
 
 /// The keys that would change the answer and are left out, or not built yet.
-const LEFT_OUT_KEYS: [&str; 8] = [
+const LEFT_OUT_KEYS: [&str; 6] = [
     "relative_root",
     "settle_period",
     "settle_timeout",
     "glob",
     "glob_includedotfiles",
     "program",
-    "suffix",
-    "path",
 ];
 
 /// Whether the query has a key that would change the answer and is left out.

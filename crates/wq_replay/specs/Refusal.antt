@@ -3,7 +3,7 @@ use Rattle.std.specs.Prelude.{ℕ, List, codes}
 use Rattle.wq_term.specs.declared.fault.TermFault.{TermFault}
 use Rattle.wq_term.specs.declared.fault.TermFault.TheVariants.{UnknownTerm, WrongArguments as WrongTermArguments, TooDeep, BadClockSpec as BadTermClockSpec, CursorInTerm, PatternTooLong, NoMemory as NoTermMemory}
 use Rattle.wq_query.specs.declared.fault.QueryFault.{QueryFault}
-use Rattle.wq_query.specs.declared.fault.QueryFault.TheVariants.{LeftOutKey, Expression, UnknownField, BadClockSpec, WrongValue, NoMemory as NoQueryMemory}
+use Rattle.wq_query.specs.declared.fault.QueryFault.TheVariants.{LeftOutKey, Expression, UnknownField, BadGenerator, BadClockSpec, WrongValue, NoMemory as NoQueryMemory}
 use Rattle.wq_replay.specs.declared.refusal.Refusal.{Refusal}
 use Rattle.wq_replay.specs.declared.refusal.Refusal.TheVariants.{LineTooLong, NotJson, NotACommand, UnknownCommand, WrongArguments, Bser, NotWatched, Query, ProgramTooLarge, NoMemory}
 
@@ -22,6 +22,7 @@ abbrev pub query_text : QueryFault → List ℕ
 query_text LeftOutKey = codes "E20: query key is left out"
 query_text (Expression fault) = term_text fault
 query_text UnknownField = codes "E21: unknown field"
+query_text BadGenerator = codes "E22: bad generator"
 query_text BadClockSpec = codes "E23: bad clockspec"
 query_text WrongValue = codes "E37: wrong query value"
 query_text NoQueryMemory = codes "E60: no memory"

@@ -62,6 +62,7 @@ fn query_text(fault: QueryFault) -> &'static str
         QueryFault::LeftOutKey => "E20: query key is left out",
         QueryFault::Expression(fault) => term_text(fault),
         QueryFault::UnknownField => "E21: unknown field",
+        QueryFault::BadGenerator => "E22: bad generator",
         QueryFault::BadClockSpec => BAD_CLOCK_SPEC,
         QueryFault::WrongValue => "E37: wrong query value",
         QueryFault::NoMemory => NO_MEMORY,

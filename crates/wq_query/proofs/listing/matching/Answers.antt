@@ -16,7 +16,7 @@ filter-requires-clause-count c =
     let few = c.len.ensures.bound in
     let all = c.len.ensures.value in
     let there = (c.positions_are_there.ensures (is_candidate (generators_of (planned c.args.plan.now))) records).1 in
-    let same : length c.deref-2.result.now ≡ length (positions_of (is_candidate (generators_of (planned c.args.plan.now))) records) = ap length (c.deref-2.ensures.value ∙ c.in_ok-places.ensures) in
+    let same : length c.deref-2.result.now ≡ length (positions_of (is_candidate (generators_of (planned c.args.plan.now))) records) = ap length (c.deref-2.ensures.value ∙ c.in_ok-places.ensures ∙ ap (λ g. positions_of (is_candidate g) records) c.generators.ensures) in
     omega (arith, few, all, there, same)
 
 pub returns : goal.returns
@@ -27,5 +27,5 @@ returns c =
     let says : SaysMeaning c.args.plan.now.program.value (plan.query).expression = search rules in
     let means = subst (λ raw. SaysMeaning raw (plan.query).expression) (sym c.deref.ensures) says in
     IfOk-weaker c.filter.result _ (λ kept. kept.items ≡ positions_of (is_match plan) records)
-    (λ kept is. is ∙ ap (filter (passes_at (says_yes program) records)) (c.deref-2.ensures.value ∙ c.in_ok-places.ensures)
+    (λ kept is. is ∙ ap (filter (passes_at (says_yes program) records)) (c.deref-2.ensures.value ∙ c.in_ok-places.ensures ∙ ap (λ g. positions_of (is_candidate g) records) c.generators.ensures)
     ∙ places_matching plan program records means) c.filter.ensures

@@ -1,0 +1,79 @@
+"""Generators: which files of a view a query starts from. Several give their union; without one all files are it."""
+
+from typing import Any, List, NamedTuple, Optional
+
+from clocks import Bound
+from errors import BAD_GENERATOR, Refused
+from json_values import is_whole_number
+from terms import Test, is_short_text
+from views import Record
+
+ANY_DEPTH = -1
+
+
+class Path(NamedTuple):
+    """A file, and what lies below it; the depth counts the slashes of what follows it."""
+
+    name: bytes
+    depth: int
+
+
+class Generators(NamedTuple):
+    suffixes: Optional[List[bytes]] = None
+    paths: Optional[List[Path]] = None
+
+
+def read_generators(asked: Any) -> Generators:
+    suffixes = read_suffixes(asked["suffix"]) if "suffix" in asked else None
+    return Generators(suffixes, read_paths(asked["path"]) if "path" in asked else None)
+
+
+def require(is_right: bool) -> None:
+    if not is_right:
+        raise Refused(BAD_GENERATOR)
+
+
+def read_suffixes(value: Any) -> List[bytes]:
+    texts = value if isinstance(value, list) else [value]
+    require(all(is_short_text(text) for text in texts))
+    return [text.encode() for text in texts]
+
+
+def read_paths(value: Any) -> List[Path]:
+    require(isinstance(value, list))
+    return [read_path(item) for item in value]
+
+
+def read_path(value: Any) -> Path:
+    text, depth = value, ANY_DEPTH
+    if isinstance(value, dict):
+        text, depth = value.get("path"), value.get("depth")
+    require(is_short_text(text) and is_whole_number(depth) and depth >= ANY_DEPTH)
+    return Path(text.encode().rstrip(b"/"), depth)
+
+
+def candidate_test(bound: Bound, generators: Generators) -> Test:
+    """Whether a record is one that the query starts from."""
+    tests = []
+    if bound.kind == "tick":
+        tests.append(lambda record: record.otick > bound.number)
+    if bound.kind == "second":
+        tests.append(lambda record: record.osec >= bound.number)
+    if generators.suffixes is not None:
+        tests.append(lambda record: has_suffix(record, generators.suffixes))
+    if generators.paths is not None:
+        tests.append(lambda record: any(is_at(record, path) for path in generators.paths))
+    return lambda record: not tests or any(test(record) for test in tests)
+
+
+def has_suffix(record: Record, suffixes: List[bytes]) -> bool:
+    """`bytes.lower` changes A to Z alone. Nothing has an empty suffix."""
+    return bool(record.suffix) and record.suffix.lower() in [suffix.lower() for suffix in suffixes]
+
+
+def is_at(record: Record, path: Path) -> bool:
+    if record.name == path.name:
+        return record.kind != "d"
+    start = path.name + b"/" if path.name else b""
+    depth = record.name[len(start):].count(b"/")
+    return record.name.startswith(start) and (path.depth == ANY_DEPTH or depth <= path.depth)
