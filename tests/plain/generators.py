@@ -53,22 +53,18 @@ def read_path(value: Any) -> Path:
 
 
 def candidate_test(bound: Bound, generators: Generators) -> Test:
-    """Whether a record is one that the query starts from."""
+    """Whether a record is one that the query starts from. `bytes.lower` changes A to Z alone."""
     tests = []
     if bound.kind == "tick":
         tests.append(lambda record: record.otick > bound.number)
     if bound.kind == "second":
         tests.append(lambda record: record.osec >= bound.number)
     if generators.suffixes is not None:
-        tests.append(lambda record: has_suffix(record, generators.suffixes))
+        folded = {suffix.lower() for suffix in generators.suffixes} - {b""}
+        tests.append(lambda record: record.suffix is not None and record.suffix.lower() in folded)
     if generators.paths is not None:
         tests.append(lambda record: any(is_at(record, path) for path in generators.paths))
     return lambda record: not tests or any(test(record) for test in tests)
-
-
-def has_suffix(record: Record, suffixes: List[bytes]) -> bool:
-    """`bytes.lower` changes A to Z alone. Nothing has an empty suffix."""
-    return bool(record.suffix) and record.suffix.lower() in [suffix.lower() for suffix in suffixes]
 
 
 def is_at(record: Record, path: Path) -> bool:
