@@ -1,5 +1,5 @@
 -- What a text says as a JSON value, and lists of one.
-use Rattle.std.proofs.Common.{◌≡◌, ℕ, Bool, true, false, List, [], ◌∷◌, length, Some, None, refl, sym, if◌then◌else◌, ◌==◌, ◌-◌, nat_eq, take, drop, codes, ap, ◌∙◌, arith}
+use Rattle.std.proofs.Common.{◌≡◌, ℕ, Bool, true, false, List, [], ◌∷◌, length, Some, None, Result, Ok, Err, refl, sym, if◌then◌else◌, ◌==◌, ◌-◌, nat_eq, take, drop, codes, ap, ◌∙◌, arith}
 use Rattle.std.proofs.lemmas.List.{take_all, length-drop}
 use Rattle.std.specs.List.{list_all, starts_with}
 use Rattle.std.specs.Str.{IsUtf8, is_utf8}
@@ -12,8 +12,15 @@ use Rattle.serde_json.specs.declared.value.Value.{Value}
 use Rattle.wq_base.specs.Byte.{is_slash}
 use Rattle.wq_replay.specs.Clock.{are_options}
 use Rattle.wq_replay.specs.Query.{only_object}
-use Rattle.wq_replay.specs.Reply.{value_of}
+use Rattle.serde_json.specs.Written.{compact_text}
+use Rattle.wq_replay.specs.Gives.{text_of}
+use Rattle.wq_replay.specs.Reply.{reply_from, value_of}
+use Rattle.wq_replay.specs.declared.refusal.Refusal.{Refusal}
 use Rattle.wq_replay.specs.Root.{is_root}
+
+-- what is right is one value
+same_Ok : {A E : Type 0} (x y : A) → ◌≡◌ {A = Result A E} (Ok x) (Ok y) → x ≡ y
+same_Ok x y e = cc
 
 -- the value of a line in UTF-8
 pub value_read : (line : List ℕ) (d : Data) → IsUtf8 line → read_text line ≡ Some d → value_of line ≡ Some d
@@ -64,3 +71,9 @@ pub more_objects : (value : Value) (rest values : List Value) → values ≡ val
     → None ≡ only_object (items_view values)
 more_objects value [] values is more = absurd (false≢true (sym more))
 more_objects value (v ∷ vs) values is more = rw is (sym (two_objects (view value) (view v) (items_view vs)))
+
+-- the text of an answer is that of the reply
+pub answer_text : (answer : Result Data Refusal) (text : List ℕ)
+    → text_of answer ≡ Ok text → text ≡ compact_text (reply_from answer)
+answer_text (Ok reply) text is = sym (same_Ok (compact_text reply) text is)
+answer_text (Err refusal) text is = cc

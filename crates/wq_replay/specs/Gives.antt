@@ -1,9 +1,10 @@
 -- How results of the code stand for what is answered: they are it, unless memory ran out.
 -- No public document is behind them.
-use Rattle.std.specs.Prelude.{◌≡◌, false, Option, Some, None, Result, Ok, Err}
+use Rattle.std.specs.Prelude.{◌≡◌, ℕ, List, false, Option, Some, None, Result, Ok, Err, Vec}
+use Rattle.std.specs.declared.alloc.Global.{Global}
 use Rattle.serde_json.specs.Data.{Data}
 use Rattle.serde_json.specs.View.{view as data_of, items_view}
-use Rattle.serde_json.specs.Written.{has_float}
+use Rattle.serde_json.specs.Written.{compact_text, has_float}
 use Rattle.serde_json.specs.declared.value.Value.{Value}
 use Rattle.wq_replay.specs.Reply.{WordsData}
 use Rattle.wq_replay.specs.declared.command.Words.{Words}
@@ -14,9 +15,14 @@ use Rattle.wq_replay.specs.declared.refusal.Refusal.TheVariants.{NotJson, NoMemo
 abbrev pub IsReply : Data → Value → Type 0
 IsReply reply value = (data_of value ≡ reply) × (has_float reply ≡ false)
 
--- the value or the refusal is the answer, unless memory ran out
-abbrev pub Gives : Result Value Refusal → Result Data Refusal → Type 0
-Gives (Ok value) answer = (answer ≡ Ok (data_of value)) × (has_float (data_of value) ≡ false)
+-- the text of an answer; a refusal has none yet
+abbrev pub text_of : Result Data Refusal → Result (List ℕ) Refusal
+text_of (Ok reply) = Ok (compact_text reply)
+text_of (Err refusal) = Err refusal
+
+-- the text is that of the answer, or the refusal is the answer, unless memory ran out
+abbrev pub Gives : Result (Vec ℕ Global) Refusal → Result Data Refusal → Type 0
+Gives (Ok text) answer = text_of answer ≡ Ok text.items
 Gives (Err NoMemory) _ = Unit {0}
 Gives (Err refusal) answer = answer ≡ Err refusal
 

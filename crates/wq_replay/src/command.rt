@@ -50,22 +50,10 @@ pub fn reply(
     ensures { IfOk result (λ text.
         text.items ≡ compact_text (reply_to (instance_data instance.now) view.now line.now)) }
 {
-    reply_value(alloc, instance, view, line)?.to_vec(alloc)
-}
-
-/// The reply as a value.
-fn reply_value(
-    alloc: Global,
-    instance: &Instance,
-    view: &View,
-    line: &[u8],
-) -> Result<Value, AllocError>
-    ensures { IfOk result (IsReply (reply_to (instance_data instance.now) view.now line.now)) }
-{
     match answer_line(alloc, instance, view, line) {
-        Ok(value) => Ok(value),
+        Ok(text) => Ok(text),
         Err(Refusal::NoMemory) => Err(AllocError),
-        Err(refusal) => error_value(alloc, refusal),
+        Err(refusal) => error_text(alloc, refusal),
     }
 }
 
@@ -75,7 +63,7 @@ fn answer_line(
     instance: &Instance,
     view: &View,
     line: &[u8],
-) -> Result<Value, Refusal>
+) -> Result<Vec<u8>, Refusal>
     ensures { Gives result (answer_line (instance_data instance.now) view.now line.now) }
 {
     if is_binary(line) {
@@ -113,7 +101,7 @@ impl Command {
         instance: &Instance,
         view: &View,
         arguments: &[Value],
-    ) -> Result<Value, Refusal>
+    ) -> Result<Vec<u8>, Refusal>
         ensures { Gives result
             (answer_command (instance_data instance.now) view.now self (items_view arguments.now)) }
     {
@@ -156,6 +144,13 @@ fn words_of(value: &Value) -> Option<Words<'_>>
         }),
         _ => None,
     }
+}
+
+/// The text of the reply that names a refusal.
+fn error_text(alloc: Global, refusal: Refusal) -> Result<Vec<u8>, AllocError>
+    ensures { IfOk result (λ text. text.items ≡ compact_text (error_data refusal)) }
+{
+    error_value(alloc, refusal)?.to_vec(alloc)
 }
 
 /// The reply that names a refusal.

@@ -1,6 +1,7 @@
 //! The command `clock`: the clock id of the last pass.
 ghost use Rattle.std.specs.Prelude.{◌≡◌, IfOk, option_map};
 ghost use Rattle.serde_json.specs.View.{view as data_of, items_view};
+ghost use Rattle.serde_json.specs.Written.{compact_text};
 ghost use Rattle.wq_clock.specs.Instance.{instance_data};
 ghost use Rattle.wq_replay.specs.Clock.{answer_clock, are_options, clock_data, root_of};
 ghost use Rattle.wq_replay.specs.Gives.{Gives, IsReply};
@@ -19,7 +20,7 @@ pub(crate) fn answer_clock(
     instance: &Instance,
     view: &View,
     arguments: &[Value],
-) -> Result<Value, Refusal>
+) -> Result<Vec<u8>, Refusal>
     ensures { Gives result
         (answer_clock (instance_data instance.now) view.now (items_view arguments.now)) }
 {
@@ -29,7 +30,7 @@ pub(crate) fn answer_clock(
     if !is_root(root) {
         return Err(Refusal::NotWatched);
     }
-    Ok(clock_value(alloc, instance, view)?)
+    Ok(clock_text(alloc, instance, view)?)
 }
 
 /// The root that `clock` takes; behind it stands nothing, or one object.
@@ -52,6 +53,14 @@ fn are_options(values: &[Value]) -> bool
         None => true,
         Some((options, rest)) => rest.is_empty() && options.is_object(),
     }
+}
+
+/// The text of the reply to `clock`.
+fn clock_text(alloc: Global, instance: &Instance, view: &View) -> Result<Vec<u8>, AllocError>
+    ensures { IfOk result (λ text. text.items
+        ≡ compact_text (clock_data (instance_data instance.now) view.now)) }
+{
+    clock_value(alloc, instance, view)?.to_vec(alloc)
 }
 
 /// The reply to `clock`.

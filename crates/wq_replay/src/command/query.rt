@@ -1,12 +1,13 @@
 //! The command `query`: which files there are, and which of them changed.
 ghost use Rattle.std.specs.Prelude.{◌≡◌, IfOk, option_map};
 ghost use Rattle.serde_json.specs.View.{view as data_of, items_view};
+ghost use Rattle.serde_json.specs.Written.{compact_text};
 ghost use Rattle.wq_clock.specs.Instance.{instance_data};
 ghost use Rattle.wq_compile.specs.Meaning.{AnswersMeaning};
 ghost use Rattle.wq_query.specs.Query.{asked_of, plan_of};
 ghost use Rattle.wq_query.specs.Reply.{reply_of};
 ghost use Rattle.wq_replay.specs.Query.{answer_asked, answer_query, arguments_of, only_object};
-ghost use Rattle.wq_replay.specs.Gives.{Gives, IsReply};
+ghost use Rattle.wq_replay.specs.Gives.{Gives};
 
 use crate::refusal::Refusal;
 use crate::root::is_root;
@@ -15,7 +16,7 @@ use std::alloc::{AllocError, Global};
 use std::sync::Arc;
 use wq_clock::Instance;
 use wq_compile::{CompileFault, compile};
-use wq_query::{Query, QueryFault, answer};
+use wq_query::{Query, QueryFault, answer_bytes};
 use wq_verify::Program;
 use wq_view::View;
 
@@ -25,7 +26,7 @@ pub(crate) fn answer_query(
     instance: &Instance,
     view: &View,
     arguments: &[Value],
-) -> Result<Value, Refusal>
+) -> Result<Vec<u8>, Refusal>
     ensures { Gives result
         (answer_query (instance_data instance.now) view.now (items_view arguments.now)) }
 {
@@ -48,7 +49,7 @@ fn answer_read(
     query: Query,
     instance: &Instance,
     view: &View,
-) -> Result<Value, Refusal>
+) -> Result<Vec<u8>, Refusal>
     ensures { Gives result
         (answer_asked (instance_data instance.now) view.now (asked_of query)) }
 {
@@ -66,14 +67,14 @@ fn answer_by(
     program: Program,
     instance: &Instance,
     view: &View,
-) -> Result<Value, AllocError>
+) -> Result<Vec<u8>, AllocError>
     requires { AnswersMeaning program (asked_of query).expression }
-    ensures { IfOk result
-        (IsReply (reply_of (plan_of (asked_of query)) (instance_data instance.now) view.now)) }
+    ensures { IfOk result (λ text. text.items ≡ compact_text
+        (reply_of (plan_of (asked_of query)) (instance_data instance.now) view.now)) }
 {
     let bound = query.bound();
     let plan = query.plan(bound, Arc::new(alloc, program)?);
-    answer(alloc, &plan, instance, view)
+    answer_bytes(alloc, &plan, instance, view)
 }
 
 /// The root and the object that `query` takes.
