@@ -1,0 +1,5 @@
+pub mod Limit
+pub mod Stream
+pub mod Line
+pub mod Told
+pub mod Law

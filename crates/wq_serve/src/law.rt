@@ -1,0 +1,13 @@
+//! Laws about streams, each a function without a body whose contract is the law.
+//! A proof of another crate gets a law by a call, which costs nothing.
+ghost use Rattle.wq_serve.specs.Law.{CutsDoNotMatter, ToldEventsStay};
+
+/// Two pieces of a stream, one after the other, give the events that they give as one piece.
+pub fn cuts_do_not_matter()
+    ensures { CutsDoNotMatter }
+{}
+
+/// The events that were told of a stream are the first of those of the stream with more bytes behind it.
+pub fn told_events_stay()
+    ensures { ToldEventsStay }
+{}

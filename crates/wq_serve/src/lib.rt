@@ -1,0 +1,15 @@
+//! Sessions of clients. So far: how the bytes of a client become the events that a session takes.
+//!
+//! What a line says, and what it is answered, is not looked at here; nor are sockets and threads.
+#![tactic(auto)]
+
+mod event;
+mod law;
+mod line;
+mod splitter;
+mod telling;
+
+pub use event::Event;
+pub use law::{cuts_do_not_matter, told_events_stay};
+pub use line::MAX_LINE;
+pub use splitter::Splitter;
