@@ -15,6 +15,7 @@ mod file;
 mod generator;
 mod history;
 mod pattern;
+mod stream;
 mod word;
 
 use anyhow::{Result, bail};
@@ -37,7 +38,7 @@ fn answer(alloc: Global, line: &str) -> Result<String> {
     }
 }
 
-/// What a case's call on files and views answers.
+/// What a case's call on files, views and streams answers.
 fn file_answer(alloc: Global, call: &str, words: &[Vec<u8>]) -> Result<String> {
     match call {
         "name" => file::name_case(alloc, words),
@@ -49,6 +50,8 @@ fn file_answer(alloc: Global, call: &str, words: &[Vec<u8>]) -> Result<String> {
         "history" => history::history_case(alloc, words),
         "find" => history::find_case(alloc, words),
         "candidates" => generator::candidates_case(alloc, words),
+        "stream" => stream::stream_case(alloc, words),
+        "pieces" => stream::pieces_case(alloc, words),
         _ => bail!("no such call"),
     }
 }
