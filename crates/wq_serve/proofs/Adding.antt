@@ -1,12 +1,11 @@
 -- What a piece adds to the events of a stream.
-use Rattle.std.proofs.Common.{◌≡◌, ◌+◌, ℕ, Bool, true, false, ◌||◌, ◌==◌, nat_lt, cond, List, [], ◌∷◌, ◌++◌, length, Option, Some, None, refl, sym, ap, subst, ◌∙◌, arith, length-append}
+use Rattle.std.proofs.Common.{◌≡◌, ℕ, Bool, true, false, ◌||◌, ◌==◌, cond, List, [], ◌∷◌, ◌++◌, Option, Some, None, refl, sym, ap, ◌∙◌, arith, length-append}
 use Rattle.std.specs.List.{list_any}
 use Rattle.std.proofs.lemmas.Bool.{true≢false, lt-ltb, ltb-true}
-use Rattle.std.proofs.lemmas.List.{append-nil, append_assoc, append_cancel_left}
+use Rattle.std.proofs.lemmas.List.{append_assoc, append_cancel_left}
 use Rattle.std.proofs.lemmas.Option.{none-some, same_Some}
 use Rattle.std.proofs.lemmas.List.Folds.{list_any-append}
-use Rattle.wq_serve.specs.Limit.{max_line}
-use Rattle.wq_serve.specs.Stream.{Adds, event_of, events_of, is_binary, is_last, is_long, is_newline, kept_of, last_part, part_events, parts_of, shown_by, up_to_last}
+use Rattle.wq_serve.specs.Stream.{Adds, event_of, events_of, is_binary, is_last, is_long, is_newline, kept_of, last_part, part_events, parts_of, up_to_last}
 use Rattle.wq_serve.specs.declared.event.Event.{Event}
 use Rattle.wq_serve.specs.declared.event.Event.TheVariants.{Line, Long, Binary}
 use Rattle.wq_serve.proofs.Parts.{IsSome, behind, last_is_line, last_then, on_last, on_last_some, parts_behind, parts_some, parts_then}

@@ -1,5 +1,5 @@
 -- What feeding a piece adds, by what the splitter keeps.
-use Rattle.std.proofs.Common.{◌≡◌, ℕ, Bool, true, false, List, [], ◌++◌, Option, None, Some, sym, ap, subst, ◌∙◌}
+use Rattle.std.proofs.Common.{◌≡◌, ℕ, Bool, true, false, List, [], ◌++◌, Option, None, Some, sym, ap, ◌∙◌}
 use Rattle.wq_serve.specs.Stream.{Adds, events_of, kept_of}
 use Rattle.wq_serve.specs.Told.{Tells, kept_as}
 use Rattle.wq_serve.specs.declared.event.Event.{Event}

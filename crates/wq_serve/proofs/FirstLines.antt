@@ -1,7 +1,7 @@
 -- What the first line of a rest and of the bytes behind it makes of a stream.
-use Rattle.std.proofs.Common.{◌≡◌, ◌<◌, ◌≤◌, ◌+◌, ◌-◌, ℕ, zero, suc, Bool, true, false, ◌||◌, ◌==◌, cond, List, [], ◌∷◌, ◌++◌, length, take, drop, Some, None, refl, sym, ap, subst, ◌∙◌, arith, add-one, length-append, length-take-le}
+use Rattle.std.proofs.Common.{◌≡◌, ◌<◌, ◌≤◌, ◌+◌, ◌-◌, ℕ, zero, suc, true, false, ◌||◌, ◌==◌, cond, List, [], ◌∷◌, ◌++◌, length, take, drop, Some, None, refl, sym, ap, subst, ◌∙◌, arith, add-one, length-append, length-take-le}
 use Rattle.std.specs.List.{list_any}
-use Rattle.std.proofs.lemmas.Bool.{true≢false, eqb-true, false_from_ne_true, lt-ltb, ltb-true}
+use Rattle.std.proofs.lemmas.Bool.{eqb-true, false_from_ne_true, lt-ltb, ltb-true}
 use Rattle.std.proofs.lemmas.List.{append-nil, append_assoc, take_all, take-append-drop}
 use Rattle.std.proofs.lemmas.List.Folds.{list_any-append}
 use Rattle.memchr.specs.Find.{Nowhere, Passes, is_byte}
@@ -10,9 +10,9 @@ use Rattle.wq_serve.specs.Limit.{max_line}
 use Rattle.wq_serve.specs.Line.{IsFirstLine}
 use Rattle.wq_serve.specs.Stream.{IsRest, event_of, events_of, is_binary, is_last, is_long, is_newline, kept_of, last_part, parts_of, up_to_last}
 use Rattle.wq_serve.specs.declared.event.Event.TheVariants.{Line, Long, Binary}
-use Rattle.wq_serve.specs.declared.line.FirstLine.TheVariants.{Ends, Open, Long as TooLong, Binary as IsBinary}
+use Rattle.wq_serve.specs.declared.line.FirstLine.TheVariants.{Ends, Open, Long as TooLong}
 use Rattle.wq_serve.proofs.Adding.{events_in, is_refused, line_first, refused_shown}
-use Rattle.wq_serve.proofs.Parts.{behind, last_of_more, parts_behind, parts_some}
+use Rattle.wq_serve.proofs.Parts.{last_of_more, parts_behind, parts_some}
 
 -- bytes before the first newline have none
 none_in : (n : ℕ) (bytes : List ℕ) → Nowhere (Passes (is_byte 10) bytes) 0 n → list_any is_newline (take n bytes) ≡ false
@@ -37,11 +37,6 @@ none_joined rest bytes one two = list_any-append is_newline rest bytes ∙ ap (�
 text_front : (front more : List ℕ) → is_binary (front ++ more) ≡ false → is_binary front ≡ false
 text_front [] more text = refl
 text_front (b ∷ bs) more text = text
-
--- the first byte of a rest and of the bytes behind it is not byte 0
-pub text_joined : (rest bytes : List ℕ) → is_binary rest ≡ false → (length rest ≡ 0 → is_binary bytes ≡ false) → is_binary (rest ++ bytes) ≡ false
-text_joined [] bytes text text_behind = text_behind refl
-text_joined (b ∷ bs) bytes text text_behind = text
 
 -- bytes within the limit are not over it
 not_long : (bytes : List ℕ) → length bytes ≤ max_line → is_long bytes ≡ false
@@ -148,17 +143,3 @@ too_long rest bytes is text long none = (told, ap (λ e. cond (list_any is_last 
         ap events_of whole
         ∙ refused_shown front more (none_joined rest (take count bytes) is.one_line (none_in count bytes none)) (ap (λ b. b || is_long front) front_text ∙ is_over)
         ∙ ap (λ b. cond b Binary (cond (is_long front) Long (Line front)) ∷ []) front_text ∙ ap (λ b. cond b Long (Line front) ∷ []) is_over
-
--- a line that begins with byte 0
-pub begins_binary : (rest bytes : List ℕ) → length rest ≡ 0 → is_binary bytes ≡ true → IsFirstLine rest bytes IsBinary
-begins_binary (r ∷ rs) bytes empty is = absurd (omega (arith, empty))
-begins_binary [] [] empty is = absurd (true≢false (sym is))
-begins_binary [] (b ∷ bs) empty is = (told, ap (λ e. cond (list_any is_last e) None (Some (last_part (parts_of (b ∷ bs))))) told)
-  where
-    zero_is : b ≡ 0
-    zero_is = eqb-true b 0 is
-
-    told : events_of (b ∷ bs) ≡ Binary ∷ []
-    told =
-        refused_shown (b ∷ []) bs (ap (λ x. list_any is_newline (x ∷ [])) zero_is) (ap (λ x. is_refused (x ∷ [])) zero_is)
-        ∙ ap (λ x. event_of (x ∷ []) ∷ []) zero_is

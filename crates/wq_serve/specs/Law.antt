@@ -1,7 +1,7 @@
 -- That it does not matter how a stream is cut into pieces.
 -- No public document is behind it.
-use Rattle.std.specs.Prelude.{◌≡◌, ℕ, List, [], ◌∷◌, ◌++◌, Option}
-use Rattle.wq_serve.specs.Stream.{events_of, kept_of, Adds}
+use Rattle.std.specs.Prelude.{◌≡◌, ℕ, List, ◌++◌, Option}
+use Rattle.wq_serve.specs.Stream.{kept_of, Adds}
 use Rattle.wq_serve.specs.declared.event.Event.{Event}
 
 -- two pieces, one after the other, add what they add as one piece, and the same is kept

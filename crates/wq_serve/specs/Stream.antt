@@ -1,6 +1,6 @@
 -- The events of a client's stream of bytes.
--- That each JSON value stands on a line of its own, and that binary messages begin with byte 0, is from
--- Watchman's documentation of its socket interface and of BSER; the limit is this server's own.
+-- A JSON value to a line, and byte 0 at the start of binary messages, are from Watchman's documentation
+-- of its socket interface and of BSER. The limit of a line is this server's own.
 use Rattle.std.specs.Prelude.{◌≡◌, ◌≤◌, ℕ, Bool, true, false, ◌||◌, ◌==◌, nat_lt, if◌then◌else◌, List, [], ◌∷◌, ◌++◌, length, Option, Some, None}
 use Rattle.std.specs.List.{list_any, slice_split}
 use Rattle.wq_base.specs.Byte.{newline}
@@ -21,7 +21,7 @@ abbrev pub is_binary : List ℕ → Bool
 is_binary [] = false
 is_binary (byte ∷ bytes) = byte == 0
 
--- these bytes of a line are over its limit
+-- these bytes of a line are over its limit: the first 1,048,577 of them have no newline
 abbrev pub is_long : List ℕ → Bool
 is_long bytes = nat_lt max_line (length bytes)
 
@@ -60,7 +60,7 @@ last_part [] = []
 last_part (rest ∷ []) = rest
 last_part (line ∷ next ∷ parts) = last_part (next ∷ parts)
 
--- what is kept of a stream for what may come: what follows its last newline, if more events may come
+-- what is kept of a stream: what follows its last newline, as long as more events may come
 abbrev pub kept_of : List ℕ → Option (List ℕ)
 kept_of stream =
     if list_any is_last (events_of stream) then None else Some (last_part (parts_of stream))

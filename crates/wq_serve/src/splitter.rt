@@ -1,6 +1,6 @@
 //! Cuts a client's stream of bytes into events, in whatever pieces it comes. Where the pieces come from, and who takes
 //! the events, is not looked at here.
-ghost use Rattle.std.specs.Prelude.{◌≡◌, ◌≤◌, ℕ, List, [], length, Some, IfOk, IfSome, OnErr};
+ghost use Rattle.std.specs.Prelude.{◌≡◌, ◌≤◌, ℕ, List, [], length, IfOk, IfSome, OnErr};
 ghost use Rattle.wq_serve.specs.Limit.{max_line};
 ghost use Rattle.wq_serve.specs.Stream.{Adds, kept_of};
 
@@ -33,8 +33,7 @@ impl Model for Splitter {
 impl Splitter {
     /// The splitter of a stream of which no byte has come. It takes no memory.
     pub fn new(alloc: Global) -> Splitter
-        ensures value { result ≡ Some [] }
-        ensures stream { result ≡ kept_of [] }
+        ensures { result ≡ kept_of [] }
     {
         Splitter {
             rest: Vec::new(alloc),
