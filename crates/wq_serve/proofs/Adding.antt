@@ -1,10 +1,11 @@
 -- What a piece adds to the events of a stream.
 use Rattle.std.proofs.Common.{◌≡◌, ℕ, Bool, true, false, ◌||◌, ◌==◌, cond, List, [], ◌∷◌, ◌++◌, Option, Some, None, refl, sym, ap, ◌∙◌, arith, length-append}
-use Rattle.std.specs.List.{list_any}
+use Rattle.std.specs.List.{concat, list_any}
 use Rattle.std.proofs.lemmas.Bool.{true≢false, lt-ltb, ltb-true}
-use Rattle.std.proofs.lemmas.List.{append_assoc, append_cancel_left}
+use Rattle.std.proofs.lemmas.List.{append-nil, append_assoc, append_cancel_left}
 use Rattle.std.proofs.lemmas.Option.{none-some, same_Some}
 use Rattle.std.proofs.lemmas.List.Folds.{list_any-append}
+use Rattle.wq_serve.specs.Law.{AddInTurn}
 use Rattle.wq_serve.specs.Stream.{Adds, event_of, events_of, is_binary, is_last, is_long, is_newline, kept_of, last_part, part_events, parts_of, up_to_last}
 use Rattle.wq_serve.specs.declared.event.Event.{Event}
 use Rattle.wq_serve.specs.declared.event.Event.TheVariants.{Line, Long, Binary}
@@ -152,3 +153,14 @@ cuts stream xs ys first second whole kept last last_of_whole one two both =
           (sym (append_assoc (events_of stream) first second) ∙ ap (λ e. e ++ second) (sym one.events_are) ∙ sym two.events_are ∙ ap events_of joined ∙ both.events_are),
       two.kept_is ∙ ap kept_of joined ∙ sym both.kept_is,
     )
+
+-- what pieces add in turn goes on with the events of the stream
+in_turn : (stream : List ℕ) (pieces : List (List ℕ)) (events : List Event) → AddInTurn stream pieces events → events_of stream ++ events ≡ events_of (stream ++ concat pieces)
+in_turn stream [] events is = ap (λ e. events_of stream ++ e) is ∙ append-nil (events_of stream) ∙ sym (ap events_of (append-nil stream))
+in_turn stream (piece ∷ pieces) events (first, later, kept, adds, turn, is) =
+    ap (λ e. events_of stream ++ e) is ∙ sym (append_assoc (events_of stream) first later) ∙ ap (λ e. e ++ later) (sym adds.events_are)
+    ∙ in_turn (stream ++ piece) pieces later turn ∙ ap events_of (append_assoc stream piece (concat pieces))
+
+-- from the start they are the events of the whole
+pub all_in_turn : (pieces : List (List ℕ)) (events : List Event) → AddInTurn [] pieces events → events ≡ events_of (concat pieces)
+all_in_turn pieces events turn = in_turn [] pieces events turn

@@ -1,6 +1,11 @@
 //! Laws about streams, each a function without a body whose contract is the law.
 //! A proof of another crate gets a law by a call, which costs nothing.
-ghost use Rattle.wq_serve.specs.Law.{CutsDoNotMatter, ToldEventsStay};
+ghost use Rattle.wq_serve.specs.Law.{CutsDoNotMatter, PiecesTellTheStream, ToldEventsStay};
+
+/// The events that are told of all pieces of a stream, in turn, are those of the whole, however it is cut.
+pub fn pieces_tell_the_stream()
+    ensures { PiecesTellTheStream }
+{}
 
 /// Two pieces of a stream, one after the other, give the events that they give as one piece.
 pub fn cuts_do_not_matter()

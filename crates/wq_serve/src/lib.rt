@@ -10,6 +10,6 @@ mod splitter;
 mod telling;
 
 pub use event::Event;
-pub use law::{cuts_do_not_matter, told_events_stay};
+pub use law::{cuts_do_not_matter, pieces_tell_the_stream, told_events_stay};
 pub use line::MAX_LINE;
 pub use splitter::Splitter;
