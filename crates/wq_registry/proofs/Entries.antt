@@ -1,0 +1,101 @@
+-- A map from texts is a list of things under names.
+use Rattle.std.proofs.Common.{◌≡◌, ℕ, zero, suc, Bool, true, false, cond, not, ◌&&◌, nat_le, List, [], ◌∷◌, map, length, Option, None, Some, is_some, option_map, option_copied, Bor, refl, ap, ◌∙◌, if◌then◌else◌}
+use Rattle.std.specs.declared.string.String.{String}
+use Rattle.std.specs.declared.sync.Arc.{Arc}
+use Rattle.std.specs.String.{string_bytes}
+use Rattle.std.specs.Str.{bytes_eq}
+use Rattle.std.proofs.lemmas.List.{length-map}
+use Rattle.std.specs.Map.{lookup, remove_entry, values_of}
+use Rattle.std.specs.Borrow.{GName}
+use borrow.Follows.Closed.{read_of}
+use mathlib.Core.Option.{Option as Perhaps}
+use Rattle.indexmap.specs.IndexMap.{insert_entry, set_value_at}
+use Rattle.wq_registry.specs.Named.{Named, under, put, put_at, values, without, has_no_place}
+use Rattle.wq_registry.specs.Entry.{by_bytes, unshared}
+
+module _ {A Z : Type 0} (name : List ℕ) where
+  -- the value that the map has is the one under the name
+  pub found : (es : List (String Z × A)) → lookup (λ k. bytes_eq name (string_bytes k)) es ≡ under name (by_bytes es)
+  found [] = refl
+  found (e ∷ es) = ap (cond (bytes_eq name (string_bytes e.0)) (Some e.1)) (found es)
+
+  -- what the map removes goes from the list
+  pub removed : (es : List (String Z × A)) → by_bytes (remove_entry (λ k. bytes_eq name (string_bytes k)) es) ≡ without name (by_bytes es)
+  removed [] = refl
+  removed (e ∷ es) =
+      elim (bytes_eq name (string_bytes e.0)) as (λ b. by_bytes (cond b es (e ∷ remove_entry (λ k. bytes_eq name (string_bytes k)) es)) ≡ cond b (by_bytes es) ((string_bytes e.0, e.1) ∷ without name (by_bytes es))) [
+        | true ↦ refl
+        | false ↦ ap (λ xs. (string_bytes e.0, e.1) ∷ xs) (removed es)
+      ]
+
+-- what the map inserts is put into the list
+pub inserted : {A Z : Type 0} (k : String Z) (v : A) (es : List (String Z × A)) → by_bytes (insert_entry (λ a b. bytes_eq (string_bytes a) (string_bytes b)) es k v) ≡ put (string_bytes k) v (by_bytes es)
+inserted k v [] = refl
+inserted k v (e ∷ es) =
+    elim (bytes_eq (string_bytes k) (string_bytes e.0)) as (λ b. by_bytes (cond b ((e.0, v) ∷ es) (e ∷ insert_entry (λ a b. bytes_eq (string_bytes a) (string_bytes b)) es k v)) ≡ cond b ((string_bytes e.0, v) ∷ by_bytes es) ((string_bytes e.0, e.1) ∷ put (string_bytes k) v (by_bytes es))) [
+      | true ↦ refl
+      | false ↦ ap (λ xs. (string_bytes e.0, e.1) ∷ xs) (inserted k v es)
+    ]
+
+module _ {A Z : Type 0} where
+  -- a value that is written at a place of the map is put there in the list
+  pub written : (k : ℕ) (v : A) (es : List (String Z × A)) → by_bytes (set_value_at es k v) ≡ put_at k v (by_bytes es)
+  written k v [] = refl
+  written zero v (e ∷ es) = refl
+  written (suc k) v (e ∷ es) = ap (λ xs. (string_bytes e.0, e.1) ∷ xs) (written k v es)
+
+  -- the values of the map are those of the list
+  pub same_values : (es : List (String Z × A)) → values_of es ≡ values (by_bytes es)
+  same_values [] = refl
+  same_values (e ∷ es) = ap (λ xs. e.1 ∷ xs) (same_values es)
+
+-- two ways to say what a loan leaves are one where they agree at each value and without one
+pub same_loan : {D E : Type 0} (name : Perhaps GName) {F G : E → D} {v w : D} → ((x : E) → F x ≡ G x) → v ≡ w → read_of name F v ≡ read_of name G w
+same_loan name each none = λ j. read_of name (λ x. each x j) (none j)
+
+module _ {A Z : Type 0} (name : List ℕ) where
+  -- the things themselves stand under the same names
+  pub under-unshared : (xs : Named (Arc A Z)) → under name (unshared xs) ≡ option_map (λ a. a.value) (under name xs)
+  under-unshared [] = refl
+  under-unshared (x ∷ xs) =
+      elim (bytes_eq name x.0) as (λ b. cond b (Some x.1.value) (under name (unshared xs)) ≡ option_map (λ a. a.value) (cond b (Some x.1) (under name xs))) [
+        | true ↦ refl
+        | false ↦ under-unshared xs
+      ]
+
+  -- and so when one is put
+  pub put-unshared : (a : Arc A Z) (xs : Named (Arc A Z)) → unshared (put name a xs) ≡ put name a.value (unshared xs)
+  put-unshared a [] = refl
+  put-unshared a (x ∷ xs) =
+      elim (bytes_eq name x.0) as (λ b. unshared (cond b ((x.0, a) ∷ xs) (x ∷ put name a xs)) ≡ cond b ((x.0, a.value) ∷ unshared xs) ((x.0, x.1.value) ∷ put name a.value (unshared xs))) [
+        | true ↦ refl
+        | false ↦ ap (λ ys. (x.0, x.1.value) ∷ ys) (put-unshared a xs)
+      ]
+
+  -- and when one is taken out
+  pub without-unshared : (xs : Named (Arc A Z)) → unshared (without name xs) ≡ without name (unshared xs)
+  without-unshared [] = refl
+  without-unshared (x ∷ xs) =
+      elim (bytes_eq name x.0) as (λ b. unshared (cond b xs (x ∷ without name xs)) ≡ cond b (unshared xs) ((x.0, x.1.value) ∷ without name (unshared xs))) [
+        | true ↦ refl
+        | false ↦ ap (λ ys. (x.0, x.1.value) ∷ ys) (without-unshared xs)
+      ]
+
+  -- one is there or not alike
+  pub there-unshared : (xs : Named (Arc A Z)) → is_some (under name (unshared xs)) ≡ is_some (under name xs)
+  there-unshared xs = ap is_some (under-unshared xs) ∙ by (under name xs)
+    where
+      by : (o : Option (Arc A Z)) → is_some (option_map (λ a. a.value) o) ≡ is_some o
+      by None = refl
+      by (Some a) = refl
+
+  -- and one more has a place or not
+  pub no_place-unshared : (limit : ℕ) (xs : Named (Arc A Z)) → has_no_place limit name (unshared xs) ≡ has_no_place limit name xs
+  no_place-unshared limit xs =
+      ap (λ b. not b && nat_le limit (length (unshared xs))) (there-unshared xs)
+      ∙ ap (λ n. not (is_some (under name xs)) && nat_le limit n) (length-map xs (λ x. (x.0, x.1.value)))
+
+-- what is seen of a reference is made of its value
+pub seen : {X Y : Type 0} (f : X → Y) (r : Option (Bor X)) → option_map (λ b. f b.now) r ≡ option_map f (option_copied r)
+seen f None = refl
+seen f (Some b) = refl

@@ -1,0 +1,17 @@
+-- Which refusal a call gives.
+-- No public document is behind it.
+use Rattle.std.specs.Prelude.{◌≡◌, Bool, true, false, Result, Ok, Err}
+use Rattle.wq_registry.specs.declared.fault.ShelfFault.{ShelfFault}
+use Rattle.wq_registry.specs.declared.fault.ShelfFault.TheVariants.{NoRoot, Full, NoMemory}
+
+-- which refusal there is where a root is missing or not, and a place is missing or not: the first
+-- of the two, and want of memory only where neither is
+abbrev pub IsRefusal : Bool → Bool → ShelfFault → Type 0
+IsRefusal rootless full NoRoot = rootless ≡ true
+IsRefusal rootless full Full = (rootless ≡ false) × (full ≡ true)
+IsRefusal rootless full NoMemory = (rootless ≡ false) × (full ≡ false)
+
+-- a call answers well only where neither is missing, and else refuses so
+abbrev pub Refuses : {A : Type 0} → Bool → Bool → Result A ShelfFault → Type 0
+Refuses rootless full (Ok a) = (rootless ≡ false) × (full ≡ false)
+Refuses rootless full (Err fault) = IsRefusal rootless full fault

@@ -1,0 +1,17 @@
+//! The shelf: what a server keeps for all its clients beside the views of its roots. Programs under
+//! their names; the roots that are watched, each with its cursors and triggers; and a cache of the
+//! programs of expressions.
+//!
+//! What each call makes of a shelf stands in `specs/Shelf.antt`, and what a list of calls comes to
+//! in `specs/History.antt`. What a client is answered, and what a trigger is, is not said here.
+#![tactic(auto)]
+
+mod fault;
+mod named;
+mod root;
+mod roots;
+mod shelf;
+
+pub use fault::ShelfFault;
+pub use root::{MAX_CURSORS, MAX_TRIGGERS, Root};
+pub use shelf::{MAX_PROGRAMS, MAX_ROOTS, Shelf};

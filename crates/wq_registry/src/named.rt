@@ -1,0 +1,97 @@
+//! Things under names, in the order in which the names came. How many there may be is not said
+//! here.
+ghost use Rattle.std.specs.Prelude.{◌≡◌, [], length, option_copied, slice_get, IfOk, OnOk, OnErr};
+ghost use Rattle.std.specs.Option.{option_copied_mut};
+ghost use Rattle.std.specs.Borrow.{sem};
+ghost use Rattle.wq_registry.specs.Named.{has_no_place, put, under, values, without};
+ghost use Rattle.wq_registry.specs.Lending.{LendsAt};
+
+use indexmap::IndexMap;
+use std::alloc::{AllocError, Global};
+use std::marker::Model;
+
+/// Things under names. A name that is put again keeps its place.
+#[derive(Drop)]
+pub(crate) struct Named<V> {
+    entries: IndexMap<String, V>,
+}
+
+impl<V> Model for Named<V> {
+    ghost use Rattle.wq_registry.specs.Named.{Named as NamedData};
+    ghost use Rattle.wq_registry.specs.Entry.{by_bytes};
+
+    ghost Value = { NamedData V };
+
+    ghost view = { λ n. by_bytes n.entries.entries };
+}
+
+impl<V> Named<V> {
+    /// No names.
+    pub(crate) fn new(alloc: Global) -> Named<V>
+        ensures { result ≡ [] }
+    {
+        Named {
+            entries: IndexMap::new(alloc),
+        }
+    }
+
+    /// How many names there are.
+    pub(crate) fn len(&self) -> usize
+        ensures { result ≡ length self.now }
+    {
+        self.entries.len()
+    }
+
+    /// What stands under a name.
+    #[tactic(auto, using(crate::proofs::Entries::found))]
+    pub(crate) fn get(&self, name: &str) -> Option<&V>
+        ensures { option_copied result ≡ under name.now self.now }
+    {
+        self.entries.get(name)
+    }
+
+    /// Whether the name is new and there are this many names.
+    pub(crate) fn has_no_place(&self, limit: usize, name: &str) -> bool
+        ensures { result ≡ has_no_place limit name.now self.now }
+    {
+        self.get(name).is_none() && self.len() >= limit
+    }
+
+    /// What stands under the name at a place, which can be changed.
+    pub(crate) fn value_mut(&mut self, k: usize) -> Option<&mut V>
+        ensures* writes_back { sem 𝓛 (LendsAt V.row self.entry k result) }
+        ensures value { option_copied_mut result ≡ slice_get (values self.old) k }
+    {
+        self.entries.get_index_mut(k)
+    }
+}
+
+impl<V: Drop> Named<V> {
+    /// Puts a thing under a name, and gives back what stood there.
+    #[tactic(auto, using(crate::proofs::Entries::inserted))]
+    pub(crate) fn put(
+        &mut self,
+        alloc: Global,
+        name: &str,
+        value: V,
+    ) -> Result<Option<V>, AllocError>
+        ensures old { IfOk result (λ old. old ≡ under name.now self.old) }
+        ensures put { OnOk result (self.new ≡ put name.now value self.old) }
+        ensures kept { OnErr result (self.new ≡ self.old) }
+    {
+        let key = String::from_str(alloc, name)?;
+        match self.entries.insert(key, value) {
+            Ok(old) => Ok(old),
+            Err(_) => Err(AllocError),
+        }
+    }
+
+    /// Takes out what stands under a name.
+    #[tactic(auto, using(crate::proofs::Entries::removed))]
+    pub(crate) fn remove(&mut self, name: &str) -> Option<V>
+        ensures value { result ≡ under name.now self.old }
+        ensures removed { self.new ≡ without name.now self.old }
+    {
+        self.entries.shift_remove(name)
+    }
+}
