@@ -5,12 +5,12 @@ use Rattle.std.specs.declared.sync.Arc.{Arc}
 use Rattle.std.specs.String.{string_bytes}
 use Rattle.std.specs.Str.{bytes_eq}
 use Rattle.std.proofs.lemmas.List.{length-map}
-use Rattle.std.specs.Map.{lookup, remove_entry, values_of}
+use Rattle.std.specs.Map.{lookup, remove_entry, values_of, keys_of}
 use Rattle.std.specs.Borrow.{GName}
 use borrow.Follows.Closed.{read_of}
 use mathlib.Core.Option.{Option as Perhaps}
 use Rattle.indexmap.specs.IndexMap.{insert_entry, set_value_at}
-use Rattle.wq_registry.specs.Named.{Named, under, put, put_at, values, without, has_no_place}
+use Rattle.wq_registry.specs.Named.{Named, under, put, put_at, names, values, without, has_no_place}
 use Rattle.wq_registry.specs.Entry.{by_bytes, unshared}
 
 module _ {A Z : Type 0} (name : List ℕ) where
@@ -99,3 +99,13 @@ module _ {A Z : Type 0} (name : List ℕ) where
 pub seen : {X Y : Type 0} (f : X → Y) (r : Option (Bor X)) → option_map (λ b. f b.now) r ≡ option_map f (option_copied r)
 seen f None = refl
 seen f (Some b) = refl
+
+-- the keys of the map are the names of the list
+pub same_names : {A Z : Type 0} (es : List (String Z × A)) → map string_bytes (keys_of es) ≡ names (by_bytes es)
+same_names [] = refl
+same_names (e ∷ es) = ap (λ xs. string_bytes e.0 ∷ xs) (same_names es)
+
+-- the things themselves have the names
+pub names-unshared : {A Z : Type 0} (xs : Named (Arc A Z)) → names (unshared xs) ≡ names xs
+names-unshared [] = refl
+names-unshared (x ∷ xs) = ap (λ ys. x.0 ∷ ys) (names-unshared xs)

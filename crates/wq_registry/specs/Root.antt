@@ -1,6 +1,6 @@
 -- The roots on a shelf, each with its cursors and triggers.
 -- Cursors and triggers are those of Watchman's documentation (named cursors, triggers).
-use Rattle.std.specs.Prelude.{ℕ, Bool, List, [], ◌∷◌, ◌++◌, Option, None, Some, nat_eq, nat_le, ◌&&◌, ◌||◌, if◌then◌else◌}
+use Rattle.std.specs.Prelude.{ℕ, Bool, List, [], ◌∷◌, ◌++◌, Option, None, Some, nat_eq, nat_le, not, filter, ◌&&◌, ◌||◌, if◌then◌else◌}
 use Rattle.std.specs.List.{find, list_any}
 use Rattle.std.specs.Str.{bytes_eq}
 use Rattle.wq_registry.specs.Named.{Named, under, put, put_at, without}
@@ -36,16 +36,13 @@ module _ {T : Type 0} where
   changed number change (r ∷ rs) =
       if nat_eq number r.number then change r ∷ rs else r ∷ changed number change rs
 
-  -- the roots without the one of a number
+  -- the roots but those of a number
   abbrev pub without_number : ℕ → List (RootData T) → List (RootData T)
-  without_number number [] = []
-  without_number number (r ∷ rs) =
-      if nat_eq number r.number then rs else r ∷ without_number number rs
+  without_number number rs = filter (λ r. not (nat_eq number r.number)) rs
 
-  -- the roots without the one of a text
+  -- the roots but those of a text
   abbrev pub without_text : List ℕ → List (RootData T) → List (RootData T)
-  without_text text [] = []
-  without_text text (r ∷ rs) = if bytes_eq text r.text then rs else r ∷ without_text text rs
+  without_text text rs = filter (λ r. not (bytes_eq text r.text)) rs
 
   -- whether a root says that another is not new: it has its number, or its text with a number above
   abbrev pub is_newer : List ℕ → ℕ → RootData T → Bool

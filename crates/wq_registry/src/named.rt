@@ -1,12 +1,13 @@
 //! Things under names, in the order in which the names came. How many there may be is not said
 //! here.
-ghost use Rattle.std.specs.Prelude.{◌≡◌, [], length, option_copied, slice_get, IfOk, OnOk, OnErr};
+ghost use Rattle.std.specs.Prelude.{◌≡◌, [], length, map, option_copied, slice_get, string_bytes, IfOk, OnOk, OnErr};
 ghost use Rattle.std.specs.Option.{option_copied_mut};
 ghost use Rattle.std.specs.Borrow.{sem};
-ghost use Rattle.wq_registry.specs.Named.{has_no_place, put, under, values, without};
+ghost use Rattle.wq_registry.specs.Named.{has_no_place, names, put, under, values, without};
 ghost use Rattle.wq_registry.specs.Lending.{LendsAt};
 
 use indexmap::IndexMap;
+use indexmap::map::Keys;
 use std::alloc::{AllocError, Global};
 use std::marker::Model;
 
@@ -48,6 +49,13 @@ impl<V> Named<V> {
         ensures { option_copied result ≡ under name.now self.now }
     {
         self.entries.get(name)
+    }
+
+    /// The names, in their order.
+    pub(crate) fn names(&self) -> Keys<'_, String, V>
+        ensures { map string_bytes result ≡ names self.now }
+    {
+        self.entries.keys()
     }
 
     /// Whether the name is new and there are this many names.

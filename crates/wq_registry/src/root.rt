@@ -5,7 +5,7 @@ ghost use Rattle.std.specs.Borrow.{sem};
 ghost use Rattle.wq_registry.specs.Limit.{max_cursors, max_triggers};
 ghost use Rattle.wq_registry.specs.Named.{has_no_place, under, values};
 ghost use Rattle.wq_registry.specs.Refusal.{Refuses};
-ghost use Rattle.wq_registry.specs.Root.{larger, new_root, with_cursor, without_cursor};
+ghost use Rattle.wq_registry.specs.Root.{is_newer, larger, new_root, with_cursor, without_cursor};
 ghost use Rattle.wq_registry.specs.Root.{with_trigger, without_trigger};
 ghost use Rattle.wq_registry.specs.Lending.{LendsTrigger};
 
@@ -83,6 +83,14 @@ impl<T> Root<T> {
         ensures { option_copied result ≡ under name.now self.now.triggers }
     {
         self.triggers.get(name)
+    }
+
+    /// Whether another root of this text and number is not new: it has this one's number, or its
+    /// text with a number that is not above.
+    pub(crate) fn is_newer(&self, text: &str, number: u64) -> bool
+        ensures { result ≡ is_newer text.now number self.now }
+    {
+        number == self.number || (text == self.text() && number <= self.number)
     }
 
     /// Takes out a cursor.

@@ -1,13 +1,15 @@
 //! The shelf itself.
-ghost use Rattle.std.specs.Prelude.{◌≡◌, ◌<◌, [], false, is_none, is_some, length, nat_eq, option_copied, option_map, position, slice_get, string_bytes, IfOk, OnErr, OnOk};
+ghost use Rattle.std.specs.Prelude.{◌≡◌, ◌<◌, [], false, is_none, is_some, length, map, nat_eq, option_copied, option_map, position, slice_get, string_bytes, IfOk, OnErr, OnOk};
 ghost use Rattle.std.specs.Option.{option_copied_mut};
 ghost use Rattle.std.specs.Borrow.{sem};
+ghost use Rattle.std.specs.List.{list_any};
 ghost use Rattle.wq_registry.specs.Limit.{max_cursors, max_programs, max_triggers};
-ghost use Rattle.wq_registry.specs.Named.{has_no_place, under, values};
+ghost use Rattle.wq_registry.specs.Named.{has_no_place, names, under, values};
 ghost use Rattle.wq_registry.specs.Refusal.{Refuses};
-ghost use Rattle.wq_registry.specs.Root.{called, numbered};
+ghost use Rattle.wq_registry.specs.Root.{called, is_newer, numbered};
 ghost use Rattle.wq_registry.specs.Loan.{LendsRootAt, LendsRootOf, LendsTriggerOf};
 ghost use Rattle.wq_registry.specs.Shelf.{blank, cursor_unset, cursor_used, cursors_of};
+ghost use Rattle.wq_registry.specs.Shelf.{root_added, root_has_no_place, root_removed};
 ghost use Rattle.wq_registry.specs.Shelf.{trigger_added, trigger_removed, triggers_of};
 ghost use Rattle.wq_registry.specs.Shelf.{with_program, without_program};
 
@@ -15,6 +17,7 @@ use crate::fault::ShelfFault;
 use crate::named::Named;
 use crate::root::Root;
 use crate::roots;
+use indexmap::map::Keys;
 use std::alloc::{AllocError, Global};
 use std::marker::Model;
 use std::sync::Arc;
@@ -76,6 +79,13 @@ impl<T> Shelf<T> {
             ≡ under name.now self.now.programs }
     {
         self.programs.get(name)
+    }
+
+    /// The names of the programs, in their order.
+    pub fn names(&self) -> Keys<'_, String, Arc<Program>>
+        ensures { map string_bytes result ≡ names self.now.programs }
+    {
+        self.programs.names()
     }
 
     /// Puts a program under a name; tells whether it replaced one, whose place it then takes. A new
@@ -219,6 +229,46 @@ impl<T> Shelf<T> {
 }
 
 impl<T: Drop> Shelf<T> {
+    /// Adds a root, which stands last. An older number of its text goes, with its triggers and
+    /// cursors. A number that is not above the one that its text has, or that another root has,
+    /// changes nothing.
+    ///
+    /// # Errors
+    /// [`ShelfFault::Full`] where the text is new and there are [`MAX_ROOTS`];
+    /// [`ShelfFault::NoMemory`].
+    pub fn add_root(&mut self, text: &str, number: u64) -> Result<(), ShelfFault>
+        ensures added { OnOk result (self.new ≡ root_added text.now number self.old) }
+        ensures kept { OnErr result (self.new ≡ self.old) }
+        ensures refused { Refuses false (root_has_no_place text.now number self.old) result }
+    {
+        if self.has_newer(text, number) {
+            return Ok(());
+        }
+        if self.root_called(text).is_none() && self.roots().len() >= MAX_ROOTS {
+            return Err(ShelfFault::Full);
+        }
+        let root = Root::new(self.alloc, text, number)?;
+        roots::put_last(&mut self.roots, root)?;
+        Ok(())
+    }
+
+    /// Takes out a root, with its triggers and cursors; tells whether it was there.
+    pub fn remove_root(&mut self, number: u64) -> bool
+        ensures there { result ≡ is_some (numbered number self.old.roots) }
+        ensures removed { self.new ≡ root_removed number self.old }
+    {
+        let there = self.root(number).is_some();
+        roots::drop_numbered(&mut self.roots, number);
+        there
+    }
+
+    /// Whether a root says that one of this text and number is not new.
+    fn has_newer(&self, text: &str, number: u64) -> bool
+        ensures { result ≡ list_any (is_newer text.now number) self.now.roots }
+    {
+        roots::has_newer(&self.roots, text, number)
+    }
+
     /// Puts a trigger of a root under a name, and gives back the one that stood there, whose place
     /// it takes. A new name stands last.
     ///
