@@ -1,2 +1,4 @@
 pub mod Entries
 pub mod Places
+pub mod ValueDepth
+pub mod Keeping

@@ -6,3 +6,4 @@ pub mod Shelf
 pub mod Refusal
 pub mod Lending
 pub mod Loan
+pub mod Kept

@@ -3,8 +3,10 @@
 use Rattle.std.specs.Prelude.{ℕ, Option}
 use Rattle.std.specs.Borrow.{Fml, RattleType, MutBor, Lends, LendsIf}
 use Rattle.std.specs.List.{slice_set}
+use Rattle.wq_registry.specs.Kept.{CacheData}
 use Rattle.wq_registry.specs.Root.{RootData}
 use Rattle.wq_registry.specs.Shelf.{ShelfData, root_changed, trigger_changed}
+use Rattle.wq_registry.specs.contracts.cache.Cache.{the_row as cache_row}
 use Rattle.wq_registry.specs.contracts.root.Root.{the_row as root_row}
 use Rattle.wq_registry.specs.contracts.shelf.Shelf.{the_row}
 
@@ -22,3 +24,7 @@ LendsRootOf T s number r =
 abbrev pub LendsRootAt : (T : RattleType) → MutBor (ShelfData T.Denot) → ℕ → MutBor (RootData T.Denot) → Fml
 LendsRootAt T s place r =
     Lends (the_row T) (root_row T) s r (λ w. let shelf = s.now in record shelf { roots = slice_set shelf.roots place w })
+
+-- whatever happens to the cache, the shelf stays as it is
+abbrev pub LendsCache : (T : RattleType) → MutBor (ShelfData T.Denot) → MutBor CacheData → Fml
+LendsCache T s r = Lends (the_row T) cache_row s r (λ _. s.now)

@@ -6,12 +6,15 @@
 //! in `specs/History.antt`. What a client is answered, and what a trigger is, is not said here.
 #![tactic(auto)]
 
+mod cache;
 mod fault;
+mod key;
 mod named;
 mod root;
 mod roots;
 mod shelf;
 
+pub use cache::{Cache, MAX_KEPT};
 pub use fault::ShelfFault;
 pub use root::{MAX_CURSORS, MAX_TRIGGERS, Root};
 pub use shelf::{MAX_PROGRAMS, MAX_ROOTS, Shelf};

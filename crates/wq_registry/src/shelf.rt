@@ -7,12 +7,13 @@ ghost use Rattle.wq_registry.specs.Limit.{max_cursors, max_programs, max_trigger
 ghost use Rattle.wq_registry.specs.Named.{has_no_place, names, under, values};
 ghost use Rattle.wq_registry.specs.Refusal.{Refuses};
 ghost use Rattle.wq_registry.specs.Root.{called, is_newer, numbered};
-ghost use Rattle.wq_registry.specs.Loan.{LendsRootAt, LendsRootOf, LendsTriggerOf};
+ghost use Rattle.wq_registry.specs.Loan.{LendsCache, LendsRootAt, LendsRootOf, LendsTriggerOf};
 ghost use Rattle.wq_registry.specs.Shelf.{blank, cursor_unset, cursor_used, cursors_of};
 ghost use Rattle.wq_registry.specs.Shelf.{root_added, root_has_no_place, root_removed};
 ghost use Rattle.wq_registry.specs.Shelf.{trigger_added, trigger_removed, triggers_of};
 ghost use Rattle.wq_registry.specs.Shelf.{with_program, without_program};
 
+use crate::cache::Cache;
 use crate::fault::ShelfFault;
 use crate::named::Named;
 use crate::root::Root;
@@ -36,6 +37,7 @@ pub struct Shelf<T> {
     programs: Named<Arc<Program>>,
     roots: Vec<Root<T>>,
     sockname: String,
+    cache: Cache,
     alloc: Global,
 }
 
@@ -54,16 +56,25 @@ impl<T> Model for Shelf<T> {
 }
 
 impl<T> Shelf<T> {
-    /// A shelf with nothing on it, of a server whose socket has this name.
-    pub fn new(alloc: Global, sockname: String) -> Shelf<T>
+    /// A shelf with nothing on it but this cache, of a server whose socket has this name.
+    pub fn new(alloc: Global, cache: Cache, sockname: String) -> Shelf<T>
         ensures { result ≡ blank (string_bytes sockname) }
     {
         Shelf {
             programs: Named::new(alloc),
             roots: Vec::new(alloc),
             sockname,
+            cache,
             alloc,
         }
+    }
+
+    /// The programs of expressions that were compiled before. Nothing that is asked of the shelf
+    /// depends on them.
+    pub fn cache(&mut self) -> &mut Cache
+        ensures* { sem 𝓛 (LendsCache T.row self.entry result) }
+    {
+        &mut self.cache
     }
 
     /// The name of the server's socket.
