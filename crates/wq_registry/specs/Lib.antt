@@ -7,3 +7,4 @@ pub mod Refusal
 pub mod Lending
 pub mod Loan
 pub mod Kept
+pub mod Change

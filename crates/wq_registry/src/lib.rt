@@ -9,6 +9,7 @@
 mod cache;
 mod fault;
 mod key;
+mod law;
 mod named;
 mod root;
 mod roots;
@@ -16,5 +17,6 @@ mod shelf;
 
 pub use cache::{Cache, MAX_KEPT};
 pub use fault::ShelfFault;
+pub use law::{last_change_counts, names_stand_in_order};
 pub use root::{MAX_CURSORS, MAX_TRIGGERS, Root};
 pub use shelf::{MAX_PROGRAMS, MAX_ROOTS, Shelf};

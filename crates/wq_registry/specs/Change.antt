@@ -1,0 +1,65 @@
+-- Lists of changes of things under names, and what they come to.
+-- No public document is behind it.
+use Rattle.std.specs.Prelude.{ℕ, ◌≡◌, Bool, false, List, [], ◌∷◌, ◌++◌, Option, None, Some, is_some, ◌||◌, if◌then◌else◌}
+use Rattle.std.specs.List.{list_any}
+use Rattle.std.specs.Str.{bytes_eq}
+use Rattle.wq_registry.specs.Named.{Named, names, under, put, without}
+
+-- a change: a thing is put under a name, or taken out
+pub data Change (A : Type 0) : Type 0 where
+  putting : (name : List ℕ) (a : A) → Change A
+  removing : (name : List ℕ) → Change A
+
+module _ {A : Type 0} where
+  -- the things after a change
+  abbrev pub changed_by : Change A → Named A → Named A
+  changed_by (putting name a) xs = put name a xs
+  changed_by (removing name) xs = without name xs
+
+  -- the things after changes, one after the other
+  abbrev pub made : List (Change A) → Named A → Named A
+  made [] xs = xs
+  made (c ∷ cs) xs = made cs (changed_by c xs)
+
+  -- what a change says of a name: that this thing is there, or that none is; of other names nothing
+  abbrev pub says_of : List ℕ → Change A → Option (Option A)
+  says_of name (putting n a) = if bytes_eq name n then Some (Some a) else None
+  says_of name (removing n) = if bytes_eq name n then Some None else None
+
+  -- what is said later counts
+  abbrev pub later : Option (Option A) → Option A → Option A
+  later None before = before
+  later (Some now) before = now
+
+  -- what the last change that says something of a name says; before it the name has this
+  abbrev pub last_said : List ℕ → List (Change A) → Option A → Option A
+  last_said name [] before = before
+  last_said name (c ∷ cs) before = last_said name cs (later (says_of name c) before)
+
+  -- whether a change takes out a name
+  abbrev pub takes_out : List ℕ → Change A → Bool
+  takes_out name (putting n a) = false
+  takes_out name (removing n) = bytes_eq name n
+
+  -- the name that a change brings in for good: it puts something under it, nothing was there after
+  -- the changes before, and no change after it takes it out
+  abbrev pub brings_in : List (Change A) → Change A → List (Change A) → List (List ℕ)
+  brings_in before (putting name a) after =
+      if is_some (last_said name before None) || list_any (takes_out name) after then []
+      else name ∷ []
+  brings_in before (removing name) after = []
+
+  -- the names that changes bring in for good, each where it is brought in
+  abbrev pub brought_in : List (Change A) → List (Change A) → List (List ℕ)
+  brought_in before [] = []
+  brought_in before (c ∷ after) = brings_in before c after ++ brought_in (before ++ c ∷ []) after
+
+-- what is under a name is what the last change of it put there, or nothing where that took it out
+abbrev pub LastChangeCounts : Type 0 → Type 0
+LastChangeCounts A = (changes : List (Change A)) (name : List ℕ)
+    → under name (made changes []) ≡ last_said name changes None
+
+-- names stand in the order in which they were brought in: at the first time that something was put
+-- under them since they were taken out
+abbrev pub NamesStandInOrder : Type 0 → Type 0
+NamesStandInOrder A = (changes : List (Change A)) → names (made changes []) ≡ brought_in [] changes
