@@ -6,10 +6,10 @@ use Rattle.std.proofs.lemmas.Slice.Eq.{bytes_eq-Decides}
 use Rattle.wq_registry.specs.Named.{Named, names, under, put, without}
 use Rattle.wq_registry.specs.Change.{Change, putting, removing, changed_by, made, says_of, later, last_said, takes_out, brings_in, brought_in, LastChangeCounts, NamesStandInOrder}
 
-same_text : (a b : List ℕ) → bytes_eq a b ≡ true → a ≡ b
+pub same_text : (a b : List ℕ) → bytes_eq a b ≡ true → a ≡ b
 same_text a b h = (bytes_eq-Decides a b).0 h
 
-is_itself : (a : List ℕ) → bytes_eq a a ≡ true
+pub is_itself : (a : List ℕ) → bytes_eq a a ≡ true
 is_itself a = (bytes_eq-Decides a a).1 refl
 
 -- names that differ, the other way round

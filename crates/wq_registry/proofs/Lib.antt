@@ -3,3 +3,5 @@ pub mod Places
 pub mod ValueDepth
 pub mod Keeping
 pub mod Changes
+pub mod Uses
+pub mod Histories

@@ -8,3 +8,5 @@ pub mod Lending
 pub mod Loan
 pub mod Kept
 pub mod Change
+pub mod Use
+pub mod History

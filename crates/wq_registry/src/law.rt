@@ -1,6 +1,8 @@
 //! Laws of what a list of accepted calls comes to, each the contract of a function that does
 //! nothing.
 ghost use Rattle.wq_registry.specs.Change.{LastChangeCounts, NamesStandInOrder};
+ghost use Rattle.wq_registry.specs.Use.{TheGreatestTickCounts};
+ghost use Rattle.wq_registry.specs.History.{ProgramsAreMade};
 
 /// What stands under a name is what the last change of it put there; nothing, where the last change
 /// took it out.
@@ -14,4 +16,16 @@ pub fn last_change_counts<A>()
 #[tactic(auto, using(crate::proofs::Changes::names_stand_in_order))]
 pub fn names_stand_in_order<A>()
     ensures { NamesStandInOrder A }
+{}
+
+/// The tick of a cursor is the greatest that it was given since it was last unset.
+#[tactic(auto, using(crate::proofs::Uses::the_greatest_tick_counts))]
+pub fn the_greatest_tick_counts()
+    ensures { TheGreatestTickCounts }
+{}
+
+/// The programs of a shelf are what the calls for programs made of them.
+#[tactic(auto, using(crate::proofs::Histories::programs_are_made))]
+pub fn programs_are_made<T>()
+    ensures { ProgramsAreMade T }
 {}

@@ -1,0 +1,50 @@
+-- Lists of accepted calls, and what they come to.
+-- No public document is behind it.
+use Rattle.std.specs.Prelude.{ℕ, ◌≡◌, Bool, false, List, [], ◌∷◌, is_some, not, nat_eq, ◌&&◌, ◌||◌, if◌then◌else◌}
+use Rattle.wq_code.specs.declared.raw.Raw.{Raw}
+use Rattle.wq_registry.specs.Change.{Change, putting, removing, made}
+use Rattle.wq_registry.specs.Root.{numbered}
+use Rattle.wq_registry.specs.Shelf.{ShelfData, blank, with_program, without_program}
+use Rattle.wq_registry.specs.Shelf.{root_added, root_removed, cursor_used, cursor_unset}
+use Rattle.wq_registry.specs.Shelf.{trigger_added, trigger_removed, cursors_of, triggers_of}
+use Rattle.wq_registry.specs.Use.{Use, at_tick, unsetting, used}
+
+-- a call that was accepted
+pub data Call (T : Type 0) : Type 0 where
+  adds_program : (name : List ℕ) (program : Raw) → Call T
+  removes_program : (name : List ℕ) → Call T
+  adds_root : (text : List ℕ) (number : ℕ) → Call T
+  removes_root : (number : ℕ) → Call T
+  uses_cursor : (root : ℕ) (name : List ℕ) (tick : ℕ) → Call T
+  unsets_cursor : (root : ℕ) (name : List ℕ) → Call T
+  adds_trigger : (root : ℕ) (name : List ℕ) (trigger : T) → Call T
+  removes_trigger : (root : ℕ) (name : List ℕ) → Call T
+
+module _ {T : Type 0} where
+  -- the shelf after a call
+  abbrev pub after : Call T → ShelfData T → ShelfData T
+  after (adds_program name program) s = with_program name program s
+  after (removes_program name) s = without_program name s
+  after (adds_root text number) s = root_added text number s
+  after (removes_root number) s = root_removed number s
+  after (uses_cursor root name tick) s = cursor_used root name tick s
+  after (unsets_cursor root name) s = cursor_unset root name s
+  after (adds_trigger root name trigger) s = trigger_added root name trigger s
+  after (removes_trigger root name) s = trigger_removed root name s
+
+  -- the shelf after calls, one after the other
+  abbrev pub after_all : List (Call T) → ShelfData T → ShelfData T
+  after_all [] s = s
+  after_all (c ∷ cs) s = after_all cs (after c s)
+
+  -- the changes of programs that calls make
+  abbrev pub program_changes : List (Call T) → List (Change Raw)
+  program_changes [] = []
+  program_changes (adds_program name program ∷ cs) = putting name program ∷ program_changes cs
+  program_changes (removes_program name ∷ cs) = removing name ∷ program_changes cs
+  program_changes (_ ∷ cs) = program_changes cs
+
+-- the programs of a shelf are what the calls for programs make, whatever other calls come between
+abbrev pub ProgramsAreMade : Type 0 → Type 0
+ProgramsAreMade T = (calls : List (Call T)) (sockname : List ℕ)
+    → (after_all calls (blank sockname)).programs ≡ made (program_changes calls) []
