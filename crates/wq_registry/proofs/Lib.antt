@@ -5,3 +5,4 @@ pub mod Keeping
 pub mod Changes
 pub mod Uses
 pub mod Histories
+pub mod Watches

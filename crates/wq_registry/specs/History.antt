@@ -1,6 +1,6 @@
 -- Lists of accepted calls, and what they come to.
 -- No public document is behind it.
-use Rattle.std.specs.Prelude.{ℕ, ◌≡◌, Bool, false, List, [], ◌∷◌, is_some, not, nat_eq, ◌&&◌, ◌||◌, if◌then◌else◌}
+use Rattle.std.specs.Prelude.{ℕ, ◌≡◌, Bool, false, List, [], ◌∷◌, is_some, not, nat_eq, flat_map, ◌&&◌, ◌||◌, if◌then◌else◌}
 use Rattle.wq_code.specs.declared.raw.Raw.{Raw}
 use Rattle.wq_registry.specs.Change.{Change, putting, removing, made}
 use Rattle.wq_registry.specs.Root.{numbered}
@@ -44,7 +44,52 @@ module _ {T : Type 0} where
   program_changes (removes_program name ∷ cs) = removing name ∷ program_changes cs
   program_changes (_ ∷ cs) = program_changes cs
 
+  -- whether a root is on the shelf
+  abbrev pub is_on : ℕ → ShelfData T → Bool
+  is_on root s = is_some (numbered root s.roots)
+
+  -- whether a root is on the shelf before a call and after it
+  abbrev pub stays_on : ℕ → ShelfData T → Call T → Bool
+  stays_on root s c = is_on root s && is_on root (after c s)
+
+  -- whether some call finds a root not on the shelf, or leaves it so
+  abbrev pub is_interrupted : ℕ → ShelfData T → List (Call T) → Bool
+  is_interrupted root s [] = false
+  is_interrupted root s (c ∷ cs) = not (stays_on root s c) || is_interrupted root (after c s) cs
+
+  -- the calls since a root was last added: those from which on it is on the shelf throughout
+  abbrev pub since_added : ℕ → ShelfData T → List (Call T) → List (Call T)
+  since_added root s [] = []
+  since_added root s (c ∷ cs) =
+      if is_interrupted root s (c ∷ cs) then since_added root (after c s) cs
+      else c ∷ since_added root (after c s) cs
+
+  -- the use of a cursor of a root that a call is
+  abbrev pub cursor_use : ℕ → Call T → List Use
+  cursor_use root (uses_cursor r name tick) = if nat_eq root r then at_tick name tick ∷ [] else []
+  cursor_use root (unsets_cursor r name) = if nat_eq root r then unsetting name ∷ [] else []
+  cursor_use root _ = []
+
+  -- the change of a trigger of a root that a call is
+  abbrev pub trigger_change : ℕ → Call T → List (Change T)
+  trigger_change root (adds_trigger r name trigger) =
+      if nat_eq root r then putting name trigger ∷ [] else []
+  trigger_change root (removes_trigger r name) = if nat_eq root r then removing name ∷ [] else []
+  trigger_change root _ = []
+
 -- the programs of a shelf are what the calls for programs make, whatever other calls come between
 abbrev pub ProgramsAreMade : Type 0 → Type 0
 ProgramsAreMade T = (calls : List (Call T)) (sockname : List ℕ)
     → (after_all calls (blank sockname)).programs ≡ made (program_changes calls) []
+
+-- the cursors of a root are what the uses of its cursors since it was last added come to
+abbrev pub CursorsAreMade : Type 0 → Type 0
+CursorsAreMade T = (calls : List (Call T)) (sockname : List ℕ) (root : ℕ)
+    → cursors_of root (after_all calls (blank sockname))
+    ≡ used (flat_map (cursor_use root) (since_added root (blank sockname) calls)) []
+
+-- and its triggers are what the changes of its triggers since then come to
+abbrev pub TriggersAreMade : Type 0 → Type 0
+TriggersAreMade T = (calls : List (Call T)) (sockname : List ℕ) (root : ℕ)
+    → triggers_of root (after_all calls (blank sockname))
+    ≡ made (flat_map (trigger_change root) (since_added root (blank sockname) calls)) []

@@ -2,7 +2,7 @@
 //! nothing.
 ghost use Rattle.wq_registry.specs.Change.{LastChangeCounts, NamesStandInOrder};
 ghost use Rattle.wq_registry.specs.Use.{TheGreatestTickCounts};
-ghost use Rattle.wq_registry.specs.History.{ProgramsAreMade};
+ghost use Rattle.wq_registry.specs.History.{CursorsAreMade, ProgramsAreMade, TriggersAreMade};
 
 /// What stands under a name is what the last change of it put there; nothing, where the last change
 /// took it out.
@@ -28,4 +28,16 @@ pub fn the_greatest_tick_counts()
 #[tactic(auto, using(crate::proofs::Histories::programs_are_made))]
 pub fn programs_are_made<T>()
     ensures { ProgramsAreMade T }
+{}
+
+/// The cursors of a root are what the uses of them since it was last added come to.
+#[tactic(auto, using(crate::proofs::Watches::cursors_are_made))]
+pub fn cursors_are_made<T>()
+    ensures { CursorsAreMade T }
+{}
+
+/// The triggers of a root are what the changes of them since it was last added come to.
+#[tactic(auto, using(crate::proofs::Watches::triggers_are_made))]
+pub fn triggers_are_made<T>()
+    ensures { TriggersAreMade T }
 {}
