@@ -1,5 +1,5 @@
 -- A map from texts is a list of things under names.
-use Rattle.std.proofs.Common.{◌≡◌, ℕ, zero, suc, Bool, true, false, cond, not, ◌&&◌, nat_le, List, [], ◌∷◌, map, length, Option, None, Some, is_some, option_map, option_copied, Bor, refl, ap, ◌∙◌, if◌then◌else◌}
+use Rattle.std.proofs.Common.{◌≡◌, ℕ, zero, suc, true, false, cond, not, ◌&&◌, nat_le, List, [], ◌∷◌, map, length, Option, None, Some, is_some, option_map, option_copied, Bor, refl, ap, ◌∙◌}
 use Rattle.std.specs.declared.string.String.{String}
 use Rattle.std.specs.declared.sync.Arc.{Arc}
 use Rattle.std.specs.String.{string_bytes}

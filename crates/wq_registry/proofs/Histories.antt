@@ -1,5 +1,5 @@
 -- What lists of accepted calls come to.
-use Rattle.std.proofs.Common.{◌≡◌, ℕ, Bool, true, false, not, ◌&&◌, ◌||◌, cond, nat_eq, List, [], ◌∷◌, ◌++◌, filter, Option, None, Some, is_some, refl, sym, ap, subst, ◌∙◌, true≢false}
+use Rattle.std.proofs.Common.{◌≡◌, List, [], ◌∷◌, refl}
 use Rattle.wq_registry.specs.Change.{made}
 use Rattle.wq_registry.specs.Shelf.{ShelfData, blank}
 use Rattle.wq_registry.specs.History.{Call, adds_program, removes_program, adds_root, removes_root, uses_cursor, unsets_cursor, adds_trigger, removes_trigger, after, after_all, program_changes, ProgramsAreMade}

@@ -1,6 +1,6 @@
 -- Programs that are kept stand for the texts of their keys.
-use Rattle.std.proofs.Common.{◌≡◌, ℕ, Bool, true, false, List, Some, Ok, Contains, refl, sym, ap, subst, ◌∙◌}
-use Rattle.std.proofs.Common.{nat_eq, ◌&&◌, ◌⊎◌, inl, inr, Option, None, Result, Err, OnOk, OnErr, IfOk, IfSome, IsTrue, IsErrOf, ◌↔◌, true≢false}
+use Rattle.std.proofs.Common.{◌≡◌, ℕ, Bool, true, false, List, Some, Ok, Contains, refl, sym, subst, ◌∙◌}
+use Rattle.std.proofs.Common.{nat_eq, ◌&&◌, ◌⊎◌, inl, inr, Option, Result, Err, OnOk, OnErr, IfOk, IfSome, IsTrue, IsErrOf, ◌↔◌, true≢false}
 use Rattle.std.specs.Result.{result_ok}
 use Rattle.std.proofs.lemmas.Bool.{and_parts, eqb-true}
 use Rattle.std.specs.Str.{bytes_eq}

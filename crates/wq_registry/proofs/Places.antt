@@ -1,6 +1,6 @@
 -- The root of a number, by its place.
-use Rattle.std.proofs.Common.{◌≡◌, ℕ, suc, ◌+◌, ◌<◌, ◌≤◌, Bool, true, false, not, cond, List, [], ◌∷◌, length, Option, None, Some, Result, Ok, Err, OnOk, OnErr, refl, ap, arith, nat_eq, nat_lt, slice_get, slice_set, position, ◌∙◌, sym, if◌then◌else◌}
-use Rattle.std.specs.List.{find, position_or_len}
+use Rattle.std.proofs.Common.{◌≡◌, ℕ, suc, ◌+◌, ◌≤◌, Bool, true, false, not, cond, List, [], ◌∷◌, length, None, Some, Result, Ok, Err, OnOk, OnErr, refl, ap, arith, nat_eq, nat_lt, slice_get, slice_set, position, ◌∙◌, sym}
+use Rattle.std.specs.List.{position_or_len}
 use Rattle.wq_registry.specs.declared.fault.ShelfFault.{ShelfFault}
 use Rattle.std.proofs.lemmas.List.Folds.{find_at}
 use Rattle.std.proofs.lemmas.Option.{slice_get_past}

@@ -1,8 +1,7 @@
 -- A value that says an expression is not nested deeply, so its text reads back to it.
-use Rattle.std.proofs.Common.{◌≡◌, ℕ, zero, suc, ◌≤◌, List, [], ◌∷◌, max, arith, refl, sym, subst}
+use Rattle.std.proofs.Common.{◌≡◌, ℕ, suc, ◌≤◌, List, [], ◌∷◌, arith, sym, subst}
 use Rattle.std.specs.Prelude.{ℤ, Ok}
 use Rattle.serde_json.specs.Data.{Data, null, boolean, number, string, array, object, Items, no_items, item, Members, no_members, member, depth, items_depth, members_depth}
-use Rattle.wq_base.specs.declared.compare.Case.{Case}
 use Rattle.wq_base.specs.declared.compare.Relation.{Relation}
 use Rattle.wq_clock.specs.Instance.{InstanceData}
 use Rattle.wq_clock.specs.declared.bound.Bound.{Bound}
@@ -13,9 +12,9 @@ use Rattle.wq_term.specs.declared.expr.Depth.{Depth}
 use Rattle.wq_term.specs.declared.expr.Depth.TheVariants.{Is, Any}
 use Rattle.wq_term.specs.declared.expr.Since.{Since as SinceData}
 use Rattle.wq_term.specs.declared.expr.Since.TheVariants.{Observed, Created, Modified}
-use Rattle.wq_term.specs.ArgumentGrammar.{IsWord, IsText, AreListed, AreTexts, IsBetween, IsWhole, IsSecond, IsKind, IsComparison, IsDepth, IsDirectory, IsBound, IsPatternText, AreFlagMembers, AreFlags, IsPattern}
+use Rattle.wq_term.specs.ArgumentGrammar.{IsWord, IsText, AreListed, AreTexts, IsBetween, IsSecond, IsKind, IsComparison, IsDepth, IsDirectory, IsBound, AreFlagMembers, AreFlags, IsPattern}
 use Rattle.wq_term.specs.Expr.{ExprData, always, never, exists, empty, kind_is, name_is, matches, suffix_is, size_is, since, below, negation, all_of, any_of, ExprsData, no_terms, term, depth_of, greatest_depth}
-use Rattle.wq_term.specs.Grammar.{IsNothing, IsOnly, IsOneOrTwo, IsSinceBy, IsSince, IsWrittenBy, AreWrittenBy}
+use Rattle.wq_term.specs.Grammar.{IsNothing, IsOnly, IsOneOrTwo, IsSince, IsWrittenBy, AreWrittenBy}
 use Rattle.wq_term.specs.Law.{ValuesSayWhatTheyWrite}
 use Rattle.wq_term.specs.Limit.{max_depth}
 use Rattle.wq_term.specs.Reading.{reads_as}
@@ -159,10 +158,16 @@ pattern p (item d (item e no_items)) h = omega (arith, flat d _ (h.0).0, flat e 
 pattern p (item d (item e (item f no_items))) h = omega (arith, flat d _ (h.0).0, flat e _ h.1, flags p.flags f h.2)
 pattern p (item d (item e (item f (item g ds)))) h = absurd h
 
+a_second : (second : ℤ) (d : Data) → IsSecond second d → depth d ≤ 1
+a_second second d h = omega (arith, between _ _ second d h)
+
 a_since : (instance : InstanceData) (point : SinceData) (ds : Items) → IsSince instance point ds → items_depth ds ≤ 1
 a_since instance (Observed b) ds h = one_or_two _ _ _ (bound instance b) (word _) ds h
 a_since instance (Created b) ds h = one_or_two _ _ _ (bound instance b) (word _) ds h
-a_since instance (Modified second) ds h = one_or_two _ _ _ (λ d k. omega (arith, between _ _ second d k)) (word _) ds h
+a_since instance (Modified second) ds h = one_or_two _ _ _ (a_second second) (word _) ds h
+
+a_size : (relation : Relation) (n : ℤ) (ds : Items) → IsComparison relation n ds → items_depth ds ≤ 1
+a_size relation n ds h = omega (arith, comparison relation n ds h)
 
 directory : (dir : List ℕ) (d : Data) → IsDirectory dir d → depth d ≤ 1
 directory dir d h = one_text _ d (h.1).1
@@ -181,7 +186,7 @@ mutual
   written instance (name_is case scope ts) d h = in_term _ _ 1 (one_or_two _ _ _ (texts ts) (word _)) d h
   written instance (matches p) d h = in_term _ _ 1 (pattern p) d h
   written instance (suffix_is ts) d h = in_term _ _ 1 (only _ 1 (texts ts)) d h
-  written instance (size_is relation n) d h = in_term _ _ 1 (λ ds k. omega (arith, comparison relation n ds k)) d h
+  written instance (size_is relation n) d h = in_term _ _ 1 (a_size relation n) d h
   written instance (since point) d h = in_term _ _ 1 (a_since instance point) d h
   written instance (below case dir limit) d h = in_term _ _ 1 (one_or_two _ _ _ (directory dir) (a_depth limit)) d h
   written instance (negation t) d h = in_term _ _ (suc (depth_of t)) (only _ _ (written instance t)) d h

@@ -4,9 +4,9 @@ use Rattle.std.proofs.lemmas.Bool.{and_parts, or_parts, eqb-true, eq-eqb}
 use Rattle.std.specs.List.{list_any, flat_map}
 use Rattle.std.specs.Str.{bytes_eq}
 use Rattle.wq_registry.specs.Change.{Change, putting, removing, made, changed_by}
-use Rattle.wq_registry.specs.Named.{Named, put, without}
-use Rattle.wq_registry.specs.Root.{RootData, numbered, changed, called, is_newer, with_root, without_number, without_text, new_root, with_cursor, without_cursor, with_trigger, without_trigger, cursors_in, triggers_in}
-use Rattle.wq_registry.specs.Shelf.{ShelfData, blank, cursors_of, triggers_of}
+use Rattle.wq_registry.specs.Named.{Named}
+use Rattle.wq_registry.specs.Root.{RootData, numbered, changed, is_newer, without_number, without_text, new_root, with_cursor, without_cursor, with_trigger, without_trigger, cursors_in, triggers_in}
+use Rattle.wq_registry.specs.Shelf.{ShelfData, blank}
 use Rattle.wq_registry.specs.Use.{Use, at_tick, unsetting, used, used_by}
 use Rattle.wq_registry.specs.History.{Call, adds_program, removes_program, adds_root, removes_root, uses_cursor, unsets_cursor, adds_trigger, removes_trigger, after, after_all, is_on, stays_on, is_interrupted, since_added, cursor_use, trigger_change, CursorsAreMade, TriggersAreMade}
 

@@ -1,6 +1,7 @@
 -- Lists of accepted calls, and what they come to.
 -- No public document is behind it.
-use Rattle.std.specs.Prelude.{ℕ, ◌≡◌, Bool, false, List, [], ◌∷◌, is_some, not, nat_eq, flat_map, ◌&&◌, ◌||◌, if◌then◌else◌}
+use Rattle.std.specs.Prelude.{ℕ, ◌≡◌, Bool, false, List, [], ◌∷◌, is_some, not, nat_eq, flat_map}
+use Rattle.std.specs.Prelude.{◌&&◌, ◌||◌, if◌then◌else◌}
 use Rattle.wq_code.specs.declared.raw.Raw.{Raw}
 use Rattle.wq_registry.specs.Change.{Change, putting, removing, made}
 use Rattle.wq_registry.specs.Root.{numbered}

@@ -1,6 +1,6 @@
 -- Which programs may be kept for which texts.
 -- No public document is behind it.
-use Rattle.std.specs.Prelude.{ℕ, ◌≡◌, Bool, false, List, Some, Ok, Contains}
+use Rattle.std.specs.Prelude.{ℕ, ◌≡◌, false, List, Some, Ok, Contains}
 use Rattle.std.specs.declared.sync.Arc.{Arc}
 use Rattle.std.specs.String.{string_bytes}
 use Rattle.serde_json.specs.Data.{Data}

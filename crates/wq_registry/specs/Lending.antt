@@ -12,5 +12,6 @@ abbrev pub LendsAt : (V : RattleType) → MutBor (Named V.Denot) → ℕ → Opt
 LendsAt V s k r = LendsIf (the_row V) V s r (λ w. put_at k w s.now) s.now
 
 -- the trigger at the place is the last value written; without one, nothing has changed
-abbrev pub LendsTrigger : (T : RattleType) → MutBor (RootData T.Denot) → ℕ → Option (MutBor T.Denot) → Fml
+abbrev pub LendsTrigger : (T : RattleType) → MutBor (RootData T.Denot) → ℕ
+    → Option (MutBor T.Denot) → Fml
 LendsTrigger T s k r = LendsIf (root_row T) T s r (λ w. with_trigger_at k w s.now) s.now

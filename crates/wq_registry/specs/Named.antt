@@ -1,6 +1,7 @@
 -- Things under names, in the order in which a client sees them.
 -- No public document is behind it.
-use Rattle.std.specs.Prelude.{ℕ, zero, suc, Bool, List, [], ◌∷◌, Option, None, Some, map, length, is_some, not, ◌&&◌, nat_le, if◌then◌else◌}
+use Rattle.std.specs.Prelude.{ℕ, zero, suc, Bool, List, [], ◌∷◌, Option, None, Some, map, length}
+use Rattle.std.specs.Prelude.{is_some, not, ◌&&◌, nat_le, if◌then◌else◌}
 use Rattle.std.specs.Str.{bytes_eq}
 
 -- things, each with its name, which is a list of bytes

@@ -1,6 +1,7 @@
 -- The roots on a shelf, each with its cursors and triggers.
 -- Cursors and triggers are those of Watchman's documentation (named cursors, triggers).
-use Rattle.std.specs.Prelude.{ℕ, Bool, List, [], ◌∷◌, ◌++◌, Option, None, Some, nat_eq, nat_le, not, filter, ◌&&◌, ◌||◌, if◌then◌else◌}
+use Rattle.std.specs.Prelude.{ℕ, Bool, List, [], ◌∷◌, ◌++◌, Option, None, Some, nat_eq, nat_le, not}
+use Rattle.std.specs.Prelude.{filter, ◌&&◌, ◌||◌, if◌then◌else◌}
 use Rattle.std.specs.List.{find, list_any}
 use Rattle.std.specs.Str.{bytes_eq}
 use Rattle.wq_registry.specs.Named.{Named, under, put, put_at, without}
@@ -44,7 +45,8 @@ module _ {T : Type 0} where
   abbrev pub without_text : List ℕ → List (RootData T) → List (RootData T)
   without_text text rs = filter (λ r. not (bytes_eq text r.text)) rs
 
-  -- whether a root says that another is not new: it has its number, or its text with a number above
+  -- whether a root says that another is not new: it has the number of the other, or its text and no
+  -- smaller number
   abbrev pub is_newer : List ℕ → ℕ → RootData T → Bool
   is_newer text number r =
       nat_eq number r.number || (bytes_eq text r.text && nat_le number r.number)

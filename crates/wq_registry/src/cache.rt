@@ -41,7 +41,8 @@ impl Model for Cache {
 
     ghost view = { λ c. record { start = c.start; pid = c.pid } };
 
-    ghost invariant = { λ c. KeepsMeanings (record { start = c.start; pid = c.pid }) c.kept.entries };
+    ghost invariant = { λ c.
+        KeepsMeanings (record { start = c.start; pid = c.pid }) c.kept.entries };
 }
 
 impl Cache {

@@ -1,6 +1,7 @@
 //! Things under names, in the order in which the names came. How many there may be is not said
 //! here.
-ghost use Rattle.std.specs.Prelude.{◌≡◌, [], length, map, option_copied, slice_get, string_bytes, IfOk, OnOk, OnErr};
+ghost use Rattle.std.specs.Prelude.{◌≡◌, [], length, map, option_copied, option_map, slice_get};
+ghost use Rattle.std.specs.Prelude.{string_bytes, IfOk, OnOk, OnErr};
 ghost use Rattle.std.specs.Option.{option_copied_mut};
 ghost use Rattle.std.specs.Borrow.{sem};
 ghost use Rattle.wq_registry.specs.Named.{has_no_place, names, put, under, values, without};
@@ -56,6 +57,14 @@ impl<V> Named<V> {
         ensures { map string_bytes result ≡ names self.now }
     {
         self.entries.keys()
+    }
+
+    /// The name at a place, and what stands under it.
+    pub(crate) fn at(&self, k: usize) -> Option<(&str, &V)>
+        ensures { option_map (λ p. (p.0.now, p.1.now)) result ≡ slice_get self.now k }
+    {
+        let (name, value) = self.entries.get_index(k)?;
+        Some((name.as_str(), value))
     }
 
     /// Whether the name is new and there are this many names.

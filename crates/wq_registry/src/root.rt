@@ -1,5 +1,6 @@
 //! Roots: what a shelf keeps for each directory that is watched.
-ghost use Rattle.std.specs.Prelude.{◌≡◌, false, option_copied, slice_get, IfOk, OnErr, OnOk};
+ghost use Rattle.std.specs.Prelude.{◌≡◌, false, length, option_copied, option_map, slice_get, IfOk};
+ghost use Rattle.std.specs.Prelude.{OnErr, OnOk};
 ghost use Rattle.std.specs.Option.{option_copied_mut};
 ghost use Rattle.std.specs.Borrow.{sem};
 ghost use Rattle.wq_registry.specs.Limit.{max_cursors, max_triggers};
@@ -85,6 +86,20 @@ impl<T> Root<T> {
         self.triggers.get(name)
     }
 
+    /// How many triggers there are.
+    pub fn trigger_count(&self) -> usize
+        ensures { result ≡ length self.now.triggers }
+    {
+        self.triggers.len()
+    }
+
+    /// The name of the trigger at a place in their order, and the trigger.
+    pub fn trigger_at(&self, k: usize) -> Option<(&str, &T)>
+        ensures { option_map (λ p. (p.0.now, p.1.now)) result ≡ slice_get self.now.triggers k }
+    {
+        self.triggers.at(k)
+    }
+
     /// Whether another root of this text and number is not new: it has this one's number, or its
     /// text with a number that is not above.
     pub(crate) fn is_newer(&self, text: &str, number: u64) -> bool
@@ -110,7 +125,8 @@ impl<T> Root<T> {
         ensures old { IfOk result (λ old. old ≡ under name.now self.old.cursors) }
         ensures used { OnOk result (self.new ≡ with_cursor name.now tick self.old) }
         ensures kept { OnErr result (self.new ≡ self.old) }
-        ensures refused { Refuses false (has_no_place max_cursors name.now self.old.cursors) result }
+        ensures refused { Refuses false
+            (has_no_place max_cursors name.now self.old.cursors) result }
     {
         if self.cursors.has_no_place(MAX_CURSORS, name) {
             return Err(ShelfFault::Full);

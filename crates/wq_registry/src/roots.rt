@@ -1,5 +1,6 @@
 //! The roots of a shelf, found by number or text.
-ghost use Rattle.std.specs.Prelude.{◌≡◌, ◌∷◌, ◌++◌, ◌≤◌, [], nat_eq, option_copied, position, vec_len, vec_capacity, OnErr, OnOk};
+ghost use Rattle.std.specs.Prelude.{◌≡◌, ◌∷◌, ◌++◌, ◌≤◌, [], nat_eq, option_copied, position};
+ghost use Rattle.std.specs.Prelude.{vec_len, vec_capacity, OnErr, OnOk};
 ghost use Rattle.std.specs.List.{list_any};
 ghost use Rattle.wq_registry.specs.Root.{called, is_newer, numbered, without_number, without_text};
 

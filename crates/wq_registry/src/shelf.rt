@@ -1,5 +1,7 @@
 //! The shelf itself.
-ghost use Rattle.std.specs.Prelude.{◌≡◌, ◌<◌, [], false, is_none, is_some, length, map, nat_eq, option_copied, option_map, position, slice_get, string_bytes, IfOk, OnErr, OnOk};
+ghost use Rattle.std.specs.Prelude.{◌≡◌, ◌<◌, [], false, is_none, is_some, length, map, nat_eq};
+ghost use Rattle.std.specs.Prelude.{option_copied, option_map, position, slice_get, string_bytes};
+ghost use Rattle.std.specs.Prelude.{IfOk, OnErr, OnOk};
 ghost use Rattle.std.specs.Option.{option_copied_mut};
 ghost use Rattle.std.specs.Borrow.{sem};
 ghost use Rattle.std.specs.List.{list_any};
@@ -232,7 +234,8 @@ impl<T> Shelf<T> {
     /// A trigger of a root by its place, which can be changed.
     pub fn trigger_mut(&mut self, root: u64, k: usize) -> Option<&mut T>
         ensures* writes_back { sem 𝓛 (LendsTriggerOf T.row self.entry root k result) }
-        ensures value { option_copied_mut result ≡ slice_get (values (triggers_of root self.old)) k }
+        ensures value { option_copied_mut result
+            ≡ slice_get (values (triggers_of root self.old)) k }
     {
         let root = self.root_mut(root)?;
         root.trigger_mut(k)

@@ -1,5 +1,4 @@
-use Rattle.std.proofs.Common.{sym, ap, subst, ◌∙◌}
-use Rattle.lru.specs.LruCache.{LruCache}
+use Rattle.std.proofs.Common.{sym}
 use Rattle.wq_registry.specs.Kept.{KeepsMeanings, instance_at}
 use Rattle.wq_registry.proofs.Keeping.{found, shared, still}
 use Rattle.wq_registry.proofs.key.look_up.Goals as goal

@@ -1,4 +1,4 @@
-use Rattle.std.proofs.Common.{sym, ap, subst, ◌∙◌}
+use Rattle.std.proofs.Common.{sym, subst}
 use Rattle.wq_registry.specs.Kept.{StandsFor, instance_at}
 use Rattle.wq_registry.proofs.Keeping.{put_or_not}
 use Rattle.wq_registry.proofs.key.put.Goals as goal

@@ -1,6 +1,5 @@
-use Rattle.std.proofs.Common.{◌≡◌, sym, subst, Some}
+use Rattle.std.proofs.Common.{sym, subst}
 use Rattle.serde_json.specs.View.{view}
-use Rattle.serde_json.specs.Read.{read}
 use Rattle.wq_term.specs.Expr.{term_of}
 use Rattle.wq_registry.specs.Kept.{StandsFor, CacheData, instance_at}
 use Rattle.wq_registry.proofs.Keeping.{stands, stood, neither, is_false}

@@ -1,4 +1,4 @@
-use Rattle.std.proofs.Common.{ℕ, ap, ◌∙◌}
+use Rattle.std.proofs.Common.{ap, ◌∙◌}
 use Rattle.std.specs.List.{slice_get}
 use Rattle.wq_registry.specs.Named.{values, put_at}
 use Rattle.wq_registry.proofs.Entries.{written, same_values, same_loan}
