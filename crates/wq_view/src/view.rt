@@ -98,8 +98,8 @@ impl View {
         Ok(true)
     }
 
-    /// Whether the pass saw just what the last one saw.
-    fn shows(&self, pass: &Pass) -> bool
+    /// Whether the pass saw just what the last one saw, so that taking it in would move nothing. It takes no memory.
+    pub fn shows(&self, pass: &Pass) -> bool
         ensures { (history : History) → IsViewOf history self.now
             → (IsTrue result ↔ (last_stats history ≡ pass.now.stats)) }
     {

@@ -1,0 +1,4 @@
+pub mod Limit
+pub mod Event
+pub mod Table
+pub mod Tree

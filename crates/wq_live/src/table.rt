@@ -1,0 +1,272 @@
+//! The table of all roots that are shown. Each change makes a new table and leaves the old one, with which it shares
+//! the texts, and the views of the roots that did not change.
+ghost use Rattle.std.specs.Prelude.{◌≡◌, ◌≢◌, ◌≤◌, ◌+◌, ◌++◌, ◌∷◌, ◌↔◌, ◌⊎◌, [], Err, IfErr, IfNone, IfOk, IfSome, IsTrue, List, MatchOption, MatchResult, None, Some, false, find, length, map, option_map, true};
+ghost use Rattle.wq_base.specs.Limit.{max_number};
+ghost use Rattle.wq_live.specs.declared.event.RootEvent.{RootEvent};
+ghost use Rattle.wq_live.specs.declared.event.RootEvent.TheVariants.{Ended, Passed};
+ghost use Rattle.wq_view.specs.History.{History, last_stats};
+ghost use Rattle.wq_view.specs.Limit.{max_tick};
+ghost use Rattle.wq_view.specs.View.{IsViewOf};
+ghost use Rattle.wq_live.specs.Event.{first_history, is_shown, passes_over, start_events};
+ghost use Rattle.wq_live.specs.Limit.{max_roots};
+ghost use Rattle.wq_live.specs.Table.{IsNews, IsNoNews, IsStarted, IsTableOf, has_number, has_text, with_view, without};
+
+use crate::limit::MAX_ROOTS;
+use crate::shown_root::ShownRoot;
+use std::alloc::{AllocError, Global};
+use std::marker::Model;
+use std::sync::Arc;
+use thiserror::Error;
+use wq_base::{MAX_NUMBER, Text};
+use wq_view::{Pass, View, ViewFault};
+
+/// Why a root is not started. It leaves the table as it was.
+#[derive(Clone, Copy, Debug, PartialEq, Eq, Drop, Error)]
+pub enum StartFault {
+    /// 16 roots are shown, or the number 2^62 was given.
+    #[error("too many roots")]
+    TooManyRoots,
+    /// A growth was refused.
+    #[error("no memory")]
+    NoMemory,
+}
+
+impl From<AllocError> for StartFault {
+    ghost use Rattle.std.specs.Prelude.{◌≡◌};
+    ghost use Rattle.wq_live.specs.declared.table.StartFault.TheVariants.{NoMemory};
+
+    ghost from_gives = { λ _ fault. fault ≡ NoMemory };
+
+    fn from(_error: AllocError) -> StartFault {
+        StartFault::NoMemory
+    }
+}
+
+/// The roots that are shown, at most 16, with their views, and how many roots were ever started.
+#[derive(Drop)]
+pub struct RootTable {
+    roots: Vec<ShownRoot>,
+    given: u64,
+}
+
+impl Model for RootTable {
+    ghost use Rattle.std.specs.Prelude.{◌≤◌, length};
+    ghost use Rattle.wq_base.specs.Limit.{max_number};
+    ghost use Rattle.wq_live.specs.Limit.{max_roots};
+    ghost use Rattle.wq_live.specs.Table.{TableData, table_code};
+
+    ghost Value = { TableData };
+
+    ghost coded = { table_code };
+
+    ghost view = { λ t. record { roots = t.roots.items; given = t.given } };
+
+    ghost invariant = { λ t. (length t.roots.items ≤ max_roots) × (t.given ≤ max_number) };
+}
+
+impl RootTable {
+    /// The table before any root was started.
+    pub fn new(alloc: Global) -> RootTable
+        ensures empty { result ≡ record { roots = []; given = 0 } }
+        ensures history { IsTableOf [] result }
+    {
+        RootTable {
+            roots: Vec::new(alloc),
+            given: 0,
+        }
+    }
+
+    /// How many roots are shown, at most 16.
+    pub fn len(&self) -> usize
+        ensures value { result ≡ length self.now.roots }
+        ensures bound { result ≤ max_roots }
+    {
+        self.roots.len()
+    }
+
+    /// Whether no root is shown.
+    pub fn is_empty(&self) -> bool
+        ensures { IsTrue result ↔ (self.now.roots ≡ []) }
+    {
+        self.roots.is_empty()
+    }
+
+    /// The number and the view of the root of this text, if it is shown.
+    pub fn root(&self, text: &str) -> Option<(u64, &View)>
+        ensures number { option_map (λ it. it.0) result
+            ≡ option_map (λ root. root.number) (find (has_text text.now) self.now.roots) }
+        ensures view { option_map (λ it. it.1.now) result
+            ≡ option_map (λ root. root.view) (find (has_text text.now) self.now.roots) }
+    {
+        let root = self.root_of_text(text)?;
+        Some((root.number, &root.view))
+    }
+
+    /// The view of the root of this number, if it is shown.
+    pub fn view(&self, number: u64) -> Option<&View>
+        ensures { option_map (λ view. view.now) result
+            ≡ option_map (λ root. root.view) (find (has_number number) self.now.roots) }
+    {
+        let root = self.root_of_number(number)?;
+        Some(&root.view)
+    }
+
+    /// The root of this text.
+    fn root_of_text(&self, text: &str) -> Option<&ShownRoot>
+        ensures { option_map (λ root. root.now) result ≡ find (has_text text.now) self.now.roots }
+    {
+        self.roots
+            .iter()
+            .find(|root| root.text.as_bytes() == text.as_bytes())
+    }
+
+    /// The root of this number.
+    fn root_of_number(&self, number: u64) -> Option<&ShownRoot>
+        ensures { option_map (λ root. root.now) result ≡ find (has_number number) self.now.roots }
+    {
+        self.roots.iter().find(|root| root.number == number)
+    }
+
+    /// The table after the start of a root that is not shown, whose first pass this is. Its number is one more than
+    /// that of the last start.
+    ///
+    /// Refused where 16 roots are shown or the number 2^62 was given.
+
+    pub fn with_start(&self, text: &str, pass: &Pass) -> Result<RootTable, StartFault>
+        requires new { find (has_text text.now) self.now.roots ≡ None }
+        ensures started { (events : List RootEvent) → IsTableOf events self.now
+            → IfOk result (IsTableOf (events ++ start_events (self.now.given + 1) text.now pass.now)) }
+        ensures number { IfOk result (λ table. table.given ≡ self.now.given + 1) }
+        ensures full { (result ≡ Err StartFault.TooManyRoots)
+            ↔ ((length self.now.roots ≡ max_roots) ⊎ (self.now.given ≡ max_number)) }
+    {
+        if self.roots.len() == MAX_ROOTS || self.given == MAX_NUMBER {
+            return Err(StartFault::TooManyRoots);
+        }
+        Ok(self.with_root(text, pass)?)
+    }
+
+    /// The table with one more root, the view of which is that of this one pass.
+    fn with_root(&self, text: &str, pass: &Pass) -> Result<RootTable, AllocError>
+        requires room { length self.now.roots ≢ max_roots }
+        requires numbers { self.now.given ≢ max_number }
+        ensures { IfOk result (λ table. IsStarted self.now text.now pass.now table) }
+    {
+        let alloc = *self.roots.allocator();
+        let mut roots = self.copies(alloc, self.roots.len() + 1)?;
+        let number = self.given + 1;
+        let text = Arc::new(alloc, Text::from_string(String::from_str(alloc, text)?))?;
+        let view = Arc::new(alloc, first_view(alloc, pass)?)?;
+        roots.push(ShownRoot { number, text, view })?;
+        Ok(RootTable {
+            roots,
+            given: number,
+        })
+    }
+
+    /// The same roots, with room for so many.
+    fn copies(&self, alloc: Global, room: usize) -> Result<Vec<ShownRoot>, AllocError>
+        ensures { IfOk result (λ roots. roots.items ≡ self.now.roots) }
+    {
+        let mut roots = Vec::with_capacity(alloc, room)?;
+        for root in &self.roots {
+            roots.push(root.copy()?)?;
+        }
+        Ok(roots)
+    }
+
+    /// The table after a pass over the root of this number; none where nothing is added, since the root is not
+    /// shown or the last pass over it saw just the same.
+    ///
+    /// Refused where the root's ticks are spent and the pass saw something else.
+    pub fn with_pass(&self, number: u64, pass: &Pass) -> Result<Option<RootTable>, ViewFault>
+        ensures passed { (events : List RootEvent) → IsTableOf events self.now
+            → IfOk result (λ next. MatchOption next
+            (IsNoNews events number pass.now)
+            (λ table. IsNews events number pass.now
+            × IsTableOf (events ++ Passed number pass.now ∷ []) table)) }
+        ensures spent { (events : List RootEvent) → IsTableOf events self.now
+            → result ≡ Err ViewFault.TicksSpent → IsNews events number pass.now
+            × (length (passes_over number events) ≡ max_tick) }
+    {
+        let Some(root) = self.root_of_number(number) else {
+            return Ok(None);
+        };
+        if root.view.shows(pass) {
+            return Ok(None);
+        }
+        let view = after_pass(&root.view, pass)?;
+        Ok(Some(self.with_view(number, view)?))
+    }
+
+    /// The table in which the root of this number has this view.
+    fn with_view(&self, number: u64, view: View) -> Result<RootTable, AllocError>
+        ensures { IfOk result (λ table. table ≡ record {
+          roots = map (with_view number view) self.now.roots;
+          given = self.now.given;
+        }) }
+    {
+        let view = Arc::new(*self.roots.allocator(), view)?;
+        let mut roots = Vec::with_capacity(*self.roots.allocator(), self.roots.len())?;
+        for root in &self.roots {
+            roots.push(root.with_view(number, &view)?)?;
+        }
+        Ok(RootTable {
+            roots,
+            given: self.given,
+        })
+    }
+
+    /// The table after the end of the root of this number; none where it is not shown, and nothing is added.
+
+    pub fn with_end(&self, number: u64) -> Result<Option<RootTable>, AllocError>
+        ensures { (events : List RootEvent) → IsTableOf events self.now
+            → IfOk result (λ next. MatchOption next
+            (is_shown events number ≡ false)
+            (λ table. (is_shown events number ≡ true) × IsTableOf (events ++ Ended number ∷ []) table)) }
+    {
+        if self.root_of_number(number).is_none() {
+            return Ok(None);
+        }
+        Ok(Some(self.without(number)?))
+    }
+
+    /// The table without the root of this number.
+    fn without(&self, number: u64) -> Result<RootTable, AllocError>
+        ensures { IfOk result (λ table. table ≡ without number self.now) }
+    {
+        let mut roots = Vec::with_capacity(*self.roots.allocator(), self.roots.len())?;
+        for root in &self.roots {
+            if root.number != number {
+                roots.push(root.copy()?)?;
+            }
+        }
+        Ok(RootTable {
+            roots,
+            given: self.given,
+        })
+    }
+}
+
+/// The view of a root that is started with this pass.
+fn first_view(alloc: Global, pass: &Pass) -> Result<View, AllocError>
+    ensures { IfOk result (IsViewOf (first_history pass.now)) }
+{
+    let mut view = View::new(alloc);
+    match view.absorb(pass) {
+        Ok(_moved) => Ok(view),
+        Err(_) => Err(AllocError),
+    }
+}
+
+/// The view after a pass that saw something else than the last one.
+fn after_pass(view: &View, pass: &Pass) -> Result<View, ViewFault>
+    ensures ok { (history : History) → IsViewOf history view.now → last_stats history ≢ pass.now.stats
+        → IfOk result (IsViewOf (history ++ pass.now ∷ [])) }
+    ensures spent { (history : History) → IsViewOf history view.now
+        → result ≡ Err ViewFault.TicksSpent → view.now.tick ≡ max_tick }
+{
+    let mut after = view.copy()?;
+    after.absorb(pass)?;
+    Ok(after)
+}

@@ -1,0 +1,51 @@
+//! What lists the files below a root. How a tree is walked is not said here.
+ghost use Rattle.std.specs.Prelude.{◌≡◌, IfErr};
+ghost use Rattle.wq_live.specs.Tree.{IsCounted};
+
+use std::alloc::AllocError;
+use thiserror::Error;
+use wq_view::Seen;
+
+/// Why a tree gives no listing.
+#[derive(Clone, Copy, Debug, PartialEq, Eq, Drop, Error)]
+pub enum TreeFault {
+    /// The root cannot be read: a device failed.
+    #[error("the root cannot be read")]
+    Unreadable,
+    /// The listing has over 1,000,000 rows.
+    #[error("too many files")]
+    TooManyRows,
+    /// A growth was refused.
+    #[error("no memory")]
+    NoMemory,
+}
+
+impl From<AllocError> for TreeFault {
+    ghost use Rattle.std.specs.Prelude.{◌≡◌};
+    ghost use Rattle.wq_live.specs.declared.tree.TreeFault.TheVariants.{NoMemory};
+
+    ghost from_gives = { λ _ fault. fault ≡ NoMemory };
+
+    fn from(_error: AllocError) -> TreeFault {
+        TreeFault::NoMemory
+    }
+}
+
+/// What lists roots.
+pub trait Tree {
+    ghost use Rattle.std.specs.Prelude.{ℕ};
+
+    // How often its device failed so far.
+    ghost failed: { Self → ℕ };
+
+    /// The rows of the files below a root, in any order.
+    ///
+    /// A root is unreadable only where the count of failures rose in this call, or stands at the greatest number that
+    /// it can tell.
+    fn list(&mut self, root: &str) -> Result<Vec<Seen>, TreeFault>
+        ensures { IfErr result (IsCounted (failed self.old) (failed self.new)) };
+
+    /// How often a device failed so far.
+    fn failures(&self) -> u64
+        ensures { result ≡ failed self.now };
+}
