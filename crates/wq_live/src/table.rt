@@ -131,7 +131,6 @@ impl RootTable {
     /// that of the last start.
     ///
     /// Refused where 16 roots are shown or the number 2^62 was given.
-
     pub fn with_start(&self, text: &str, pass: &Pass) -> Result<RootTable, StartFault>
         requires new { find (has_text text.now) self.now.roots ≡ None }
         ensures started { (events : List RootEvent) → IsTableOf events self.now
@@ -218,7 +217,6 @@ impl RootTable {
     }
 
     /// The table after the end of the root of this number; none where it is not shown, and nothing is added.
-
     pub fn with_end(&self, number: u64) -> Result<Option<RootTable>, AllocError>
         ensures { (events : List RootEvent) → IsTableOf events self.now
             → IfOk result (λ next. MatchOption next
