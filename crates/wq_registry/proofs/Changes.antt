@@ -2,13 +2,16 @@
 use Rattle.std.proofs.Common.{◌≡◌, ℕ, Bool, true, false, not, ◌||◌, cond, List, [], ◌∷◌, ◌++◌, filter, Option, None, Some, is_some, refl, sym, ap, subst, ◌∙◌, append_assoc, append-nil, true≢false}
 use Rattle.std.specs.List.{list_any}
 use Rattle.std.specs.Str.{bytes_eq}
+use Rattle.std.proofs.Common.{zero, suc, slice_get}
 use Rattle.std.proofs.lemmas.Slice.Eq.{bytes_eq-Decides}
-use Rattle.wq_registry.specs.Named.{Named, names, under, put, without}
-use Rattle.wq_registry.specs.Change.{Change, putting, removing, changed_by, made, says_of, later, last_said, takes_out, brings_in, brought_in, LastChangeCounts, NamesStandInOrder}
+use Rattle.wq_registry.specs.Named.{Named, names, under, put, put_at, without}
+use Rattle.wq_registry.specs.Change.{Change, putting, removing, changed_by, made, says_of, later, last_said, takes_out, brings_in, brought_in, LastChangeCounts, NamesStandInOrder, PlacesAreNames}
 
+-- texts that are compared as equal are one
 pub same_text : (a b : List ℕ) → bytes_eq a b ≡ true → a ≡ b
 same_text a b h = (bytes_eq-Decides a b).0 h
 
+-- a text is equal to itself
 pub is_itself : (a : List ℕ) → bytes_eq a a ≡ true
 is_itself a = (bytes_eq-Decides a a).1 refl
 
@@ -46,6 +49,7 @@ module _ {A : Type 0} where
       by true same rest = rw same refl
       by false differs rest = rw differs rest
 
+  -- a name that is not taken out keeps what it has
   pub without-other : (name n : List ℕ) (xs : Named A) → bytes_eq name n ≡ false → under name (without n xs) ≡ under name xs
   without-other name n [] h = refl
   without-other name n (x ∷ xs) h = by (bytes_eq n x.0) refl (without-other name n xs h)
@@ -65,6 +69,7 @@ module _ {A : Type 0} where
       by true same rest = subst (λ m. under m xs ≡ None) (sym (same_text n x.0 same)) h.0
       by false differs rest = rw differs rest
 
+  -- putting leaves each name once
   pub once-put : (n : List ℕ) (a : A) (xs : Named A) → Once xs → Once (put n a xs)
   once-put n a [] h = (refl, tt)
   once-put n a (x ∷ xs) h = by (bytes_eq n x.0) refl (once-put n a xs h.1)
@@ -73,6 +78,7 @@ module _ {A : Type 0} where
       by true same rest = h
       by false differs rest = (put-other x.0 n a xs (turned n x.0 differs) ∙ h.0, rest)
 
+  -- so does taking out
   pub once-without : (n : List ℕ) (xs : Named A) → Once xs → Once (without n xs)
   once-without n [] h = h
   once-without n (x ∷ xs) h = by (bytes_eq n x.0) refl (once-without n xs h.1)
@@ -81,6 +87,7 @@ module _ {A : Type 0} where
       by true same rest = h.1
       by false differs rest = (without-other x.0 n xs (turned n x.0 differs) ∙ h.0, rest)
 
+  -- and each change
   once-changed : (c : Change A) (xs : Named A) → Once xs → Once (changed_by c xs)
   once-changed (putting n a) xs h = once-put n a xs h
   once-changed (removing n) xs h = once-without n xs h
@@ -98,18 +105,22 @@ module _ {A : Type 0} where
       by true same = subst (λ m. under m (without n xs) ≡ None) (sym (same_text name n same)) (without-same n xs h)
       by false differs = without-other name n xs differs
 
+  -- after changes a name has what the last one says
   pub under-made : (name : List ℕ) (cs : List (Change A)) (xs : Named A) → Once xs → under name (made cs xs) ≡ last_said name cs (under name xs)
   under-made name [] xs h = refl
   under-made name (c ∷ cs) xs h = under-made name cs (changed_by c xs) (once-changed c xs h) ∙ ap (last_said name cs) (step name c xs h)
 
+-- the law of the last change
 pub last_change_counts : {A : Type 0} → LastChangeCounts A
 last_change_counts changes name = under-made name changes [] tt
 
 module _ {X : Type 0} where
+  -- all pass a test that always holds
   filter-all : (xs : List X) → filter (λ x. true) xs ≡ xs
   filter-all [] = refl
   filter-all (x ∷ xs) = ap (λ ys. x ∷ ys) (filter-all xs)
 
+  -- what passes of two lists
   filter-append : (test : X → Bool) (xs ys : List X) → filter test (xs ++ ys) ≡ filter test xs ++ filter test ys
   filter-append test [] ys = refl
   filter-append test (x ∷ xs) ys = by (test x) (filter-append test xs ys)
@@ -119,6 +130,7 @@ module _ {X : Type 0} where
       by false rest = rest
 
 module _ {A : Type 0} where
+  -- what one more change says counts
   last_said-push : (name : List ℕ) (before : List (Change A)) (c : Change A) (o : Option A) → last_said name (before ++ c ∷ []) o ≡ later (says_of name c) (last_said name before o)
   last_said-push name [] c o = refl
   last_said-push name (b ∷ before) c o = last_said-push name before c (later (says_of name b) o)
@@ -196,6 +208,7 @@ module _ {A : Type 0} where
       filter-without n (λ m. list_any (takes_out m) after) xs once
       ∙ sym (append-nil (filter (stays (removing n ∷ after)) (names xs)))
 
+  -- changes leave the names that stay, and those that they bring in for good
   names-made : (before after : List (Change A)) (xs : Named A) → Once xs → ((n : List ℕ) → last_said n before None ≡ under n xs) → names (made after xs) ≡ filter (stays after) (names xs) ++ brought_in before after
   names-made before [] xs once is = sym (filter-all (names xs)) ∙ sym (append-nil (filter (λ n. true) (names xs)))
   names-made before (c ∷ after) xs once is =
@@ -203,5 +216,42 @@ module _ {A : Type 0} where
       ∙ ap (λ ns. ns ++ brought_in (before ++ c ∷ []) after) (names-step before c after xs once is)
       ∙ append_assoc (filter (stays (c ∷ after)) (names xs)) (brings_in before c after) (brought_in (before ++ c ∷ []) after)
 
+-- the law of the order of names
 pub names_stand_in_order : {A : Type 0} → NamesStandInOrder A
 names_stand_in_order changes = names-made [] changes [] tt (λ n. refl)
+
+module _ {A : Type 0} where
+  -- a name at a place has something
+  named_there : (k : ℕ) (name : List ℕ) (xs : Named A) → slice_get (names xs) k ≡ Some name → is_some (under name xs) ≡ true
+  named_there k name [] h = let no : None ≡ Some name = h in cc
+  named_there zero name (x ∷ xs) h =
+      let same : x.0 ≡ name = cc in
+      ap (λ b. is_some (cond b (Some x.1) (under name xs))) (subst (λ m. bytes_eq name m ≡ true) (sym same) (is_itself name))
+  named_there (suc k) name (x ∷ xs) h = by (bytes_eq name x.0) (named_there k name xs h)
+    where
+      by : (b : Bool) → is_some (under name xs) ≡ true → is_some (cond b (Some x.1) (under name xs)) ≡ true
+      by true rest = refl
+      by false rest = rest
+
+  -- what is put at the place of a name is put under it
+  put_place : (k : ℕ) (name : List ℕ) (a : A) (xs : Named A) → Once xs → slice_get (names xs) k ≡ Some name → put_at k a xs ≡ put name a xs
+  put_place k name a [] once h = let no : None ≡ Some name = h in cc
+  put_place zero name a (x ∷ xs) once h =
+      let same : x.0 ≡ name = cc in
+      sym (ap (λ b. cond b ((x.0, a) ∷ xs) (x ∷ put name a xs)) (subst (λ m. bytes_eq name m ≡ true) (sym same) (is_itself name)))
+  put_place (suc k) name a (x ∷ xs) once h = by (bytes_eq name x.0) refl (put_place k name a xs once.1 h)
+    where
+      by : (b : Bool) → bytes_eq name x.0 ≡ b → put_at k a xs ≡ put name a xs → x ∷ put_at k a xs ≡ cond b ((x.0, a) ∷ xs) (x ∷ put name a xs)
+      by true same rest =
+          let none : under name xs ≡ None = subst (λ m. under m xs ≡ None) (sym (same_text name x.0 same)) once.0 in
+          absurd (true≢false (sym (named_there k name xs h) ∙ ap is_some none))
+      by false differs rest = ap (λ ys. x ∷ ys) rest
+
+  -- changes leave each name once
+  once-made : (cs : List (Change A)) (xs : Named A) → Once xs → Once (made cs xs)
+  once-made [] xs once = once
+  once-made (c ∷ cs) xs once = once-made cs (changed_by c xs) (once-changed c xs once)
+
+-- the law of places
+pub places_are_names : {A : Type 0} → PlacesAreNames A
+places_are_names changes k name a h = put_place k name a (made changes []) (once-made changes [] tt) h

@@ -4,6 +4,8 @@ use Rattle.std.specs.declared.string.String.{String}
 use Rattle.std.specs.declared.sync.Arc.{Arc}
 use Rattle.std.specs.String.{string_bytes}
 use Rattle.std.specs.Str.{bytes_eq}
+use Rattle.std.specs.List.{position_or_len}
+use Rattle.std.proofs.Common.{◌+◌, Bool, position, nat_lt, slice_get, sym, arith, true≢false, IfSome, IfNone}
 use Rattle.std.proofs.lemmas.List.{length-map}
 use Rattle.std.specs.Map.{lookup, remove_entry, values_of, keys_of}
 use Rattle.std.specs.Borrow.{GName}
@@ -109,3 +111,52 @@ same_names (e ∷ es) = ap (λ xs. string_bytes e.0 ∷ xs) (same_names es)
 pub names-unshared : {A Z : Type 0} (xs : Named (Arc A Z)) → names (unshared xs) ≡ names xs
 names-unshared [] = refl
 names-unshared (x ∷ xs) = ap (λ ys. x.0 ∷ ys) (names-unshared xs)
+
+-- one more
+one_more : (n : ℕ) → 1 + n ≡ suc n
+one_more n = omega arith
+
+-- a place that a test gives is that place
+place_is : (b : Bool) (n i : ℕ) → cond b (Some n) None ≡ Some i → n ≡ i
+place_is true n i h = cc
+place_is false n i h = cc
+
+module _ {A Z : Type 0} (name : List ℕ) where
+  -- what is put at the first place with a name is put under it
+  put-first : (v : A) (es : List (String Z × A)) → is_some (under name (by_bytes es)) ≡ true → put_at (position_or_len (λ k. bytes_eq name (string_bytes k)) (keys_of es)) v (by_bytes es) ≡ put name v (by_bytes es)
+  put-first v [] h = absurd (true≢false (sym h))
+  put-first v (e ∷ es) h = by (bytes_eq name (string_bytes e.0)) h (put-first v es)
+    where
+      by : (b : Bool) → is_some (cond b (Some e.1) (under name (by_bytes es))) ≡ true → (is_some (under name (by_bytes es)) ≡ true → put_at (position_or_len (λ k. bytes_eq name (string_bytes k)) (keys_of es)) v (by_bytes es) ≡ put name v (by_bytes es))
+          → put_at (cond (not b) (1 + position_or_len (λ k. bytes_eq name (string_bytes k)) (keys_of es)) 0) v (by_bytes (e ∷ es)) ≡ cond b ((string_bytes e.0, v) ∷ by_bytes es) ((string_bytes e.0, e.1) ∷ put name v (by_bytes es))
+      by true h rest = refl
+      by false h rest =
+          ap (λ k. put_at k v (by_bytes (e ∷ es))) (one_more (position_or_len (λ k. bytes_eq name (string_bytes k)) (keys_of es)))
+          ∙ ap (λ xs. (string_bytes e.0, e.1) ∷ xs) (rest h)
+
+  -- at the place of a name, what is put there is put under the name
+  pub at_place : (es : List (String Z × A)) (r : Option ℕ) → r ≡ position (λ k. bytes_eq name (string_bytes k)) (keys_of es) → is_some r ≡ is_some (lookup (λ k. bytes_eq name (string_bytes k)) es) → IfSome r (λ k. (v : A) → put_at k v (by_bytes es) ≡ put name v (by_bytes es))
+  at_place es None is there = tt
+  at_place es (Some k) is there = λ v.
+      ap (λ k. put_at k v (by_bytes es)) (sym (place_is (nat_lt (position_or_len (λ k. bytes_eq name (string_bytes k)) (keys_of es)) (length (keys_of es))) (position_or_len (λ k. bytes_eq name (string_bytes k)) (keys_of es)) k (sym is)))
+      ∙ put-first v es (sym (there ∙ ap is_some (found name es)))
+
+  -- and what stands there stands under it
+  pub value_there : (es : List (String Z × A)) (r : Option ℕ) → IfSome r (λ k. slice_get (values_of es) k ≡ lookup (λ k. bytes_eq name (string_bytes k)) es) → IfSome r (λ k. slice_get (values (by_bytes es)) k ≡ under name (by_bytes es))
+  value_there es None h = tt
+  value_there es (Some k) h = ap (λ xs. slice_get xs k) (sym (same_values es)) ∙ h ∙ found name es
+
+  -- a name without a place has nothing
+  pub nothing_there : (es : List (String Z × A)) (r : Option ℕ) → is_some r ≡ is_some (lookup (λ k. bytes_eq name (string_bytes k)) es) → IfNone r (under name (by_bytes es) ≡ None)
+  nothing_there es None there = by (under name (by_bytes es)) (there ∙ ap is_some (found name es))
+    where
+      by : (o : Option A) → false ≡ is_some o → o ≡ None
+      by None h = refl
+      by (Some a) h = absurd (true≢false (sym h))
+  nothing_there es (Some k) there = tt
+
+-- past the end nothing is put
+pub put_past : {A : Type 0} (k : ℕ) (v : A) (xs : Named A) → slice_get (values xs) k ≡ None → put_at k v xs ≡ xs
+put_past k v [] h = refl
+put_past zero v (x ∷ xs) h = let no : Some x.1 ≡ None = h in cc
+put_past (suc k) v (x ∷ xs) h = ap (λ ys. x ∷ ys) (put_past k v xs h)

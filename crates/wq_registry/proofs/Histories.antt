@@ -5,6 +5,7 @@ use Rattle.wq_registry.specs.Shelf.{ShelfData, blank}
 use Rattle.wq_registry.specs.History.{Call, adds_program, removes_program, adds_root, removes_root, uses_cursor, unsets_cursor, adds_trigger, removes_trigger, after, after_all, program_changes, ProgramsAreMade}
 
 module _ {T : Type 0} where
+  -- programs come of the calls for programs
   programs-made : (calls : List (Call T)) (s : ShelfData T) → (after_all calls s).programs ≡ made (program_changes calls) s.programs
   programs-made [] s = refl
   programs-made (adds_program name program ∷ cs) s = programs-made cs (after (adds_program name program) s)
@@ -16,5 +17,6 @@ module _ {T : Type 0} where
   programs-made (adds_trigger root name trigger ∷ cs) s = programs-made cs (after (adds_trigger root name trigger) s)
   programs-made (removes_trigger root name ∷ cs) s = programs-made cs (after (removes_trigger root name) s)
 
+-- the law of programs
 pub programs_are_made : {T : Type 0} → ProgramsAreMade T
 programs_are_made calls sockname = programs-made calls (blank sockname)

@@ -18,9 +18,11 @@ test_fails : (b : Bool) (n : ℕ) → cond b (Some n) None ≡ None → b ≡ fa
 test_fails true n h = cc
 test_fails false n h = refl
 
+-- one more
 one_more : (n : ℕ) → 1 + n ≡ suc n
 one_more n = omega arith
 
+-- a test that fails, as an order
 past : (n m : ℕ) → nat_lt n m ≡ false → m ≤ n
 past n m h = grind (arith, nat_tests)
 
@@ -33,6 +35,7 @@ module _ {T : Type 0} (number : ℕ) where
   pub no_place : (rs : List (RootData T)) → position (λ r. nat_eq number r.number) rs ≡ None → numbered number rs ≡ None
   no_place rs h = find_at (λ r. nat_eq number r.number) rs ∙ slice_get_past rs _ (past _ _ (test_fails (nat_lt (position_or_len (λ r. nat_eq number r.number) rs) (length rs)) (position_or_len (λ r. nat_eq number r.number) rs) h))
 
+  -- what is written at the first place that passes is written over the root
   set_first : (rs : List (RootData T)) (w : RootData T) → slice_set rs (position_or_len (λ r. nat_eq number r.number) rs) w ≡ changed number (λ _. w) rs
   set_first [] w = refl
   set_first (r ∷ rs) w =

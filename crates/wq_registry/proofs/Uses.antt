@@ -8,6 +8,7 @@ use Rattle.wq_registry.specs.Root.{larger}
 use Rattle.wq_registry.specs.Use.{Use, at_tick, unsetting, used_by, used, unsets, gives, given_since, greatest, TheGreatestTickCounts}
 use Rattle.wq_registry.proofs.Changes.{Once, same_text, put-same, put-other, without-same, without-other, once-put, once-without}
 
+-- the larger of two ticks is their maximum
 larger_is_max : (a t : ℕ) → larger (Some a) t ≡ max a t
 larger_is_max a t = grind (arith, nat_tests)
 
@@ -30,6 +31,7 @@ first_or_last (Some a) (Some m) t = ap Some (ap (λ n. max n m) (larger_is_max a
     turned : (a t m : ℕ) → max (max a t) m ≡ max a (max m t)
     turned a t m = omega arith
 
+-- uses leave each name once
 once-used : (u : Use) (xs : Named ℕ) → Once xs → Once (used_by u xs)
 once-used (at_tick name tick) xs h = once-put name (larger (under name xs) tick) xs h
 once-used (unsetting name) xs h = once-without name xs h
@@ -50,6 +52,7 @@ step name (unsetting n) xs ticks h = by (bytes_eq name n) refl
     by true same = ap (λ o. both o (greatest ticks)) (subst (λ m. under m (without n xs) ≡ None) (sym (same_text name n same)) (without-same n xs h))
     by false differs = ap (λ o. both o (greatest ticks)) (without-other name n xs differs)
 
+-- after uses a cursor has the greatest tick, counted with the one that it had
 under-used : (name : List ℕ) (us : List Use) (xs : Named ℕ) → Once xs → under name (used us xs) ≡ both (cond (list_any (unsets name) us) None (under name xs)) (greatest (given_since name us))
 under-used name [] xs h = refl
 under-used name (u ∷ us) xs h = under-used name us (used_by u xs) (once-used u xs h) ∙ by (list_any (unsets name) us)
@@ -68,14 +71,17 @@ under-used name (u ∷ us) xs h = under-used name us (used_by u xs) (once-used u
         step name u xs (given_since name us) h
         ∙ ap (λ o. both o (greatest (gives name u ++ given_since name us))) (sym (alone (unsets name u)))
 
+-- with no tick before, those that came count
 nothing_before : (o : Option ℕ) → both None o ≡ o
 nothing_before None = refl
 nothing_before (Some m) = refl
 
+-- nothing is nothing
 none_either_way : (b : Bool) → cond {A = Option ℕ} b None None ≡ None
 none_either_way true = refl
 none_either_way false = refl
 
+-- the law of ticks
 pub the_greatest_tick_counts : TheGreatestTickCounts
 the_greatest_tick_counts uses name =
     under-used name uses [] tt

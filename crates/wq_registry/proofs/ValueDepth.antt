@@ -44,36 +44,44 @@ in_term Name Arguments n each (array (item (array xs) ds)) h = absurd h
 in_term Name Arguments n each (array (item (object ms) ds)) h = absurd h
 in_term Name Arguments n each (object ms) h = absurd h
 
+-- no arguments are not nested
 nothing : (ds : Items) → IsNothing ds → items_depth ds ≤ 1
 nothing no_items h = omega arith
 nothing (item d ds) h = absurd h
 
+-- one argument is nested as it is
 only : (First : Data → Type 0) (n : ℕ) → ((d : Data) → First d → depth d ≤ n) → (ds : Items) → IsOnly First ds → items_depth ds ≤ n
 only First n each no_items h = absurd h
 only First n each (item d no_items) h = omega (arith, each d h)
 only First n each (item d (item e ds)) h = absurd h
 
+-- one argument, or two
 one_or_two : (First : Data → Type 0) (IsDefault : Type 0) (Other : Data → Type 0) → ((d : Data) → First d → depth d ≤ 1) → ((d : Data) → Other d → depth d ≤ 1) → (ds : Items) → IsOneOrTwo First IsDefault Other ds → items_depth ds ≤ 1
 one_or_two First IsDefault Other first second no_items h = absurd h
 one_or_two First IsDefault Other first second (item d no_items) h = omega (arith, first d h.0)
 one_or_two First IsDefault Other first second (item d (item e no_items)) h = omega (arith, first d h.0, second e h.1)
 one_or_two First IsDefault Other first second (item d (item e (item f ds))) h = absurd h
 
+-- a word
 word : (w : List ℕ) (d : Data) → IsWord w d → depth d ≤ 1
 word w d h = omega (arith, flat d w h)
 
+-- a text
 text : (t : List ℕ) (d : Data) → IsText t d → depth d ≤ 0
 text t d h = flat d t h.0
 
+-- texts in a list
 listed : (ts : List (List ℕ)) (ds : Items) → AreListed ts ds → items_depth ds ≤ 0
 listed [] no_items h = omega arith
 listed [] (item d ds) h = absurd h
 listed (t ∷ ts) no_items h = absurd h
 listed (t ∷ ts) (item d ds) h = omega (arith, text t d h.0, listed ts ds h.1)
 
+-- a text that may stand in a list
 one_text : (t : List ℕ) (d : Data) → IsText t d → depth d ≤ 1
 one_text t d h = omega (arith, text t d h)
 
+-- texts
 texts : (ts : List (List ℕ)) (d : Data) → AreTexts ts d → depth d ≤ 1
 texts ts (array ds) h = omega (arith, listed ts ds h)
 texts [] null h = absurd h
@@ -92,6 +100,7 @@ texts (t ∷ u ∷ ts) (number x) h = absurd h
 texts (t ∷ u ∷ ts) (string s) h = absurd h
 texts (t ∷ u ∷ ts) (object ms) h = absurd h
 
+-- an integer
 between : (low high z : ℤ) (d : Data) → IsBetween low high z d → depth d ≤ 0
 between low high z null h = absurd h
 between low high z (boolean b) h = absurd h
@@ -100,12 +109,14 @@ between low high z (string s) h = absurd h
 between low high z (array ds) h = absurd h
 between low high z (object ms) h = absurd h
 
+-- a relation and a number
 comparison : (relation : Relation) (n : ℤ) (ds : Items) → IsComparison relation n ds → items_depth ds ≤ 0
 comparison relation n no_items h = absurd h
 comparison relation n (item d no_items) h = absurd h
 comparison relation n (item d (item e no_items)) h = omega (arith, flat d _ h.0, between _ _ n e h.1)
 comparison relation n (item d (item e (item f ds))) h = absurd h
 
+-- a depth
 a_depth : (limit : Depth) (d : Data) → IsDepth limit d → depth d ≤ 1
 a_depth Any d h = absurd h
 a_depth (Is relation n) null h = absurd h
@@ -116,6 +127,7 @@ a_depth (Is relation n) (array no_items) h = absurd h
 a_depth (Is relation n) (array (item d ds)) h = omega (arith, flat d _ h.0, comparison relation n ds h.1)
 a_depth (Is relation n) (object ms) h = absurd h
 
+-- a clock spec
 bound : (instance : InstanceData) (b : Bound) (d : Data) → IsBound instance b d → depth d ≤ 1
 bound instance b (string s) h = omega arith
 bound instance (Second second) null h = absurd h
@@ -134,6 +146,7 @@ bound instance (Tick n) (number x) h = absurd h
 bound instance (Tick n) (array ds) h = absurd h
 bound instance (Tick n) (object ms) h = absurd h
 
+-- flags
 flag_members : (ms : Members) → AreFlagMembers ms → members_depth ms ≤ 0
 flag_members no_members h = omega arith
 flag_members (member k null ms) h = absurd h
@@ -143,6 +156,7 @@ flag_members (member k (string s) ms) h = absurd h
 flag_members (member k (array ds) ms) h = absurd h
 flag_members (member k (object ns) ms) h = absurd h
 
+-- an object of flags
 flags : (f : _) (d : Data) → AreFlags f d → depth d ≤ 1
 flags f null h = absurd h
 flags f (boolean b) h = absurd h
@@ -151,6 +165,7 @@ flags f (string s) h = absurd h
 flags f (array ds) h = absurd h
 flags f (object ms) h = omega (arith, flag_members ms h.0)
 
+-- a pattern and what stands behind it
 pattern : (p : PatternData) (ds : Items) → IsPattern p ds → items_depth ds ≤ 1
 pattern p no_items h = absurd h
 pattern p (item d no_items) h = omega (arith, flat d _ (h.0).0)
@@ -158,20 +173,25 @@ pattern p (item d (item e no_items)) h = omega (arith, flat d _ (h.0).0, flat e 
 pattern p (item d (item e (item f no_items))) h = omega (arith, flat d _ (h.0).0, flat e _ h.1, flags p.flags f h.2)
 pattern p (item d (item e (item f (item g ds)))) h = absurd h
 
+-- a second
 a_second : (second : ℤ) (d : Data) → IsSecond second d → depth d ≤ 1
 a_second second d h = omega (arith, between _ _ second d h)
 
+-- a clock spec and its field
 a_since : (instance : InstanceData) (point : SinceData) (ds : Items) → IsSince instance point ds → items_depth ds ≤ 1
 a_since instance (Observed b) ds h = one_or_two _ _ _ (bound instance b) (word _) ds h
 a_since instance (Created b) ds h = one_or_two _ _ _ (bound instance b) (word _) ds h
 a_since instance (Modified second) ds h = one_or_two _ _ _ (a_second second) (word _) ds h
 
+-- a size
 a_size : (relation : Relation) (n : ℤ) (ds : Items) → IsComparison relation n ds → items_depth ds ≤ 1
 a_size relation n ds h = omega (arith, comparison relation n ds h)
 
+-- a directory
 directory : (dir : List ℕ) (d : Data) → IsDirectory dir d → depth d ≤ 1
 directory dir d h = one_text _ d (h.1).1
 
+-- a kind
 a_kind : (kind : Kind) (d : Data) → IsKind kind d → depth d ≤ 1
 a_kind kind d h = omega (arith, flat d _ h.0)
 

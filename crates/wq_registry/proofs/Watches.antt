@@ -10,9 +10,11 @@ use Rattle.wq_registry.specs.Shelf.{ShelfData, blank}
 use Rattle.wq_registry.specs.Use.{Use, at_tick, unsetting, used, used_by}
 use Rattle.wq_registry.specs.History.{Call, adds_program, removes_program, adds_root, removes_root, uses_cursor, unsets_cursor, adds_trigger, removes_trigger, after, after_all, is_on, stays_on, is_interrupted, since_added, cursor_use, trigger_change, CursorsAreMade, TriggersAreMade}
 
+-- numbers that are compared as equal are one
 same_number : (a b : ℕ) → nat_eq a b ≡ true → a ≡ b
 same_number a b h = eqb-true a b h
 
+-- numbers that differ, the other way round
 turned_number : (a b : ℕ) → nat_eq a b ≡ false → nat_eq b a ≡ false
 turned_number a b h = by (nat_eq b a) refl
   where
@@ -88,6 +90,7 @@ module _ {T : Type 0} where
         by true h rest = h
         by false h rest = rest h
 
+    -- and not before them
     append-none : (rs ys : List (RootData T)) → numbered root rs ≡ None → numbered root (rs ++ ys) ≡ numbered root ys
     append-none [] ys h = refl
     append-none (r ∷ rs) ys h = by (nat_eq root r.number) h (append-none rs ys)
@@ -125,6 +128,7 @@ module _ {T : Type 0} where
         by true same = subst (λ m. numbered root (changed m f rs) ≡ Some (f x)) (same_number root n same) (changed-same f keeps rs ∙ ap (option_map f) h)
         by false differs = changed-other n f keeps differs rs ∙ h
 
+  -- changes leave each number once
   numbered-changed : (n : ℕ) (f : RootData T → RootData T) → ((r : RootData T) → (f r).number ≡ r.number) → (rs : List (RootData T)) → Numbered rs → Numbered (changed n f rs)
   numbered-changed n f keeps [] once = once
   numbered-changed n f keeps (r ∷ rs) once = by (nat_eq n r.number) (numbered-changed n f keeps rs once.1)
@@ -133,6 +137,7 @@ module _ {T : Type 0} where
       by true rest = (subst (λ m. numbered m rs ≡ None) (sym (keeps r)) once.0, once.1)
       by false rest = (changed-none r.number n f keeps rs once.0, rest)
 
+  -- so does leaving some out
   numbered-filter : (test : RootData T → Bool) (rs : List (RootData T)) → Numbered rs → Numbered (filter test rs)
   numbered-filter test [] once = once
   numbered-filter test (r ∷ rs) once = by (test r) (numbered-filter test rs once.1)
@@ -141,6 +146,7 @@ module _ {T : Type 0} where
       by true rest = (filter-none r.number test rs once.0, rest)
       by false rest = rest
 
+  -- and adding a root with a new number
   numbered-push : (rs : List (RootData T)) (y : RootData T) → Numbered rs → numbered y.number rs ≡ None → Numbered (rs ++ y ∷ [])
   numbered-push [] y once h = (refl, tt)
   numbered-push (r ∷ rs) y once h = by (nat_eq y.number r.number) refl h (numbered-push rs y once.1)
@@ -175,6 +181,7 @@ module _ {T : Type 0} where
   effect root (adds_root text number) x = x
   effect root (removes_root number) x = x
 
+  -- a root that stays on the shelf is what the call makes of it
   stayed : (root : ℕ) (c : Call T) (s : ShelfData T) (x : RootData T) → Numbered s.roots → numbered root s.roots ≡ Some x → is_on root (after c s) ≡ true → numbered root (after c s).roots ≡ Some (effect root c x)
   stayed root (adds_program name program) s x once h on = h
   stayed root (removes_program name) s x once h on = h
@@ -205,6 +212,7 @@ module _ {T : Type 0} where
   stayed root (adds_trigger r name trigger) s x once h on = on-change root r (with_trigger name trigger) (λ r. refl) s.roots x h
   stayed root (removes_trigger r name) s x once h on = on-change root r (without_trigger name) (λ r. refl) s.roots x h
 
+  -- a root that is not there is none
   no_root : {A : Type 0} (x : RootData T) (o : Option (RootData T)) → o ≡ None → o ≡ Some x → A
   no_root x o none some = let no : None ≡ Some x = sym none ∙ some in absurd (let none : ⊥ = cc in none)
 
@@ -212,6 +220,7 @@ module _ {T : Type 0} where
   abbrev IsNew : RootData T → Type 0
   IsNew x = (x.cursors ≡ []) × (x.triggers ≡ [])
 
+  -- a root that a call brings onto the shelf is new
   came : (root : ℕ) (c : Call T) (s : ShelfData T) (x : RootData T) → numbered root s.roots ≡ None → numbered root (after c s).roots ≡ Some x → IsNew x
   came root (adds_program name program) s x none some = no_root x _ none some
   came root (removes_program name) s x none some = no_root x _ none some
@@ -237,6 +246,7 @@ module _ {T : Type 0} where
       (part-none : part None ≡ empty)
       (part-new : (x : RootData T) → IsNew x → part (Some x) ≡ empty)
       (part-effect : (root : ℕ) (c : Call T) (x : RootData T) → part (Some (effect root c x)) ≡ run (uses root c) (part (Some x))) where
+    -- what a call makes of the part of a root that stays
     part-stays : (root : ℕ) (c : Call T) (s : ShelfData T) → Numbered s.roots → stays_on root s c ≡ true → part (numbered root (after c s).roots) ≡ run (uses root c) (part (numbered root s.roots))
     part-stays root c s once h = by (numbered root s.roots) refl
       where
@@ -247,6 +257,7 @@ module _ {T : Type 0} where
             ∙ part-effect root c x
             ∙ ap (λ o. run (uses root c) (part o)) (sym is)
 
+    -- where the root is not there before or after, the part is empty
     part-off : (root : ℕ) (c : Call T) (s : ShelfData T) → stays_on root s c ≡ false → part (numbered root (after c s).roots) ≡ empty
     part-off root c s h = by (numbered root (after c s).roots) refl
       where
@@ -258,6 +269,7 @@ module _ {T : Type 0} where
         by None is = ap part is ∙ part-none
         by (Some x) is = ap part is ∙ was x (numbered root s.roots) refl is
 
+    -- the part comes of the calls since the root was added
     kept : (root : ℕ) (cs : List (Call T)) (s : ShelfData T) → Numbered s.roots → part (numbered root (after_all cs s).roots) ≡ run (flat_map (uses root) (since_added root s cs)) (cond (is_interrupted root s cs) empty (part (numbered root s.roots)))
     kept root [] s once = sym (run-nil (part (numbered root s.roots)))
     kept root (c ∷ cs) s once =
@@ -272,15 +284,18 @@ module _ {T : Type 0} where
             ∙ sym (run-append (uses root c) (flat_map (uses root) (since_added root (after c s) cs)) (part (numbered root s.roots)))
         by false false h = ap (run (flat_map (uses root) (since_added root (after c s) cs))) (part-off root c s h)
 
+-- uses, one list after another
 used-append : (us vs : List Use) (xs : Named ℕ) → used (us ++ vs) xs ≡ used vs (used us xs)
 used-append [] vs xs = refl
 used-append (u ∷ us) vs xs = used-append us vs (used_by u xs)
 
+-- changes, one list after another
 made-append : {A : Type 0} (us vs : List (Change A)) (xs : Named A) → made (us ++ vs) xs ≡ made vs (made us xs)
 made-append [] vs xs = refl
 made-append (u ∷ us) vs xs = made-append us vs (changed_by u xs)
 
 module _ {T : Type 0} where
+  -- what a call makes of the cursors of a root
   cursors-effect : (root : ℕ) (c : Call T) (x : RootData T) → cursors_in (Some (effect root c x)) ≡ used (cursor_use root c) x.cursors
   cursors-effect root (adds_program name program) x = refl
   cursors-effect root (removes_program name) x = refl
@@ -291,6 +306,7 @@ module _ {T : Type 0} where
   cursors-effect root (adds_trigger r name trigger) x = elim (nat_eq root r) as (λ b. cursors_in (Some (cond b (with_trigger name trigger x) x)) ≡ x.cursors) [ true ↦ refl | false ↦ refl ]
   cursors-effect root (removes_trigger r name) x = elim (nat_eq root r) as (λ b. cursors_in (Some (cond b (without_trigger name x) x)) ≡ x.cursors) [ true ↦ refl | false ↦ refl ]
 
+  -- and of its triggers
   triggers-effect : (root : ℕ) (c : Call T) (x : RootData T) → triggers_in (Some (effect root c x)) ≡ made (trigger_change root c) x.triggers
   triggers-effect root (adds_program name program) x = refl
   triggers-effect root (removes_program name) x = refl
@@ -301,6 +317,7 @@ module _ {T : Type 0} where
   triggers-effect root (adds_trigger r name trigger) x = elim (nat_eq root r) as (λ b. triggers_in (Some (cond b (with_trigger name trigger x) x)) ≡ made (cond b (putting name trigger ∷ []) []) x.triggers) [ true ↦ refl | false ↦ refl ]
   triggers-effect root (removes_trigger r name) x = elim (nat_eq root r) as (λ b. triggers_in (Some (cond b (without_trigger name x) x)) ≡ made (cond b (removing name ∷ []) []) x.triggers) [ true ↦ refl | false ↦ refl ]
 
+-- the law of the cursors of a root
 pub cursors_are_made : {T : Type 0} → CursorsAreMade T
 cursors_are_made {T} calls sockname root =
     kept (cursors_in {T = T}) [] cursor_use used (λ b. refl) used-append refl (λ x new. new.0) cursors-effect root calls (blank sockname) tt
@@ -310,6 +327,7 @@ cursors_are_made {T} calls sockname root =
     nothing true = refl
     nothing false = refl
 
+-- the law of its triggers
 pub triggers_are_made : {T : Type 0} → TriggersAreMade T
 triggers_are_made {T} calls sockname root =
     kept (triggers_in {T = T}) [] trigger_change made (λ b. refl) made-append refl (λ x new. new.1) triggers-effect root calls (blank sockname) tt

@@ -2,9 +2,9 @@
 -- No public document is behind it.
 use Rattle.std.specs.Prelude.{ℕ, ◌≡◌, Bool, false, List, [], ◌∷◌, ◌++◌, Option, None, Some, is_some}
 use Rattle.std.specs.Prelude.{◌||◌, if◌then◌else◌}
-use Rattle.std.specs.List.{list_any}
+use Rattle.std.specs.List.{list_any, slice_get}
 use Rattle.std.specs.Str.{bytes_eq}
-use Rattle.wq_registry.specs.Named.{Named, names, under, put, without}
+use Rattle.wq_registry.specs.Named.{Named, names, under, put, put_at, without}
 
 -- a change: a thing is put under a name, or taken out
 pub data Change (A : Type 0) : Type 0 where
@@ -64,3 +64,9 @@ LastChangeCounts A = (changes : List (Change A)) (name : List ℕ)
 -- under them since they were taken out
 abbrev pub NamesStandInOrder : Type 0 → Type 0
 NamesStandInOrder A = (changes : List (Change A)) → names (made changes []) ≡ brought_in [] changes
+
+-- another thing that is put at a place is put under the name there, in what changes come to
+abbrev pub PlacesAreNames : Type 0 → Type 0
+PlacesAreNames A = (changes : List (Change A)) (k : ℕ) (name : List ℕ) (a : A)
+    → slice_get (names (made changes [])) k ≡ Some name
+    → put_at k a (made changes []) ≡ put name a (made changes [])

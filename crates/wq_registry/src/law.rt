@@ -1,6 +1,6 @@
 //! Laws of what a list of accepted calls comes to, each the contract of a function that does
 //! nothing.
-ghost use Rattle.wq_registry.specs.Change.{LastChangeCounts, NamesStandInOrder};
+ghost use Rattle.wq_registry.specs.Change.{LastChangeCounts, NamesStandInOrder, PlacesAreNames};
 ghost use Rattle.wq_registry.specs.Use.{TheGreatestTickCounts};
 ghost use Rattle.wq_registry.specs.History.{CursorsAreMade, ProgramsAreMade, TriggersAreMade};
 
@@ -16,6 +16,13 @@ pub fn last_change_counts<A>()
 #[tactic(auto, using(crate::proofs::Changes::names_stand_in_order))]
 pub fn names_stand_in_order<A>()
     ensures { NamesStandInOrder A }
+{}
+
+/// Another thing that is put at a place is put under the name there. So what
+/// [`Shelf::trigger_mut`](crate::Shelf::trigger_mut) leaves is a trigger that is added again.
+#[tactic(auto, using(crate::proofs::Changes::places_are_names))]
+pub fn places_are_names<A>()
+    ensures { PlacesAreNames A }
 {}
 
 /// The tick of a cursor is the greatest that it was given since it was last unset.

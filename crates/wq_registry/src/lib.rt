@@ -18,8 +18,8 @@ mod shelf;
 pub use cache::{Cache, MAX_KEPT};
 pub use fault::ShelfFault;
 pub use law::{
-    cursors_are_made, last_change_counts, names_stand_in_order, programs_are_made,
-    the_greatest_tick_counts, triggers_are_made,
+    cursors_are_made, last_change_counts, names_stand_in_order, places_are_names,
+    programs_are_made, the_greatest_tick_counts, triggers_are_made,
 };
 pub use root::{MAX_CURSORS, MAX_TRIGGERS, Root};
 pub use shelf::{MAX_PROGRAMS, MAX_ROOTS, Shelf};

@@ -1,16 +1,17 @@
 //! Things under names, in the order in which the names came. How many there may be is not said
 //! here.
 ghost use Rattle.std.specs.Prelude.{◌≡◌, [], length, map, option_copied, option_map, slice_get};
-ghost use Rattle.std.specs.Prelude.{string_bytes, IfOk, OnOk, OnErr};
+ghost use Rattle.std.specs.Prelude.{None, string_bytes, IfNone, IfSome, IsOk, IsSome, IfOk, OnOk, OnErr};
 ghost use Rattle.std.specs.Option.{option_copied_mut};
 ghost use Rattle.std.specs.Borrow.{sem};
-ghost use Rattle.wq_registry.specs.Named.{has_no_place, names, put, under, values, without};
+ghost use Rattle.wq_registry.specs.Named.{has_no_place, names, put, put_at, under, values, without};
 ghost use Rattle.wq_registry.specs.Lending.{LendsAt};
 
 use indexmap::IndexMap;
 use indexmap::map::Keys;
 use std::alloc::{AllocError, Global};
 use std::marker::Model;
+use std::mem;
 
 /// Things under names. A name that is put again keeps its place.
 #[derive(Drop)]
@@ -84,14 +85,48 @@ impl<V> Named<V> {
 }
 
 impl<V: Drop> Named<V> {
-    /// Puts a thing under a name, and gives back what stood there.
-    #[tactic(auto, using(crate::proofs::Entries::inserted))]
+    /// Puts a thing under a name, and gives back what stood there. Where something did, this takes
+    /// no memory.
     pub(crate) fn put(
         &mut self,
         alloc: Global,
         name: &str,
         value: V,
     ) -> Result<Option<V>, AllocError>
+        ensures old { IfOk result (λ old. old ≡ under name.now self.old) }
+        ensures put { OnOk result (self.new ≡ put name.now value self.old) }
+        ensures kept { OnErr result (self.new ≡ self.old) }
+        ensures known { IsSome (under name.now self.old) → IsOk result }
+    {
+        match self.place_of(name) {
+            Some(k) => Ok(self.replace(k, value)),
+            None => self.push(alloc, name, value),
+        }
+    }
+
+    /// The place of a name.
+    fn place_of(&self, name: &str) -> Option<usize>
+        ensures place { IfSome result (λ k. (v : V) → put_at k v self.now ≡ put name.now v self.now) }
+        ensures value { IfSome result (λ k. slice_get (values self.now) k ≡ under name.now self.now) }
+        ensures none { IfNone result (under name.now self.now ≡ None) }
+    {
+        self.entries.get_index_of(name)
+    }
+
+    /// Puts a thing under the name at a place, and gives back what stood there.
+    fn replace(&mut self, k: usize, value: V) -> Option<V>
+        ensures old { result ≡ slice_get (values self.old) k }
+        ensures put { self.new ≡ put_at k value self.old }
+    {
+        match self.value_mut(k) {
+            Some(place) => Some(mem::replace(place, value)),
+            None => None,
+        }
+    }
+
+    /// Puts a thing under a name that may be new.
+    #[tactic(auto, using(crate::proofs::Entries::inserted))]
+    fn push(&mut self, alloc: Global, name: &str, value: V) -> Result<Option<V>, AllocError>
         ensures old { IfOk result (λ old. old ≡ under name.now self.old) }
         ensures put { OnOk result (self.new ≡ put name.now value self.old) }
         ensures kept { OnErr result (self.new ≡ self.old) }

@@ -1,6 +1,6 @@
 //! Roots: what a shelf keeps for each directory that is watched.
 ghost use Rattle.std.specs.Prelude.{◌≡◌, false, length, option_copied, option_map, slice_get, IfOk};
-ghost use Rattle.std.specs.Prelude.{OnErr, OnOk};
+ghost use Rattle.std.specs.Prelude.{IsOk, IsSome, OnErr, OnOk};
 ghost use Rattle.std.specs.Option.{option_copied_mut};
 ghost use Rattle.std.specs.Borrow.{sem};
 ghost use Rattle.wq_registry.specs.Limit.{max_cursors, max_triggers};
@@ -127,6 +127,7 @@ impl<T> Root<T> {
         ensures kept { OnErr result (self.new ≡ self.old) }
         ensures refused { Refuses false
             (has_no_place max_cursors name.now self.old.cursors) result }
+        ensures known { IsSome (under name.now self.old.cursors) → IsOk result }
     {
         if self.cursors.has_no_place(MAX_CURSORS, name) {
             return Err(ShelfFault::Full);
@@ -158,6 +159,7 @@ impl<T: Drop> Root<T> {
         ensures kept { OnErr result (self.new ≡ self.old) }
         ensures refused { Refuses false
             (has_no_place max_triggers name.now self.old.triggers) result }
+        ensures known { IsSome (under name.now self.old.triggers) → IsOk result }
     {
         if self.triggers.has_no_place(MAX_TRIGGERS, name) {
             return Err(ShelfFault::Full);

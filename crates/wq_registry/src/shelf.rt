@@ -1,7 +1,7 @@
 //! The shelf itself.
 ghost use Rattle.std.specs.Prelude.{◌≡◌, ◌<◌, [], false, is_none, is_some, length, map, nat_eq};
 ghost use Rattle.std.specs.Prelude.{option_copied, option_map, position, slice_get, string_bytes};
-ghost use Rattle.std.specs.Prelude.{IfOk, OnErr, OnOk};
+ghost use Rattle.std.specs.Prelude.{IfOk, IsOk, IsSome, OnErr, OnOk};
 ghost use Rattle.std.specs.Option.{option_copied_mut};
 ghost use Rattle.std.specs.Borrow.{sem};
 ghost use Rattle.std.specs.List.{list_any};
@@ -197,7 +197,7 @@ impl<T> Shelf<T> {
     }
 
     /// Uses a cursor of a root at a tick: gives the old tick, none at the first use, and keeps the
-    /// larger of the two.
+    /// larger of the two. A cursor that is there is moved without memory.
     ///
     /// # Errors
     /// [`ShelfFault::NoRoot`] where the root is not on the shelf; [`ShelfFault::Full`] where the
@@ -214,6 +214,7 @@ impl<T> Shelf<T> {
         ensures kept { OnErr result (self.new ≡ self.old) }
         ensures refused { Refuses (is_none (numbered root self.old.roots))
             (has_no_place max_cursors name.now (cursors_of root self.old)) result }
+        ensures known { IsSome (under name.now (cursors_of root self.old)) → IsOk result }
     {
         let alloc = self.alloc;
         let Some(root) = self.root_mut(root) else {
@@ -284,7 +285,7 @@ impl<T: Drop> Shelf<T> {
     }
 
     /// Puts a trigger of a root under a name, and gives back the one that stood there, whose place
-    /// it takes. A new name stands last.
+    /// it takes without memory. A new name stands last.
     ///
     /// # Errors
     /// [`ShelfFault::NoRoot`] where the root is not on the shelf; [`ShelfFault::Full`] where the
@@ -301,6 +302,7 @@ impl<T: Drop> Shelf<T> {
         ensures kept { OnErr result (self.new ≡ self.old) }
         ensures refused { Refuses (is_none (numbered root self.old.roots))
             (has_no_place max_triggers name.now (triggers_of root self.old)) result }
+        ensures known { IsSome (under name.now (triggers_of root self.old)) → IsOk result }
     {
         let alloc = self.alloc;
         let Some(root) = self.root_mut(root) else {

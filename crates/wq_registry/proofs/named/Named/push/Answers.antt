@@ -3,7 +3,7 @@ use Rattle.std.specs.String.{string_bytes}
 use Rattle.wq_registry.specs.Entry.{by_bytes}
 use Rattle.wq_registry.specs.Named.{under, put}
 use Rattle.wq_registry.proofs.Entries.{found, inserted}
-use Rattle.wq_registry.proofs.named.Named.put.Goals as goal
+use Rattle.wq_registry.proofs.named.Named.push.Goals as goal
 
 pub returns-in-Ok-clause-old : goal.returns-in-Ok-clause-old
 returns-in-Ok-clause-old g c =
