@@ -6,3 +6,9 @@ mod Passes
 mod Ends
 mod FirstView
 mod FirstPasses
+mod Beginnings
+mod Adding
+mod Comparing
+mod Sharing
+mod Longest
+mod Fullness

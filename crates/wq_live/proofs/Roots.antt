@@ -1,10 +1,10 @@
 -- Lists of roots: which have a number, and what keeps their numbers.
-use Rattle.std.proofs.Common.{◌≡◌, ◌==◌, ℕ, ◌<◌, ◌≤◌, Bool, true, false, cond, not, ◌&&◌, List, [], ◌∷◌, map, filter, Some, is_some, refl, ap, subst, arith}
+use Rattle.std.proofs.Common.{◌≡◌, ◌==◌, ℕ, ◌<◌, ◌≤◌, Bool, true, false, cond, not, ◌&&◌, List, [], ◌∷◌, map, filter, Some, is_some, refl, ap, subst, arith, option_map, bytes_eq}
 use Rattle.std.specs.List.{find, list_any, AllByRecursion}
 use Rattle.std.proofs.lemmas.Bool.Decides.{nat_tests}
 use Rattle.wq_view.specs.View.{ViewData}
 use Rattle.wq_live.specs.Event.{Root}
-use Rattle.wq_live.specs.Table.{RootView, root_of, has_number, with_view}
+use Rattle.wq_live.specs.Table.{RootView, root_of, has_number, has_text, with_view}
 
 -- numbers that differ are told apart
 pub less_differs : (m n : ℕ) → m < n → (m == n) ≡ false
@@ -34,6 +34,16 @@ any_of_number n (r ∷ rs) = at (r.number == n) refl (any_of_number n rs)
 
 some_same : {X : Type 0} {x y : X} → Some x ≡ Some y → x ≡ y
 some_same h = cc h
+
+-- a root is found by its text with and without views
+pub root_of_text : (text : List ℕ) (roots : List RootView) → find (λ (root : Root). bytes_eq root.text text) (map root_of roots) ≡ option_map root_of (find (has_text text) roots)
+root_of_text text [] = refl
+root_of_text text (r ∷ rs) = at (bytes_eq r.text text) refl (root_of_text text rs)
+  where
+    at : (b : Bool) → bytes_eq r.text text ≡ b → find (λ (root : Root). bytes_eq root.text text) (map root_of rs) ≡ option_map root_of (find (has_text text) rs)
+        → find (λ (root : Root). bytes_eq root.text text) (map root_of (r ∷ rs)) ≡ option_map root_of (find (has_text text) (r ∷ rs))
+    at true e ih = rw e refl
+    at false e ih = rw e ih
 
 -- what is found passes the test, and is as each of the list is
 pub found_passes : {X : Type 0} (p : X → Bool) (P : X → Type 0) (xs : List X) (x : X) → find p xs ≡ Some x → AllByRecursion P xs → (p x ≡ true) × P x

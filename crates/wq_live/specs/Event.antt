@@ -1,7 +1,7 @@
 -- What happened to roots, in order: their starts, the passes over them and their ends. From that
 -- follows which roots are shown, and which passes each of them had.
 -- No public document is behind it.
-use Rattle.std.specs.Prelude.{◌≡◌, ◌≤◌, ◌==◌, ℕ, Bool, false, not, if◌then◌else◌, All, List, [], ◌∷◌, length, map, filter, Option, Some, None}
+use Rattle.std.specs.Prelude.{◌≡◌, ◌≤◌, ◌==◌, ℕ, Bool, false, not, if◌then◌else◌, All, List, [], ◌∷◌, length, map, filter, find, bytes_eq, Option, Some, None}
 use Rattle.std.specs.FinMap.{len}
 use Rattle.std.specs.List.{filter_map, list_any, range_with_len}
 use Rattle.wq_view.specs.Listing.{PassData}
@@ -50,6 +50,10 @@ shown events = filter (λ root. not (has_ended events root.number)) (started eve
 -- whether the root of this number is shown
 abbrev pub is_shown : List RootEvent → ℕ → Bool
 is_shown events number = list_any (λ root. root.number == number) (shown events)
+
+-- the root of this text, where one is shown
+abbrev pub root_named : List ℕ → List RootEvent → Option Root
+root_named text events = find (λ root. bytes_eq root.text text) (shown events)
 
 -- the passes over the root of this number
 abbrev pub passes_over : ℕ → List RootEvent → History

@@ -2,3 +2,5 @@ pub mod Limit
 pub mod Event
 pub mod Table
 pub mod Tree
+pub mod Front
+pub mod Shared

@@ -1,14 +1,27 @@
 //! The views of all roots: which roots are shown, and the view of each, as they follow from one list of what
-//! happened to the roots. The table is plain data in memory; nothing here walks a tree of files.
+//! happened to the roots. A publisher changes the list, and seats look at its table from other threads. Nothing
+//! here walks a tree of files.
 #![tactic(auto)]
 
+mod blank;
 mod event;
+mod front;
+mod kept;
 mod limit;
+mod named;
+mod publisher;
+mod publishing;
+mod seat;
+mod shown;
 mod shown_root;
 mod table;
 mod tree;
 
+pub use blank::Blank;
 pub use event::RootEvent;
 pub use limit::MAX_ROOTS;
+pub use named::Named;
+pub use publisher::Publisher;
+pub use seat::{Look, Seat, Told};
 pub use table::{RootTable, StartFault};
 pub use tree::{Tree, TreeFault};

@@ -84,6 +84,14 @@ impl RootTable {
         self.roots.len()
     }
 
+    /// How many roots were ever started, which is the number of the last one.
+    pub fn given(&self) -> u64
+        ensures value { result ≡ self.now.given }
+        ensures bound { result ≤ max_number }
+    {
+        self.given
+    }
+
     /// Whether no root is shown.
     pub fn is_empty(&self) -> bool
         ensures { IsTrue result ↔ (self.now.roots ≡ []) }
@@ -100,6 +108,14 @@ impl RootTable {
     {
         let root = self.root_of_text(text)?;
         Some((root.number, &root.view))
+    }
+
+    /// The number of the root of this text, if it is shown.
+    pub fn number_of(&self, text: &str) -> Option<u64>
+        ensures { result ≡ option_map (λ root. root.number) (find (has_text text.now) self.now.roots) }
+    {
+        let root = self.root_of_text(text)?;
+        Some(root.number)
     }
 
     /// The view of the root of this number, if it is shown.
@@ -131,6 +147,7 @@ impl RootTable {
     /// that of the last start.
     ///
     /// Refused where 16 roots are shown or the number 2^62 was given.
+
     pub fn with_start(&self, text: &str, pass: &Pass) -> Result<RootTable, StartFault>
         requires new { find (has_text text.now) self.now.roots ≡ None }
         ensures started { (events : List RootEvent) → IsTableOf events self.now
@@ -217,6 +234,7 @@ impl RootTable {
     }
 
     /// The table after the end of the root of this number; none where it is not shown, and nothing is added.
+
     pub fn with_end(&self, number: u64) -> Result<Option<RootTable>, AllocError>
         ensures { (events : List RootEvent) → IsTableOf events self.now
             → IfOk result (λ next. MatchOption next

@@ -1,0 +1,74 @@
+-- What a table says of the list of which it is the table: how many roots, and which text.
+use Rattle.std.proofs.Common.{◌≡◌, ◌⊎◌, ◌↔◌, ◌==◌, ℕ, Bool, true, false, IsTrue, if◌then◌else◌, List, [], ◌∷◌, length, Result, Ok, Err, Option, Some, None, option_map, is_some, IfSome, refl, ap, sym, subst, ◌∙◌}
+use Rattle.std.specs.FinMap.{empty, len}
+use Rattle.std.specs.List.{find}
+use Rattle.std.proofs.lemmas.List.{length-map}
+use Rattle.wq_base.specs.Limit.{max_number}
+use Rattle.wq_view.specs.Listing.{PassData}
+use Rattle.wq_live.specs.declared.event.RootEvent.{RootEvent}
+use Rattle.wq_live.specs.declared.table.StartFault.{StartFault}
+use Rattle.wq_live.specs.declared.table.StartFault.TheVariants.{TooManyRoots, NoMemory}
+use Rattle.wq_live.specs.Event.{shown, started, is_shown, passes_over, root_named, first_history}
+use Rattle.wq_live.specs.Limit.{max_roots}
+use Rattle.wq_live.specs.Table.{RootView, TableData, IsTableOf, root_of, has_number, has_text}
+use Rattle.wq_live.proofs.Roots.{root_of_text}
+use Rattle.wq_view.specs.View.{ViewData, IsViewOf}
+use Rattle.wq_live.proofs.FirstView.{is_empty, not_empty}
+use Rattle.wq_live.proofs.Passes.{not_shown, is_there, found_view}
+
+module _ (events : List RootEvent) (table : TableData) (is : IsTableOf events table) where
+  -- the root of a text
+  pub named : (text : List ℕ) → root_named text events ≡ option_map root_of (find (has_text text) table.roots)
+  named text = rw (sym is.roots) (root_of_text text table.roots)
+
+  none_named : (o : Option RootView) → option_map root_of o ≡ None → o ≡ None
+  none_named None e = refl
+  none_named (Some r) e = absurd cc
+
+  pub not_there : (text : List ℕ) → root_named text events ≡ None → find (has_text text) table.roots ≡ None
+  not_there text e = none_named (find (has_text text) table.roots) (sym (named text) ∙ e)
+
+  number_is : (o : Option RootView) → option_map (λ (r : RootView). r.number) o ≡ option_map (λ root. root.number) (option_map root_of o)
+  number_is None = refl
+  number_is (Some r) = refl
+
+  pub number_named : (text : List ℕ) → option_map (λ (r : RootView). r.number) (find (has_text text) table.roots) ≡ option_map (λ root. root.number) (root_named text events)
+  number_named text = number_is (find (has_text text) table.roots) ∙ ap (option_map (λ root. root.number)) (sym (named text))
+
+  -- a table is full where the list is
+  pub full : {Q : Type 0} → (Q ↔ ((length table.roots ≡ max_roots) ⊎ (table.given ≡ max_number))) → (Q ↔ ((length (shown events) ≡ max_roots) ⊎ (length (started events) ≡ max_number)))
+  full iff = rw (sym is.given, sym is.roots, length-map table.roots root_of) iff
+
+-- what a number finds in the table is the view of the passes over that root
+pub shows : {A : Type 0} (f : A → ViewData) (events : List RootEvent) (table : TableData) → IsTableOf events table → (number : ℕ) (answer : Option A)
+    → option_map f answer ≡ option_map (λ (r : RootView). r.view) (find (has_number number) table.roots)
+    → (is_some answer ≡ is_shown events number) × IfSome answer (λ view. IsViewOf (passes_over number events) (f view))
+shows {A = A} f events table is number answer e = at answer (find (has_number number) table.roots) refl e
+  where
+    at : (answer : Option A) (found : Option RootView) → find (has_number number) table.roots ≡ found → option_map f answer ≡ option_map (λ (r : RootView). r.view) found
+        → (is_some answer ≡ is_shown events number) × IfSome answer (λ view. IsViewOf (passes_over number events) (f view))
+    at None None here e = (sym (not_shown events table is number here), tt)
+    at None (Some r) here e = absurd cc
+    at (Some v) None here e = absurd cc
+    at (Some v) (Some r) here e = (sym (is_there events table is number r here), subst (IsViewOf (passes_over number events)) (cc e) (found_view events table is number r here))
+
+-- a start that fails for memory did not find the table full
+pub no_memory : {A B P : Type 0} (r : Result A StartFault) (s : Result B StartFault) (b : B) (y : StartFault) → r ≡ Err y → y ≡ NoMemory → s ≡ Ok b → ((s ≡ Err TooManyRoots) ↔ P) → ((r ≡ Err TooManyRoots) ↔ P)
+no_memory r s b y e f ok iff = ((λ h. absurd (cc (h, e, f))), (λ p. absurd (cc (iff.1 p, ok))))
+
+-- and one that succeeds did not either
+pub well : {A B P : Type 0} (a : A) (s : Result B StartFault) (b : B) → s ≡ Ok b → ((s ≡ Err TooManyRoots) ↔ P) → ((◌≡◌ {A = Result A StartFault} (Ok a) (Err TooManyRoots)) ↔ P)
+well a s b ok iff = ((λ h. absurd (cc h)), (λ p. absurd (cc (iff.1 p, ok))))
+
+-- whether a first pass is one
+pub first_is : (pass : PassData) (none : Bool) → (IsTrue none ↔ (empty ≡ pass.stats)) → first_history pass ≡ (if none then [] else pass ∷ [])
+first_is pass true iff = at (len pass.stats == 0) refl
+  where
+    at : (b : Bool) → (len pass.stats == 0) ≡ b → first_history pass ≡ []
+    at true e = rw e refl
+    at false e = absurd (not_empty pass.stats e (iff.0 refl))
+first_is pass false iff = at (len pass.stats == 0) refl
+  where
+    at : (b : Bool) → (len pass.stats == 0) ≡ b → first_history pass ≡ pass ∷ []
+    at true e = absurd (cc (iff.1 (is_empty pass.stats e)))
+    at false e = rw e refl

@@ -1,0 +1,12 @@
+-- a new seat knows nothing, and then what the writer knows
+use Rattle.wq_live.proofs.Sharing.{admits, forks, merges}
+use Rattle.wq_live.proofs.publisher.Publisher.seat.Goals as goal
+
+pub reader-requires : goal.reader-requires
+reader-requires g c = admits
+
+pub tell-requires : goal.tell-requires
+tell-requires g c = forks _ _
+
+pub learn-requires-clause-rule : goal.learn-requires-clause-rule
+learn-requires-clause-rule g c = merges _ _ _ _

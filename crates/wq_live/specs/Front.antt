@@ -1,0 +1,53 @@
+-- A beginning of the one list of events of all roots, as a thread knows it.
+-- No public document is behind it.
+use Rattle.std.specs.Prelude.{◌≡◌, ◌==◌, MatchBool, ℕ, true, nat_lt, if◌then◌else◌, List, [], ◌∷◌, ◌++◌, length, refl}
+use Rattle.std.specs.Coded.{Coded, code_by, coded×, coded_list}
+use mathlib.Core.List.{IsPrefix}
+use Rattle.logbook.specs.Pages.{Book, Cell, Named, Step, View, book_coded}
+use Rattle.wq_live.specs.contracts.event.RootEvent.{the_row}
+use Rattle.wq_live.specs.declared.event.RootEvent.{RootEvent}
+
+-- lists of events are told apart by their events
+abbrev pub events_code : Coded (List RootEvent)
+events_code = coded_list the_row.coded
+
+-- which list it is, and the events of it that are known
+pub record FrontData : Type 0 where
+  pub book : Book
+  pub log : List RootEvent
+
+-- a front as the pair of its parts
+abbrev pub front_code : Coded FrontData
+front_code =
+    code_by (Book × List RootEvent) (coded× book_coded events_code)
+    (λ front. (front.book, front.log))
+    (λ (book, log). record { book = book; log = log }) (λ _. refl)
+
+-- the one front begins the other, which is of the same list
+abbrev pub Begins : FrontData → FrontData → Type 0
+Begins a b = (a.book ≡ b.book) × IsPrefix a.log b.log
+
+-- how two fronts of one list stand to each other: the shorter begins the other
+abbrev pub Compared : FrontData → FrontData → Type 0
+Compared a b = MatchBool (nat_lt (length a.log) (length b.log)) (Begins a b) (Begins b a)
+
+-- the longer of two fronts
+abbrev pub longer_front : FrontData → FrontData → FrontData
+longer_front a b = if nat_lt (length a.log) (length b.log) then b else a
+
+-- the longer of two lists
+abbrev pub longer : List RootEvent → List RootEvent → List RootEvent
+longer a b = if nat_lt (length a) (length b) then b else a
+
+-- the word that threads share is the length of the list
+abbrev pub IsCount : List Cell → List RootEvent → Type 0
+IsCount cells log = cells ≡ (length log, true) ∷ (0, true) ∷ []
+
+-- that word of this list
+abbrev pub head_of : Book → Named
+head_of book = record { tracked = true; key = 0; book = book }
+
+-- the event was added to all that had been known; or the list was longer, and is known
+abbrev pub Adds : Step RootEvent → View RootEvent ℕ → ℕ → View RootEvent ℕ → Type 0
+Adds step before found after =
+    MatchBool (found == step.old) (after.0 ≡ before.0 ++ step.ask ∷ []) (length after.0 ≡ found)

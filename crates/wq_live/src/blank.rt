@@ -1,0 +1,73 @@
+//! The shared view before it has a name.
+ghost use Rattle.std.specs.Prelude.{◌≡◌, ◌<◌, ◌^◌, [], IfOk};
+
+use crate::front::{Front, Head};
+use crate::named::Named;
+use crate::publisher::Publisher;
+use crate::publishing::{ShownWriter, show};
+use crate::shown::Shown;
+use crate::table::RootTable;
+use left_right::writer::Writer;
+use logbook::{Seen, Start, Word};
+use std::alloc::{AllocError, Global};
+use std::marker::Model;
+use std::sync::{Arc, Wait};
+
+/// A shared view in which nothing happened yet. Contracts see its list, and which list it is.
+///
+/// It is not `Drop`: open it.
+pub struct Blank {
+    writer: ShownWriter,
+    head: Head,
+    alloc: Global,
+}
+
+impl Model for Blank {
+    ghost use Rattle.std.specs.Prelude.{◌≡◌, Some, [], drop};
+    ghost use Rattle.left_right.specs.Sides.{view as known};
+    ghost use Rattle.wq_live.specs.Front.{FrontData, front_code, head_of};
+
+    ghost Value = { FrontData };
+
+    ghost coded = { front_code };
+
+    ghost view = { λ b. b.writer.desk.shown.value };
+
+    ghost invariant = { λ b. (known b.writer.desk.place ≡ Some b.writer.desk.shown.value)
+        × (b.head ≡ head_of b.writer.desk.shown.value.book)
+        × (drop b.writer.behind b.writer.log.items ≡ []) };
+}
+
+impl Blank {
+    /// A shared view with room for so many seats at once.
+    pub fn new<R: Wait>(alloc: Global, rt: &R, seats: usize) -> Result<Blank, AllocError>
+        requires { (0 < seats) × (seats < 2 ^ 32) }
+        ensures { IfOk result (λ blank. blank.log ≡ []) }
+    {
+        let (seen, mut pen, _second) = Seen::open(Start::alone(), 0, 0);
+        let head = Word::tracked(0, &mut pen);
+        let table = Arc::new(alloc, RootTable::new(alloc))?;
+        let first = Shown::new(table, Front::new(seen));
+        let second = first.again()?;
+        let next = first.again()?;
+        let writer = Writer::new(alloc, first, second, seats)?;
+        Ok(Blank {
+            writer: show(rt, writer, next),
+            head,
+            alloc,
+        })
+    }
+
+    /// The publisher, which makes the seats. It waits by this handle.
+    pub fn open<N: Named, R: Wait + Drop>(self, rt: R) -> Publisher<N, R>
+        requires { self.book ≡ N.book }
+        ensures { result ≡ self.log }
+    {
+        let Blank {
+            writer,
+            head,
+            alloc,
+        } = self;
+        Publisher::over(writer, head, alloc, rt)
+    }
+}

@@ -1,0 +1,47 @@
+//! What threads keep of the value that they share: what a seat knows begins the list of what is shown.
+
+use crate::front::Front;
+use crate::shown::Shown;
+use atomic_table::{Join, Split};
+use crossbeam_utils::rule::{Outcome, Protocol};
+
+/// What a seat knows of the list: nothing yet, or a beginning.
+pub type Known = Option<Front>;
+
+/// What each seat knows begins the list of what is shown.
+pub struct Kept;
+
+impl Protocol<Shown, Option<Front>> for Kept {
+    ghost use Rattle.std.specs.Prelude.{None};
+    ghost use Rattle.wq_live.specs.Shared.{AllBegin};
+
+    ghost holds = { AllBegin };
+
+    ghost first = { None };
+}
+
+/// A step after which a seat knows the list of what is shown.
+pub struct Knowing;
+
+impl Outcome<Shown, Option<Front>> for Knowing {
+    ghost use Rattle.wq_live.specs.Shared.{Sees};
+
+    ghost then = { λ before _ shown after. Sees before shown after };
+}
+
+/// A new seat gets to know what the publisher knows.
+pub struct Note;
+
+impl Split<Option<Front>> for Note {
+    ghost left = { λ known. known };
+
+    ghost right = { λ known. known };
+}
+
+impl Join<Option<Front>> for Note {
+    ghost use Rattle.std.specs.Prelude.{None};
+
+    ghost both = { λ _ told. told };
+
+    ghost spent = { None };
+}

@@ -1,0 +1,229 @@
+//! The publisher: the one that changes the list of events, and shows what follows from it.
+ghost use Rattle.std.specs.Prelude.{if◌then◌else◌, ◌+◌, ◌↔◌, None, option_map, ◌≡◌, ◌⊎◌, ◌++◌, ◌∷◌, [], Err, IfErr, IfOk, MatchResult, Some, drop, false, length, true};
+ghost use Rattle.left_right.specs.Sides.{view};
+ghost use Rattle.wq_live.specs.Front.{head_of};
+ghost use Rattle.wq_base.specs.Limit.{max_number};
+ghost use Rattle.wq_view.specs.Limit.{max_tick};
+ghost use Rattle.wq_live.specs.Limit.{max_roots};
+ghost use Rattle.wq_live.specs.declared.event.RootEvent.TheVariants.{Ended, Passed};
+ghost use Rattle.wq_live.specs.Event.{first_history, is_shown, passes_over, root_named, shown, start_events, started};
+ghost use Rattle.wq_live.specs.Table.{IsNews, IsNoNews, IsTableOf};
+
+use crate::event::RootEvent;
+use crate::front::Head;
+use crate::kept::Note;
+use crate::named::Named;
+use crate::publishing::{ShownWriter, show};
+use crate::seat::{Seat, Told};
+use crate::shown::Shown;
+use crate::table::{RootTable, StartFault};
+use core::{mem, slice};
+use std::alloc::{AllocError, Global};
+use std::marker::{Model, PhantomData};
+use std::sync::{Arc, Wait};
+use wq_base::Text;
+use wq_view::{Pass, View, ViewFault};
+
+/// The publisher. Contracts see its list of events.
+pub struct Publisher<N: Named, R: Wait + Drop> {
+    writer: ShownWriter,
+    head: Head,
+    alloc: Global,
+    rt: R,
+    of: PhantomData<N>,
+}
+
+impl<N: Named, R: Wait + Drop> Model for Publisher<N, R> {
+    ghost use Rattle.std.specs.Prelude.{◌≡◌, List, Some, [], drop};
+    ghost use Rattle.left_right.specs.Sides.{view as known};
+    ghost use Rattle.wq_live.specs.declared.event.RootEvent.{RootEvent};
+    ghost use Rattle.wq_live.specs.Front.{events_code, head_of};
+
+    ghost Value = { List RootEvent };
+
+    ghost coded = { events_code };
+
+    ghost view = { λ p. p.writer.desk.shown.value.log };
+
+    ghost invariant = { λ p. (known p.writer.desk.place ≡ Some p.writer.desk.shown.value)
+        × (p.writer.desk.shown.value.book ≡ N.book) × (p.head ≡ head_of N.book)
+        × (drop p.writer.behind p.writer.log.items ≡ []) };
+}
+
+// The end waits for those that still look.
+impl<N: Named, R: Wait + Drop> Drop for Publisher<N, R> {
+    fn drop(self) {
+        let Publisher {
+            writer,
+            head: _,
+            alloc: _,
+            rt,
+            of: _,
+        } = self;
+        writer.take(&rt);
+    }
+}
+
+impl<N: Named, R: Wait + Drop> Publisher<N, R> {
+    /// The publisher over a writer.
+    pub(crate) fn over(writer: ShownWriter, head: Head, alloc: Global, rt: R) -> Publisher<N, R>
+        requires known { view writer.desk.place ≡ Some writer.desk.shown.value }
+        requires named { writer.desk.shown.value.book ≡ N.book }
+        requires head { head ≡ head_of N.book }
+        requires ready { drop writer.behind writer.log.items ≡ [] }
+        ensures { result ≡ writer.desk.shown.value.log }
+    {
+        Publisher {
+            writer,
+            head,
+            alloc,
+            rt,
+            of: PhantomData,
+        }
+    }
+
+    /// A new seat, which has seen what is published. Refused where each place is in use too.
+    pub fn seat(&mut self) -> Result<Seat<N>, AllocError>
+        ensures seat { IfOk result (λ seat. seat ≡ self.new) }
+        ensures kept { self.new ≡ self.old }
+    {
+        let told = self.writer.published().again()?;
+        let mut reader = self.writer.factory().reader()?;
+        reader.learn::<Note>(self.writer.tell::<Note>());
+        Ok(Seat::new(reader, told))
+    }
+
+    /// The table of what is published.
+    pub fn table(&self) -> &RootTable
+        ensures { IsTableOf self.now result.now }
+    {
+        self.writer.published().table()
+    }
+
+    /// The number of the root of this text, where it is shown.
+    pub fn find(&self, text: &str) -> Option<u64>
+        ensures { result ≡ option_map (λ root. root.number) (root_named text.now self.now) }
+    {
+        self.table().number_of(text)
+    }
+
+    /// How many roots are shown, at most 16.
+    pub fn len(&self) -> usize
+        ensures { result ≡ length (shown self.now) }
+    {
+        self.table().len()
+    }
+
+    /// Publishes the start of a root that is not shown, whose first pass this is, and gives its number: one more than
+    /// the number of the last start. It tells the list after it.
+    ///
+    /// Refused where 16 roots are shown or the number 2^62 was given. An error changes nothing. It waits for those
+    /// that still look at the value before the last one.
+    pub fn start(&mut self, text: &str, pass: Pass) -> Result<(u64, Told<N>), StartFault>
+        requires new { root_named text.now self.old ≡ None }
+        ensures number { IfOk result (λ it. it.0 ≡ length (started self.old) + 1) }
+        ensures added { IfOk result (λ it. self.new ≡ self.old ++ start_events it.0 text.now pass) }
+        ensures told { IfOk result (λ it. it.1 ≡ self.new) }
+        ensures full { (result ≡ Err StartFault.TooManyRoots)
+            ↔ ((length (shown self.old) ≡ max_roots) ⊎ (length (started self.old) ≡ max_number)) }
+        ensures err { IfErr result (λ _. self.new ≡ self.old) }
+    {
+        let next = self.table().with_start(text, &pass)?;
+        let number = next.given();
+        let text = Text::from_string(String::from_str(self.alloc, text)?);
+        let events = start_events(self.alloc, number, text, pass)?;
+        let told = self.add(next, &events)?;
+        Ok((number, told))
+    }
+
+    /// What is published now.
+    fn told(&self) -> Result<Told<N>, AllocError>
+        ensures { IfOk result (λ told. told ≡ self.now) }
+    {
+        Ok(Told::new(self.writer.published().again()?))
+    }
+
+    /// Publishes a pass over the root of this number. Nothing is added where the root is not shown, or where the last
+    /// pass over it saw just the same. It tells the list after it.
+    ///
+    /// Refused where the root's ticks are spent and the pass saw something else. An error changes nothing. It waits
+    /// for those that still look at the value before the last one.
+    pub fn publish(&mut self, number: u64, pass: Pass) -> Result<Told<N>, ViewFault>
+        ensures told { IfOk result (λ told. told ≡ self.new) }
+        ensures added { IfOk result (λ _. (IsNoNews self.old number pass × (self.new ≡ self.old))
+            ⊎ (IsNews self.old number pass × (self.new ≡ self.old ++ Passed number pass ∷ []))) }
+        ensures spent { result ≡ Err ViewFault.TicksSpent → IsNews self.old number pass
+            × (length (passes_over number self.old) ≡ max_tick) }
+        ensures err { IfErr result (λ _. self.new ≡ self.old) }
+    {
+        let Some(next) = self.table().with_pass(number, &pass)? else {
+            return Ok(self.told()?);
+        };
+        let event = RootEvent::Passed(number, pass);
+        Ok(self.add(next, slice::from_ref(&event))?)
+    }
+
+    /// Publishes the end of the root of this number. Nothing is added where it is not shown. It tells the list after
+    /// it.
+    ///
+    /// An error changes nothing. It waits for those that still look at the value before the last one.
+    pub fn retire(&mut self, number: u64) -> Result<Told<N>, AllocError>
+        ensures told { IfOk result (λ told. told ≡ self.new) }
+        ensures added { IfOk result (λ _. ((is_shown self.old number ≡ false) × (self.new ≡ self.old))
+            ⊎ ((is_shown self.old number ≡ true) × (self.new ≡ self.old ++ Ended number ∷ []))) }
+        ensures err { IfErr result (λ _. self.new ≡ self.old) }
+    {
+        let Some(next) = self.table().with_end(number)? else {
+            return self.told();
+        };
+        let event = RootEvent::Ended(number);
+        self.add(next, slice::from_ref(&event))
+    }
+
+    /// Adds events, and shows the table after them.
+    fn add(&mut self, table: RootTable, events: &[RootEvent]) -> Result<Told<N>, AllocError>
+        requires { IsTableOf (self.old ++ events.now) table }
+        ensures { MatchResult result
+            (λ told. (self.new ≡ self.old ++ events.now) × (told ≡ self.new))
+            (λ _. self.new ≡ self.old) }
+    {
+        let table = Arc::new(self.alloc, table)?;
+        let told = table.clone()?;
+        let mut front = self.writer.published().front().again();
+        if !front.add_all(&self.head, events) {
+            return Err(AllocError);
+        }
+        let told = Shown::new(told, front.again());
+        let next = Shown::new(table, front);
+        mem::replace_with(&mut self.writer, (&self.rt, next), |writer, (rt, next)| {
+            (show(rt, writer, next), ())
+        });
+        Ok(Told::new(told))
+    }
+}
+
+/// What the start of a root adds: its start, and its first pass unless that saw no file.
+fn start_events(
+    alloc: Global,
+    number: u64,
+    text: Text,
+    pass: Pass,
+) -> Result<Vec<RootEvent>, AllocError>
+    ensures { IfOk result (λ events. events.items ≡ start_events number text pass) }
+{
+    let mut events = Vec::with_capacity(alloc, 2)?;
+    events.push(RootEvent::Started(number, text))?;
+    if saw_nothing(alloc, &pass) {
+        return Ok(events);
+    }
+    events.push(RootEvent::Passed(number, pass))?;
+    Ok(events)
+}
+
+/// Whether a first pass saw no file.
+fn saw_nothing(alloc: Global, pass: &Pass) -> bool
+    ensures { first_history pass.now ≡ (if result then [] else pass.now ∷ []) }
+{
+    let is_same = View::new(alloc).shows(pass);
+    is_same
+}

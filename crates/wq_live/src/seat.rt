@@ -1,0 +1,217 @@
+//! Seats, which look at what is shown. A look waits for nobody and takes no memory.
+ghost use Rattle.std.specs.Prelude.{◌≡◌, IfSome, MatchResult, Some, is_some};
+ghost use mathlib.Core.List.{IsPrefix};
+ghost use Rattle.left_right.specs.Sides.{view};
+ghost use Rattle.wq_view.specs.View.{IsViewOf};
+ghost use Rattle.wq_live.specs.Event.{is_shown, passes_over};
+ghost use Rattle.wq_live.specs.Table.{IsTableOf};
+
+use crate::front::Front;
+use crate::kept::{Kept, Knowing};
+use crate::named::Named;
+use crate::shown::Shown;
+use crate::table::RootTable;
+use left_right::reader::{Reader, Reading};
+use std::marker::{Model, PhantomData};
+use wq_view::View;
+
+/// What the publisher told: the list of events as of that moment, with its table. Contracts see the list.
+#[derive(Drop)]
+pub struct Told<N: Named> {
+    shown: Shown,
+    of: PhantomData<N>,
+}
+
+impl<N: Named> Model for Told<N> {
+    ghost use Rattle.std.specs.Prelude.{◌≡◌, List};
+    ghost use Rattle.wq_live.specs.declared.event.RootEvent.{RootEvent};
+
+    ghost Value = { List RootEvent };
+
+    ghost use Rattle.wq_live.specs.Front.{events_code};
+
+    ghost coded = { events_code };
+
+    ghost view = { λ t. t.shown.log };
+
+    ghost invariant = { λ t. t.shown.book ≡ N.book };
+}
+
+impl<N: Named> Told<N> {
+    pub(crate) fn new(shown: Shown) -> Told<N>
+        requires { shown.book ≡ N.book }
+        ensures { result ≡ shown.log }
+    {
+        Told {
+            shown,
+            of: PhantomData,
+        }
+    }
+}
+
+/// A seat. Contracts see the list with which its next look begins: what it saw, or the longest that it was told, of
+/// which one begins the other.
+#[derive(Drop)]
+pub struct Seat<N: Named> {
+    reader: Reader<Shown, Option<Front>, Kept>,
+    saw: Front,
+    told: Shown,
+    of: PhantomData<N>,
+}
+
+impl<N: Named> Model for Seat<N> {
+    ghost use Rattle.std.specs.Prelude.{◌≡◌, List, Some};
+    ghost use Rattle.left_right.specs.Sides.{view as known};
+    ghost use Rattle.wq_live.specs.declared.event.RootEvent.{RootEvent};
+    ghost use Rattle.wq_live.specs.Front.{longer};
+
+    ghost Value = { List RootEvent };
+
+    ghost use Rattle.wq_live.specs.Front.{events_code};
+
+    ghost coded = { events_code };
+
+    ghost view = { λ s. longer s.saw.log s.told.log };
+
+    ghost invariant = { λ s. (known s.reader.place ≡ Some s.saw) × (s.saw.book ≡ N.book)
+        × (s.told.book ≡ N.book) };
+}
+
+impl<N: Named> Seat<N> {
+    /// The seat of a reader that knows what was told.
+    pub(crate) fn new(reader: Reader<Shown, Option<Front>, Kept>, told: Shown) -> Seat<N>
+        requires known { view reader.place ≡ Some told }
+        requires named { told.book ≡ N.book }
+        ensures { result ≡ told.log }
+    {
+        let saw = told.front().again();
+        Seat {
+            reader,
+            saw,
+            told,
+            of: PhantomData,
+        }
+    }
+
+    /// Takes in what was told: from now on its looks begin with that list too. It takes neither a wait nor memory.
+    pub fn learn(self, told: Told<N>) -> Seat<N>
+        ensures kept { IsPrefix self result }
+        ensures told { IsPrefix told result }
+    {
+        let Seat {
+            reader,
+            saw,
+            told: before,
+            of,
+        } = self;
+        let Told { shown, of: _ } = told;
+        saw.is_shorter(shown.front());
+        Seat {
+            reader,
+            saw,
+            told: before.longer(shown),
+            of,
+        }
+    }
+
+    /// Looks at what is shown. Contracts see the list of the look: it begins with what the seat saw before, and with
+    /// each list that it was told.
+    ///
+    /// Refused where the publisher is gone. A refused look changes nothing. It takes neither a wait nor memory.
+    pub fn look(self) -> Result<Look<N>, Seat<N>>
+        ensures { MatchResult result (λ look. IsPrefix self look) (λ seat. seat ≡ self) }
+    {
+        let Seat {
+            reader,
+            saw,
+            told,
+            of,
+        } = self;
+        match reader.enter_as::<Knowing>() {
+            Ok(reading) => {
+                let is_behind = reading.get().front().is_shorter(told.front());
+                Ok(Look {
+                    reading,
+                    told,
+                    is_behind,
+                    of,
+                })
+            }
+            Err(reader) => Err(Seat {
+                reader,
+                saw,
+                told,
+                of,
+            }),
+        }
+    }
+}
+
+/// A look at what is shown. Contracts see its list.
+///
+/// It is not `Drop`: end it by `leave`.
+pub struct Look<N: Named> {
+    reading: Reading<Shown, Option<Front>, Kept>,
+    told: Shown,
+    is_behind: bool,
+    of: PhantomData<N>,
+}
+
+impl<N: Named> Model for Look<N> {
+    ghost use Rattle.std.specs.Prelude.{◌≡◌, List, Some, length as count_of, nat_lt};
+    ghost use Rattle.left_right.specs.Sides.{view as known};
+    ghost use Rattle.wq_live.specs.declared.event.RootEvent.{RootEvent};
+    ghost use Rattle.wq_live.specs.Front.{longer};
+
+    ghost Value = { List RootEvent };
+
+    ghost use Rattle.wq_live.specs.Front.{events_code};
+
+    ghost coded = { events_code };
+
+    ghost view = { λ l. longer l.reading.part.value.log l.told.log };
+
+    ghost invariant = { λ l. (known l.reading.place ≡ Some l.reading.part.value)
+        × (l.reading.part.value.book ≡ N.book) × (l.told.book ≡ N.book)
+        × (l.is_behind ≡ nat_lt (count_of l.reading.part.value.log) (count_of l.told.log)) };
+}
+
+impl<N: Named> Look<N> {
+    /// The table of the look's list.
+    pub fn table(&self) -> &RootTable
+        ensures { IsTableOf self.now result.now }
+    {
+        if self.is_behind {
+            self.told.table()
+        } else {
+            self.reading.get().table()
+        }
+    }
+
+    /// The view of the root of this number, where it is shown in the look's list.
+    pub fn view(&self, number: u64) -> Option<&View>
+        ensures shown { is_some result ≡ is_shown self.now number }
+        ensures view { IfSome result (λ view. IsViewOf (passes_over number self.now) view.now) }
+    {
+        self.table().view(number)
+    }
+
+    /// The seat, whose next look begins with this one's list.
+    pub fn leave(self) -> Seat<N>
+        ensures { result ≡ self }
+    {
+        let Look {
+            reading,
+            told,
+            is_behind: _,
+            of,
+        } = self;
+        let saw = reading.get().front().again();
+        Seat {
+            reader: reading.leave(),
+            saw,
+            told,
+            of,
+        }
+    }
+}

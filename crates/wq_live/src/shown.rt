@@ -1,0 +1,97 @@
+//! The value that threads share: the table of all roots, with the list of events of which it is the table.
+ghost use Rattle.std.specs.Prelude.{◌≡◌, [], IfOk};
+ghost use Rattle.wq_live.specs.Front.{Compared, longer_front};
+ghost use Rattle.wq_live.specs.Table.{IsTableOf};
+
+use crate::front::Front;
+use crate::table::RootTable;
+use left_right::Absorb;
+use std::alloc::{AllocError, Global};
+use std::marker::Model;
+use std::sync::Arc;
+
+/// A table with the list of which it is the table. Contracts see the list.
+#[derive(Drop)]
+pub struct Shown {
+    table: Arc<RootTable>,
+    front: Front,
+}
+
+impl Model for Shown {
+    ghost use Rattle.wq_live.specs.Front.{FrontData, front_code};
+    ghost use Rattle.wq_live.specs.Table.{IsTableOf};
+
+    ghost Value = { FrontData };
+
+    ghost coded = { front_code };
+
+    ghost view = { λ s. s.front };
+
+    ghost invariant = { λ s. IsTableOf s.front.log s.table.value };
+}
+
+impl Shown {
+    /// The table of this list. It takes no memory.
+    pub(crate) fn new(table: Arc<RootTable>, front: Front) -> Shown
+        requires { IsTableOf front.log table.value }
+        ensures { result ≡ front }
+    {
+        Shown { table, front }
+    }
+
+    /// The same, which shares the table.
+    pub(crate) fn again(&self) -> Result<Shown, AllocError>
+        ensures { IfOk result (λ shown. shown ≡ self.now) }
+    {
+        Ok(Shown {
+            table: self.table.clone()?,
+            front: self.front.again(),
+        })
+    }
+
+    /// The one of two with the longer list.
+    pub(crate) fn longer(self, other: Shown) -> Shown
+        requires { self.book ≡ other.book }
+        ensures longer { result ≡ longer_front self other }
+        ensures compared { Compared self other }
+    {
+        if self.front.is_shorter(&other.front) {
+            other
+        } else {
+            self
+        }
+    }
+
+    /// The table.
+    pub(crate) fn table(&self) -> &RootTable
+        ensures { IsTableOf self.now.log result.now }
+    {
+        &self.table
+    }
+
+    /// The list.
+    pub(crate) fn front(&self) -> &Front
+        ensures { result.now ≡ self.now }
+    {
+        &self.front
+    }
+}
+
+// What is published replaces what was published, whole.
+impl Absorb<Shown> for Shown {
+    type State = Shown;
+
+    ghost state = { λ shown. shown };
+
+    ghost applied = { λ _ next. next };
+
+    fn absorb_first(&mut self, next: &Shown, _other: &Shown) -> Result<(), AllocError> {
+        *self = next.again()?;
+        Ok(())
+    }
+
+    fn absorb_second(&mut self, next: Shown, _other: &Shown) -> Result<(), Shown> {
+        *self = next;
+        Ok(())
+    }
+}
