@@ -1,7 +1,8 @@
 -- What a value asks is what the grammar has written by it.
-use Rattle.std.proofs.Common.{◌≡◌, ℕ, ℤ, Bool, true, false, not, ◌||◌, List, [], ◌∷◌, codes, Option}
-use Rattle.std.proofs.Common.{Some, None, option_map, Result, Ok, Err, refl, sym, ap, subst, ◌∙◌}
-use Rattle.std.specs.Option.{MatchOption, is_some}
+use Rattle.std.proofs.Common.{◌≡◌, ℕ, ℤ, Bool, true, false, not, ◌&&◌, ◌||◌, List, [], ◌∷◌, codes, Option}
+use Rattle.std.specs.Prelude.{◌⊎◌}
+use Rattle.std.proofs.Common.{Some, None, option_map, Result, Ok, Err, refl, sym, ap, subst, ◌∙◌, inl, inr}
+use Rattle.std.specs.Option.{MatchOption, is_some, option_and_then}
 use Rattle.std.specs.Result.{result_ok}
 use Rattle.std.specs.List.{AllByRecursion}
 use Rattle.std.proofs.lemmas.Option.{same_Some}
@@ -11,6 +12,9 @@ use Rattle.wq_base.specs.Fault.{is_true, or_fault, or_its_fault, unless_fault}
 use Rattle.wq_base.proofs.Fault.{or_fault-ok, or_its_fault-ok, unless_fault-ok, with_first-some}
 use Rattle.wq_base.proofs.Named.{named-name}
 use Rattle.wq_clock.specs.Instance.{InstanceData}
+use Rattle.wq_clock.specs.ClockSpec.{SpecData, clock_id, old_clock_id, named_cursor, clock_spec_of}
+use Rattle.wq_clock.specs.Spelling.{IsSpelling}
+use Rattle.wq_clock.specs.Law.{TextsSayWhatTheySpell}
 use Rattle.wq_clock.specs.declared.bound.Bound.{Bound}
 use Rattle.wq_clock.specs.declared.bound.Bound.TheVariants.{Fresh}
 use Rattle.wq_gen.specs.declared.generators.PathGen.{PathGen}
@@ -21,19 +25,20 @@ use Rattle.wq_term.specs.Law.{BoundsSayWhatTheyWrite, NumbersSayWhatTheyWrite}
 use Rattle.wq_term.specs.Law.{ValuesSayWhatTheyWrite}
 use Rattle.wq_term.specs.ArgumentGrammar.{IsWhole, IsBound}
 use Rattle.wq_query.specs.declared.fault.QueryFault.{QueryFault}
-use Rattle.wq_query.specs.declared.fault.QueryFault.TheVariants.{LeftOutKey, Expression}
+use Rattle.wq_query.specs.declared.fault.QueryFault.TheVariants.{LeftOutKey, ExpressionAndProgram, Expression}
 use Rattle.wq_query.specs.declared.fault.QueryFault.TheVariants.{UnknownField, BadGenerator}
 use Rattle.wq_query.specs.declared.fault.QueryFault.TheVariants.{BadClockSpec, WrongValue}
 use Rattle.wq_query.specs.declared.field.Field.{Field}
 use Rattle.wq_query.specs.declared.field.Field.TheVariants.{Name, Exists, New, Size, Kind, Cclock}
 use Rattle.wq_query.specs.declared.field.Field.TheVariants.{Oclock, Mtime, MtimeMs}
 use Rattle.wq_query.specs.Field.{field_name, field_named, fields, default_fields}
-use Rattle.wq_query.specs.Query.{QueryData}
+use Rattle.wq_query.specs.Query.{QueryData, SinceData, at_bound, at_cursor}
 use Rattle.wq_query.specs.Reading.{asks, left_out_keys, has_key_of, has_left_out_key, is_plain_case}
 use Rattle.wq_query.specs.Reading.{expression_of, field_of, fields_in, fields_of, since_of, flag_of}
-use Rattle.wq_query.specs.Reading.{is_whole}
+use Rattle.wq_query.specs.Reading.{is_whole, has_both, cursor_in, name_in, since_from, program_of}
 use Rattle.wq_query.specs.Generator.{suffixes_of, paths_in, paths_of}
-use Rattle.wq_query.specs.Grammar.{IsExpression, AreNamed, AreFields, AreSuffixes, ArePaths, IsWrittenBy}
+use Rattle.wq_query.specs.Grammar.{IsExpression, AreNamed, AreFields, AreSuffixes, ArePaths, IsCursor}
+use Rattle.wq_query.specs.Grammar.{IsSince, IsProgram, IsWrittenBy}
 use Rattle.wq_query.proofs.Paths.{paths-found, paths-read}
 use Rattle.wq_query.specs.Law.{ValuesAskWhatTheyWrite}
 
@@ -76,6 +81,18 @@ neither : (a b : Bool) → not (a || not b) ≡ true → (a ≡ false) × (b ≡
 neither false true e = (refl, refl)
 neither false false e = cc
 neither true b e = cc
+
+-- of an expression and a program one is missing
+one-found : (a b : Option Data) → not (is_some a && is_some b) ≡ true → (a ≡ None) ⊎ (b ≡ None)
+one-found None b e = inl refl
+one-found (Some d) None e = inr refl
+one-found (Some d) (Some e) f = cc
+
+one-reads : (a b : Option Data) → (a ≡ None) ⊎ (b ≡ None) → (is_some a && is_some b) ≡ false
+one-reads None b h = refl
+one-reads (Some d) None h = refl
+one-reads (Some d) (Some e) (inl h) = cc
+one-reads (Some d) (Some e) (inr h) = cc
 
 -- the expression
 expression-found : ValuesSayWhatTheyWrite
@@ -179,16 +196,77 @@ right : {A E : Type 0} (r : Result A E) (a : A) → result_ok r ≡ Some a → r
 right (Ok x) a e = ap Ok (same_Some x a e)
 right (Err fault) a e = cc
 
-since-found : BoundsSayWhatTheyWrite → (instance : InstanceData) (o : Option Data) (bound : Bound)
-    → since_of instance o ≡ Some bound → MatchOption o (bound ≡ Fresh) (IsBound instance bound)
-since-found law instance None bound e = sym (same_Some Fresh bound e)
-since-found law instance (Some d) bound e =
-    (law instance bound d).0 (right (bound_in instance d) bound e)
+-- nothing is not something
+none_or_some : {A : Type 0} (a : A) → ◌≡◌ {A = Option A} None (Some a) → ⊥
+none_or_some a e = cc
 
-since-reads : BoundsSayWhatTheyWrite → (instance : InstanceData) (o : Option Data) (bound : Bound)
-    → MatchOption o (bound ≡ Fresh) (IsBound instance bound) → since_of instance o ≡ Some bound
-since-reads law instance None bound h = ap Some (sym h)
-since-reads law instance (Some d) bound h = ap result_ok ((law instance bound d).1 h)
+-- a bound is said by no text that is a cursor
+bound-no-cursor : (instance : InstanceData) (d : Data) (bound : Bound) → bound_in instance d ≡ Ok bound
+    → cursor_in d ≡ None
+bound-no-cursor instance (string text) bound e = at (clock_spec_of text) refl
+  where
+    at : (o : Option SpecData) → clock_spec_of text ≡ o → cursor_in (string text) ≡ None
+    at None is = ap (option_and_then name_in) is
+    at (Some (clock_id other tick)) is = ap (option_and_then name_in) is
+    at (Some old_clock_id) is = ap (option_and_then name_in) is
+    at (Some (named_cursor name)) is = cc
+bound-no-cursor instance _ bound e = refl
+
+-- a text that is a cursor
+cursor-found : TextsSayWhatTheySpell → (d : Data) (name : List ℕ) → cursor_in d ≡ Some name → IsCursor name d
+cursor-found law (string text) name e = at (clock_spec_of text) refl
+  where
+    at : (o : Option SpecData) → clock_spec_of text ≡ o → IsSpelling (named_cursor name) text
+    at (Some (named_cursor other)) is =
+        subst (λ n. IsSpelling (named_cursor n) text)
+        (same_Some other name (sym (ap (option_and_then name_in) is) ∙ e)) ((law text (named_cursor other)).0 is)
+    at (Some (clock_id other tick)) is = absurd (none_or_some name (sym (ap (option_and_then name_in) is) ∙ e))
+    at (Some old_clock_id) is = absurd (none_or_some name (sym (ap (option_and_then name_in) is) ∙ e))
+    at None is = absurd (none_or_some name (sym (ap (option_and_then name_in) is) ∙ e))
+cursor-found law _ name e = cc
+
+cursor-reads : TextsSayWhatTheySpell → (d : Data) (name : List ℕ) → IsCursor name d → cursor_in d ≡ Some name
+cursor-reads law (string text) name h = ap (option_and_then name_in) ((law text (named_cursor name)).1 h)
+cursor-reads law _ name h = absurd h
+
+since-found : BoundsSayWhatTheyWrite → TextsSayWhatTheySpell
+    → (instance : InstanceData) (o : Option Data) (since : SinceData)
+    → since_of instance o ≡ Some since → MatchOption o (since ≡ at_bound Fresh) (IsSince instance since)
+since-found bounds texts instance None since e = sym (same_Some (at_bound Fresh) since e)
+since-found bounds texts instance (Some d) since e = at (cursor_in d) refl e
+  where
+    at : (o : Option (List ℕ)) → cursor_in d ≡ o → since_from o (result_ok (bound_in instance d)) ≡ Some since
+        → IsSince instance since d
+    at (Some name) is f =
+        subst (λ s. IsSince instance s d) (same_Some (at_cursor name) since f) (cursor-found texts d name is)
+    at None is f = mapped at_bound (result_ok (bound_in instance d)) since f (λ bound some same.
+        subst (λ s. IsSince instance s d) same
+        ((bounds instance bound d).0 (right (bound_in instance d) bound some)))
+
+since-reads : BoundsSayWhatTheyWrite → TextsSayWhatTheySpell
+    → (instance : InstanceData) (o : Option Data) (since : SinceData)
+    → MatchOption o (since ≡ at_bound Fresh) (IsSince instance since) → since_of instance o ≡ Some since
+since-reads bounds texts instance None since h = ap Some (sym h)
+since-reads bounds texts instance (Some d) (at_bound bound) h =
+    let is = (bounds instance bound d).1 h in
+    ap (λ o. since_from o (result_ok (bound_in instance d))) (bound-no-cursor instance d bound is)
+    ∙ ap (λ r. option_map at_bound (result_ok r)) is
+since-reads bounds texts instance (Some d) (at_cursor name) h =
+    ap (λ o. since_from o (result_ok (bound_in instance d))) (cursor-reads texts d name h)
+
+-- `program`
+program-found : (o : Option Data) (program : Option (List ℕ)) → program_of o ≡ Some program
+    → MatchOption o (program ≡ None) (IsProgram program)
+program-found None program e = sym (same_Some None program e)
+program-found (Some (string name)) program e =
+    subst (λ p. IsProgram p (string name)) (same_Some (Some name) program e) refl
+program-found (Some _) program e = cc
+
+program-reads : (o : Option Data) (program : Option (List ℕ))
+    → MatchOption o (program ≡ None) (IsProgram program) → program_of o ≡ Some program
+program-reads None program h = ap Some (sym h)
+program-reads (Some d) (Some name) h = ap (λ v. program_of (Some v)) h
+program-reads (Some d) None h = absurd h
 
 -- `empty_on_fresh_instance`
 flag-found : (o : Option Data) (b : Bool) → flag_of o ≡ Some b
@@ -218,12 +296,13 @@ whole-reads law None h = refl
 whole-reads law (Some d) h = ap is_some ((law h.0 d).1 h.1)
 
 -- the query whose keys say this
-abbrev pub with_keys : ExprData → List Field → Option (List (List ℕ)) → Option (List PathGen) → Bound
-    → Bool → QueryData
-with_keys t fs suffix path bound flag = record {
+abbrev pub with_keys : ExprData → List Field → Option (List (List ℕ)) → Option (List PathGen) → SinceData
+    → Option (List ℕ) → Bool → QueryData
+with_keys t fs suffix path since program flag = record {
   expression = t;
+  program = program;
   fields = fs;
-  bound = bound;
+  since = since;
   suffix = suffix;
   path = path;
   empty_on_fresh_instance = flag;
@@ -235,23 +314,30 @@ from_whole d query = unless_fault WrongValue (is_whole (get (codes "sync_timeout
 
 -- from `empty_on_fresh_instance` on
 abbrev pub from_flag : Data → ExprData → List Field → Option (List (List ℕ))
-    → Option (List PathGen) → Bound → Result QueryData QueryFault
-from_flag d t fs suffix path bound =
+    → Option (List PathGen) → SinceData → Option (List ℕ) → Result QueryData QueryFault
+from_flag d t fs suffix path since program =
     or_fault WrongValue (flag_of (get (codes "empty_on_fresh_instance") d)) (λ flag.
-    from_whole d (with_keys t fs suffix path bound flag))
+    from_whole d (with_keys t fs suffix path since program flag))
+
+-- from `program` on
+abbrev pub from_program : Data → ExprData → List Field → Option (List (List ℕ))
+    → Option (List PathGen) → SinceData → Result QueryData QueryFault
+from_program d t fs suffix path since =
+    or_fault WrongValue (program_of (get (codes "program") d)) (λ program.
+    from_flag d t fs suffix path since program)
 
 -- from `since` on
-abbrev pub from_since : InstanceData → Data → ExprData → List Field → Option (List (List ℕ))
+abbrev pub after_paths : InstanceData → Data → ExprData → List Field → Option (List (List ℕ))
     → Option (List PathGen) → Result QueryData QueryFault
-from_since instance d t fs suffix path =
-    or_fault BadClockSpec (since_of instance (get (codes "since") d)) (λ bound.
-    from_flag d t fs suffix path bound)
+after_paths instance d t fs suffix path =
+    or_fault BadClockSpec (since_of instance (get (codes "since") d)) (λ since.
+    from_program d t fs suffix path since)
 
 -- from `path` on
 abbrev pub from_path : InstanceData → Data → ExprData → List Field → Option (List (List ℕ))
     → Result QueryData QueryFault
 from_path instance d t fs suffix =
-    or_fault BadGenerator (paths_of (get (codes "path") d)) (λ path. from_since instance d t fs suffix path)
+    or_fault BadGenerator (paths_of (get (codes "path") d)) (λ path. after_paths instance d t fs suffix path)
 
 -- from `suffix` on
 abbrev pub from_suffix : InstanceData → Data → ExprData → List Field → Result QueryData QueryFault
@@ -268,54 +354,64 @@ abbrev pub from_expression : InstanceData → Data → Result QueryData QueryFau
 from_expression instance d =
     or_its_fault Expression (expression_of instance (get (codes "expression") d)) (λ t. from_fields instance d t)
 
+-- from the two that do not stand together on
+abbrev pub from_both : InstanceData → Data → Result QueryData QueryFault
+from_both instance d = unless_fault ExpressionAndProgram (not (has_both d)) (from_expression instance d)
+
 -- what is asked is written
-found : ValuesSayWhatTheyWrite → BoundsSayWhatTheyWrite → NumbersSayWhatTheyWrite
+found : ValuesSayWhatTheyWrite → BoundsSayWhatTheyWrite → TextsSayWhatTheySpell → NumbersSayWhatTheyWrite
     → (instance : InstanceData) (query : QueryData) (d : Data) → asks instance d ≡ Ok query
     → IsWrittenBy instance query d
-found values bounds numbers instance query d e =
-    unless_fault-ok LeftOutKey (not (has_left_out_key d)) (from_expression instance d) query e (λ none e1.
+found values bounds texts numbers instance query d e =
+    unless_fault-ok LeftOutKey (not (has_left_out_key d)) (from_both instance d) query e (λ none e0.
+    unless_fault-ok ExpressionAndProgram (not (has_both d)) (from_expression instance d) query e0 (λ one e1.
     or_its_fault-ok Expression (expression_of instance (get (codes "expression") d)) (λ t. from_fields instance d t) query e1 (λ t said e2.
     or_fault-ok UnknownField (fields_of (get (codes "fields") d)) (λ fs. from_suffix instance d t fs) query e2 (λ fs named e3.
     or_fault-ok BadGenerator (suffixes_of (get (codes "suffix") d)) (λ suffix. from_path instance d t fs suffix) query e3 (λ suffix ends e4.
-    or_fault-ok BadGenerator (paths_of (get (codes "path") d)) (λ path. from_since instance d t fs suffix path) query e4 (λ path stands e5.
-    or_fault-ok BadClockSpec (since_of instance (get (codes "since") d)) (λ bound. from_flag d t fs suffix path bound) query e5 (λ bound sets e6.
+    or_fault-ok BadGenerator (paths_of (get (codes "path") d)) (λ path. after_paths instance d t fs suffix path) query e4 (λ path stands e5.
+    or_fault-ok BadClockSpec (since_of instance (get (codes "since") d)) (λ since. from_program d t fs suffix path since) query e5 (λ since sets e6.
+    or_fault-ok WrongValue (program_of (get (codes "program") d)) (λ program. from_flag d t fs suffix path since program) query e6 (λ program called e7.
     or_fault-ok WrongValue (flag_of (get (codes "empty_on_fresh_instance") d)) (λ flag.
-    from_whole d (with_keys t fs suffix path bound flag)) query e6 (λ flag on e7.
+    from_whole d (with_keys t fs suffix path since program flag)) query e7 (λ flag on e8.
     unless_fault-ok WrongValue (is_whole (get (codes "sync_timeout") d))
-    (Ok (with_keys t fs suffix path bound flag)) query e7 (λ whole is.
+    (Ok (with_keys t fs suffix path since program flag)) query e8 (λ whole is.
     let parts = neither (has_key_of left_out_keys d) (is_plain_case (get (codes "case_sensitive") d)) none in
     subst (λ q. IsWrittenBy instance q d) (same_Ok _ query is) (record {
       none_left_out = none-found left_out_keys d parts.0;
       case_sensitive = plain-found (get (codes "case_sensitive") d) parts.1;
+      one_at_most = one-found (get (codes "expression") d) (get (codes "program") d) one;
       expression = expression-found values instance (get (codes "expression") d) t said;
+      program = program-found (get (codes "program") d) program called;
       fields = fields-found (get (codes "fields") d) fs named;
       suffix = suffix-found (get (codes "suffix") d) suffix ends;
       path = path-found (get (codes "path") d) path stands;
-      since = since-found bounds instance (get (codes "since") d) bound sets;
+      since = since-found bounds texts instance (get (codes "since") d) since sets;
       empty_on_fresh_instance = flag-found (get (codes "empty_on_fresh_instance") d) flag on;
       sync_timeout = whole-found numbers (get (codes "sync_timeout") d) whole;
-    })))))))))
+    })))))))))))
 
 -- what is written is asked
-reads : ValuesSayWhatTheyWrite → BoundsSayWhatTheyWrite → NumbersSayWhatTheyWrite
+reads : ValuesSayWhatTheyWrite → BoundsSayWhatTheyWrite → TextsSayWhatTheySpell → NumbersSayWhatTheyWrite
     → (instance : InstanceData) (query : QueryData) (d : Data) → IsWrittenBy instance query d
     → asks instance d ≡ Ok query
-reads values bounds numbers instance query d h =
+reads values bounds texts numbers instance query d h =
     let none = none-reads left_out_keys d h.none_left_out in
     let plain = plain-reads (get (codes "case_sensitive") d) h.case_sensitive in
+    let one : has_both d ≡ false = one-reads (get (codes "expression") d) (get (codes "program") d) h.one_at_most in
     let said = expression-reads values instance (get (codes "expression") d) query.expression h.expression in
+    let called = program-reads (get (codes "program") d) query.program h.program in
     let named = fields-reads (get (codes "fields") d) query.fields h.fields in
     let ends = suffix-reads (get (codes "suffix") d) query.suffix h.suffix in
     let stands = path-reads (get (codes "path") d) query.path h.path in
-    let sets = since-reads bounds instance (get (codes "since") d) query.bound h.since in
+    let sets = since-reads bounds texts instance (get (codes "since") d) query.since h.since in
     let on = flag-reads (get (codes "empty_on_fresh_instance") d) query.empty_on_fresh_instance h.empty_on_fresh_instance in
     let whole = whole-reads numbers (get (codes "sync_timeout") d) h.sync_timeout in
     let allowed : has_left_out_key d ≡ false =
     ap (λ b. b || not (is_plain_case (get (codes "case_sensitive") d))) none ∙ ap not plain in
-    rw (allowed, said, named, ends, stands, sets, on, whole) refl
+    rw (allowed, one, said, named, ends, stands, sets, called, on, whole) refl
 
 -- both ways
-pub values_ask : ValuesSayWhatTheyWrite → BoundsSayWhatTheyWrite → NumbersSayWhatTheyWrite
-    → ValuesAskWhatTheyWrite
-values_ask values bounds numbers instance query d =
-    (found values bounds numbers instance query d, reads values bounds numbers instance query d)
+pub values_ask : ValuesSayWhatTheyWrite → BoundsSayWhatTheyWrite → TextsSayWhatTheySpell
+    → NumbersSayWhatTheyWrite → ValuesAskWhatTheyWrite
+values_ask values bounds texts numbers instance query d =
+    (found values bounds texts numbers instance query d, reads values bounds texts numbers instance query d)

@@ -10,51 +10,77 @@ use Rattle.serde_json.specs.View.{items_view}
 use Rattle.serde_json.specs.declared.value.Value.{Value}
 use Rattle.wq_base.specs.Fault.{unless_fault}
 use Rattle.wq_clock.specs.Instance.{InstanceData}
-use Rattle.wq_clock.specs.declared.bound.Bound.{Bound}
 use Rattle.wq_gen.specs.declared.generators.PathGen.{PathGen}
 use Rattle.wq_term.specs.Expr.{ExprData}
 use Rattle.wq_query.specs.declared.fault.QueryFault.{QueryFault}
-use Rattle.wq_query.specs.declared.fault.QueryFault.TheVariants.{WrongValue}
+use Rattle.wq_query.specs.declared.fault.QueryFault.TheVariants.{LeftOutKey, ExpressionAndProgram}
+use Rattle.wq_query.specs.declared.fault.QueryFault.TheVariants.{Expression, UnknownField}
+use Rattle.wq_query.specs.declared.fault.QueryFault.TheVariants.{BadGenerator, BadClockSpec}
+use Rattle.wq_query.specs.declared.fault.QueryFault.TheVariants.{WrongValue, NoMemory}
+use Rattle.wq_query.specs.Query.{SinceData}
 use Rattle.wq_query.specs.declared.field.Field.{Field}
 use Rattle.wq_query.specs.Generator.{suffixes_of, paths_of}
-use Rattle.wq_query.specs.Outcome.{GivesFields}
-use Rattle.wq_query.specs.Reading.{asks, has_left_out_key, expression_of, fields_in, fields_of}
-use Rattle.wq_query.specs.Reading.{since_of, flag_of, is_whole}
+use Rattle.wq_query.specs.Outcome.{Gives, GivesFields, GivesProgram}
+use Rattle.wq_query.specs.Reading.{asks, has_both, has_left_out_key, expression_of, fields_in}
+use Rattle.wq_query.specs.Reading.{fields_of, since_of, program_of, flag_of, is_whole}
 
 -- a query whose keys say this, but for the last
 pub asks_at : (instance : InstanceData) (d : Data) (t : ExprData) (fields : List Field)
-    (suffix : Option (List (List ℕ))) (path : Option (List PathGen)) (bound : Bound)
-    (flag whole : Bool) → has_left_out_key d ≡ false
+    (suffix : Option (List (List ℕ))) (path : Option (List PathGen)) (since : SinceData)
+    (program : Option (List ℕ)) (flag whole : Bool) → has_left_out_key d ≡ false → has_both d ≡ false
     → expression_of instance (get (codes "expression") d) ≡ Ok t
     → fields_of (get (codes "fields") d) ≡ Some fields
     → suffixes_of (get (codes "suffix") d) ≡ Some suffix
     → paths_of (get (codes "path") d) ≡ Some path
-    → since_of instance (get (codes "since") d) ≡ Some bound
+    → since_of instance (get (codes "since") d) ≡ Some since
+    → program_of (get (codes "program") d) ≡ Some program
     → flag_of (get (codes "empty_on_fresh_instance") d) ≡ Some flag
     → is_whole (get (codes "sync_timeout") d) ≡ whole
     → asks instance d ≡ unless_fault WrongValue whole (Ok (record {
       expression = t;
+      program = program;
       fields = fields;
-      bound = bound;
+      since = since;
       suffix = suffix;
       path = path;
       empty_on_fresh_instance = flag;
     }))
-asks_at instance d t fields suffix path bound flag whole none expression named ends at since said is =
-    rw (none, expression, named, ends, at, since, said, is) refl
+asks_at instance d t fields suffix path since program flag whole none one expression named ends at from name said is =
+    rw (none, one, expression, named, ends, at, from, name, said, is) refl
 
--- a query whose flag is none
-pub asks_unflagged : (instance : InstanceData) (d : Data) (t : ExprData) (fields : List Field)
-    (suffix : Option (List (List ℕ))) (path : Option (List PathGen)) (bound : Bound)
-    → has_left_out_key d ≡ false
+-- a query whose program is refused
+pub asks_unnamed : (instance : InstanceData) (d : Data) (t : ExprData) (fields : List Field)
+    (suffix : Option (List (List ℕ))) (path : Option (List PathGen)) (since : SinceData)
+    (fault : QueryFault) → has_left_out_key d ≡ false → has_both d ≡ false
     → expression_of instance (get (codes "expression") d) ≡ Ok t
     → fields_of (get (codes "fields") d) ≡ Some fields
     → suffixes_of (get (codes "suffix") d) ≡ Some suffix
     → paths_of (get (codes "path") d) ≡ Some path
-    → since_of instance (get (codes "since") d) ≡ Some bound
+    → since_of instance (get (codes "since") d) ≡ Some since
+    → GivesProgram (Err fault) (program_of (get (codes "program") d)) → Gives (Err fault) (asks instance d)
+asks_unnamed instance d t fields suffix path since WrongValue none one expression named ends at from is =
+    rw (none, one, expression, named, ends, at, from, is) refl
+asks_unnamed instance d t fields suffix path since NoMemory none one expression named ends at from is = tt
+asks_unnamed instance d t fields suffix path since LeftOutKey none one expression named ends at from is = absurd is
+asks_unnamed instance d t fields suffix path since ExpressionAndProgram none one expression named ends at from is = absurd is
+asks_unnamed instance d t fields suffix path since (Expression fault) none one expression named ends at from is = absurd is
+asks_unnamed instance d t fields suffix path since UnknownField none one expression named ends at from is = absurd is
+asks_unnamed instance d t fields suffix path since BadGenerator none one expression named ends at from is = absurd is
+asks_unnamed instance d t fields suffix path since BadClockSpec none one expression named ends at from is = absurd is
+
+-- a query whose flag is none
+pub asks_unflagged : (instance : InstanceData) (d : Data) (t : ExprData) (fields : List Field)
+    (suffix : Option (List (List ℕ))) (path : Option (List PathGen)) (since : SinceData)
+    (program : Option (List ℕ)) → has_left_out_key d ≡ false → has_both d ≡ false
+    → expression_of instance (get (codes "expression") d) ≡ Ok t
+    → fields_of (get (codes "fields") d) ≡ Some fields
+    → suffixes_of (get (codes "suffix") d) ≡ Some suffix
+    → paths_of (get (codes "path") d) ≡ Some path
+    → since_of instance (get (codes "since") d) ≡ Some since
+    → program_of (get (codes "program") d) ≡ Some program
     → flag_of (get (codes "empty_on_fresh_instance") d) ≡ None → asks instance d ≡ Err WrongValue
-asks_unflagged instance d t fields suffix path bound none expression named ends at since said =
-    rw (none, expression, named, ends, at, since, said) refl
+asks_unflagged instance d t fields suffix path since program none one expression named ends at from name said =
+    rw (none, one, expression, named, ends, at, from, name, said) refl
 
 -- a value that has items is their array
 array_from : (d : Data) (ds : Items) → Some ds ≡ as_array d → d ≡ array ds

@@ -8,7 +8,7 @@ use Rattle.wq_base.specs.Fault.{with_first}
 use Rattle.wq_base.proofs.Fault.{before, before-push, before-none}
 use Rattle.wq_term.proofs.Lists.{items_from}
 use Rattle.wq_query.specs.declared.fault.QueryFault.{QueryFault}
-use Rattle.wq_query.specs.declared.fault.QueryFault.TheVariants.{LeftOutKey, Expression}
+use Rattle.wq_query.specs.declared.fault.QueryFault.TheVariants.{LeftOutKey, ExpressionAndProgram, Expression}
 use Rattle.wq_query.specs.declared.fault.QueryFault.TheVariants.{UnknownField, BadGenerator}
 use Rattle.wq_query.specs.declared.fault.QueryFault.TheVariants.{BadClockSpec, WrongValue, NoMemory}
 use Rattle.wq_query.specs.Outcome.{GivesGenerator}
@@ -48,6 +48,7 @@ pub refused : {A B : Type 0} (fault : QueryFault) (one : Option A) (all : Option
 refused BadGenerator one all h none = none h
 refused NoMemory one all h none = tt
 refused LeftOutKey one all h none = absurd h
+refused ExpressionAndProgram one all h none = absurd h
 refused (Expression fault) one all h none = absurd h
 refused UnknownField one all h none = absurd h
 refused BadClockSpec one all h none = absurd h

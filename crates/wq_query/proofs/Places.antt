@@ -1,5 +1,5 @@
 -- The places of the files that a plan lists.
-use Rattle.std.proofs.Common.{◌≡◌, ℕ, Bool, true, false, not, List, [], ◌∷◌, Option, Some, None, refl, sym, ap, ◌∙◌}
+use Rattle.std.proofs.Common.{◌≡◌, ℕ, Bool, true, false, not, List, [], ◌∷◌, Option, Some, None, option_map, refl, sym, ap, ◌∙◌}
 use Rattle.std.specs.Prelude.{◌&&◌, ◌||◌, filter, slice_get, if◌then◌else◌}
 use Rattle.std.specs.Option.{option_map_or}
 use Rattle.wq_view.specs.RecordData.{RecordData}
@@ -13,7 +13,7 @@ use Rattle.wq_gen.specs.Candidate.{is_candidate}
 use Rattle.wq_gen.specs.declared.generators.Generators.{Generators}
 use Rattle.wq_term.specs.Expr.{ExprData, always, means}
 use Rattle.wq_term.specs.Fits.{fits}
-use Rattle.wq_query.specs.Listing.{generators_of, is_fresh, is_listed, is_match}
+use Rattle.wq_query.specs.Listing.{generators_of, is_fresh, is_listed, is_match, is_meant}
 use Rattle.wq_query.specs.Meaning.{SaysMeaning}
 use Rattle.wq_query.specs.Query.{PlanData}
 
@@ -25,6 +25,18 @@ always_fits = refl
 -- a program that answers what an expression means says it
 pub says_meaning : (raw : Raw) (t : ExprData) → AnswersAreSaid → IsValid raw → AnswersMeaning raw t → SaysMeaning raw t
 says_meaning raw t law valid answers r = sym (law raw r (means t r) (answers r).0 valid (answers r).1)
+
+-- the same of the program of a query that names none
+pub says_unnamed : (name : Option (List ℕ)) (raw : Raw) (t : ExprData) → AnswersAreSaid → IsValid raw
+    → (name ≡ None → AnswersMeaning raw t) → name ≡ None → SaysMeaning raw t
+says_unnamed name raw t law valid answers none = says_meaning raw t law valid (answers none)
+
+-- the program of a plan decides which files are meant: it is the one of the query's name, or says
+-- what the expression means where the query has none
+pub program_decides : (name : Option (List ℕ)) (raw : Raw) (t : ExprData) → (name ≡ None → SaysMeaning raw t)
+    → (r : RecordData) → says_yes raw r ≡ is_meant (option_map (λ _. raw) name) t r
+program_decides None raw t says r = says refl r
+program_decides (Some name) raw t says r = refl
 
 -- generators with this bound
 pub with_bound : (g : Generators) (bound : Bound) → g.since ≡ Some bound
@@ -62,12 +74,13 @@ passing p q whole records same =
     at (Some r) = same r
 
 -- the candidates for which the program answers yes are those that match
-pub places_matching : (plan : PlanData) (raw : Raw) (records : List RecordData) → SaysMeaning raw (plan.query).expression
+pub places_matching : (plan : PlanData) (raw : Raw) (records : List RecordData)
+    → ((r : RecordData) → says_yes raw r ≡ is_meant plan.program (plan.query).expression r)
     → filter (passes_at (says_yes raw) records) (positions_of (is_candidate (generators_of plan)) records)
     ≡ positions_of (is_match plan) records
-places_matching plan raw records says =
+places_matching plan raw records decides =
     passing (is_candidate (generators_of plan)) (says_yes raw) (is_match plan) records
-    (λ r. ap (λ b. is_candidate (generators_of plan) r && b) (says r))
+    (λ r. ap (λ b. is_candidate (generators_of plan) r && b) (decides r))
 
 -- at a fresh bound those that match and exist are listed
 pub places_existing : (plan : PlanData) (records : List RecordData) → is_fresh plan.bound ≡ true

@@ -1,6 +1,6 @@
 -- The grammar of queries: by which JSON values each of them may be written.
 -- The keys are those of Watchman's documentation of file queries.
-use Rattle.std.specs.Prelude.{ℕ, ℤ, pos, negsuc, ◌≡◌, ◌≤◌, false, true, List, [], ◌∷◌, codes}
+use Rattle.std.specs.Prelude.{ℕ, ℤ, pos, negsuc, ◌≡◌, ◌≤◌, ◌⊎◌, false, true, List, [], ◌∷◌, codes}
 use Rattle.std.specs.Prelude.{Option, Some, None}
 use Rattle.std.specs.Option.{MatchOption}
 use Rattle.std.specs.List.{AllByRecursion}
@@ -9,6 +9,8 @@ use Rattle.serde_json.specs.Data.{Items, no_items, item}
 use Rattle.serde_json.specs.Find.{get}
 use Rattle.wq_base.specs.Limit.{max_number}
 use Rattle.wq_clock.specs.Instance.{InstanceData}
+use Rattle.wq_clock.specs.ClockSpec.{named_cursor}
+use Rattle.wq_clock.specs.Spelling.{IsSpelling}
 use Rattle.wq_clock.specs.declared.bound.Bound.TheVariants.{Fresh}
 use Rattle.wq_gen.specs.declared.generators.PathGen.{PathGen}
 use Rattle.wq_term.specs.Limit.{max_depth}
@@ -18,7 +20,7 @@ use Rattle.wq_term.specs.ArgumentGrammar.{AreTexts, IsBetween, IsDirectory, IsWo
 use Rattle.wq_term.specs.ArgumentGrammar.{IsWhole, IsBound}
 use Rattle.wq_query.specs.declared.field.Field.{Field}
 use Rattle.wq_query.specs.Field.{field_name, default_fields}
-use Rattle.wq_query.specs.Query.{QueryData}
+use Rattle.wq_query.specs.Query.{QueryData, SinceData, at_bound, at_cursor}
 use Rattle.wq_query.specs.Reading.{left_out_keys}
 
 -- an expression that is not too deep
@@ -60,6 +62,21 @@ abbrev pub ArePaths : Option (List PathGen) → Data → Type 0
 ArePaths (Some paths) (array ds) = AreListed paths ds
 ArePaths _ _ = ⊥
 
+-- a cursor: its name, of 1 to 255 bytes, stands behind `n:`
+abbrev pub IsCursor : List ℕ → Data → Type 0
+IsCursor name (string text) = IsSpelling (named_cursor name) text
+IsCursor name _ = ⊥
+
+-- from where changes are asked for: a bound, or a cursor
+abbrev pub IsSince : InstanceData → SinceData → Data → Type 0
+IsSince instance (at_bound bound) d = IsBound instance bound d
+IsSince instance (at_cursor name) d = IsCursor name d
+
+-- the name of a program, which is any text
+abbrev pub IsProgram : Option (List ℕ) → Data → Type 0
+IsProgram (Some name) d = IsWord name d
+IsProgram None d = ⊥
+
 -- the query is written by this value, at this instance: each key is missing, and then the first
 -- thing holds, or it is there, and the second holds of its value
 pub record IsWrittenBy (instance : InstanceData) (query : QueryData) (d : Data) : Type 0 where
@@ -68,9 +85,14 @@ pub record IsWrittenBy (instance : InstanceData) (query : QueryData) (d : Data) 
   -- names are compared byte by byte
   pub case_sensitive : MatchOption (get (codes "case_sensitive") d)
       (Unit {0}) (λ value. value ≡ boolean true)
+  -- an expression and a program do not stand together
+  pub one_at_most : (get (codes "expression") d ≡ None) ⊎ (get (codes "program") d ≡ None)
   -- every file, or those that an expression matches
   pub expression : MatchOption (get (codes "expression") d)
       (query.expression ≡ always) (IsExpression instance query.expression)
+  -- no program, or the one of a name
+  pub program : MatchOption (get (codes "program") d)
+      (query.program ≡ None) (IsProgram query.program)
   -- the default fields, or others
   pub fields : MatchOption (get (codes "fields") d)
       (query.fields ≡ default_fields) (AreFields query.fields)
@@ -78,9 +100,9 @@ pub record IsWrittenBy (instance : InstanceData) (query : QueryData) (d : Data) 
   pub suffix : MatchOption (get (codes "suffix") d) (query.suffix ≡ None) (AreSuffixes query.suffix)
   -- files at every path, or those at some
   pub path : MatchOption (get (codes "path") d) (query.path ≡ None) (ArePaths query.path)
-  -- nothing is known to the client, or a bound
+  -- nothing is known to the client, or a bound, or a cursor
   pub since : MatchOption (get (codes "since") d)
-      (query.bound ≡ Fresh) (IsBound instance query.bound)
+      (query.since ≡ at_bound Fresh) (IsSince instance query.since)
   -- a fresh list has all files, or is empty
   pub empty_on_fresh_instance : MatchOption (get (codes "empty_on_fresh_instance") d)
       (query.empty_on_fresh_instance ≡ false)

@@ -1,14 +1,16 @@
 -- Which files a plan lists: one filter over the records of the view, in their order.
 -- From Watchman's documentation of file queries and of clockspecs.
-use Rattle.std.specs.Prelude.{Bool, true, false, not, ◌&&◌, ◌||◌, nat_lt, int_lt, Some}
+use Rattle.std.specs.Prelude.{Bool, true, false, not, ◌&&◌, ◌||◌, nat_lt, int_lt, Option, Some, None}
 use Rattle.std.specs.Prelude.{if◌then◌else◌, List, [], filter, ℕ, ◌<◌, length}
 use Rattle.std.specs.List.{All}
 use Rattle.wq_clock.specs.declared.bound.Bound.{Bound}
 use Rattle.wq_clock.specs.declared.bound.Bound.TheVariants.{Fresh, Tick, Second}
 use Rattle.wq_view.specs.RecordData.{RecordData}
+use Rattle.wq_code.specs.declared.raw.Raw.{Raw}
+use Rattle.wq_eval.specs.Answer.{says_yes}
 use Rattle.wq_gen.specs.Candidate.{is_candidate}
 use Rattle.wq_gen.specs.declared.generators.Generators.{Generators}
-use Rattle.wq_term.specs.Expr.{means}
+use Rattle.wq_term.specs.Expr.{ExprData, means}
 use Rattle.wq_query.specs.Query.{PlanData}
 
 -- whether nothing is known to the client
@@ -30,9 +32,15 @@ generators_of plan = record {
   path = (plan.query).path;
 }
 
--- whether the file is a candidate, and the expression matches it
+-- whether the program answers yes for the file, or the expression matches it where there is none
+abbrev pub is_meant : Option Raw → ExprData → RecordData → Bool
+is_meant (Some raw) t r = says_yes raw r
+is_meant None t r = means t r
+
+-- whether the file is a candidate, and the plan's program or else its query's expression matches it
 abbrev pub is_match : PlanData → RecordData → Bool
-is_match plan r = is_candidate (generators_of plan) r && means (plan.query).expression r
+is_match plan r =
+    is_candidate (generators_of plan) r && is_meant plan.program (plan.query).expression r
 
 -- whether the file is a candidate that matches, and exists where the bound is fresh
 abbrev pub is_listed : PlanData → RecordData → Bool

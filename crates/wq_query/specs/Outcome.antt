@@ -1,16 +1,17 @@
 -- What the code's reading of a query gives, where the memory may run out.
 -- No public document is behind it.
-use Rattle.std.specs.Prelude.{◌≡◌, List, Option, Some, None, Result, Ok, Err, Vec}
+use Rattle.std.specs.Prelude.{◌≡◌, ℕ, List, Option, Some, None, Result, Ok, Err, Vec}
 use Rattle.std.specs.declared.alloc.Global.{Global}
 use Rattle.wq_term.specs.declared.expr.Expr.{Expr}
 use Rattle.wq_term.specs.declared.fault.TermFault.{TermFault}
 use Rattle.wq_term.specs.Expr.{ExprData, term_of}
 use Rattle.wq_query.specs.declared.fault.QueryFault.{QueryFault}
 use Rattle.wq_query.specs.declared.fault.QueryFault.TheVariants.{Expression, UnknownField, BadGenerator}
-use Rattle.wq_query.specs.declared.fault.QueryFault.TheVariants.{NoMemory}
+use Rattle.wq_query.specs.declared.fault.QueryFault.TheVariants.{BadClockSpec, WrongValue, NoMemory}
 use Rattle.wq_query.specs.declared.field.Field.{Field}
 use Rattle.wq_query.specs.declared.query.Query.{Query}
-use Rattle.wq_query.specs.Query.{QueryData, asked_of}
+use Rattle.wq_query.specs.declared.query.Since.{Since}
+use Rattle.wq_query.specs.Query.{QueryData, SinceData, asked_of, since_data}
 
 -- the result of the code is this answer, or the memory ran out
 abbrev pub Gives : Result Query QueryFault → Result QueryData QueryFault → Type 0
@@ -38,3 +39,17 @@ GivesGenerator (Ok generator) answer = answer ≡ Some generator
 GivesGenerator (Err BadGenerator) answer = answer ≡ None
 GivesGenerator (Err NoMemory) answer = Unit {0}
 GivesGenerator (Err _) answer = ⊥
+
+-- the same of where changes are asked for from
+abbrev pub GivesSince : Result Since QueryFault → Option SinceData → Type 0
+GivesSince (Ok since) answer = answer ≡ Some (since_data since)
+GivesSince (Err BadClockSpec) answer = answer ≡ None
+GivesSince (Err NoMemory) answer = Unit {0}
+GivesSince (Err _) answer = ⊥
+
+-- the same of the name of a program
+abbrev pub GivesProgram : Result (Option (List ℕ)) QueryFault → Option (Option (List ℕ)) → Type 0
+GivesProgram (Ok name) answer = answer ≡ Some name
+GivesProgram (Err WrongValue) answer = answer ≡ None
+GivesProgram (Err NoMemory) answer = Unit {0}
+GivesProgram (Err _) answer = ⊥

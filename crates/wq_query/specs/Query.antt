@@ -1,43 +1,72 @@
 -- What a query asks, and the plan of answering it; what the types `Query` and `Plan` stand for.
--- The parts are keys of Watchman's documentation of file queries.
-use Rattle.std.specs.Prelude.{ℕ, Bool, List, Option}
+-- The parts are keys of Watchman's documentation of file queries; programs are this server's own.
+use Rattle.std.specs.Prelude.{ℕ, Bool, List, Option, Some, None, option_map}
 use Rattle.wq_clock.specs.declared.bound.Bound.{Bound}
+use Rattle.wq_code.specs.declared.raw.Raw.{Raw}
 use Rattle.wq_gen.specs.declared.generators.PathGen.{PathGen}
 use Rattle.wq_term.specs.Expr.{ExprData, term_of}
 use Rattle.wq_query.specs.declared.field.Field.{Field}
 use Rattle.wq_query.specs.declared.query.Query.{Query}
 use Rattle.wq_query.specs.declared.query.Plan.{Plan}
+use Rattle.wq_query.specs.declared.query.Since.{Since}
+use Rattle.wq_query.specs.declared.query.Since.TheVariants.{Bound as SinceBound, Cursor}
 
--- which files match, what is told of each, after which point files changed, with which suffixes and
--- at which paths, and whether the list is empty where nothing is known to the client
+-- from where a query asks for changes: a bound, or the tick of a cursor, which is kept under its
+-- name
+pub data SinceData : Type 0 where
+  at_bound : Bound → SinceData
+  at_cursor : List ℕ → SinceData
+
+-- the bound, where there is no cursor
+abbrev pub bound_of : SinceData → Option Bound
+bound_of (at_bound bound) = Some bound
+bound_of (at_cursor name) = None
+
+-- the name of the cursor, without `n:`
+abbrev pub cursor_of : SinceData → Option (List ℕ)
+cursor_of (at_bound bound) = None
+cursor_of (at_cursor name) = Some name
+
+-- which files match: those of an expression, or those that the program of a name answers yes for,
+-- where one is named; what is told of each, from where changes are asked for, with which suffixes
+-- and at which paths, and whether the list is empty where nothing is known to the client
 pub record QueryData : Type 0 where
   pub expression : ExprData
+  pub program : Option (List ℕ)
   pub fields : List Field
-  pub bound : Bound
+  pub since : SinceData
   pub suffix : Option (List (List ℕ))
   pub path : Option (List PathGen)
   pub empty_on_fresh_instance : Bool
 
--- a query and the bound with which it is answered
+-- a query, the bound with which it is answered, and the program that stood under the name that the
+-- query has for one
 pub record PlanData : Type 0 where
   pub query : QueryData
   pub bound : Bound
+  pub program : Option Raw
 
--- the plan of a query with the bound that it sets itself
-abbrev pub plan_of : QueryData → PlanData
-plan_of query = record { query = query; bound = query.bound }
+-- what a `Since` stands for
+abbrev pub since_data : Since → SinceData
+since_data (SinceBound bound) = at_bound bound
+since_data (Cursor name) = at_cursor name
 
 -- what a `Query` asks
 abbrev pub asked_of : Query → QueryData
 asked_of query = record {
   expression = term_of query.expr;
+  program = query.program;
   fields = (query.fields).items;
-  bound = query.bound;
+  since = since_data query.since;
   suffix = (query.generators).suffix;
   path = (query.generators).path;
   empty_on_fresh_instance = query.empty_on_fresh_instance;
 }
 
--- what a `Plan` answers, and with which bound
+-- what a `Plan` answers, with which bound, and by which program where the query names one
 abbrev pub planned : Plan → PlanData
-planned plan = record { query = asked_of plan.query; bound = plan.bound }
+planned plan = record {
+  query = asked_of plan.query;
+  bound = plan.bound;
+  program = option_map (λ _. (plan.program).value) (plan.query).program;
+}

@@ -1,13 +1,15 @@
 -- What a JSON object asks as a query, or its first fault.
 -- The keys are those of Watchman's documentation of file queries.
-use Rattle.std.specs.Prelude.{ℕ, Bool, true, false, not, ◌||◌, List, [], ◌∷◌, codes}
-use Rattle.std.specs.Prelude.{Option, Some, None, is_some, Result, Ok}
+use Rattle.std.specs.Prelude.{ℕ, Bool, true, false, not, ◌&&◌, ◌||◌, List, [], ◌∷◌, codes}
+use Rattle.std.specs.Prelude.{Option, Some, None, is_some, option_map, Result, Ok}
+use Rattle.std.specs.Option.{option_and_then}
 use Rattle.std.specs.Result.{result_ok}
 use Rattle.std.specs.List.{list_any}
 use Rattle.serde_json.specs.Data.{Data, string, array, Items, no_items, item}
 use Rattle.serde_json.specs.Find.{get, as_bool}
 use Rattle.wq_base.specs.Fault.{is_true, or_fault, or_its_fault, unless_fault, with_first}
 use Rattle.wq_clock.specs.Instance.{InstanceData}
+use Rattle.wq_clock.specs.ClockSpec.{SpecData, named_cursor, clock_spec_of}
 use Rattle.wq_clock.specs.declared.bound.Bound.{Bound}
 use Rattle.wq_clock.specs.declared.bound.Bound.TheVariants.{Fresh}
 use Rattle.wq_term.specs.declared.fault.TermFault.{TermFault}
@@ -16,19 +18,20 @@ use Rattle.wq_term.specs.Argument.{bound_in, whole_number_of}
 use Rattle.wq_term.specs.Expr.{ExprData, always}
 use Rattle.wq_term.specs.Reading.{reads_as}
 use Rattle.wq_query.specs.declared.fault.QueryFault.{QueryFault}
-use Rattle.wq_query.specs.declared.fault.QueryFault.TheVariants.{LeftOutKey, Expression}
+use Rattle.wq_query.specs.declared.fault.QueryFault.TheVariants.{LeftOutKey, ExpressionAndProgram}
+use Rattle.wq_query.specs.declared.fault.QueryFault.TheVariants.{Expression}
 use Rattle.wq_query.specs.declared.fault.QueryFault.TheVariants.{UnknownField, BadGenerator}
 use Rattle.wq_query.specs.declared.fault.QueryFault.TheVariants.{BadClockSpec, WrongValue}
 use Rattle.wq_query.specs.declared.field.Field.{Field}
 use Rattle.wq_query.specs.Field.{field_named, default_fields}
 use Rattle.wq_query.specs.Generator.{suffixes_of, paths_of}
-use Rattle.wq_query.specs.Query.{QueryData}
+use Rattle.wq_query.specs.Query.{QueryData, SinceData, at_bound, at_cursor}
 
 -- the keys that would change the answer and are not there
 abbrev pub left_out_keys : List (List ℕ)
 left_out_keys =
     codes "relative_root" ∷ codes "settle_period" ∷ codes "settle_timeout" ∷ codes "glob"
-    ∷ codes "glob_includedotfiles" ∷ codes "program" ∷ []
+    ∷ codes "glob_includedotfiles" ∷ []
 
 -- whether the query has one of these keys
 abbrev pub has_key_of : List (List ℕ) → Data → Bool
@@ -43,6 +46,10 @@ is_plain_case (Some d) = is_true (as_bool d)
 abbrev pub has_left_out_key : Data → Bool
 has_left_out_key d =
     has_key_of left_out_keys d || not (is_plain_case (get (codes "case_sensitive") d))
+
+-- whether an expression and a program are there, of which one can say which files match
+abbrev pub has_both : Data → Bool
+has_both d = is_some (get (codes "expression") d) && is_some (get (codes "program") d)
 
 -- the expression: every file where there is none
 abbrev pub expression_of : InstanceData → Option Data → Result ExprData TermFault
@@ -65,10 +72,31 @@ fields_of None = Some default_fields
 fields_of (Some (array (item d ds))) = fields_in (item d ds)
 fields_of (Some _) = None
 
--- the bound that `since` sets at an instance: fresh where it is not there; a cursor sets none
-abbrev pub since_of : InstanceData → Option Data → Option Bound
-since_of instance None = Some Fresh
-since_of instance (Some d) = result_ok (bound_in instance d)
+-- the name of a clock spec that is a cursor
+abbrev pub name_in : SpecData → Option (List ℕ)
+name_in (named_cursor name) = Some name
+name_in _ = None
+
+-- the name of the cursor that a value says
+abbrev pub cursor_in : Data → Option (List ℕ)
+cursor_in (string text) = option_and_then name_in (clock_spec_of text)
+cursor_in _ = None
+
+-- the tick of a cursor, where there is one, or else a bound
+abbrev pub since_from : Option (List ℕ) → Option Bound → Option SinceData
+since_from (Some name) bound = Some (at_cursor name)
+since_from None bound = option_map at_bound bound
+
+-- from where `since` asks for changes at an instance: from a fresh bound where it is not there
+abbrev pub since_of : InstanceData → Option Data → Option SinceData
+since_of instance None = Some (at_bound Fresh)
+since_of instance (Some d) = since_from (cursor_in d) (result_ok (bound_in instance d))
+
+-- the name of the program, which is a text of any length; none where it is not there
+abbrev pub program_of : Option Data → Option (Option (List ℕ))
+program_of None = Some None
+program_of (Some (string name)) = Some (Some name)
+program_of (Some _) = None
 
 -- true or false; false where it is not there
 abbrev pub flag_of : Option Data → Option Bool
@@ -84,18 +112,21 @@ is_whole (Some d) = is_some (whole_number_of d)
 abbrev pub asks : InstanceData → Data → Result QueryData QueryFault
 asks instance d =
     unless_fault LeftOutKey (not (has_left_out_key d)) (
+    unless_fault ExpressionAndProgram (not (has_both d)) (
     or_its_fault Expression (expression_of instance (get (codes "expression") d)) (λ expression.
     or_fault UnknownField (fields_of (get (codes "fields") d)) (λ fields.
     or_fault BadGenerator (suffixes_of (get (codes "suffix") d)) (λ suffix.
     or_fault BadGenerator (paths_of (get (codes "path") d)) (λ path.
-    or_fault BadClockSpec (since_of instance (get (codes "since") d)) (λ bound.
+    or_fault BadClockSpec (since_of instance (get (codes "since") d)) (λ since.
+    or_fault WrongValue (program_of (get (codes "program") d)) (λ program.
     or_fault WrongValue (flag_of (get (codes "empty_on_fresh_instance") d)) (λ flag.
     unless_fault WrongValue (is_whole (get (codes "sync_timeout") d)) (
     Ok (record {
       expression = expression;
+      program = program;
       fields = fields;
-      bound = bound;
+      since = since;
       suffix = suffix;
       path = path;
       empty_on_fresh_instance = flag;
-    })))))))))
+    })))))))))))

@@ -10,6 +10,9 @@ pub enum QueryFault {
     /// A key that would change the answer, and is left out.
     #[error("query key is left out")]
     LeftOutKey,
+    /// There are both of `expression` and `program`.
+    #[error("expression and program")]
+    ExpressionAndProgram,
     /// The value of `expression` is no expression.
     #[error("{0}")]
     Expression(TermFault),
@@ -20,7 +23,7 @@ pub enum QueryFault {
     /// bytes, or a depth is below -1 or over 2^62.
     #[error("bad generator")]
     BadGenerator,
-    /// The value of `since` is no clock spec, or names a cursor: cursors are not kept yet.
+    /// The value of `since` is no clock spec.
     #[error("bad clockspec")]
     BadClockSpec,
     /// A wrong value of another key.

@@ -2,6 +2,7 @@
 //! law by a call, which costs nothing.
 ghost use Rattle.wq_query.specs.Law.{ValuesAskWhatTheyWrite};
 
+use wq_clock::texts_say_what_they_spell;
 use wq_term::{
     bounds_say_what_they_write, numbers_say_what_they_write, values_say_what_they_write,
 };
@@ -13,5 +14,6 @@ pub fn values_ask_what_they_write()
 {
     values_say_what_they_write();
     bounds_say_what_they_write();
+    texts_say_what_they_spell();
     numbers_say_what_they_write();
 }

@@ -1,16 +1,16 @@
 //! Reading a query, and planning its answer.
-ghost use Rattle.std.specs.Prelude.{◌≡◌, IsTrue};
+ghost use Rattle.std.specs.Prelude.{◌≡◌, None, IsTrue, option_map};
 ghost use Rattle.serde_json.specs.View.{view as data_of};
 ghost use Rattle.wq_clock.specs.Instance.{instance_data};
 ghost use Rattle.wq_term.specs.Expr.{term_of};
 ghost use Rattle.wq_term.specs.Fits.{fits};
 ghost use Rattle.wq_compile.specs.Meaning.{AnswersMeaning};
 ghost use Rattle.wq_query.specs.Outcome.{Gives};
-ghost use Rattle.wq_query.specs.Query.{asked_of, planned};
+ghost use Rattle.wq_query.specs.Query.{asked_of, bound_of, cursor_of, planned};
 ghost use Rattle.wq_query.specs.Reading.{asks};
 
 use crate::fault::QueryFault;
-use crate::query::{Plan, Query};
+use crate::query::{Plan, Query, Since};
 use crate::{generating, reading};
 use serde_json::Value;
 use std::alloc::Global;
@@ -34,13 +34,15 @@ impl Query {
         if reading::has_left_out_key(value) {
             return Err(QueryFault::LeftOutKey);
         }
+        if reading::has_both(value) {
+            return Err(QueryFault::ExpressionAndProgram);
+        }
         let expr = reading::expression(alloc, value.get("expression"), instance)?;
         let fields = reading::fields(alloc, value.get("fields"))?;
         let suffix = generating::suffixes(alloc, value.get("suffix"))?;
         let path = generating::paths(alloc, value.get("path"))?;
-        let Some(bound) = reading::since(value.get("since"), instance) else {
-            return Err(QueryFault::BadClockSpec);
-        };
+        let since = reading::since(alloc, value.get("since"), instance)?;
+        let program = reading::program(alloc, value.get("program"))?;
         let Some(empty_on_fresh_instance) = reading::flag(value.get("empty_on_fresh_instance"))
         else {
             return Err(QueryFault::WrongValue);
@@ -50,8 +52,9 @@ impl Query {
         }
         Ok(Query {
             expr,
+            program,
             fields,
-            bound,
+            since,
             generators: Generators {
                 since: None,
                 suffix,
@@ -61,7 +64,7 @@ impl Query {
         })
     }
 
-    /// Which files the query asks for.
+    /// Which files the query asks for, where it names no program: where it does, every file.
     pub fn expr(&self) -> &Expr
         ensures value { term_of result.now ≡ (asked_of self.now).expression }
         ensures limits { IsTrue (fits (term_of result.now)) }
@@ -69,19 +72,49 @@ impl Query {
         &self.expr
     }
 
-    /// The bound that the query sets: fresh where it has no `since`.
-    pub fn bound(&self) -> Bound
-        ensures { result ≡ (asked_of self.now).bound }
+    /// The name of the program that says which files match, in place of the expression.
+    pub fn program(&self) -> Option<&str>
+        ensures { option_map (λ name. name.now) result ≡ (asked_of self.now).program }
     {
-        self.bound
+        match &self.program {
+            None => None,
+            Some(name) => Some(name.as_str()),
+        }
     }
 
-    /// The plan of answering the query with this bound, whichever the query sets, by a program that
-    /// answers on every record what the query's expression means.
-    #[tactic(auto, using(crate::proofs::Places::says_meaning))]
+    /// The bound that the query sets: fresh where it has no `since`, and none where that is a
+    /// cursor.
+    pub fn bound(&self) -> Option<Bound>
+        ensures { result ≡ bound_of (asked_of self.now).since }
+    {
+        match &self.since {
+            Since::Bound(bound) => Some(*bound),
+            Since::Cursor(_) => None,
+        }
+    }
+
+    /// The name of the cursor from whose tick the query asks for changes, of 1 to 255 bytes.
+    pub fn cursor(&self) -> Option<&str>
+        ensures { option_map (λ name. name.now) result ≡ cursor_of (asked_of self.now).since }
+    {
+        match &self.since {
+            Since::Bound(_) => None,
+            Since::Cursor(name) => Some(name.as_str()),
+        }
+    }
+
+    /// The plan of answering the query with this bound, whichever the query sets.
+    ///
+    /// The program is the one that stands under the name that the query has for one, or else one
+    /// that answers on every record what the query's expression means.
     pub fn plan(mut self, bound: Bound, program: Arc<Program>) -> Plan
-        requires { AnswersMeaning program.value (asked_of self).expression }
-        ensures { planned result ≡ record { query = asked_of self; bound = bound } }
+        requires { (asked_of self).program ≡ None
+            → AnswersMeaning program.value (asked_of self).expression }
+        ensures { planned result ≡ record {
+          query = asked_of self;
+          bound = bound;
+          program = option_map (λ _. program.value) (asked_of self).program;
+        } }
     {
         answers_are_said();
         program.raw();

@@ -1,23 +1,35 @@
 //! A query and the plan of answering it, as they are kept. What can be done with them stands in
 //! `planning`.
-ghost use Rattle.std.specs.Prelude.{◌≡◌, IsTrue, Some};
+ghost use Rattle.std.specs.Prelude.{◌≡◌, IsTrue, Some, None};
 ghost use Rattle.wq_term.specs.Expr.{term_of};
 ghost use Rattle.wq_term.specs.Fits.{fits};
 ghost use Rattle.wq_query.specs.Meaning.{SaysMeaning};
 
 use crate::field::Field;
 use std::sync::Arc;
+use wq_base::Text;
 use wq_clock::Bound;
 use wq_gen::Generators;
 use wq_term::Expr;
 use wq_verify::Program;
 
+/// From where a query asks for changes.
+#[derive(Drop)]
+pub(crate) enum Since {
+    /// From a bound.
+    Bound(Bound),
+    /// From the tick of a cursor: its name, of 1 to 255 bytes.
+    Cursor(Text),
+}
+
 /// What a client asks of a view: which files, what of each, and what where nothing is known to it.
 #[derive(Drop)]
 pub struct Query {
     pub(crate) expr: Expr,
+    /// The name of the program that says which files match, in place of the expression.
+    pub(crate) program: Option<Text>,
     pub(crate) fields: Vec<Field>,
-    pub(crate) bound: Bound,
+    pub(crate) since: Since,
     /// Its suffixes and its paths. Their bound is the one of the plan, once there is one.
     pub(crate) generators: Generators,
     pub(crate) empty_on_fresh_instance: bool,
@@ -25,12 +37,12 @@ pub struct Query {
 }
 
 /// A query with the bound from which its files are candidates, and the program that says which of
-/// them match.
+/// them match: the one that its name stands for, or one that says what its expression means.
 #[derive(Drop)]
 pub struct Plan {
     pub(crate) query: Query,
     pub(crate) bound: Bound,
     pub(crate) program: Arc<Program>,
     ghost since: { (query.generators).since ≡ Some bound },
-    ghost meaning: { SaysMeaning program.value (term_of query.expr) },
+    ghost meaning: { query.program ≡ None → SaysMeaning program.value (term_of query.expr) },
 }

@@ -4,26 +4,27 @@ ghost use Rattle.serde_json.specs.View.{view as data_of, items_view};
 ghost use Rattle.wq_clock.specs.Instance.{instance_data};
 ghost use Rattle.wq_term.specs.Expr.{always, term_of};
 ghost use Rattle.wq_term.specs.Fits.{fits};
-ghost use Rattle.wq_query.specs.Outcome.{GivesExpression, GivesFields};
-ghost use Rattle.wq_query.specs.Reading.{has_key_of, has_left_out_key, is_plain_case};
+ghost use Rattle.wq_query.specs.Outcome.{GivesExpression, GivesFields, GivesProgram, GivesSince};
+ghost use Rattle.wq_query.specs.Reading.{has_both, has_key_of, has_left_out_key, is_plain_case};
 ghost use Rattle.wq_query.specs.Reading.{expression_of, field_of, fields_in, fields_of, since_of};
-ghost use Rattle.wq_query.specs.Reading.{flag_of, is_whole};
+ghost use Rattle.wq_query.specs.Reading.{cursor_in, flag_of, is_whole, program_of};
 
 use crate::fault::QueryFault;
 use crate::field::Field;
+use crate::query::Since;
 use serde_json::Value;
-use std::alloc::Global;
-use wq_clock::{Bound, Instance};
+use std::alloc::{AllocError, Global};
+use wq_base::Text;
+use wq_clock::{Bound, Instance, Spec, parse};
 use wq_term::{Expr, TermFault, read_bound, read_expr, whole_number};
 
-/// The keys that would change the answer and are left out, or not built yet.
-const LEFT_OUT_KEYS: [&str; 6] = [
+/// The keys that would change the answer and are left out.
+const LEFT_OUT_KEYS: [&str; 5] = [
     "relative_root",
     "settle_period",
     "settle_timeout",
     "glob",
     "glob_includedotfiles",
-    "program",
 ];
 
 /// Whether the query has a key that would change the answer and is left out.
@@ -31,6 +32,13 @@ pub(crate) fn has_left_out_key(query: &Value) -> bool
     ensures { result ≡ has_left_out_key (data_of query.now) }
 {
     has_key_of(query, &LEFT_OUT_KEYS) || !is_plain_case(query.get("case_sensitive"))
+}
+
+/// Whether an expression and a program are there, of which one can say which files match.
+pub(crate) fn has_both(query: &Value) -> bool
+    ensures { result ≡ has_both (data_of query.now) }
+{
+    query.get("expression").is_some() && query.get("program").is_some()
 }
 
 /// Whether the query has one of these keys.
@@ -73,16 +81,53 @@ fn every_file() -> Expr
     Expr::True
 }
 
-/// The bound that `since` sets: fresh where it is not there, and none where it is no clock spec or
-/// a cursor.
-pub(crate) fn since(value: Option<&Value>, instance: &Instance) -> Option<Bound>
-    ensures { result ≡ since_of (instance_data instance.now)
-        (option_map (λ v. data_of v.now) value.entry) }
+/// From where `since` asks for changes: from a fresh bound where it is not there.
+pub(crate) fn since(
+    alloc: Global,
+    value: Option<&Value>,
+    instance: &Instance,
+) -> Result<Since, QueryFault>
+    ensures { GivesSince result (since_of (instance_data instance.now)
+        (option_map (λ v. data_of v.now) value.entry)) }
+{
+    let Some(value) = value else {
+        return Ok(Since::Bound(Bound::Fresh));
+    };
+    if let Some(name) = cursor(value) {
+        return Ok(Since::Cursor(copy(alloc, name)?));
+    }
+    match read_bound(value, instance) {
+        Ok(bound) => Ok(Since::Bound(bound)),
+        Err(_) => Err(QueryFault::BadClockSpec),
+    }
+}
+
+/// The name of the cursor that a value says, if it says one.
+fn cursor(value: &Value) -> Option<&str>
+    ensures { option_map (λ name. name.now) result ≡ cursor_in (data_of value.now) }
+{
+    match parse(value.as_str()?) {
+        Ok(Spec::Cursor(name)) => Some(name),
+        Ok(_) | Err(_) => None,
+    }
+}
+
+/// The name of the program, if the key is there: a text of any length.
+pub(crate) fn program(alloc: Global, value: Option<&Value>) -> Result<Option<Text>, QueryFault>
+    ensures { GivesProgram result (program_of (option_map (λ v. data_of v.now) value.entry)) }
 {
     match value {
-        None => Some(Bound::Fresh),
-        Some(value) => read_bound(value, instance).ok(),
+        None => Ok(None),
+        Some(Value::String(name)) => Ok(Some(copy(alloc, name.as_str())?)),
+        Some(_) => Err(QueryFault::WrongValue),
     }
+}
+
+/// A copy of a text.
+fn copy(alloc: Global, text: &str) -> Result<Text, AllocError>
+    ensures { IfOk result (λ copy. copy ≡ text.now) }
+{
+    Ok(Text::from_string(String::from_str(alloc, text)?))
 }
 
 /// Whether a key that is there is true or false, and which; false where it is not there.

@@ -1,0 +1,11 @@
+-- The program says what the expression means, where the query names none.
+use Rattle.std.proofs.Common.{rules}
+use Rattle.wq_verify.specs.Typing.{IsValid}
+use Rattle.wq_term.specs.Expr.{term_of}
+use Rattle.wq_query.proofs.Places.{says_unnamed}
+use Rattle.wq_query.proofs.query.Query.plan.Goals as goal
+
+pub invariant_of-result-clause-meaning : goal.invariant_of-result-clause-meaning
+invariant_of-result-clause-meaning c =
+    let valid : IsValid c.args.program.value = search rules in
+    says_unnamed c.args.self.program c.args.program.value (term_of c.args.self.expr) c.answers_are_said.ensures valid c.requires
