@@ -3,9 +3,9 @@ use Rattle.std.specs.Prelude.{ℕ, List, codes}
 use Rattle.wq_term.specs.declared.fault.TermFault.{TermFault}
 use Rattle.wq_term.specs.declared.fault.TermFault.TheVariants.{UnknownTerm, WrongArguments as WrongTermArguments, TooDeep, BadClockSpec as BadTermClockSpec, CursorInTerm, PatternTooLong, NoMemory as NoTermMemory}
 use Rattle.wq_query.specs.declared.fault.QueryFault.{QueryFault}
-use Rattle.wq_query.specs.declared.fault.QueryFault.TheVariants.{LeftOutKey, Expression, UnknownField, BadGenerator, BadClockSpec, WrongValue, NoMemory as NoQueryMemory}
+use Rattle.wq_query.specs.declared.fault.QueryFault.TheVariants.{LeftOutKey, ExpressionAndProgram, Expression, UnknownField, BadGenerator, BadClockSpec, WrongValue, NoMemory as NoQueryMemory}
 use Rattle.wq_replay.specs.declared.refusal.Refusal.{Refusal}
-use Rattle.wq_replay.specs.declared.refusal.Refusal.TheVariants.{LineTooLong, NotJson, NotACommand, UnknownCommand, WrongArguments, Bser, NotWatched, Query, ProgramTooLarge, NoMemory}
+use Rattle.wq_replay.specs.declared.refusal.Refusal.TheVariants.{LineTooLong, NotJson, NotACommand, UnknownCommand, WrongArguments, Bser, NotWatched, Query, ProgramTooLarge, NoSuchProgram, NoMemory}
 
 -- why an expression is refused
 abbrev pub term_text : TermFault → List ℕ
@@ -20,6 +20,7 @@ term_text NoTermMemory = codes "E60: no memory"
 -- why a query is refused
 abbrev pub query_text : QueryFault → List ℕ
 query_text LeftOutKey = codes "E20: query key is left out"
+query_text ExpressionAndProgram = codes "E29: expression and program"
 query_text (Expression fault) = term_text fault
 query_text UnknownField = codes "E21: unknown field"
 query_text BadGenerator = codes "E22: bad generator"
@@ -38,4 +39,5 @@ refusal_text Bser = codes "E6: BSER is not spoken here"
 refusal_text NotWatched = codes "E14: root is not watched"
 refusal_text (Query fault) = query_text fault
 refusal_text ProgramTooLarge = codes "E30: program too large"
+refusal_text NoSuchProgram = codes "E34: no such program"
 refusal_text NoMemory = codes "E60: no memory"

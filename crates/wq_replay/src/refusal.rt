@@ -27,6 +27,8 @@ pub enum Refusal {
     Query(QueryFault),
     /// The query's expression has no program: its code or a list in it is too long.
     ProgramTooLarge,
+    /// No program has the name that the query names.
+    NoSuchProgram,
     /// A growth was refused.
     NoMemory,
 }
@@ -46,6 +48,7 @@ impl Refusal {
             Refusal::NotWatched => "E14: root is not watched",
             Refusal::Query(fault) => query_text(fault),
             Refusal::ProgramTooLarge => "E30: program too large",
+            Refusal::NoSuchProgram => "E34: no such program",
             Refusal::NoMemory => NO_MEMORY,
         }
     }
@@ -60,6 +63,7 @@ fn query_text(fault: QueryFault) -> &'static str
 {
     match fault {
         QueryFault::LeftOutKey => "E20: query key is left out",
+        QueryFault::ExpressionAndProgram => "E29: expression and program",
         QueryFault::Expression(fault) => term_text(fault),
         QueryFault::UnknownField => "E21: unknown field",
         QueryFault::BadGenerator => "E22: bad generator",

@@ -1,12 +1,12 @@
 //! The command `query`: which files there are, and which of them changed.
-ghost use Rattle.std.specs.Prelude.{◌≡◌, IfOk, option_map};
+ghost use Rattle.std.specs.Prelude.{◌≡◌, None, IfOk, option_map};
 ghost use Rattle.serde_json.specs.View.{view as data_of, items_view};
 ghost use Rattle.serde_json.specs.Written.{compact_text};
 ghost use Rattle.wq_clock.specs.Instance.{instance_data};
 ghost use Rattle.wq_compile.specs.Meaning.{AnswersMeaning};
-ghost use Rattle.wq_query.specs.Query.{asked_of, plan_of};
+ghost use Rattle.wq_query.specs.Query.{asked_of};
 ghost use Rattle.wq_query.specs.Reply.{reply_of};
-ghost use Rattle.wq_replay.specs.Query.{answer_asked, answer_query, arguments_of, only_object};
+ghost use Rattle.wq_replay.specs.Query.{answer_asked, answer_query, arguments_of, only_object, plan_at};
 ghost use Rattle.wq_replay.specs.Gives.{Gives};
 
 use crate::refusal::Refusal;
@@ -14,7 +14,7 @@ use crate::root::is_root;
 use serde_json::Value;
 use std::alloc::{AllocError, Global};
 use std::sync::Arc;
-use wq_clock::Instance;
+use wq_clock::{Bound, Instance};
 use wq_compile::{CompileFault, compile};
 use wq_query::{Query, QueryFault, answer_bytes};
 use wq_verify::Program;
@@ -43,7 +43,8 @@ pub(crate) fn answer_query(
     }
 }
 
-/// The reply to a query that was read, at the bound that it sets.
+/// The reply to a query that was read, at the bound that it sets. No cursor is kept, and no program
+/// has a name.
 fn answer_read(
     alloc: Global,
     query: Query,
@@ -53,26 +54,33 @@ fn answer_read(
     ensures { Gives result
         (answer_asked (instance_data instance.now) view.now (asked_of query)) }
 {
+    let Some(bound) = query.bound() else {
+        return Err(Refusal::Query(QueryFault::BadClockSpec));
+    };
+    if query.program().is_some() {
+        return Err(Refusal::NoSuchProgram);
+    }
     match compile(alloc, query.expr()) {
-        Ok(program) => Ok(answer_by(alloc, query, program, instance, view)?),
+        Ok(program) => Ok(answer_by(alloc, query, bound, program, instance, view)?),
         Err(CompileFault::TooLarge) => Err(Refusal::ProgramTooLarge),
         Err(CompileFault::NoMemory) => Err(Refusal::NoMemory),
     }
 }
 
-/// The same by the program of its expression.
+/// The same by the program of its expression, at this bound.
 fn answer_by(
     alloc: Global,
     query: Query,
+    bound: Bound,
     program: Program,
     instance: &Instance,
     view: &View,
 ) -> Result<Vec<u8>, AllocError>
-    requires { AnswersMeaning program (asked_of query).expression }
+    requires unnamed { (asked_of query).program ≡ None }
+    requires means { AnswersMeaning program (asked_of query).expression }
     ensures { IfOk result (λ text. text.items ≡ compact_text
-        (reply_of (plan_of (asked_of query)) (instance_data instance.now) view.now)) }
+        (reply_of (plan_at (asked_of query) bound) (instance_data instance.now) view.now)) }
 {
-    let bound = query.bound();
     let plan = query.plan(bound, Arc::new(alloc, program)?);
     answer_bytes(alloc, &plan, instance, view)
 }
