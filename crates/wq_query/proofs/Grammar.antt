@@ -23,7 +23,7 @@ use Rattle.wq_term.proofs.ArgumentGrammar.{mapped, texts-found, texts-reads}
 use Rattle.wq_term.specs.Expr.{ExprData, always}
 use Rattle.wq_term.specs.Law.{BoundsSayWhatTheyWrite, NumbersSayWhatTheyWrite}
 use Rattle.wq_term.specs.Law.{ValuesSayWhatTheyWrite}
-use Rattle.wq_term.specs.ArgumentGrammar.{IsWhole, IsBound}
+use Rattle.wq_term.specs.ArgumentGrammar.{IsWhole}
 use Rattle.wq_query.specs.declared.fault.QueryFault.{QueryFault}
 use Rattle.wq_query.specs.declared.fault.QueryFault.TheVariants.{LeftOutKey, ExpressionAndProgram, Expression}
 use Rattle.wq_query.specs.declared.fault.QueryFault.TheVariants.{UnknownField, BadGenerator}

@@ -1,6 +1,7 @@
 -- Which files a plan lists: one filter over the records of the view, in their order.
 -- From Watchman's documentation of file queries and of clockspecs.
-use Rattle.std.specs.Prelude.{Bool, true, false, not, ◌&&◌, ◌||◌, nat_lt, int_lt, Option, Some, None}
+use Rattle.std.specs.Prelude.{Bool, true, false, not, ◌&&◌, ◌||◌, nat_lt, int_lt}
+use Rattle.std.specs.Prelude.{Option, Some, None}
 use Rattle.std.specs.Prelude.{if◌then◌else◌, List, [], filter, ℕ, ◌<◌, length}
 use Rattle.std.specs.List.{All}
 use Rattle.wq_clock.specs.declared.bound.Bound.{Bound}

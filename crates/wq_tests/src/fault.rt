@@ -5,7 +5,9 @@ use std::fmt::Display;
 use std::process::Abort;
 use std::test::Fail;
 use wq_compile::CompileFault;
-use wq_query::QueryFault::{self, BadGenerator, Expression, LeftOutKey, UnknownField, WrongValue};
+use wq_query::QueryFault::{
+    self, BadGenerator, Expression, ExpressionAndProgram, LeftOutKey, UnknownField, WrongValue,
+};
 use wq_term::TermFault;
 
 /// Asserts the words of each fault.
@@ -52,6 +54,7 @@ fn faults_of_queries_have_words(rt: HostRuntime) -> Result<(), Fail> {
         rt.alloc(),
         &[
             (LeftOutKey, "query key is left out"),
+            (ExpressionAndProgram, "expression and program"),
             (Expression(TermFault::UnknownTerm), "unknown term"),
             (Expression(TermFault::TooDeep), "expression too deep"),
             (UnknownField, "unknown field"),

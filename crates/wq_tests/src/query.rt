@@ -1,4 +1,5 @@
-//! Queries as they are read: their bound, their expression and their fields; and a reply as a value.
+//! Queries as they are read: their bound or cursor, their expression or program, and their fields; and
+//! a reply as a value.
 
 use crate::tree::pass;
 use serde_json::Value;
@@ -12,6 +13,7 @@ use wq_clock::Instance;
 use wq_compile::compile;
 use wq_query::{Field, Plan, Query, answer, answer_bytes};
 use wq_term::Expr;
+use wq_verify::Program;
 use wq_view::{Kind, View};
 
 /// The instance of all examples.
@@ -30,7 +32,7 @@ fn read(alloc: Global, text: &str) -> Result<Query, Fail> {
 /// Asserts the bound that each query sets.
 fn check_bounds(rt: &impl Abort, alloc: Global, rows: &[(&str, Bound)]) -> Result<(), Fail> {
     for (text, bound) in rows {
-        assert_eq!(rt; read(alloc, text)?.bound(), *bound, "at {text}");
+        assert_eq!(rt; read(alloc, text)?.bound(), Some(*bound), "at {text}");
     }
     Ok(())
 }
@@ -80,6 +82,25 @@ fn a_query_shows_its_expression(rt: HostRuntime) -> Result<(), Fail> {
     Ok(())
 }
 
+#[test]
+fn a_query_shows_its_cursor(rt: HostRuntime) -> Result<(), Fail> {
+    let from_cursor = read(rt.alloc(), r#"{"since":"n:c:1:2"}"#)?;
+    let from_tick = read(rt.alloc(), r#"{"since":"c:7:9:1:1"}"#)?;
+    assert!(rt; from_cursor.cursor() == Some("c:1:2"));
+    assert!(rt; from_cursor.bound().is_none());
+    assert!(rt; from_tick.cursor().is_none());
+    Ok(())
+}
+
+#[test]
+fn a_query_shows_its_program(rt: HostRuntime) -> Result<(), Fail> {
+    let by_program = read(rt.alloc(), r#"{"program":"p"}"#)?;
+    let by_expression = read(rt.alloc(), r#"{"expression":"true"}"#)?;
+    assert!(rt; by_program.program() == Some("p"));
+    assert!(rt; by_expression.program().is_none());
+    Ok(())
+}
+
 /// Asserts the name of each field, and that it names the field.
 fn check_fields(rt: &impl Abort, rows: &[(&str, Field)]) {
     for (name, field) in rows {
@@ -111,6 +132,32 @@ fn fields_have_names(rt: HostRuntime) {
 fn planned(alloc: Global, query: Query) -> Result<Plan, Fail> {
     let program = compile(alloc, query.expr())?;
     Ok(query.plan(Fresh, Arc::new(alloc, program)?))
+}
+
+/// The plan of a query that names a program, at a fresh bound and by this program.
+fn planned_by(alloc: Global, query: Query, program: Program) -> Result<Option<Plan>, Fail> {
+    if query.program().is_none() {
+        return Ok(None);
+    }
+    Ok(Some(query.plan(Fresh, Arc::new(alloc, program)?)))
+}
+
+/// The program of the name that the query has says which files match.
+#[test]
+fn a_program_answers_for_its_name(rt: HostRuntime) -> Result<(), Fail> {
+    let mut view = View::new(rt.alloc());
+    view.absorb(&pass(rt.alloc(), &[b"src/a.c", b"b.txt"], 100)?)?;
+    let named = read(rt.alloc(), r#"{"program":"p","fields":["name"]}"#)?;
+    let of_suffix = read(rt.alloc(), r#"{"expression":["suffix","c"]}"#)?;
+    let program = compile(rt.alloc(), of_suffix.expr())?;
+    let Some(plan) = planned_by(rt.alloc(), named, program)? else {
+        return Err(Fail::from("the query names no program"));
+    };
+    let want =
+        r#"{"clock":"c:7:9:1:1","files":["src/a.c"],"is_fresh_instance":true,"version":"wq-1"}"#;
+    let bytes = answer_bytes(rt.alloc(), &plan, &INSTANCE, &view)?;
+    assert!(rt; bytes.as_slice() == want.as_bytes());
+    Ok(())
 }
 
 #[test]
