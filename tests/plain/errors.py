@@ -16,14 +16,16 @@ WRONG_TERM_ARGUMENTS = "E25: wrong term arguments"
 TOO_DEEP = "E26: expression too deep"
 CURSOR_IN_TERM = "E27: cursor in a term"
 PATTERN_TOO_LONG = "E28: pattern too long"
+EXPRESSION_AND_PROGRAM = "E29: expression and program"
 PROGRAM_TOO_LARGE = "E30: program too large"
+NO_SUCH_PROGRAM = "E34: no such program"
 WRONG_QUERY_VALUE = "E37: wrong query value"
 
 # All but the one for expressions that are too long to be drawn: tests/size has those.
 ALL = [
     LINE_TOO_LONG, NOT_JSON, NOT_A_COMMAND, UNKNOWN_COMMAND, WRONG_ARGUMENTS, BINARY, NOT_WATCHED, LEFT_OUT_KEY,
     UNKNOWN_FIELD, BAD_GENERATOR, BAD_CLOCK_SPEC, UNKNOWN_TERM, WRONG_TERM_ARGUMENTS, TOO_DEEP, CURSOR_IN_TERM,
-    PATTERN_TOO_LONG, WRONG_QUERY_VALUE,
+    PATTERN_TOO_LONG, EXPRESSION_AND_PROGRAM, NO_SUCH_PROGRAM, WRONG_QUERY_VALUE,
 ]
 
 

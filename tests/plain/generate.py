@@ -28,7 +28,8 @@ LETTERS = "fffffffddddlbcpsD?"
 WRONG_FIELDS = [
     '"name"', "[]", '["name",7]', '["mode"]', '["Name"]', "null", "{}", '[["name"]]', '[""]', '["name",null]',
 ]
-LEFT_OUT_KEYS = ["glob", "glob_includedotfiles", "program", "relative_root", "settle_period", "settle_timeout"]
+LEFT_OUT_KEYS = ["glob", "glob_includedotfiles", "relative_root", "settle_period", "settle_timeout"]
+PROGRAMS = ['"p"', '""', '"%s"' % ("p" * 300), "7", "null", '["p"]']
 IGNORED_KEYS = ["dedup_results", "defer", "drop", "frob", "", "Fields", "case_sensitive "]
 ANY_VALUES = ["true", "null", "[]", '{"a":[1,2]}', '"x"', "1.5", "-0", '"\\ud83d\\ude00"']
 ROOTS = ['"/r"', '"/r/"', '"/r///"', '"\\u002fr"']
@@ -204,6 +205,8 @@ def query(draws: Draws, world: World) -> str:
     members: List[Tuple[str, str]] = []
     if not draws.one_in(6):
         members.append(("expression", expression(draws, world)))
+    if draws.one_in(60):
+        members.append(("program", draws.pick(PROGRAMS)))
     if not draws.one_in(4):
         members.append(("fields", fields(draws)))
     if draws.one_in(2):

@@ -1,16 +1,17 @@
 """Queries over one view, and their replies."""
 
-from typing import Any, Callable, Dict, List, NamedTuple
+from typing import Any, Callable, Dict, List, NamedTuple, Optional
 
 import clocks
 from clocks import FRESH, Bound, clock_id
-from errors import BAD_CLOCK_SPEC, LEFT_OUT_KEY, UNKNOWN_FIELD, WRONG_QUERY_VALUE, Refused
+from errors import (BAD_CLOCK_SPEC, EXPRESSION_AND_PROGRAM, LEFT_OUT_KEY, NO_SUCH_PROGRAM, UNKNOWN_FIELD,
+                    WRONG_QUERY_VALUE, Refused)
 from generators import Generators, candidate_test, read_generators
 from json_values import is_whole_number
 from terms import Test, read_term
 from views import Record, View
 
-LEFT_OUT_KEYS = ["glob", "glob_includedotfiles", "program", "relative_root", "settle_period", "settle_timeout"]
+LEFT_OUT_KEYS = ["glob", "glob_includedotfiles", "relative_root", "settle_period", "settle_timeout"]
 DEFAULT_FIELDS = ["name", "exists", "new", "size"]
 
 # What a field says of a record. Of `new` the bound decides.
@@ -39,13 +40,22 @@ def read_query(asked: Dict[str, Any]) -> Query:
     """What the object of a query asks, or the refusal of its first fault."""
     if any(key in asked for key in LEFT_OUT_KEYS) or asked.get("case_sensitive", True) is not True:
         raise Refused(LEFT_OUT_KEY)
+    if "expression" in asked and "program" in asked:
+        raise Refused(EXPRESSION_AND_PROGRAM)
     matches = read_term(asked.get("expression", "true"))
     fields = read_fields(asked.get("fields", DEFAULT_FIELDS))
     generators = read_generators(asked)
     bound = read_since(asked["since"]) if "since" in asked else FRESH
+    if not isinstance(asked.get("program", ""), str):
+        raise Refused(WRONG_QUERY_VALUE)
     is_empty_on_fresh = asked.get("empty_on_fresh_instance", False)
     if not isinstance(is_empty_on_fresh, bool) or not is_whole_number(asked.get("sync_timeout", 0)):
         raise Refused(WRONG_QUERY_VALUE)
+    # No cursor is kept yet, and no program has a name.
+    if bound is None:
+        raise Refused(BAD_CLOCK_SPEC)
+    if "program" in asked:
+        raise Refused(NO_SUCH_PROGRAM)
     return Query(matches, fields, bound, is_empty_on_fresh, generators)
 
 
@@ -57,11 +67,13 @@ def read_fields(value: Any) -> List[str]:
     return value
 
 
-def read_since(value: Any) -> Bound:
-    """No cursors are kept yet, so one is refused."""
+def read_since(value: Any) -> Optional[Bound]:
+    """The bound of a clock spec; none where it is a cursor."""
     try:
         return clocks.bound_of(value)
-    except (clocks.BadClockSpec, clocks.NamedCursor):
+    except clocks.NamedCursor:
+        return None
+    except clocks.BadClockSpec:
         raise Refused(BAD_CLOCK_SPEC) from None
 
 
