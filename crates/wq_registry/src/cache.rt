@@ -95,13 +95,13 @@ impl Cache {
         values_say_what_they_write();
         read_expressions_fit();
         let Ok(text) = value.to_string(self.alloc) else {
-            return made(self.alloc, expr);
+            return compile_shared(self.alloc, expr);
         };
         let key = Key { root, text };
         if let Some(program) = self.kept(&key) {
             return Ok(program);
         }
-        let program = made(self.alloc, expr)?;
+        let program = compile_shared(self.alloc, expr)?;
         self.keep(key, &program);
         Ok(program)
     }
@@ -134,8 +134,11 @@ fn size() -> NonZeroUsize {
     }
 }
 
-/// The program of an expression, which can be shared.
-fn made(alloc: Global, expr: &Expr) -> Result<Arc<Program>, CompileFault>
+/// The program of an expression, which can be shared, without a cache.
+///
+/// # Errors
+/// Those of [`compile`].
+pub fn compile_shared(alloc: Global, expr: &Expr) -> Result<Arc<Program>, CompileFault>
     requires { IsTrue (fits (term_of expr.now)) }
 
     ensures meaning { IfOk result (λ program. AnswersMeaning program.value (term_of expr.now)) }

@@ -15,7 +15,7 @@ mod root;
 mod roots;
 mod shelf;
 
-pub use cache::{Cache, MAX_KEPT};
+pub use cache::{Cache, MAX_KEPT, compile_shared};
 pub use fault::ShelfFault;
 pub use law::{
     cursors_are_made, last_change_counts, names_stand_in_order, places_are_names,

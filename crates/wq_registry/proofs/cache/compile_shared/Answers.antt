@@ -2,7 +2,7 @@ use Rattle.std.proofs.Common.{sym, subst}
 use Rattle.wq_code.specs.declared.raw.Raw.{Raw}
 use Rattle.wq_compile.specs.Meaning.{AnswersMeaning}
 use Rattle.wq_term.specs.Expr.{term_of}
-use Rattle.wq_registry.proofs.cache.made.Goals as goal
+use Rattle.wq_registry.proofs.cache.compile_shared.Goals as goal
 
 pub returns-clause-meaning : goal.returns-clause-meaning
 returns-clause-meaning c =

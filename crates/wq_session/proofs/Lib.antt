@@ -1,0 +1,6 @@
+mod Behind
+mod Texts
+mod Fixed
+mod Rooted
+mod Strings
+mod Ending

@@ -1,0 +1,88 @@
+-- The answer to an ask, whole: what is begun while the shelf is held, and finished without it. And
+-- what it may come to where memory runs out.
+-- It is this server's own that a cursor is unset whose reply could not be made.
+use Rattle.std.specs.Prelude.{◌≡◌, ◌⊎◌, true, false, Option, Some, None}
+use Rattle.wq_query.specs.Query.{PlanData}
+use Rattle.wq_query.specs.Reply.{reply_of}
+use Rattle.wq_registry.specs.Shelf.{cursor_unset}
+use Rattle.wq_session.specs.Begun.{WorkData, says, lists, BegunData, begun, takes_memory}
+use Rattle.wq_session.specs.Out.{OutData, refuses, replies, runs_out, silence}
+use Rattle.wq_session.specs.Query.{AtData, ShelfNow}
+use Rattle.wq_session.specs.declared.ask.Ask.{Ask}
+use Rattle.wq_session.specs.Refusal.{ends_session}
+use Rattle.wq_session.specs.declared.cursor.Cursor.{Cursor}
+use Rattle.wq_session.specs.declared.refusal.Refusal.{Refusal}
+
+-- the files of a plan, of what is looked at
+abbrev pub listed : PlanData → Option AtData → OutData
+listed plan None = silence true
+listed plan (Some at) = replies (reply_of plan at.instance at.view)
+
+-- what is given out with no cursor to unset
+abbrev pub settled : OutData → OutData
+settled out = record {
+  reply = out.reply;
+  goes_on = out.goes_on;
+  shuts = out.shuts;
+  unset = None;
+}
+
+-- what is given out when the work is done
+abbrev pub finished : WorkData → Option AtData → OutData
+finished (says out) at = settled out
+finished (lists plan cursor) at = listed plan at
+
+-- what a refusal may come to: it is said; or memory ran out, but not where the session ends with it
+abbrev pub MayRefuse : Refusal → OutData → Type 0
+MayRefuse refusal out =
+    (out ≡ refuses refusal) ⊎ ((ends_session refusal ≡ false) × (out ≡ runs_out None))
+
+-- an answer
+pub record AnswerData : Type 0 where
+  pub out : OutData
+  pub shelf : ShelfNow
+
+-- the answer to an ask, at a root that is looked at and a shelf
+abbrev pub answer : Ask → Option AtData → ShelfNow → AnswerData
+answer ask at shelf = record {
+  out = finished (begun ask at shelf).work at;
+  shelf = (begun ask at shelf).shelf;
+}
+
+-- what was begun of an ask: the work and the shelf are those of the answer; or memory ran out, and
+-- nothing changed
+abbrev pub Takes : Ask → Option AtData → ShelfNow → WorkData → ShelfNow → Type 0
+Takes ask at shelf work after =
+    (begun ask at shelf ≡ record { work = work; shelf = after })
+    ⊎ ((takes_memory ask ≡ true) × (work ≡ says (runs_out None)) × (after ≡ shelf))
+
+-- what work comes to where memory runs out
+abbrev pub unmade : WorkData → OutData
+unmade (says out) = settled out
+unmade (lists plan cursor) = runs_out cursor
+
+-- what work was finished to
+abbrev pub Finishes : WorkData → Option AtData → OutData → Type 0
+Finishes work at out = (out ≡ finished work at) ⊎ (out ≡ unmade work)
+
+-- files can be listed of what is looked at, if any are to be listed
+abbrev pub CanFinish : WorkData → Option AtData → Type 0
+CanFinish (says out) at = Unit {0}
+CanFinish (lists plan cursor) None = ⊥
+CanFinish (lists plan cursor) (Some at) = Unit {0}
+
+-- the shelf without a cursor, if there is one
+abbrev pub without : Option Cursor → ShelfNow → ShelfNow
+without None shelf = shelf
+without (Some cursor) shelf = cursor_unset cursor.root cursor.name shelf
+
+-- what an ask was answered: its answer; or that memory ran out, before anything changed, or when the
+-- files were listed: then the cursor is unset which the answer would have moved
+abbrev pub Answers : Ask → Option AtData → ShelfNow → OutData → ShelfNow → Type 0
+Answers ask at shelf out after =
+    (answer ask at shelf ≡ record { out = out; shelf = after })
+    ⊎ ((takes_memory ask ≡ true) × (out ≡ runs_out None) × (after ≡ shelf))
+    ⊎ ((plan : PlanData) × (cursor : Option Cursor)
+    × ((begun ask at shelf).work ≡ lists plan cursor)
+    × (out ≡ runs_out None)
+    × (after ≡ without cursor (begun ask at shelf).shelf))

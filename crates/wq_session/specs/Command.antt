@@ -1,0 +1,28 @@
+-- The commands that a client may give, by their names.
+-- From Watchman's documentation of its commands; those of programs are this server's own.
+use Rattle.std.specs.Prelude.{ℕ, List, [], ◌∷◌, codes, Option}
+use Rattle.wq_base.specs.Table.{named}
+use Rattle.wq_session.specs.declared.command.Command.{Command}
+use Rattle.wq_session.specs.declared.command.Command.TheVariants.{Query, Clock, Version, SocketName}
+use Rattle.wq_session.specs.declared.command.Command.TheVariants.{ShutDown, AddProgram, ListPrograms}
+use Rattle.wq_session.specs.declared.command.Command.TheVariants.{DeleteProgram}
+
+-- every command
+abbrev pub all_commands : List Command
+all_commands =
+    Query ∷ Clock ∷ Version ∷ SocketName ∷ ShutDown ∷ AddProgram ∷ ListPrograms ∷ DeleteProgram ∷ []
+
+-- the name of a command
+abbrev pub command_name : Command → List ℕ
+command_name Query = codes "query"
+command_name Clock = codes "clock"
+command_name Version = codes "version"
+command_name SocketName = codes "get-sockname"
+command_name ShutDown = codes "shutdown-server"
+command_name AddProgram = codes "program-add"
+command_name ListPrograms = codes "program-list"
+command_name DeleteProgram = codes "program-del"
+
+-- the command of a name
+abbrev pub command_named : List ℕ → Option Command
+command_named = named command_name all_commands

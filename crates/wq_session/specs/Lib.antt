@@ -1,0 +1,15 @@
+pub mod Refusal
+pub mod Root
+pub mod Command
+pub mod Reading
+pub mod Words
+pub mod Need
+pub mod Needed
+pub mod Reply
+pub mod Out
+pub mod Said
+pub mod Query
+pub mod Begun
+pub mod Answer
+pub mod Work
+pub mod Taking

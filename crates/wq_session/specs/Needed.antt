@@ -1,0 +1,11 @@
+-- What the needs of the code stand for.
+-- No public document is behind it.
+use Rattle.wq_session.specs.Need.{NeedData, none, look, crawl}
+use Rattle.wq_session.specs.declared.needs.Need.{Need as NeedNow}
+use Rattle.wq_session.specs.declared.needs.Need.TheVariants.{None, Look, Crawl}
+
+-- the need
+abbrev pub need_data : NeedNow → NeedData
+need_data None = none
+need_data (Look root) = look root.now
+need_data (Crawl root) = crawl root.now

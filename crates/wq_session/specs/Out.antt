@@ -1,0 +1,56 @@
+-- What a session gives out for an event.
+-- A reply to each line is from Watchman's documentation of its socket interface; the rest is this
+-- server's own.
+use Rattle.std.specs.Prelude.{ℕ, Bool, true, false, not, List, Option, Some, None}
+use Rattle.serde_json.specs.Data.{Data}
+use Rattle.serde_json.specs.Written.{compact_text}
+use Rattle.wq_session.specs.Reply.{error_data}
+use Rattle.wq_session.specs.declared.cursor.Cursor.{Cursor}
+use Rattle.wq_session.specs.declared.refusal.Refusal.{Refusal}
+use Rattle.wq_session.specs.declared.refusal.Refusal.TheVariants.{NoMemory}
+use Rattle.wq_session.specs.Refusal.{ends_session}
+
+-- what is given out
+pub record OutData : Type 0 where
+  -- the text of the reply, without a newline
+  pub reply : Option (List ℕ)
+  -- whether the session goes on
+  pub goes_on : Bool
+  -- whether the server is to end
+  pub shuts : Bool
+  -- the cursor that was moved for a reply that memory did not suffice for
+  pub unset : Option Cursor
+
+-- a text, after which the session goes on
+abbrev pub saying_text : List ℕ → OutData
+saying_text text = record { reply = Some text; goes_on = true; shuts = false; unset = None }
+
+-- a reply, after which the session goes on
+abbrev pub replies : Data → OutData
+replies d = saying_text (compact_text d)
+
+-- the last reply of a session that ends the server
+abbrev pub shuts_with : Data → OutData
+shuts_with d = record { reply = Some (compact_text d); goes_on = false; shuts = true; unset = None }
+
+-- that a line is refused
+abbrev pub refuses : Refusal → OutData
+refuses refusal = record {
+  reply = Some (compact_text (error_data refusal));
+  goes_on = not (ends_session refusal);
+  shuts = false;
+  unset = None;
+}
+
+-- nothing, and whether the session goes on
+abbrev pub silence : Bool → OutData
+silence goes_on = record { reply = None; goes_on = goes_on; shuts = false; unset = None }
+
+-- that memory ran out, with the cursor that was moved
+abbrev pub runs_out : Option Cursor → OutData
+runs_out cursor = record {
+  reply = Some (compact_text (error_data NoMemory));
+  goes_on = true;
+  shuts = false;
+  unset = cursor;
+}

@@ -1,0 +1,178 @@
+-- What the lines of a client ask: the first reason to refuse a line, or its command.
+-- From Watchman's documentation of its commands; base64 is that of RFC 4648. The refusals are this
+-- server's own.
+use Rattle.std.specs.Prelude.{◌≡◌, ◌⊎◌, ℕ, pos, Bool, true, false, ◌&&◌, not, nat_le, int_lt}
+use Rattle.std.specs.Prelude.{if◌then◌else◌, List, [], ◌∷◌, length, codes}
+use Rattle.std.specs.Prelude.{Option, Some, None, option_and_then, Result, Ok, Err}
+use Rattle.std.specs.Option.{option_map_or}
+use Rattle.std.specs.Str.{is_utf8}
+use Rattle.base64.specs.GeneralPurpose.{decode_of}
+use Rattle.base64.specs.Engines.{standard}
+use Rattle.serde_json.specs.Data.{Data, string, array, object, Items, no_items, item}
+use Rattle.serde_json.specs.Find.{get}
+use Rattle.serde_json.specs.Read.{read as read_text}
+use Rattle.serde_json.specs.View.{view as data_of}
+use Rattle.wq_base.specs.Fault.{or_fault, or_its_fault, unless_fault}
+use Rattle.wq_code.specs.File.{file_at}
+use Rattle.wq_code.specs.declared.raw.Raw.{Raw}
+use Rattle.wq_code.specs.declared.fault.FileFault.{FileFault}
+use Rattle.wq_serve.specs.declared.event.Event.{Event}
+use Rattle.wq_serve.specs.declared.event.Event.TheVariants.{Line, Long, Binary, Idle, End, Fault}
+use Rattle.wq_term.specs.Argument.{whole_number_of}
+use Rattle.wq_verify.specs.Typing.{IsFirstFault, IsValid}
+use Rattle.wq_session.specs.Command.{command_named}
+use Rattle.wq_session.specs.declared.ask.Ask.{Ask}
+use Rattle.wq_session.specs.declared.ask.Ask.TheVariants.{Refused, Query as AsksQuery, Clock as AsksClock}
+use Rattle.wq_session.specs.declared.ask.Ask.TheVariants.{Version as AsksVersion}
+use Rattle.wq_session.specs.declared.ask.Ask.TheVariants.{SocketName as AsksSocketName}
+use Rattle.wq_session.specs.declared.ask.Ask.TheVariants.{ShutDown as AsksShutDown}
+use Rattle.wq_session.specs.declared.ask.Ask.TheVariants.{AddProgram as AsksAddProgram}
+use Rattle.wq_session.specs.declared.ask.Ask.TheVariants.{ListPrograms as AsksListPrograms}
+use Rattle.wq_session.specs.declared.ask.Ask.TheVariants.{DeleteProgram as AsksDeleteProgram}
+use Rattle.wq_session.specs.declared.ask.Ask.TheVariants.{Leave, Nothing}
+use Rattle.wq_session.specs.declared.command.Command.{Command}
+use Rattle.wq_session.specs.declared.command.Command.TheVariants.{Query, Clock, Version, SocketName}
+use Rattle.wq_session.specs.declared.command.Command.TheVariants.{ShutDown, AddProgram, ListPrograms}
+use Rattle.wq_session.specs.declared.command.Command.TheVariants.{DeleteProgram}
+use Rattle.wq_session.specs.declared.refusal.Refusal.{Refusal}
+use Rattle.wq_session.specs.declared.refusal.Refusal.TheVariants.{LineTooLong, NotJson, NotACommand}
+use Rattle.wq_session.specs.declared.refusal.Refusal.TheVariants.{UnknownCommand, WrongArguments, Bser}
+use Rattle.wq_session.specs.declared.refusal.Refusal.TheVariants.{NotBase64, WrongFile, WrongProgram}
+use Rattle.wq_session.specs.declared.refusal.Refusal.TheVariants.{BadName, NoMemory}
+
+-- what a line wishes before the program that it adds, if it adds one, is looked at
+pub data WishData : Type 0 where
+  -- this is asked
+  asks : Ask → WishData
+  -- which files of a root there are, as an object says
+  queries : (root : List ℕ) → Data → WishData
+  -- that the program of a file is kept under a name
+  adds : (name : List ℕ) → (file : List ℕ) → WishData
+
+-- a command's name with its arguments
+pub record WordsData : Type 0 where
+  pub name : List ℕ
+  pub arguments : Items
+
+-- the one JSON value of a line in UTF-8
+abbrev pub value_of : List ℕ → Option Data
+value_of line = if is_utf8 line then read_text line else None
+
+-- the words of a value: an array headed by a text
+abbrev pub words_of : Data → Option WordsData
+words_of (array (item (string name) arguments)) =
+    Some (record { name = name; arguments = arguments })
+words_of _ = None
+
+-- what stands behind the first item
+abbrev pub behind : Items → Items
+behind no_items = no_items
+behind (item d ds) = ds
+
+-- the root and the object of `query`
+abbrev pub query_arguments : Items → Option (List ℕ × Data)
+query_arguments (item (string root) (item (object members) no_items)) =
+    Some (root, object members)
+query_arguments _ = None
+
+-- whether the options of `clock` ask that the root is crawled first: by a whole number above 0
+abbrev pub asks_crawl : Data → Bool
+asks_crawl options =
+    option_map_or (int_lt (pos 0))
+    (option_and_then whole_number_of (get (codes "sync_timeout") options)) false
+
+-- the root of `clock`, behind which an object of options may stand, and whether it is to be crawled
+abbrev pub clock_arguments : Items → Option (List ℕ × Bool)
+clock_arguments (item (string root) no_items) = Some (root, false)
+clock_arguments (item (string root) (item (object members) no_items)) =
+    Some (root, asks_crawl (object members))
+clock_arguments _ = None
+
+-- whether there is nothing, or one object
+abbrev pub are_options : Items → Bool
+are_options no_items = true
+are_options (item (object members) no_items) = true
+are_options _ = false
+
+-- whether there is nothing
+abbrev pub are_none : Items → Bool
+are_none no_items = true
+are_none _ = false
+
+-- one text
+abbrev pub one_text : Items → Option (List ℕ)
+one_text (item (string text) no_items) = Some text
+one_text _ = None
+
+-- two texts
+abbrev pub two_texts : Items → Option (List ℕ × List ℕ)
+two_texts (item (string first) (item (string second) no_items)) = Some (first, second)
+two_texts _ = None
+
+-- whether a text may be the name of a program
+abbrev pub is_name : List ℕ → Bool
+is_name name = nat_le 1 (length name) && nat_le (length name) 255
+
+-- that the program of a base64 text is kept under a name
+abbrev pub adding : List ℕ × List ℕ → Result WishData Refusal
+adding (name, text) =
+    unless_fault BadName (is_name name) (
+    or_its_fault (λ _. NotBase64) (decode_of standard text) (λ file.
+    Ok (adds name file)))
+
+-- what a command with these arguments wishes
+abbrev pub wish_of : Command → Items → Result WishData Refusal
+wish_of Query arguments =
+    or_fault WrongArguments (query_arguments arguments) (λ (root, d). Ok (queries root d))
+wish_of Clock arguments =
+    or_fault WrongArguments (clock_arguments arguments) (λ (root, crawl). Ok (asks (AsksClock root crawl)))
+wish_of Version arguments = unless_fault WrongArguments (are_options arguments) (Ok (asks AsksVersion))
+wish_of SocketName arguments =
+    unless_fault WrongArguments (are_none arguments) (Ok (asks AsksSocketName))
+wish_of ShutDown arguments = unless_fault WrongArguments (are_none arguments) (Ok (asks AsksShutDown))
+wish_of AddProgram arguments = or_fault WrongArguments (two_texts arguments) adding
+wish_of ListPrograms arguments =
+    unless_fault WrongArguments (are_none arguments) (Ok (asks AsksListPrograms))
+wish_of DeleteProgram arguments =
+    or_fault WrongArguments (one_text arguments) (λ name.
+    unless_fault BadName (is_name name) (Ok (asks (AsksDeleteProgram name))))
+
+-- what the value of a line wishes
+abbrev pub wish_of_value : Data → Result WishData Refusal
+wish_of_value value =
+    or_fault NotACommand (words_of value) (λ words.
+    or_fault UnknownCommand (command_named words.name) (λ command.
+    wish_of command words.arguments))
+
+-- what a line wishes
+abbrev pub wished : List ℕ → Result WishData Refusal
+wished line = or_fault NotJson (value_of line) wish_of_value
+
+-- what is asked where the program of a file is to be kept: a program that may run, or the first
+-- fault of the file or of its program
+abbrev pub IsAdding : List ℕ → Result Raw FileFault → Ask → Type 0
+IsAdding name (Err fault) ask = ask ≡ Refused (WrongFile fault)
+IsAdding name (Ok raw) (AsksAddProgram n program) = (n ≡ name) × (program ≡ raw) × IsValid raw
+IsAdding name (Ok raw) (Refused (WrongProgram fault at)) = IsFirstFault raw fault at
+IsAdding name (Ok raw) _ = ⊥
+
+-- what is asked where files are queried
+abbrev pub IsQuerying : List ℕ → Data → Ask → Type 0
+IsQuerying root d (AsksQuery r q) = (r ≡ root) × (data_of q ≡ d)
+IsQuerying root d _ = ⊥
+
+-- what is asked by a wish
+abbrev pub IsWished : Result WishData Refusal → Ask → Type 0
+IsWished (Err refusal) ask = ask ≡ Refused refusal
+IsWished (Ok (asks asked)) ask = ask ≡ asked
+IsWished (Ok (queries root d)) ask = IsQuerying root d ask
+IsWished (Ok (adds name file)) ask = IsAdding name (file_at file) ask
+
+-- what an event asks; of a line it may be that memory ran out
+abbrev pub Asks : Event → Ask → Type 0
+Asks (Line line) ask = IsWished (wished line) ask ⊎ (ask ≡ Refused NoMemory)
+Asks Long ask = ask ≡ Refused LineTooLong
+Asks Binary ask = ask ≡ Refused Bser
+Asks (Idle root) ask = ask ≡ Nothing
+Asks End ask = ask ≡ Leave
+Asks Fault ask = ask ≡ Leave

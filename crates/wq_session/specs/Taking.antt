@@ -1,0 +1,51 @@
+-- What the parts of taking a query come to: its program, and the bound that its cursor sets.
+-- No public document is behind it.
+use Rattle.std.specs.Prelude.{◌≡◌, ℕ, true, false, List, Option, Some, None, option_map, Result, Ok, Err}
+use Rattle.std.specs.declared.alloc.Global.{Global}
+use Rattle.std.specs.declared.sync.Arc.{Arc}
+use Rattle.wq_clock.specs.declared.bound.Bound.{Bound}
+use Rattle.wq_code.specs.declared.raw.Raw.{Raw}
+use Rattle.wq_compile.specs.Large.{is_too_large}
+use Rattle.wq_compile.specs.Meaning.{AnswersMeaning}
+use Rattle.wq_query.specs.Query.{QueryData, SinceData}
+use Rattle.wq_registry.specs.Named.{under}
+use Rattle.wq_session.specs.Query.{AtData, ShelfNow, program_of, bound_at, has_place, used_at}
+use Rattle.wq_session.specs.declared.refusal.Refusal.{Refusal}
+use Rattle.wq_session.specs.declared.refusal.Refusal.TheVariants.{NoSuchProgram, ProgramTooLarge}
+use Rattle.wq_session.specs.declared.refusal.Refusal.TheVariants.{ShelfFull, NoMemory}
+
+-- the program of a query: the one that it names, or one that answers what its expression means; or
+-- why there is none; or memory ran out
+abbrev pub FindsProgram : QueryData → ShelfNow → Result (Arc Raw Global) Refusal → Type 0
+FindsProgram q shelf (Ok program) =
+    (program_of q shelf ≡ Ok (option_map (λ _. program.value) q.program))
+    × (q.program ≡ None → AnswersMeaning program.value q.expression)
+FindsProgram q shelf (Err NoMemory) = Unit {0}
+FindsProgram q shelf (Err refusal) = program_of q shelf ≡ Err refusal
+
+-- the program of a name
+abbrev pub FindsNamed : List ℕ → ShelfNow → Result (Arc Raw Global) Refusal → Type 0
+FindsNamed name shelf (Ok program) = under name shelf.programs ≡ Some program.value
+FindsNamed name shelf (Err NoMemory) = Unit {0}
+FindsNamed name shelf (Err NoSuchProgram) = under name shelf.programs ≡ None
+FindsNamed name shelf (Err _) = ⊥
+
+-- the program of an expression
+abbrev pub FindsCompiled : QueryData → Result (Arc Raw Global) Refusal → Type 0
+FindsCompiled q (Ok program) =
+    AnswersMeaning program.value q.expression × (is_too_large q.expression ≡ false)
+FindsCompiled q (Err NoMemory) = Unit {0}
+FindsCompiled q (Err ProgramTooLarge) = is_too_large q.expression ≡ true
+FindsCompiled q (Err _) = ⊥
+
+-- the bound that a query sets, with the shelf on which its cursor was moved; or that there is no
+-- place for the cursor, or memory ran out, which leave the shelf
+abbrev pub MovesCursor : SinceData → AtData → ShelfNow → Result Bound Refusal → ShelfNow → Type 0
+MovesCursor since at shelf (Ok bound) after =
+    (has_place (at.instance).root since shelf ≡ true)
+    × (bound ≡ bound_at (at.instance).root since shelf)
+    × (after ≡ used_at (at.instance).root since (at.view).tick shelf)
+MovesCursor since at shelf (Err NoMemory) after = after ≡ shelf
+MovesCursor since at shelf (Err ShelfFull) after =
+    (has_place (at.instance).root since shelf ≡ false) × (after ≡ shelf)
+MovesCursor since at shelf (Err _) after = ⊥

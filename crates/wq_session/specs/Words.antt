@@ -1,0 +1,20 @@
+-- The words behind the first of a line.
+-- No public document is behind it.
+use Rattle.std.specs.Prelude.{ℕ, List, [], ◌∷◌, Option, Some, None}
+use Rattle.serde_json.specs.Data.{Data, string}
+use Rattle.serde_json.specs.declared.value.Value.{Value}
+
+-- the text that a value is
+abbrev pub as_text : Data → Option (List ℕ)
+as_text (string text) = Some text
+as_text _ = None
+
+-- one word
+abbrev pub one_behind : List Value → Option Value
+one_behind (name ∷ word ∷ []) = Some word
+one_behind _ = None
+
+-- two words
+abbrev pub two_behind : List Value → Option (Value × Value)
+two_behind (name ∷ first ∷ second ∷ []) = Some (first, second)
+two_behind _ = None

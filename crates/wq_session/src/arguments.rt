@@ -1,0 +1,124 @@
+//! The arguments of commands: the words of a line, of which the first is the command's name.
+ghost use Rattle.std.specs.Prelude.{◌≡◌, option_map};
+ghost use Rattle.serde_json.specs.View.{view as data_of, items_view};
+ghost use Rattle.wq_session.specs.Reading.{are_none, are_options, asks_crawl, behind, clock_arguments};
+ghost use Rattle.wq_session.specs.Reading.{one_text, query_arguments, two_texts};
+ghost use Rattle.wq_session.specs.Words.{as_text, one_behind, two_behind};
+
+use serde_json::Value;
+use wq_base::Text;
+use wq_term::whole_number;
+
+/// The root and the object of `query`.
+pub(crate) fn query_arguments(words: Vec<Value>) -> Option<(Text, Value)>
+    ensures { option_map (λ (root, query). (root, data_of query)) result
+        ≡ query_arguments (behind (items_view words.items)) }
+{
+    let (root, query) = two_behind(words)?;
+    if !query.is_object() {
+        return None;
+    }
+    Some((text(root)?, query))
+}
+
+/// The root of `clock`, and whether it is to be crawled first.
+pub(crate) fn clock_arguments(words: Vec<Value>) -> Option<(Text, bool)>
+    ensures { result ≡ clock_arguments (behind (items_view words.items)) }
+{
+    if words.len() < 3 {
+        let root = one_behind(words)?;
+        return Some((text(root)?, false));
+    }
+    let (root, options) = two_behind(words)?;
+    if !options.is_object() {
+        return None;
+    }
+    Some((text(root)?, asks_crawl(&options)))
+}
+
+/// Whether options ask that the root is crawled first: by a whole number above 0.
+fn asks_crawl(options: &Value) -> bool
+    ensures { result ≡ asks_crawl (data_of options.now) }
+{
+    let Some(value) = options.get("sync_timeout") else {
+        return false;
+    };
+    match whole_number(value) {
+        None => false,
+        Some(number) => number > 0,
+    }
+}
+
+/// Whether nothing stands behind the first word, or one object.
+pub(crate) fn are_options(words: &[Value]) -> bool
+    ensures { result ≡ are_options (behind (items_view words.now)) }
+{
+    match words.split_first() {
+        None => true,
+        Some((_, values)) => are_options_alone(values),
+    }
+}
+
+/// Whether there is nothing, or one object.
+fn are_options_alone(values: &[Value]) -> bool
+    ensures { result ≡ are_options (items_view values.now) }
+{
+    match values.split_first() {
+        None => true,
+        Some((options, rest)) => rest.is_empty() && options.is_object(),
+    }
+}
+
+/// Whether nothing stands behind the first word.
+pub(crate) fn are_none(words: &[Value]) -> bool
+    ensures { result ≡ are_none (behind (items_view words.now)) }
+{
+    words.len() <= 1
+}
+
+/// The one text behind the first word.
+pub(crate) fn one_text(words: Vec<Value>) -> Option<Text>
+    ensures { result ≡ one_text (behind (items_view words.items)) }
+{
+    text(one_behind(words)?)
+}
+
+/// The two texts behind the first word.
+pub(crate) fn two_texts(words: Vec<Value>) -> Option<(Text, Text)>
+    ensures { result ≡ two_texts (behind (items_view words.items)) }
+{
+    let (first, second) = two_behind(words)?;
+    Some((text(first)?, text(second)?))
+}
+
+/// The text that a value is.
+fn text(value: Value) -> Option<Text>
+    ensures { result ≡ as_text (data_of value) }
+{
+    match value {
+        Value::String(text) => Some(Text::from_string(text)),
+        _ => None,
+    }
+}
+
+/// The one word behind the first.
+fn one_behind(mut words: Vec<Value>) -> Option<Value>
+    ensures { result ≡ one_behind words.items }
+{
+    if words.len() != 2 {
+        return None;
+    }
+    words.pop()
+}
+
+/// The two words behind the first.
+fn two_behind(mut words: Vec<Value>) -> Option<(Value, Value)>
+    ensures { result ≡ two_behind words.items }
+{
+    if words.len() != 3 {
+        return None;
+    }
+    let second = words.pop()?;
+    let first = words.pop()?;
+    Some((first, second))
+}

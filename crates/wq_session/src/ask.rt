@@ -1,0 +1,33 @@
+//! What is asked of a session.
+
+use crate::refusal::Refusal;
+use serde_json::Value;
+use wq_base::Text;
+use wq_verify::Program;
+
+/// What an event asks of a session, or why a line is refused whatever stands on the shelf.
+#[derive(Drop)]
+pub enum Ask {
+    /// This is the first reason to refuse the line.
+    Refused(Refusal),
+    /// Which files of a root there are, and which of them changed, as the object says.
+    Query { root: Text, query: Value },
+    /// The clock of a root, and whether the root is crawled first.
+    Clock { root: Text, crawl: bool },
+    /// The version alone.
+    Version,
+    /// The name of the server's socket.
+    SocketName,
+    /// That the server ends.
+    ShutDown,
+    /// That the program is kept under a name.
+    AddProgram { name: Text, program: Program },
+    /// The names of the programs.
+    ListPrograms,
+    /// That the program under a name is kept no more.
+    DeleteProgram { name: Text },
+    /// Nothing: the client has gone.
+    Leave,
+    /// Nothing.
+    Nothing,
+}

@@ -1,0 +1,33 @@
+//! Sessions of clients: what an event asks, what has to come before it is answered, and the answer, at a view of the
+//! root that it names and at what all clients share. How a stream becomes events, and where views come from, is not
+//! said here.
+#![tactic(auto)]
+
+mod adding;
+mod arguments;
+mod ask;
+mod at;
+mod command;
+mod cursor;
+mod giving;
+mod need;
+mod needs;
+mod out;
+mod querying;
+mod reading;
+mod refusal;
+mod replies;
+mod root;
+mod session;
+mod taking;
+mod work;
+
+pub use ask::Ask;
+pub use at::At;
+pub use cursor::Cursor;
+pub use needs::Need;
+pub use out::Out;
+pub use refusal::Refusal;
+pub use root::root_named;
+pub use session::Session;
+pub use work::Work;

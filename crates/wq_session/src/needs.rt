@@ -1,0 +1,12 @@
+//! What an answer may need.
+
+/// What has to come before an answer.
+#[derive(Clone, Copy, Debug)]
+pub enum Need<'a> {
+    /// Nothing.
+    None,
+    /// A look at the view of this root as it stands.
+    Look(&'a str),
+    /// A crawl of this root, and then a look at its view.
+    Crawl(&'a str),
+}

@@ -1,0 +1,40 @@
+//! What a session gives out for an event.
+
+use crate::cursor::Cursor;
+use std::marker::Model;
+use wq_base::Table;
+
+/// What a session gives out for an event: a reply or none, and whether it goes on. Its text is compact JSON with keys
+/// in byte order, and has no newline.
+#[derive(Drop)]
+pub struct Out {
+    pub(crate) reply: Reply,
+    pub(crate) goes_on: bool,
+    pub(crate) shuts: bool,
+    pub(crate) unset: Option<Cursor>,
+}
+
+/// The text of a reply.
+#[derive(Drop)]
+pub(crate) enum Reply {
+    /// There is none.
+    None,
+    /// One that was made.
+    Made(Table<u8>),
+    /// One that is always the same, and takes no memory.
+    Fixed(&'static [u8]),
+}
+
+impl Model for Out {
+    ghost use Rattle.wq_session.specs.Out.{OutData};
+    ghost use Rattle.wq_session.specs.Said.{reply_text};
+
+    ghost Value = { OutData };
+
+    ghost view = { λ o. record {
+      reply = reply_text o.reply;
+      goes_on = o.goes_on;
+      shuts = o.shuts;
+      unset = o.unset;
+    } };
+}

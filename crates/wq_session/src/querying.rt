@@ -1,0 +1,185 @@
+//! `query`: the part for which the shelf is held, in which its program is found and its cursor moved; and the listing.
+ghost use Rattle.std.specs.Prelude.{◌≡◌, ◌↔◌, Ok, Some, false, is_none, option_map, IfOk};
+ghost use Rattle.std.specs.Prelude.{IsErrOf, IsTrue};
+ghost use Rattle.serde_json.specs.View.{view as data_of};
+ghost use Rattle.wq_clock.specs.Instance.{instance_data};
+ghost use Rattle.wq_compile.specs.Large.{is_too_large};
+ghost use Rattle.wq_compile.specs.Meaning.{AnswersMeaning};
+ghost use Rattle.wq_query.specs.Query.{asked_of, planned};
+ghost use Rattle.wq_query.specs.Reading.{asks};
+ghost use Rattle.wq_registry.specs.Root.{numbered};
+ghost use Rattle.wq_session.specs.Answer.{Finishes};
+ghost use Rattle.wq_session.specs.Begun.{begun_query, lists, try_query};
+ghost use Rattle.wq_session.specs.Query.{cursor_in};
+ghost use Rattle.wq_session.specs.Taking.{FindsCompiled, FindsNamed, FindsProgram, MovesCursor};
+ghost use Rattle.wq_session.specs.Work.{Begins, at_data};
+
+use crate::at::At;
+use crate::cursor::Cursor;
+use crate::out::Out;
+use crate::refusal::Refusal;
+use crate::taking::watched;
+use crate::work::Work;
+use serde_json::Value;
+use std::alloc::{AllocError, Global};
+use std::sync::Arc;
+use wq_base::Text;
+use wq_clock::{Bound, Instance};
+use wq_compile::CompileFault;
+use wq_query::{Plan, Query, QueryFault, answer_bytes};
+use wq_registry::{Shelf, ShelfFault, compile_shared};
+use wq_verify::Program;
+
+/// `query`, of the root that it names.
+pub(crate) fn try_query(
+    alloc: Global,
+    root: &Text,
+    object: &Value,
+    at: Option<At<'_>>,
+    shelf: &mut Shelf<()>,
+) -> Result<Work, Refusal>
+    ensures { Begins (try_query root.now (data_of object.now) (option_map at_data at.entry) shelf.old) shelf.old
+        result shelf.new }
+{
+    let Some(at) = watched(root, at, shelf) else {
+        return Err(Refusal::NotWatched);
+    };
+    match Query::read(alloc, object, &at.instance) {
+        Ok(query) => begin_query(alloc, query, object, at, shelf),
+        Err(QueryFault::NoMemory) => Err(Refusal::NoMemory),
+        Err(fault) => Err(Refusal::Query(fault)),
+    }
+}
+
+/// A query that was read from this object.
+fn begin_query(
+    alloc: Global,
+    query: Query,
+    object: &Value,
+    at: At<'_>,
+    shelf: &mut Shelf<()>,
+) -> Result<Work, Refusal>
+    requires read { asks (instance_data at.instance) (data_of object.now) ≡ Ok (asked_of query) }
+    requires watched { is_none (numbered at.instance.root shelf.old.roots) ≡ false }
+    ensures { Begins (begun_query (at_data at.entry) (asked_of query) shelf.old) shelf.old result shelf.new }
+{
+    let program = program_of(alloc, &query, object, &at.instance, shelf)?;
+    let cursor = cursor_of(alloc, &query, at.instance.root)?;
+    let bound = move_cursor(&query, at, shelf)?;
+    Ok(Work::Lists(query.plan(bound, program), cursor))
+}
+
+/// The program that says which files match a query.
+fn program_of(
+    alloc: Global,
+    query: &Query,
+    object: &Value,
+    instance: &Instance,
+    shelf: &mut Shelf<()>,
+) -> Result<Arc<Program>, Refusal>
+    requires { asks (instance_data instance.now) (data_of object.now) ≡ Ok (asked_of query.now) }
+    ensures found { FindsProgram (asked_of query.now) shelf.old result }
+    ensures same { shelf.new ≡ shelf.old }
+{
+    match query.program() {
+        Some(name) => named(name, shelf),
+        None => compiled(alloc, query, object, instance, shelf),
+    }
+}
+
+/// The program of a name.
+fn named(name: &str, shelf: &Shelf<()>) -> Result<Arc<Program>, Refusal>
+    ensures { FindsNamed name.now shelf.now result }
+{
+    match shelf.get(name) {
+        Some(program) => match Arc::try_clone(program) {
+            Ok(program) => Ok(program),
+            Err(_) => Err(Refusal::NoMemory),
+        },
+        None => Err(Refusal::NoSuchProgram),
+    }
+}
+
+/// The program of the expression of a query that was read from this object.
+fn compiled(
+    alloc: Global,
+    query: &Query,
+    object: &Value,
+    instance: &Instance,
+    shelf: &mut Shelf<()>,
+) -> Result<Arc<Program>, Refusal>
+    requires { asks (instance_data instance.now) (data_of object.now) ≡ Ok (asked_of query.now) }
+    ensures found { FindsCompiled (asked_of query.now) result }
+    ensures same { shelf.new ≡ shelf.old }
+{
+    match kept(alloc, query, object, instance, shelf) {
+        Ok(program) => Ok(program),
+        Err(CompileFault::TooLarge) => Err(Refusal::ProgramTooLarge),
+        Err(CompileFault::NoMemory) => Err(Refusal::NoMemory),
+    }
+}
+
+/// The same, from the cache where that is of this run of the server.
+fn kept(
+    alloc: Global,
+    query: &Query,
+    object: &Value,
+    instance: &Instance,
+    shelf: &mut Shelf<()>,
+) -> Result<Arc<Program>, CompileFault>
+    requires { asks (instance_data instance.now) (data_of object.now) ≡ Ok (asked_of query.now) }
+    ensures meaning { IfOk result (λ program.
+        AnswersMeaning program.value (asked_of query.now).expression) }
+    ensures large { IsErrOf result CompileFault.TooLarge
+        ↔ IsTrue (is_too_large (asked_of query.now).expression) }
+    ensures same { shelf.new ≡ shelf.old }
+{
+    let Some(value) = object.get("expression") else {
+        return compile_shared(alloc, query.expr());
+    };
+    let cache = shelf.cache();
+    if cache.start() != instance.start || cache.pid() != instance.pid {
+        return compile_shared(alloc, query.expr());
+    }
+    cache.program(instance.root, value, query.expr())
+}
+
+/// The cursor of a query, by a name of its own.
+fn cursor_of(alloc: Global, query: &Query, root: u64) -> Result<Option<Cursor>, AllocError>
+    ensures { IfOk result (λ cursor. cursor ≡ cursor_in root (asked_of query.now).since) }
+{
+    match query.cursor() {
+        None => Ok(None),
+        Some(name) => Ok(Some(Cursor {
+            root,
+            name: Text::from_string(String::from_str(alloc, name)?),
+        })),
+    }
+}
+
+/// Moves the cursor of a query to the tick of the view that is looked at, and gives the bound that it sets.
+fn move_cursor(query: &Query, at: At<'_>, shelf: &mut Shelf<()>) -> Result<Bound, Refusal>
+    requires { is_none (numbered at.instance.root shelf.old.roots) ≡ false }
+    ensures { MovesCursor (asked_of query.now).since (at_data at.entry) shelf.old result shelf.new }
+{
+    let Some(name) = query.cursor() else {
+        return Ok(query.bound().unwrap_or(Bound::Fresh));
+    };
+    match shelf.swap_cursor(at.instance.root, name, at.view.tick()) {
+        Ok(None) => Ok(Bound::Fresh),
+        Ok(Some(tick)) => Ok(Bound::Tick(tick)),
+        Err(ShelfFault::NoMemory) => Err(Refusal::NoMemory),
+        Err(ShelfFault::Full) => Err(Refusal::ShelfFull),
+        Err(ShelfFault::NoRoot) => unreachable!(),
+    }
+}
+
+/// The listing of the files of a plan, of what is looked at.
+pub(crate) fn listed(alloc: Global, plan: &Plan, cursor: Option<Cursor>, at: At<'_>) -> Out
+    ensures { Finishes (lists (planned plan.now) cursor) (Some (at_data at.entry)) result }
+{
+    match answer_bytes(alloc, plan, &at.instance, at.view) {
+        Ok(text) => Out::of_text(text),
+        Err(_) => Out::runs_out(cursor),
+    }
+}

@@ -1,0 +1,145 @@
+//! Why lines of clients are refused, and the texts that clients read.
+ghost use Rattle.std.specs.Prelude.{◌≡◌, IfOk, string_bytes};
+ghost use Rattle.wq_session.specs.Refusal.{ends_session, query_text, refusal_text, term_text};
+
+use std::alloc::{AllocError, AllocFailed, Global};
+use wq_code::FileFault;
+use wq_query::QueryFault;
+use wq_term::TermFault;
+use wq_verify::ProgramFault;
+
+/// The first reason why a line of a client is not carried out.
+#[derive(Clone, Copy, Debug, Drop)]
+pub enum Refusal {
+    /// A line of over [`MAX_LINE`](wq_serve::MAX_LINE) bytes.
+    LineTooLong,
+    /// A line in which there is something else than one JSON value, or bytes that are no UTF-8.
+    NotJson,
+    /// The value is no array headed by a text.
+    NotACommand,
+    /// No command has this name.
+    UnknownCommand,
+    /// The number or the kinds of the arguments are not the command's.
+    WrongArguments,
+    /// The line begins with byte 0, as Watchman's binary messages do.
+    Bser,
+    /// The root could not be read when it was crawled for the line.
+    UnreadableRoot,
+    /// The root has more files than a view may have.
+    TooManyFiles,
+    /// The root is not watched.
+    NotWatched,
+    /// The root was crawled 2^62 times with changes.
+    TicksSpent,
+    /// The query is refused.
+    Query(QueryFault),
+    /// The query's expression has no program: its code or a list in it is too long.
+    ProgramTooLarge,
+    /// The text of a program is not base64.
+    NotBase64,
+    /// The bytes of a program are no program file.
+    WrongFile(FileFault),
+    /// The program may not run, for this fault of the instruction at this place, counted from 0.
+    WrongProgram { fault: ProgramFault, at: usize },
+    /// No program is kept under this name.
+    NoSuchProgram,
+    /// As many programs are kept as may be, or as many cursors of the root.
+    ShelfFull,
+    /// The name of a program has not 1 to 255 bytes.
+    BadName,
+    /// A growth was refused.
+    NoMemory,
+}
+
+impl Refusal {
+    /// Whether the session ends where a line is refused so.
+    pub fn ends_session(self) -> bool
+        ensures { result ≡ ends_session self }
+    {
+        matches!(self, Refusal::LineTooLong | Refusal::Bser)
+    }
+
+    /// The text of the key `error` in the reply.
+    pub fn text(self, alloc: Global) -> Result<String, AllocError>
+        ensures { IfOk result (λ text. string_bytes text ≡ refusal_text self) }
+    {
+        match self {
+            Refusal::LineTooLong => String::from_str(alloc, "E1: line too long"),
+            Refusal::NotJson => String::from_str(alloc, "E2: not JSON"),
+            Refusal::NotACommand => String::from_str(alloc, "E3: not a command array"),
+            Refusal::UnknownCommand => String::from_str(alloc, "E4: unknown command"),
+            Refusal::WrongArguments => String::from_str(alloc, "E5: wrong arguments"),
+            Refusal::Bser => String::from_str(alloc, "E6: BSER is not spoken here"),
+            Refusal::UnreadableRoot => String::from_str(alloc, "E11: root cannot be read"),
+            Refusal::TooManyFiles => String::from_str(alloc, "E12: too many files"),
+            Refusal::NotWatched => String::from_str(alloc, "E14: root is not watched"),
+            Refusal::TicksSpent => String::from_str(alloc, "E15: ticks are spent"),
+            Refusal::Query(fault) => String::from_str(alloc, query_text(fault)),
+            Refusal::ProgramTooLarge => String::from_str(alloc, "E30: program too large"),
+            Refusal::NotBase64 => String::from_str(alloc, "E31: not base64"),
+            Refusal::WrongFile(fault) => format!(in alloc; "E32: F{}", fault.number()),
+            Refusal::WrongProgram { fault, at } => {
+                format!(in alloc; "E33: Y{} at {at}", fault.number())
+            }
+            Refusal::NoSuchProgram => String::from_str(alloc, "E34: no such program"),
+            Refusal::ShelfFull => String::from_str(alloc, "E35: shelf is full"),
+            Refusal::BadName => String::from_str(alloc, "E36: bad name"),
+            Refusal::NoMemory => String::from_str(alloc, NO_MEMORY),
+        }
+    }
+}
+
+const BAD_CLOCK_SPEC: &str = "E23: bad clockspec";
+
+const NO_MEMORY: &str = "E60: no memory";
+
+fn query_text(fault: QueryFault) -> &'static str
+    ensures { result.now ≡ query_text fault }
+{
+    match fault {
+        QueryFault::LeftOutKey => "E20: query key is left out",
+        QueryFault::ExpressionAndProgram => "E29: expression and program",
+        QueryFault::Expression(fault) => term_text(fault),
+        QueryFault::UnknownField => "E21: unknown field",
+        QueryFault::BadGenerator => "E22: bad generator",
+        QueryFault::BadClockSpec => BAD_CLOCK_SPEC,
+        QueryFault::WrongValue => "E37: wrong query value",
+        QueryFault::NoMemory => NO_MEMORY,
+    }
+}
+
+fn term_text(fault: TermFault) -> &'static str
+    ensures { result.now ≡ term_text fault }
+{
+    match fault {
+        TermFault::UnknownTerm => "E24: unknown term",
+        TermFault::WrongArguments => "E25: wrong term arguments",
+        TermFault::TooDeep => "E26: expression too deep",
+        TermFault::BadClockSpec => BAD_CLOCK_SPEC,
+        TermFault::CursorInTerm => "E27: cursor in a term",
+        TermFault::PatternTooLong => "E28: pattern too long",
+        TermFault::NoMemory => NO_MEMORY,
+    }
+}
+
+impl From<AllocError> for Refusal {
+    ghost use Rattle.std.specs.Prelude.{◌≡◌};
+    ghost use Rattle.wq_session.specs.declared.refusal.Refusal.TheVariants.{NoMemory};
+
+    ghost from_gives = { λ _ refusal. refusal ≡ NoMemory };
+
+    fn from(_error: AllocError) -> Refusal {
+        Refusal::NoMemory
+    }
+}
+
+impl<T: Drop> From<AllocFailed<T>> for Refusal {
+    ghost use Rattle.std.specs.Prelude.{◌≡◌};
+    ghost use Rattle.wq_session.specs.declared.refusal.Refusal.TheVariants.{NoMemory};
+
+    ghost from_gives = { λ _ refusal. refusal ≡ NoMemory };
+
+    fn from(_error: AllocFailed<T>) -> Refusal {
+        Refusal::NoMemory
+    }
+}

@@ -1,0 +1,85 @@
+//! A session's step: the part of an answer that needs what all clients share, the part that needs only the view, and
+//! what is to be unset where memory did not suffice for that one.
+ghost use Rattle.std.specs.Prelude.{◌≡◌, option_map};
+ghost use Rattle.wq_session.specs.Answer.{Answers, CanFinish, Finishes, Takes, settled};
+ghost use Rattle.wq_session.specs.Work.{at_data, work_data};
+
+use crate::ask::Ask;
+use crate::at::At;
+use crate::cursor::Cursor;
+use crate::out::Out;
+use crate::querying::listed;
+use crate::taking::begin;
+use crate::work::Work;
+use std::alloc::Global;
+use wq_registry::Shelf;
+
+/// What a server keeps of one client. It is nothing yet: what is asked of a session does not depend on the lines before.
+#[derive(Drop)]
+pub struct Session {}
+
+impl Session {
+    /// The session of a client of which nothing has come.
+    pub fn new() -> Session {
+        Session {}
+    }
+
+    /// The part of an answer for which the shelf is held: names are looked up, a cursor is moved, a command is done. No
+    /// file is looked at. A command that speaks of a root is refused where that is not what is looked at, or not under
+    /// its number on the shelf.
+    ///
+    /// Where memory runs out, that is the answer, and the shelf is as it was.
+    pub fn take(
+        &mut self,
+        alloc: Global,
+        ask: Ask,
+        at: Option<At<'_>>,
+        shelf: &mut Shelf<()>,
+    ) -> Work
+        ensures { Takes ask (option_map at_data at.entry) shelf.old (work_data result) shelf.new }
+    {
+        begin(alloc, ask, at, shelf)
+    }
+
+    /// What stands to be undone on the shelf: a cursor that was moved for a reply which memory did not suffice for.
+    /// Before the next event it is to be unset there.
+    pub fn settle(&mut self, out: &mut Out) -> Option<Cursor>
+        ensures named { result ≡ out.old.unset }
+        ensures taken { out.new ≡ settled out.old }
+    {
+        out.unset.take()
+    }
+
+    /// The answer whole: [`take`](Session::take), [`finish`](Work::finish), [`settle`](Session::settle), and the cursor
+    /// unset that it names.
+    pub fn on(&mut self, alloc: Global, ask: Ask, at: Option<At<'_>>, shelf: &mut Shelf<()>) -> Out
+        ensures { Answers ask (option_map at_data at.entry) shelf.old result shelf.new }
+    {
+        let work = self.take(alloc, ask, at, shelf);
+        let mut out = work.finish(alloc, at);
+        if let Some(cursor) = self.settle(&mut out) {
+            shelf.unset_cursor(cursor.root, cursor.name.as_str());
+        }
+        out
+    }
+}
+
+impl Work {
+    /// The part of an answer for which the shelf is not held: the files are listed and the text is made. What is looked
+    /// at is what [`take`](Session::take) was given.
+    pub fn finish(self, alloc: Global, at: Option<At<'_>>) -> Out
+        requires { CanFinish (work_data self) (option_map at_data at) }
+        ensures { Finishes (work_data self) (option_map at_data at.entry) result }
+    {
+        match self {
+            Work::Says(mut out) => {
+                out.unset = None;
+                out
+            }
+            Work::Lists(plan, cursor) => match at {
+                Some(at) => listed(alloc, &plan, cursor, at),
+                None => unreachable!(),
+            },
+        }
+    }
+}
