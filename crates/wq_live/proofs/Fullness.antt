@@ -3,6 +3,7 @@ use Rattle.std.proofs.Common.{◌≡◌, ◌⊎◌, ◌↔◌, ◌==◌, ℕ, Bo
 use Rattle.std.specs.FinMap.{empty, len}
 use Rattle.std.specs.List.{find}
 use Rattle.std.proofs.lemmas.List.{length-map}
+use Rattle.std.proofs.lemmas.List.Elements.{recursion_from_All}
 use Rattle.wq_base.specs.Limit.{max_number}
 use Rattle.wq_view.specs.Listing.{PassData}
 use Rattle.wq_live.specs.declared.event.RootEvent.{RootEvent}
@@ -11,7 +12,7 @@ use Rattle.wq_live.specs.declared.table.StartFault.TheVariants.{TooManyRoots, No
 use Rattle.wq_live.specs.Event.{shown, started, is_shown, passes_over, root_named, first_history}
 use Rattle.wq_live.specs.Limit.{max_roots}
 use Rattle.wq_live.specs.Table.{RootView, TableData, IsTableOf, root_of, has_number, has_text}
-use Rattle.wq_live.proofs.Roots.{root_of_text}
+use Rattle.wq_live.proofs.Roots.{root_of_text, found_passes}
 use Rattle.wq_view.specs.View.{ViewData, IsViewOf}
 use Rattle.wq_live.proofs.FirstView.{is_empty, not_empty}
 use Rattle.wq_live.proofs.Passes.{not_shown, is_there, found_view}
@@ -51,6 +52,23 @@ shows {A = A} f events table is number answer e = at answer (find (has_number nu
     at None (Some r) here e = absurd cc
     at (Some v) None here e = absurd cc
     at (Some v) (Some r) here e = (sym (is_there events table is number r here), subst (IsViewOf (passes_over number events)) (cc e) (found_view events table is number r here))
+
+-- what a text finds in the table is the view of the passes over the root of that number
+pub named_shows : {A : Type 0} (f : A → ℕ) (g : A → ViewData) (events : List RootEvent) (table : TableData) → IsTableOf events table → (text : List ℕ) (answer : Option A)
+    → option_map f answer ≡ option_map (λ (r : RootView). r.number) (find (has_text text) table.roots)
+    → option_map g answer ≡ option_map (λ (r : RootView). r.view) (find (has_text text) table.roots)
+    → IfSome answer (λ it. IsViewOf (passes_over (f it) events) (g it))
+named_shows {A = A} f g events table is text answer d e = at answer (find (has_text text) table.roots) refl d e
+  where
+    at : (answer : Option A) (found : Option RootView) → find (has_text text) table.roots ≡ found → option_map f answer ≡ option_map (λ (r : RootView). r.number) found
+        → option_map g answer ≡ option_map (λ (r : RootView). r.view) found → IfSome answer (λ it. IsViewOf (passes_over (f it) events) (g it))
+    at None found here d e = tt
+    at (Some it) None here d e = absurd cc
+    at (Some it) (Some r) here d e =
+        let number : r.number ≡ f it = cc d in
+        let view : r.view ≡ g it = cc e in
+        subst (λ n. IsViewOf (passes_over n events) (g it)) number (subst (IsViewOf (passes_over r.number events)) view (found_passes (has_text text) (λ (root : RootView). IsViewOf (passes_over root.number events) root.view) table.roots r here
+        (recursion_from_All (λ (root : RootView). IsViewOf (passes_over root.number events) root.view) table.roots is.views)).1)
 
 -- a start that fails for memory did not find the table full
 pub no_memory : {A B P : Type 0} (r : Result A StartFault) (s : Result B StartFault) (b : B) (y : StartFault) → r ≡ Err y → y ≡ NoMemory → s ≡ Ok b → ((s ≡ Err TooManyRoots) ↔ P) → ((r ≡ Err TooManyRoots) ↔ P)

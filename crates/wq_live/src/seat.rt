@@ -1,9 +1,9 @@
 //! Seats, which look at what is shown. A look waits for nobody and takes no memory.
-ghost use Rattle.std.specs.Prelude.{◌≡◌, IfSome, MatchResult, Some, is_some};
+ghost use Rattle.std.specs.Prelude.{◌≡◌, IfSome, MatchResult, Some, is_some, option_map};
 ghost use mathlib.Core.List.{IsPrefix};
 ghost use Rattle.left_right.specs.Sides.{view};
 ghost use Rattle.wq_view.specs.View.{IsViewOf};
-ghost use Rattle.wq_live.specs.Event.{is_shown, passes_over};
+ghost use Rattle.wq_live.specs.Event.{is_shown, passes_over, root_named};
 ghost use Rattle.wq_live.specs.Table.{IsTableOf};
 
 use crate::front::Front;
@@ -186,6 +186,15 @@ impl<N: Named> Look<N> {
         } else {
             self.reading.get().table()
         }
+    }
+
+    /// The number and the view of the root of this text, where it is shown in the look's list.
+    pub fn root(&self, text: &str) -> Option<(u64, &View)>
+        ensures number { option_map (λ it. it.0) result
+            ≡ option_map (λ root. root.number) (root_named text.now self.now) }
+        ensures view { IfSome result (λ it. IsViewOf (passes_over it.0 self.now) it.1.now) }
+    {
+        self.table().root(text)
     }
 
     /// The view of the root of this number, where it is shown in the look's list.

@@ -147,7 +147,6 @@ impl RootTable {
     /// that of the last start.
     ///
     /// Refused where 16 roots are shown or the number 2^62 was given.
-
     pub fn with_start(&self, text: &str, pass: &Pass) -> Result<RootTable, StartFault>
         requires new { find (has_text text.now) self.now.roots ≡ None }
         ensures started { (events : List RootEvent) → IsTableOf events self.now
