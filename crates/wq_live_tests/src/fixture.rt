@@ -1,0 +1,61 @@
+//! Passes over a made-up tree, and what a seat sees.
+
+use itoa::Buffer;
+use std::alloc::{AllocError, Global};
+use std::sync::{ArcSlice, Wait};
+use std::test::Fail;
+use wq_live::{Look, Named, Publisher, Seat, Told};
+use wq_view::{Kind, Pass, Seen};
+
+/// What is seen of a root: its number, the tick of its view, and how many files that has.
+pub(crate) type Sight = (u64, u64, usize);
+
+/// The row of a file, named by its number.
+fn row(alloc: Global, number: u64) -> Result<Seen, AllocError> {
+    let mut name = Buffer::new();
+    Ok(Seen {
+        name: ArcSlice::from_slice(alloc, name.format(number).as_bytes())?,
+        kind: Kind::File,
+        size: 1,
+        mtime_ms: 1,
+    })
+}
+
+/// A pass that sees so many files; none where memory ran out.
+pub(crate) fn pass(alloc: Global, files: u64) -> Option<Pass> {
+    let mut rows = Vec::new(alloc);
+    for number in 0..files {
+        rows.push(row(alloc, number).ok()?).ok()?;
+    }
+    Pass::new(rows, 1).ok()
+}
+
+/// Starts a root with a pass that sees so many files.
+pub(crate) fn start<N: Named, R: Wait + Drop>(
+    alloc: Global,
+    publisher: &mut Publisher<N, R>,
+    text: &str,
+    files: u64,
+) -> Result<(u64, Told<N>), Fail> {
+    if publisher.find(text).is_some() {
+        return Err(Fail::new("the root is shown"));
+    }
+    Ok(publisher.start(text, pass(alloc, files).ok_or("no pass")?)?)
+}
+
+/// What a look shows of the root of this text.
+pub(crate) fn sight_of<N: Named>(look: &Look<N>, text: &str) -> Option<Sight> {
+    let (number, view) = look.root(text)?;
+    Some((number, view.tick(), look.view(number)?.len()))
+}
+
+/// What a seat sees of the root of this text when it looks.
+pub(crate) fn look_at<N: Named>(seat: Seat<N>, text: &str) -> (Seat<N>, Option<Sight>) {
+    match seat.look() {
+        Ok(look) => {
+            let sight = sight_of(&look, text);
+            (look.leave(), sight)
+        }
+        Err(seat) => (seat, None),
+    }
+}
