@@ -1,9 +1,8 @@
-//! Passes over a made-up tree, and what a seat sees.
+//! Passes over a made-up tree, what a publisher does, and what a seat sees.
 
 use itoa::Buffer;
 use std::alloc::{AllocError, Global};
 use std::sync::{ArcSlice, Wait};
-use std::test::Fail;
 use wq_live::{Look, Named, Publisher, Seat, Told};
 use wq_view::{Kind, Pass, Seen};
 
@@ -30,17 +29,29 @@ pub(crate) fn pass(alloc: Global, files: u64) -> Option<Pass> {
     Pass::new(rows, 1).ok()
 }
 
-/// Starts a root with a pass that sees so many files.
+/// Starts a root with a pass that sees so many files; none where that fails.
 pub(crate) fn start<N: Named, R: Wait + Drop>(
     alloc: Global,
     publisher: &mut Publisher<N, R>,
     text: &str,
     files: u64,
-) -> Result<(u64, Told<N>), Fail> {
+) -> Option<(u64, Told<N>)> {
     if publisher.find(text).is_some() {
-        return Err(Fail::new("the root is shown"));
+        return None;
     }
-    Ok(publisher.start(text, pass(alloc, files).ok_or("no pass")?)?)
+    let pass = pass(alloc, files)?;
+    publisher.start(text, pass).ok()
+}
+
+/// Publishes a pass over the root of this number that sees so many files; none where that fails.
+pub(crate) fn publish<N: Named, R: Wait + Drop>(
+    alloc: Global,
+    publisher: &mut Publisher<N, R>,
+    number: u64,
+    files: u64,
+) -> Option<Told<N>> {
+    let pass = pass(alloc, files)?;
+    publisher.publish(number, pass).ok()
 }
 
 /// What a look shows of the root of this text.

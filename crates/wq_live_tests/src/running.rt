@@ -1,11 +1,10 @@
 //! A publisher and seats on threads of their own.
 ghost use Rattle.std.specs.Prelude.{◌≡◌};
 
-use crate::fixture::{look_at, pass, sight_of, start};
-use std::alloc::{AllocGlobal, Global};
+use crate::fixture::{look_at, publish, sight_of, start};
+use std::alloc::Global;
 use std::marker::Brand;
-use std::process::Abort;
-use std::sync::{Arc, Mutex, Wait};
+use std::sync::{Mutex, Wait};
 use std::test::Fail;
 use std::thread;
 use std::thread::{JoinHandle, Threads};
@@ -21,10 +20,7 @@ fn publish_all<N: Named, R: Wait + Drop>(
     publisher: &Mutex<Publisher<N, R>>,
 ) -> bool {
     for files in 2..=LAST {
-        let Some(pass) = pass(alloc, files) else {
-            return false;
-        };
-        if publisher.lock(rt).publish(1, pass).is_err() {
+        if publish(alloc, &mut publisher.lock(rt), 1, files).is_none() {
             return false;
         }
     }
@@ -51,109 +47,128 @@ fn watch<N: Named>(mut seat: Seat<N>, until: u64) -> (Seat<N>, bool) {
     (seat, false)
 }
 
-/// Looks while passes are published on another thread.
-fn watch_all<
-    N: Named + Send + Sync + 'static,
-    R: Threads + Wait + Abort + AllocGlobal + Copy + Drop + Send + Sync + 'static,
->(rt: R, blank: Blank) -> Result<(), Fail>
-    requires { blank.book ≡ N.book }
-{
-    let mut publisher = blank.open::<N, R>(rt);
-    start(rt.alloc(), &mut publisher, "/a", 1)?;
-    let seat = publisher.seat()?;
-    let shared = Arc::new(rt.alloc(), Mutex::new(publisher))?;
-    let theirs = Arc::try_clone(&shared)?;
-    let alloc = rt.alloc();
-    let publishing = thread::spawn(&rt, move || publish_all(&rt, alloc, &theirs))?;
-    let (_seat, is_right) = watch(seat, LAST);
-    let is_published = publishing.join(&rt);
-    assert!(rt; is_published && is_right);
-    Ok(())
-}
-
-#[test]
-fn no_look_goes_back(rt: HostRuntime) -> Result<(), Fail> {
-    watch_all::<Brand, HostRuntime>(rt, Blank::new(rt.alloc(), &rt, 1)?)
-}
-
 /// Looks so often, and says whether each look showed this tick.
 fn look_often<N: Named>(mut seat: Seat<N>, looks: u64, tick: u64) -> bool {
     for _ in 0..looks {
         let (after, sight) = look_at(seat, "/a");
         seat = after;
-        if sight.map(|it| it.1) != Some(tick) {
+        if !matches!(sight, Some((_, now, _)) if now == tick) {
             return false;
         }
     }
     true
 }
 
-/// Looks on another thread while the publisher is locked here.
-fn look_beside_a_lock<
-    N: Named + Send + Sync + 'static,
-    R: Threads + Wait + Abort + AllocGlobal + Copy + Drop + Send + Sync + 'static,
->(rt: R, blank: Blank) -> Result<(), Fail>
+/// Looks while passes are published on another thread, and says whether all was right.
+fn watch_all<N: Named + Send + Sync, R: Threads + Wait + Copy + Drop + Send + Sync>(
+    rt: R,
+    alloc: Global,
+    blank: Blank,
+) -> bool
     requires { blank.book ≡ N.book }
 {
     let mut publisher = blank.open::<N, R>(rt);
-    start(rt.alloc(), &mut publisher, "/a", 1)?;
-    let seat = publisher.seat()?;
+    let Ok(seat) = publisher.seat() else {
+        return false;
+    };
+    if start(alloc, &mut publisher, "/a", 1).is_none() {
+        return false;
+    }
+    let shared = Mutex::new(publisher);
+    let (is_published, is_right) = thread::join(
+        &rt,
+        || publish_all(&rt, alloc, &shared),
+        || watch(seat, LAST).1,
+    );
+    is_published && is_right
+}
+
+#[test]
+fn no_look_goes_back(rt: HostRuntime) -> Result<(), Fail> {
+    let blank = Blank::new(rt.alloc(), &rt, 1)?;
+    assert!(rt; watch_all::<Brand, HostRuntime>(rt, rt.alloc(), blank));
+    Ok(())
+}
+
+/// Looks on another thread while the publisher is locked here, and says whether all was right.
+fn look_beside_a_lock<
+    N: Named + Send + Sync + 'static,
+    R: Threads + Wait + Copy + Drop + Send + Sync + 'static,
+>(rt: R, alloc: Global, blank: Blank) -> bool
+    requires { blank.book ≡ N.book }
+{
+    let mut publisher = blank.open::<N, R>(rt);
+    let Ok(seat) = publisher.seat() else {
+        return false;
+    };
+    if start(alloc, &mut publisher, "/a", 1).is_none() {
+        return false;
+    }
     let shared = Mutex::new(publisher);
     let locked = shared.lock(&rt);
-    let looking = thread::spawn(&rt, move || look_often(seat, 1000, 1))?;
-    let is_right = looking.join(&rt);
+    let looking = thread::spawn(&rt, move || look_often(seat, 1000, 1));
+    let is_right = looking.is_ok_and(|it| it.join(&rt));
     drop(locked);
-    assert!(rt; is_right);
-    Ok(())
+    is_right
 }
 
 #[test]
 fn looks_do_not_wait_for_the_lock(rt: HostRuntime) -> Result<(), Fail> {
-    look_beside_a_lock::<Brand, HostRuntime>(rt, Blank::new(rt.alloc(), &rt, 1)?)
+    let blank = Blank::new(rt.alloc(), &rt, 1)?;
+    assert!(rt; look_beside_a_lock::<Brand, HostRuntime>(rt, rt.alloc(), blank));
+    Ok(())
 }
 
 /// Begins to publish while a look goes on, and looks beside it at the first pass. The publisher then waits for the look,
-/// which shows what it showed, and no other look does.
+/// which shows what it showed, and no other look does. Says whether all was right.
 fn look_beside<
     N: Named + Send + Sync + 'static,
-    R: Threads + Wait + AllocGlobal + Copy + Drop + Send + Sync + 'static,
+    R: Threads + Wait + Copy + Drop + Send + Sync + 'static,
 >(
     rt: R,
+    alloc: Global,
+    publisher: Publisher<N, R>,
     look: &Look<N>,
     seat: Seat<N>,
-    publisher: Publisher<N, R>,
-) -> Result<(JoinHandle<bool>, bool), Fail> {
+) -> Option<(JoinHandle<bool>, bool)> {
     let shared = Mutex::new(publisher);
-    let alloc = rt.alloc();
-    let publishing = thread::spawn(&rt, move || publish_all(&rt, alloc, &shared))?;
+    let publishing = thread::spawn(&rt, move || publish_all(&rt, alloc, &shared)).ok()?;
     let (seat, is_seen) = watch(seat, 2);
     let is_right = is_seen && look_often(seat, 1000, 2);
-    let is_held = sight_of(look, "/a") == Some((1, 1, 1));
-    Ok((publishing, is_right && is_held))
+    Some((
+        publishing,
+        is_right && sight_of(look, "/a") == Some((1, 1, 1)),
+    ))
 }
 
-/// Looks beside a publisher that waits for another look to end.
+/// Looks beside a publisher that waits for another look to end, and says whether all was right.
 fn look_beside_a_look<
     N: Named + Send + Sync + 'static,
-    R: Threads + Wait + Abort + AllocGlobal + Copy + Drop + Send + Sync + 'static,
->(rt: R, blank: Blank) -> Result<(), Fail>
+    R: Threads + Wait + Copy + Drop + Send + Sync + 'static,
+>(rt: R, alloc: Global, blank: Blank) -> bool
     requires { blank.book ≡ N.book }
 {
     let mut publisher = blank.open::<N, R>(rt);
-    start(rt.alloc(), &mut publisher, "/a", 1)?;
-    let (slow, seat) = (publisher.seat()?, publisher.seat()?);
-    let Ok(look) = slow.look() else {
-        return Err(Fail::new("there is no look"));
+    if start(alloc, &mut publisher, "/a", 1).is_none() {
+        return false;
+    }
+    let Ok(seat) = publisher.seat() else {
+        return false;
     };
-    let begun = look_beside(rt, &look, seat, publisher);
+    let Ok(slow) = publisher.seat() else {
+        return false;
+    };
+    let Ok(look) = slow.look() else {
+        return false;
+    };
+    let begun = look_beside(rt, alloc, publisher, &look, seat);
     look.leave();
-    let (publishing, is_right) = begun?;
-    let is_published = publishing.join(&rt);
-    assert!(rt; is_published && is_right);
-    Ok(())
+    begun.is_some_and(|(publishing, is_right)| publishing.join(&rt) && is_right)
 }
 
 #[test]
 fn looks_do_not_wait_for_a_publish(rt: HostRuntime) -> Result<(), Fail> {
-    look_beside_a_look::<Brand, HostRuntime>(rt, Blank::new(rt.alloc(), &rt, 2)?)
+    let blank = Blank::new(rt.alloc(), &rt, 2)?;
+    assert!(rt; look_beside_a_look::<Brand, HostRuntime>(rt, rt.alloc(), blank));
+    Ok(())
 }

@@ -1,14 +1,13 @@
 //! Steps of a publisher, and what seats see after each.
 ghost use Rattle.std.specs.Prelude.{◌≡◌};
 
-use crate::fixture::{Sight, look_at, pass, start};
+use crate::fixture::{Sight, look_at, pass, publish, start};
 use itoa::Buffer;
-use std::alloc::{AllocGlobal, Global};
+use std::alloc::Global;
 use std::marker::Brand;
-use std::process::Abort;
 use std::sync::Wait;
 use std::test::Fail;
-use wq_live::{Blank, Named, Publisher, StartFault, Told};
+use wq_live::{Blank, Named, Publisher, Seat, StartFault, Told};
 
 /// What the publisher does.
 #[derive(Drop)]
@@ -24,179 +23,199 @@ enum Step {
 /// A step, and what is seen of the root `/a` after it.
 type Row = (Step, Option<Sight>);
 
-/// Does a step.
+/// Does a step; none where it fails.
 fn take<N: Named, R: Wait + Drop>(
     alloc: Global,
     publisher: &mut Publisher<N, R>,
     step: &Step,
-) -> Result<Told<N>, Fail> {
+) -> Option<Told<N>> {
     match step {
-        Step::Start(text, files) => Ok(start(alloc, publisher, text, *files)?.1),
-        Step::Pass(number, files) => {
-            let pass = pass(alloc, *files).ok_or("no pass")?;
-            Ok(publisher.publish(*number, pass)?)
+        Step::Start(text, files) => {
+            let (_number, told) = start(alloc, publisher, text, *files)?;
+            Some(told)
         }
-        Step::End(number) => Ok(publisher.retire(*number)?),
+        Step::Pass(number, files) => publish(alloc, publisher, *number, *files),
+        Step::End(number) => publisher.retire(*number).ok(),
     }
 }
 
-/// Does steps. After each, a seat that was told nothing and one that was told the list see the same.
-fn play<N: Named, R: Wait + Abort + AllocGlobal + Copy + Drop>(
+/// Does steps, and says how many went well. After each, both seats see what they should: one that is told nothing, and
+/// one that is told each list.
+fn play<N: Named, R: Wait + Drop>(
+    alloc: Global,
+    publisher: &mut Publisher<N, R>,
+    mut untold: Seat<N>,
+    mut told: Seat<N>,
+    rows: &[Row],
+) -> usize {
+    for (place, (step, want)) in rows.iter().enumerate() {
+        let Some(list) = take(alloc, publisher, step) else {
+            return place;
+        };
+        let (seat, first) = look_at(untold, "/a");
+        untold = seat;
+        let (seat, second) = look_at(told.learn(list), "/a");
+        told = seat;
+        if first != *want || second != *want {
+            return place;
+        }
+    }
+    rows.len()
+}
+
+/// Does steps from the start, and says how many went well.
+fn play_from_start<N: Named, R: Wait + Drop>(
     rt: R,
+    alloc: Global,
     blank: Blank,
     rows: &[Row],
-) -> Result<(), Fail>
+) -> usize
     requires { blank.book ≡ N.book }
 {
     let mut publisher = blank.open::<N, R>(rt);
-    let mut untold = publisher.seat()?;
-    let mut told = publisher.seat()?;
-    for (step, want) in rows {
-        let list = take(rt.alloc(), &mut publisher, step)?;
-        let (seat, sight) = look_at(untold, "/a");
-        untold = seat;
-        assert_eq!(rt; sight, *want);
-        let (seat, sight) = look_at(told.learn(list), "/a");
-        told = seat;
-        assert_eq!(rt; sight, *want);
-        assert_eq!(rt; publisher.find("/a"), want.map(|it| it.0));
+    match (publisher.seat(), publisher.seat()) {
+        (Ok(untold), Ok(told)) => play(alloc, &mut publisher, untold, told, rows),
+        _ => 0,
     }
-    Ok(())
 }
 
-/// Does steps from the start.
-fn check<R: Wait + Abort + AllocGlobal + Copy + Drop>(rt: R, rows: &[Row]) -> Result<(), Fail> {
-    play::<Brand, R>(rt, Blank::new(rt.alloc(), &rt, 2)?, rows)
-}
-
-#[test]
-fn a_root_is_shown_until_its_end(rt: HostRuntime) -> Result<(), Fail> {
-    check(
-        rt,
-        &[
-            (Step::Start("/a", 2), Some((1, 1, 2))),
-            (Step::Start("/b", 5), Some((1, 1, 2))),
-            (Step::End(1), None),
-            (Step::Start("/a", 1), Some((3, 1, 1))),
-        ],
-    )
-}
-
-#[test]
-fn each_pass_is_seen(rt: HostRuntime) -> Result<(), Fail> {
-    check(
-        rt,
-        &[
-            // A first pass that saw no file is none.
-            (Step::Start("/a", 0), Some((1, 0, 0))),
-            (Step::Pass(1, 3), Some((1, 1, 3))),
-            // It saw just what the last one saw.
-            (Step::Pass(1, 3), Some((1, 1, 3))),
-            (Step::Pass(1, 4), Some((1, 2, 4))),
-        ],
-    )
-}
-
-#[test]
-fn a_root_that_is_not_shown_takes_nothing(rt: HostRuntime) -> Result<(), Fail> {
-    check(
-        rt,
-        &[
-            (Step::Pass(1, 3), None),
-            (Step::End(1), None),
-            (Step::Start("/a", 2), Some((1, 1, 2))),
-            (Step::Pass(2, 3), Some((1, 1, 2))),
-            (Step::End(2), Some((1, 1, 2))),
-        ],
-    )
-}
-
-/// How the start of one more root is refused.
-fn refusal<N: Named, R: Wait + Drop>(
-    alloc: Global,
-    publisher: &mut Publisher<N, R>,
-    text: &str,
-) -> Result<Option<StartFault>, Fail> {
-    if publisher.find(text).is_some() {
-        return Ok(None);
+/// How many steps go well.
+fn well<R: Wait + Drop>(rt: R, alloc: Global, rows: &[Row]) -> usize {
+    match Blank::new(alloc, &rt, 2) {
+        Ok(blank) => play_from_start::<Brand, R>(rt, alloc, blank, rows),
+        Err(_) => 0,
     }
-    let pass = pass(alloc, 1).ok_or("no pass")?;
-    Ok(publisher.start(text, pass).err())
 }
 
-/// Starts 16 roots, whose texts are their numbers.
-fn fill<N: Named, R: Wait + Drop>(
-    alloc: Global,
-    publisher: &mut Publisher<N, R>,
-) -> Result<(), Fail> {
+#[test]
+fn a_root_is_shown_until_its_end(rt: HostRuntime) {
+    let rows = [
+        (Step::Start("/a", 2), Some((1, 1, 2))),
+        (Step::Start("/b", 5), Some((1, 1, 2))),
+        (Step::End(1), None),
+        (Step::Start("/a", 1), Some((3, 1, 1))),
+    ];
+    assert_eq!(rt; well(rt, rt.alloc(), &rows), rows.len());
+}
+
+#[test]
+fn each_pass_is_seen(rt: HostRuntime) {
+    let rows = [
+        // A first pass that saw no file is none.
+        (Step::Start("/a", 0), Some((1, 0, 0))),
+        (Step::Pass(1, 3), Some((1, 1, 3))),
+        // It saw just what the last one saw.
+        (Step::Pass(1, 3), Some((1, 1, 3))),
+        (Step::Pass(1, 4), Some((1, 2, 4))),
+    ];
+    assert_eq!(rt; well(rt, rt.alloc(), &rows), rows.len());
+}
+
+#[test]
+fn a_root_that_is_not_shown_takes_nothing(rt: HostRuntime) {
+    let rows = [
+        (Step::Pass(1, 3), None),
+        (Step::End(1), None),
+        (Step::Start("/a", 2), Some((1, 1, 2))),
+        (Step::Pass(2, 3), Some((1, 1, 2))),
+        (Step::End(2), Some((1, 1, 2))),
+    ];
+    assert_eq!(rt; well(rt, rt.alloc(), &rows), rows.len());
+}
+
+/// Starts 16 roots, whose texts are their numbers, and says whether each was shown.
+fn fill<N: Named, R: Wait + Drop>(alloc: Global, publisher: &mut Publisher<N, R>) -> bool {
     for number in 1..=16u64 {
         let mut text = Buffer::new();
-        start(alloc, publisher, text.format(number), 1)?;
+        if start(alloc, publisher, text.format(number), 1).is_none() {
+            return false;
+        }
     }
-    Ok(())
+    true
 }
 
-/// A seventeenth root is refused, and changes nothing. After an end there is room for one, under a new number.
-fn fill_up<N: Named, R: Wait + Abort + AllocGlobal + Copy + Drop>(
-    rt: R,
-    blank: Blank,
-) -> Result<(), Fail>
+/// Whether one more root is refused, since too many are shown.
+fn is_full<N: Named, R: Wait + Drop>(alloc: Global, publisher: &mut Publisher<N, R>) -> bool {
+    let Some(pass) = pass(alloc, 1) else {
+        return false;
+    };
+    if publisher.find("17").is_some() {
+        return false;
+    }
+    matches!(publisher.start("17", pass), Err(StartFault::TooManyRoots))
+}
+
+/// Whether 16 roots are shown, of which the last is as it was started, and the next is not.
+fn is_filled<N: Named, R: Wait + Drop>(publisher: &mut Publisher<N, R>) -> bool {
+    let Ok(seat) = publisher.seat() else {
+        return false;
+    };
+    let (_seat, sight) = look_at(seat, "16");
+    publisher.len() == 16 && publisher.find("17").is_none() && sight == Some((16, 1, 1))
+}
+
+/// A seventeenth root is refused, and changes nothing. After an end there is room for it: gives its number.
+fn fill_up<N: Named, R: Wait + Drop>(rt: R, alloc: Global, blank: Blank) -> Option<u64>
     requires { blank.book ≡ N.book }
 {
     let mut publisher = blank.open::<N, R>(rt);
-    fill(rt.alloc(), &mut publisher)?;
-    let fault = refusal(rt.alloc(), &mut publisher, "17")?;
-    assert_eq!(rt; fault, Some(StartFault::TooManyRoots));
-    let (_seat, sight) = look_at(publisher.seat()?, "16");
-    assert_eq!(rt;
-        (publisher.len(), publisher.find("17"), sight),
-        (16, None, Some((16, 1, 1)))
-    );
-    publisher.retire(3)?;
-    let (number, _told) = start(rt.alloc(), &mut publisher, "17", 1)?;
-    assert_eq!(rt; number, 17);
-    Ok(())
+    let is_right = fill(alloc, &mut publisher)
+        && is_full(alloc, &mut publisher)
+        && is_filled(&mut publisher);
+    if !is_right || publisher.retire(3).is_err() {
+        return None;
+    }
+    start(alloc, &mut publisher, "17", 1).map(|it| it.0)
 }
 
 #[test]
 fn sixteen_roots_are_shown(rt: HostRuntime) -> Result<(), Fail> {
-    fill_up::<Brand, HostRuntime>(rt, Blank::new(rt.alloc(), &rt, 1)?)
+    let blank = Blank::new(rt.alloc(), &rt, 1)?;
+    assert_eq!(rt;
+        fill_up::<Brand, HostRuntime>(rt, rt.alloc(), blank),
+        Some(17)
+    );
+    Ok(())
 }
 
-/// A seat that is dropped makes room for another.
-fn sit<N: Named, R: Wait + Abort + Drop + Copy>(rt: R, blank: Blank) -> Result<(), Fail>
+/// Whether one seat is made, a second is not, and a dropped one makes room for another.
+fn sit<N: Named, R: Wait + Drop>(rt: R, blank: Blank) -> bool
     requires { blank.book ≡ N.book }
 {
     let mut publisher = blank.open::<N, R>(rt);
-    let seat = publisher.seat()?;
-    let is_refused = publisher.seat().is_err();
+    let seat = publisher.seat();
+    let is_refused = seat.is_ok() && publisher.seat().is_err();
     drop(seat);
-    assert!(rt; is_refused && publisher.seat().is_ok());
-    Ok(())
+    is_refused && publisher.seat().is_ok()
 }
 
 #[test]
 fn seats_have_their_number(rt: HostRuntime) -> Result<(), Fail> {
-    sit::<Brand, HostRuntime>(rt, Blank::new(rt.alloc(), &rt, 1)?)
-}
-
-/// A look is refused where the publisher is gone.
-fn outlive<N: Named, R: Wait + Abort + AllocGlobal + Copy + Drop>(
-    rt: R,
-    blank: Blank,
-) -> Result<(), Fail>
-    requires { blank.book ≡ N.book }
-{
-    let mut publisher = blank.open::<N, R>(rt);
-    start(rt.alloc(), &mut publisher, "/a", 1)?;
-    let (seat, sight) = look_at(publisher.seat()?, "/a");
-    drop(publisher);
-    let (_seat, after) = look_at(seat, "/a");
-    assert_eq!(rt; (sight, after), (Some((1, 1, 1)), None));
+    let blank = Blank::new(rt.alloc(), &rt, 1)?;
+    assert!(rt; sit::<Brand, HostRuntime>(rt, blank));
     Ok(())
 }
 
+/// What a seat sees before and after the end of its publisher.
+fn outlive<N: Named, R: Wait + Drop>(
+    rt: R,
+    alloc: Global,
+    blank: Blank,
+) -> Option<(Option<Sight>, Option<Sight>)>
+    requires { blank.book ≡ N.book }
+{
+    let mut publisher = blank.open::<N, R>(rt);
+    start(alloc, &mut publisher, "/a", 1)?;
+    let (seat, before) = look_at(publisher.seat().ok()?, "/a");
+    drop(publisher);
+    let (_seat, after) = look_at(seat, "/a");
+    Some((before, after))
+}
+
 #[test]
-fn a_publisher_ends_before_its_seats(rt: HostRuntime) -> Result<(), Fail> {
-    outlive::<Brand, HostRuntime>(rt, Blank::new(rt.alloc(), &rt, 1)?)
+fn a_look_is_refused_where_the_publisher_is_gone(rt: HostRuntime) -> Result<(), Fail> {
+    let blank = Blank::new(rt.alloc(), &rt, 1)?;
+    let seen = outlive::<Brand, HostRuntime>(rt, rt.alloc(), blank);
+    assert_eq!(rt; seen, Some((Some((1, 1, 1)), None)));
+    Ok(())
 }
