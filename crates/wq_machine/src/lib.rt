@@ -6,7 +6,9 @@
 //! record in `specs/Item.antt`. This crate takes no memory.
 #![tactic(auto)]
 
+mod ahead;
 mod execute;
+mod load;
 mod machine;
 mod operand;
 mod slot;
