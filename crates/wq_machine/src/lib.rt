@@ -13,6 +13,7 @@ mod machine;
 mod operand;
 mod slot;
 mod stack;
+mod test;
 mod text;
 
 pub use machine::{Verdict, run, run_in};
