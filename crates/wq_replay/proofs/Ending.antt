@@ -1,14 +1,14 @@
 -- How the playing of a script goes on, and how it ends.
-use Rattle.std.proofs.Common.{◌≡◌, ◌≢◌, ℕ, ℤ, zero, suc, ◌+◌, ◌<◌, ◌≤◌, List, [], ◌∷◌, length, Option, Some, None, Result, Ok, Err, IsErr, IsErrAnd, IfSome, refl, sym, ap, subst, ◌∙◌, arith, inl, inr}
+use Rattle.std.proofs.Common.{◌≡◌, ◌≢◌, ℕ, zero, suc, ◌+◌, ◌<◌, ◌≤◌, List, [], ◌∷◌, length, Option, Some, None, Result, Ok, Err, IsErr, IsErrAnd, IfSome, Bool, true, false, refl, sym, ap, subst, ◌∙◌, arith, inl, inr}
 use Rattle.std.proofs.lemmas.Bool.{lt-leb}
 use Rattle.wq_replay.specs.Fault.{fault_at, fault_of}
 use Rattle.wq_replay.specs.Limit.{max_script, max_script_line}
 use Rattle.wq_replay.specs.Line.{lines_of}
-use Rattle.wq_replay.specs.Replay.{AppendsFront, Does, Ends, EndsReading, FirstLines, IsSent, StopsWithin}
-use Rattle.wq_replay.specs.Stage.{StageData, Turn, drafts, passes, answers, malformed, start, turn_of}
-use Rattle.wq_replay.specs.Step.{IsAt, StopsWriting, Takes}
+use Rattle.wq_replay.specs.Replay.{Does, Ends, EndsReading, FirstLines, Shuts, StopsWithin, StopsWriting}
+use Rattle.wq_replay.specs.Stage.{StageData, Turn, drafts, lists, hears, malformed, start, turn_of}
+use Rattle.wq_replay.specs.Step.{IsAt, Takes}
 use Rattle.wq_replay.specs.Taken.{BeginsWith, TakesLine}
-use Rattle.wq_replay.specs.declared.fault.ReplayFault.TheVariants.{TooLong, Read}
+use Rattle.wq_replay.specs.declared.fault.ReplayFault.TheVariants.{TooLong, Read, Memory as OutOfMemory}
 use Rattle.wq_replay.specs.declared.fault.StepFault.{StepFault}
 use Rattle.wq_replay.specs.declared.fault.StepFault.TheVariants.{Malformed, Write, NoMemory}
 use Rattle.wq_replay.specs.declared.fault.TakeFault.{TakeFault}
@@ -46,7 +46,7 @@ ends_well None left before now rest after size n taken code line holds within no
 ends_well (Some bytes) left before now rest after size n taken code line (at, rest_bytes, count, is, numbered, stands, sized, first) within none takes =
     let ended : rest_bytes ≡ [] = nothing_left rest_bytes line rest taken none (taken_of left rest rest_bytes line taken is takes) in
     let short : length rest_bytes ≡ 0 = ap length ended in
-    (omega (arith, sized, short), count, at, subst (λ bs. FirstLines bytes before now count at (lines_of bs)) ended first)
+    inl (omega (arith, sized, short), count, at, subst (λ bs. FirstLines bytes before now count at (lines_of bs)) ended first)
 
 -- a line that was taken is counted
 counted : (bytes line : List ℕ) (rest : Option (List ℕ)) (taken : ℕ) → TakesLine bytes taken line rest → taken ≤ length bytes
@@ -100,18 +100,25 @@ first_is at bytes line left (inr (long, whole, later, is, longer)) = (
 )
 
 -- what a step does is no malformed line's
-goes_well : (at : StageData) (turn : Turn) (now later : Option (List ℕ)) (next : Stage) → Takes at turn now later (Ok tt) next → turn ≢ malformed
+goes_well : (at : StageData) (turn : Turn) (now later : Option (List ℕ)) (next : Stage) → Takes at turn now later (Ok true) next → turn ≢ malformed
 goes_well at malformed now later next (written, after, appends, does, stands) = absurd does
 goes_well at (drafts draft) now later next takes = λ h. cc
-goes_well at (passes seen) now later next takes = λ h. cc
-goes_well at (answers client text) now later next takes = λ h. cc
+goes_well at (lists crawls tree) now later next takes = λ h. cc
+goes_well at (hears client event) now later next takes = λ h. cc
+
+-- what ends the server is no malformed line's
+shuts_well : (at : StageData) (turn : Turn) (now later : Option (List ℕ)) → Shuts at turn now later → turn ≢ malformed
+shuts_well at malformed now later ends = absurd ends
+shuts_well at (drafts draft) now later ends = absurd ends
+shuts_well at (lists crawls tree) now later ends = absurd ends
+shuts_well at (hears client event) now later ends = λ h. cc
 
 -- a step of a taken line, at the place where the script stands
-abbrev pub Stepped : Stage → Option (List ℕ) → Option (List ℕ) → List ℕ → Result (Unit {0}) StepFault → Stage → Type 0
+abbrev pub Stepped : Stage → Option (List ℕ) → Option (List ℕ) → List ℕ → Result Bool StepFault → Stage → Type 0
 Stepped code now later line result next = (at : StageData) → IsAt code at → Takes at (turn_of at line) now later result next
 
 -- the step of a text that is equal to the line, with a result that is equal to another
-pub stepped_as : (code next : Stage) (now later : Option (List ℕ)) (text line : List ℕ) (result said : Result (Unit {0}) StepFault)
+pub stepped_as : (code next : Stage) (now later : Option (List ℕ)) (text line : List ℕ) (result said : Result Bool StepFault)
     → text ≡ line → result ≡ said → Stepped code now later text result next → Stepped code now later line said next
 stepped_as code next now later text line result said same is steps =
     subst (λ l. Stepped code now later l said next) same (subst (λ r. Stepped code now later text r next) is steps)
@@ -119,7 +126,7 @@ stepped_as code next now later text line result said same is steps =
 -- one more line was played
 pub goes_on : (script left before now later rest : Option (List ℕ)) (size n taken : ℕ) (code next : Stage) (line : List ℕ)
     → Holds script left before now size n code → 0 < taken → IfSome left (λ bytes. TakesLine bytes taken line rest)
-    → Stepped code now later line (Ok tt) next → Holds script rest before later (size + taken) (n + 1) next
+    → Stepped code now later line (Ok true) next → Holds script rest before later (size + taken) (n + 1) next
 goes_on None left before now later rest size n taken code next line holds some takes steps = tt
 goes_on (Some bytes) left before now later rest size n zero code next line holds some takes steps = absurd (omega arith)
 goes_on (Some bytes) left before now later rest size n (suc taken) code next line (at, rest_bytes, count, is, numbered, stands, sized, first) some takes steps =
@@ -139,6 +146,28 @@ goes_on (Some bytes) left before now later rest size n (suc taken) code next lin
           (first_then bytes before now later count at step.1 whole.0 step.0 whole.1
           (subst (FirstLines bytes before now count at) whole.2 first)
           (subst (λ turn. Does at turn step.0 step.1) whole.3 step.3) step.2),
+    )
+
+-- by a line the server ends
+pub ends_server : (script left before now later rest : Option (List ℕ)) (size n taken : ℕ) (code next : Stage) (line : List ℕ)
+    → Holds script left before now size n code → 0 < taken → IfSome left (λ bytes. TakesLine bytes taken line rest)
+    → Stepped code now later line (Ok false) next → IfSome script (λ bytes. Ends bytes before later rest (Ok tt))
+ends_server None left before now later rest size n taken code next line holds some takes steps = tt
+ends_server (Some bytes) left before now later rest size n zero code next line holds some takes steps = absurd (omega arith)
+ends_server (Some bytes) left before now later rest size n (suc taken) code next line (at, rest_bytes, count, is, numbered, stands, sized, first) some takes steps =
+    let took : TakesLine rest_bytes (suc taken) line rest = taken_of left rest rest_bytes line (suc taken) is takes in
+    let step = steps at stands in
+    let whole = first_is at rest_bytes line took.0 took.3 in
+    let behind = whole.4 (shuts_well at (turn_of at line) now later step) in
+    inr (
+      count,
+      at,
+      whole.0,
+      took.0,
+      now,
+      took.1,
+      subst (λ lines. FirstLines bytes before now count at (whole.0 ∷ lines)) behind (subst (FirstLines bytes before now count at) whole.2 first),
+      subst (λ turn. Shuts at turn now later) whole.3 step,
     )
 
 -- a line was not done
@@ -162,17 +191,15 @@ ends_stepping (Some bytes) left before now later rest size n (suc taken) code ne
     )
 ends_stepping (Some bytes) left before now later rest size n (suc taken) code next line after Write (at, rest_bytes, count, is, numbered, stands, sized, first) some takes steps =
     let took : TakesLine rest_bytes (suc taken) line rest = taken_of left rest rest_bytes line (suc taken) is takes in
-    let whole = first_is at rest_bytes line took.0 took.3 in
-    let wrote = stops_writing at (turn_of at line) now later (steps at stands) in
-    (count, at, whole.0, whole.1, now, subst (FirstLines bytes before now count at) whole.2 first, wrote.0, wrote.1, wrote.2, sym whole.3 ∙ wrote.3, wrote.4, wrote.5)
-  where
-    stops_writing : (at : StageData) (turn : Turn) (now later : Option (List ℕ)) → StopsWriting at turn now later
-        → (client : ℤ) × (text sent : List ℕ) × (turn ≡ answers client text)
-        × IsSent at.history client text sent × AppendsFront now later sent
-    stops_writing at (answers client text) now later (sent, is, front) = (client, text, sent, refl, is, front)
-    stops_writing at (drafts draft) now later stops = absurd stops
-    stops_writing at (passes seen) now later stops = absurd stops
-    stops_writing at malformed now later stops = absurd stops
+    let whole = first_is at rest_bytes line took.0 took.3 in (
+      count,
+      at,
+      whole.0,
+      whole.1,
+      now,
+      subst (FirstLines bytes before now count at) whole.2 first,
+      subst (λ turn. StopsWriting at turn now later) whole.3 (steps at stands),
+    )
 ends_stepping (Some bytes) left before now later rest size n (suc taken) code next line after NoMemory (at, rest_bytes, count, is, numbered, stands, sized, first) some takes steps =
     let took : TakesLine rest_bytes (suc taken) line rest = taken_of left rest rest_bytes line (suc taken) is takes in
     let step = steps at stands in
@@ -207,3 +234,8 @@ pub ends_untaken : (script left before now : Option (List ℕ)) (size n : ℕ) (
     → Holds script left before now size n code → IfSome script (λ bytes. Ends bytes before now left (Err Read))
 ends_untaken script left before now size n code holds =
     ends_reading script left before now left size n code holds (within_kept left left (keeps_same left))
+
+-- the world was not made
+pub ends_unmade : (script before : Option (List ℕ)) → IfSome script (λ bytes. Ends bytes before before script (Err OutOfMemory))
+ends_unmade None before = tt
+ends_unmade (Some bytes) before = inl (0, start, bytes, first_none bytes before, within_kept (Some bytes) (Some bytes) refl)

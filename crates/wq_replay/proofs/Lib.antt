@@ -1,10 +1,10 @@
-mod Values
+mod Worlds
 mod Words
 mod NewLines
 mod Parts
 mod Inside
 mod Fronts
-mod Sent
 mod Steps
 mod Playing
 mod Ending
+mod Sendings

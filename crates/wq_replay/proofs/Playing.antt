@@ -1,5 +1,5 @@
 -- How the lines of a script are played from the front.
-use Rattle.std.proofs.Common.{◌≡◌, ◌≢◌, ℕ, suc, List, [], ◌∷◌, ◌++◌, Option, refl, sym, ap, subst, ◌∙◌, arith, inl, inr}
+use Rattle.std.proofs.Common.{◌≡◌, ◌≢◌, ℕ, suc, List, [], ◌∷◌, ◌++◌, Option, Ok, Err, refl, sym, ap, subst, ◌∙◌, arith, inl, inr}
 use Rattle.std.proofs.lemmas.List.{append-nil, append_assoc, length-append}
 use Rattle.std.specs.FinMap.{FinMap, empty}
 use Rattle.std.specs.Io.KnownBytes.{Appends}
@@ -7,8 +7,10 @@ use Rattle.wq_view.specs.History.{History, Differ, DifferFrom, last_stats}
 use Rattle.wq_view.specs.Listing.{PassData, name_cmp}
 use Rattle.wq_view.specs.Seen.{Stat}
 use Rattle.wq_replay.specs.Line.{lines_of}
+use Rattle.wq_session.specs.declared.refusal.Refusal.{Refusal}
 use Rattle.wq_replay.specs.Replay.{Does, FirstLines, Plays}
-use Rattle.wq_replay.specs.Stage.{StageData, Turn, drafts, passes, answers, malformed, start, turn_of, Passed}
+use Rattle.wq_replay.specs.Stage.{StageData, Turn, drafts, lists, hears, malformed, start, turn_of}
+use Rattle.wq_replay.specs.World.{WorldData, HappeningData, SentData, Absorbs, Does as WorldDoes, Runs, asked, crawl}
 use Rattle.wq_replay.proofs.Fronts.{appends_none, appends_then}
 
 -- one more line behind those that were played
@@ -41,18 +43,37 @@ differ_then [] seen differ other = (other, tt)
 differ_then (pass ∷ others) seen differ other =
     differ_behind empty (pass ∷ others) seen differ (λ same. other (sym (last_is empty pass others) ∙ same))
 
-passed_differs : (history next : History) (seen : PassData) → Passed history seen next → Differ history → Differ next
-passed_differs history next seen (inl same) differ = subst Differ (sym same.1) differ
-passed_differs history next seen (inr (inl added)) differ = subst Differ (sym added.2) (differ_then history seen differ added.0)
-passed_differs history next seen (inr (inr spent)) differ = subst Differ (sym spent.2) differ
+absorbs_differs : (history after : History) (seen : PassData) (refused : Option Refusal) → Absorbs history seen refused after
+    → Differ history → Differ after
+absorbs_differs history after seen refused (inl same) differ = subst Differ (sym same.2) differ
+absorbs_differs history after seen refused (inr (inl added)) differ = subst Differ (sym added.3) (differ_then history seen differ added.0)
+absorbs_differs history after seen refused (inr (inr (inl spent))) differ = subst Differ (sym spent.3) differ
+absorbs_differs history after seen refused (inr (inr (inr out))) differ = subst Differ (sym out.2) differ
+
+-- neighbours differ behind what happens, if they did before it
+happens_differ : (world after : WorldData) (happening : HappeningData) (sent : List SentData) → WorldDoes world happening sent after
+    → Differ world.history → Differ after.history
+happens_differ world after (crawl (Ok seen)) sent (none, (history, refused, absorbs, is)) differ =
+    subst (λ w. Differ w.history) (sym is) (absorbs_differs world.history history seen refused absorbs differ)
+happens_differ world after (crawl (Err refusal)) sent (none, is) differ = subst (λ w. Differ w.history) (sym is) differ
+happens_differ world after (asked client ask) sent (out, (shelf, gets, is), sends) differ =
+    subst (λ w. Differ w.history) (sym is) differ
+
+runs_differ : (world after : WorldData) (happenings : List HappeningData) (sent : List SentData) → Runs world happenings sent after
+    → Differ world.history → Differ after.history
+runs_differ world after [] sent (none, is) differ = subst (λ w. Differ w.history) (sym is) differ
+runs_differ world after (happening ∷ later) sent (next, first, rest, does, is, runs) differ =
+    runs_differ next after later rest runs (happens_differ world next happening first does differ)
 
 -- neighbours differ behind a line, if they did before it
-does_differ : (at next : StageData) (turn : Turn) (sent : List ℕ) → Does at turn sent next → Differ at.history → Differ next.history
-does_differ at next (drafts draft) sent does differ = subst (λ s. Differ s.history) (sym does.1) differ
-does_differ at next (passes seen) sent does differ =
-    subst (λ s. Differ s.history) (sym does.3) (passed_differs at.history does.0 seen does.1 differ)
-does_differ at next (answers client text) sent does differ = subst (λ s. Differ s.history) (sym does.1) differ
-does_differ at next malformed sent does differ = absurd does
+does_differ : (at next : StageData) (turn : Turn) (written : List ℕ) → Does at turn written next → Differ (at.world).history
+    → Differ (next.world).history
+does_differ at next (drafts draft) written does differ = subst (λ s. Differ (s.world).history) (sym does.1) differ
+does_differ at next (lists crawls tree) written (world, runs, none, is) differ =
+    subst (λ s. Differ (s.world).history) (sym is) (runs_differ at.world world _ [] runs differ)
+does_differ at next (hears client event) written (sent, world, heard, goes, is_written, is) differ =
+    subst (λ s. Differ (s.world).history) (sym is) (runs_differ at.world world _ sent heard.runs differ)
+does_differ at next malformed written does differ = absurd does
 
 -- at the start nothing is played
 pub first_none : (script : List ℕ) (before : Option (List ℕ)) → FirstLines script before before 0 start (lines_of script)

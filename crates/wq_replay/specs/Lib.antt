@@ -1,11 +1,6 @@
 pub mod Limit
-pub mod Root
-pub mod Refusal
-pub mod Query
-pub mod Clock
-pub mod Command
-pub mod Reply
-pub mod Gives
+pub mod World
+pub mod Stands
 pub mod Fault
 pub mod Script
 pub mod LineData

@@ -1,10 +1,6 @@
--- The limits of lines and scripts in bytes, of lines without their newlines.
+-- The limits of scripts and of their lines in bytes, of lines without their newlines.
 -- They are this server's own.
 use Rattle.std.specs.Prelude.{ℕ}
-
--- a client's line
-abbrev pub max_line : ℕ
-max_line = 1048576
 
 -- a line of a script
 abbrev pub max_script_line : ℕ

@@ -1,10 +1,10 @@
 -- What a `Line` of the code stands for.
 -- No public document is behind it.
-use Rattle.wq_replay.specs.Script.{LineData, pass, row, end, ask}
+use Rattle.wq_replay.specs.Script.{LineData, pass, tree, row, end, ask, leave}
 use Rattle.wq_view.specs.Seen.{SeenData}
 use Rattle.wq_replay.specs.declared.script.Line.{Line}
 use Rattle.wq_replay.specs.declared.script.RowLine.{RowLine}
-use Rattle.wq_replay.specs.declared.script.Line.TheVariants.{Pass, Row, End, Ask}
+use Rattle.wq_replay.specs.declared.script.Line.TheVariants.{Pass, Tree, Row, End, Ask, Leave}
 
 -- what a row says was seen
 abbrev pub seen_data : RowLine → SeenData
@@ -13,6 +13,8 @@ seen_data r = record { name = r.name.now; kind = r.kind; size = r.size; mtime_ms
 -- the line of a script that it is
 abbrev pub line_data : Line → LineData
 line_data (Pass second) = pass second
+line_data (Tree second) = tree second
 line_data (Row r) = row (seen_data r)
 line_data End = end
 line_data (Ask client line) = ask client line.now
+line_data (Leave client) = leave client

@@ -1,45 +1,64 @@
 -- What the replay of a script writes, and how it ends.
 -- It is this server's own.
-use Rattle.std.specs.Prelude.{◌≡◌, ◌≢◌, ◌≤◌, ◌<◌, ◌⊎◌, ℕ, suc, ℤ, List, [], ◌∷◌, ◌++◌, length, codes, All, Option, Some, None, Result, Ok, Err}
+use Rattle.std.specs.Prelude.{◌≡◌, ◌≢◌, ◌≤◌, ◌<◌, ◌⊎◌, ℕ, suc, ℤ, Bool, true, false, List, [], ◌∷◌, ◌++◌}
+use Rattle.std.specs.Prelude.{length, codes, All, if◌then◌else◌, Option, Some, None, Result, Ok, Err}
 use Rattle.std.specs.Fmt.{signed_decimal}
+use Rattle.std.specs.List.{list_any}
 use Rattle.std.specs.Io.KnownBytes.{Appends}
-use Rattle.serde_json.specs.Written.{compact_text}
 use Rattle.wq_base.specs.Byte.{newline}
-use Rattle.wq_clock.specs.Instance.{InstanceData}
-use Rattle.wq_view.specs.History.{History, Differ}
-use Rattle.wq_view.specs.View.{ViewData, IsViewOf}
-use Rattle.wq_replay.specs.Reply.{reply_to, error_data}
+use Rattle.wq_serve.specs.declared.event.Event.{Event}
+use Rattle.wq_session.specs.Need.{need_of}
+use Rattle.wq_session.specs.Reading.{Asks}
+use Rattle.wq_session.specs.declared.ask.Ask.{Ask}
+use Rattle.wq_view.specs.History.{Differ}
+use Rattle.wq_view.specs.Listing.{PassData}
+use Rattle.wq_replay.specs.Limit.{max_script}
 use Rattle.wq_replay.specs.Line.{lines_of}
-use Rattle.wq_replay.specs.Stage.{StageData, Turn, drafts, passes, answers, malformed, start, turn_of, Passed}
-use Rattle.wq_replay.specs.declared.refusal.Refusal.TheVariants.{NoMemory}
+use Rattle.wq_replay.specs.Stage.{StageData, Turn, drafts, lists, hears, malformed, start, turn_of}
+use Rattle.wq_replay.specs.World.{WorldData, HappeningData, crawl, asked, SentData, Runs, crawls_root}
 use Rattle.wq_replay.specs.declared.fault.ReplayFault.{ReplayFault}
 use Rattle.wq_replay.specs.declared.fault.ReplayFault.TheVariants.{Line, TooLong, Read, Write, Memory}
-use Rattle.wq_replay.specs.Limit.{max_script}
-
--- the instance that answers scripts
-abbrev pub replay_instance : InstanceData
-replay_instance = record { start = 7; pid = 9; root = 1 }
 
 -- the line that is written for a reply: the client's number, a space and the reply
 abbrev pub sent_line : ℤ → List ℕ → List ℕ
 sent_line client text = signed_decimal client ++ (codes " " ++ (text ++ codes "\n"))
 
--- a line is the reply to a client's line at the view of a history, or says that memory ran out
-pub record IsSent (history : History) (client : ℤ) (line written : List ℕ) : Type 0 where
-  pub view : ViewData
-  pub is_view : IsViewOf history view
-  pub text : (written ≡ sent_line client (compact_text (reply_to replay_instance view line)))
-      ⊎ (written ≡ sent_line client (compact_text (error_data NoMemory)))
+-- the lines that are written for what is sent
+abbrev pub sent_lines : List SentData → List ℕ
+sent_lines [] = []
+sent_lines (sent ∷ later) = sent_line sent.client sent.text ++ sent_lines later
 
--- what a line does takes the script from a stage to the next, with this written;
--- a malformed line does nothing
+-- whether the server is to end
+abbrev pub shuts : List SentData → Bool
+shuts = list_any (λ sent. sent.shuts)
+
+-- what happens where the root is crawled first, or is not
+abbrev pub crawled_first : Bool → PassData → List HappeningData → List HappeningData
+crawled_first crawls tree later = if crawls then crawl (Ok tree) ∷ later else later
+
+-- what happens where a client asks: the root is crawled first, if that is needed
+abbrev pub happens_by : PassData → ℤ → Ask → List HappeningData
+happens_by tree client ask =
+    crawled_first (crawls_root (need_of ask)) tree (asked client ask ∷ [])
+
+-- a client is heard: this is sent, and the world is another then
+pub record IsHeard (stage : StageData) (client : ℤ) (event : Event) (sent : List SentData)
+    (after : WorldData) : Type 0 where
+  pub ask : Ask
+  pub asks : Asks event ask
+  pub runs : Runs stage.world (happens_by stage.tree client ask) sent after
+
+-- what a line does takes the script from a stage to the next, with this written, and the server
+-- goes on; a malformed line does nothing
 abbrev pub Does : StageData → Turn → List ℕ → StageData → Type 0
 Does stage (drafts draft) written after =
-    (written ≡ []) × (after ≡ record { history = stage.history; draft = Some draft })
-Does stage (passes seen) written after = (next : History) × Passed stage.history seen next
-    × (written ≡ []) × (after ≡ record { history = next; draft = None })
-Does stage (answers client line) written after =
-    IsSent stage.history client line written × (after ≡ stage)
+    (written ≡ []) × (after ≡ record stage { draft = Some draft })
+Does stage (lists crawls tree) written after =
+    (world : WorldData) × Runs stage.world (crawled_first crawls tree []) [] world
+    × (written ≡ []) × (after ≡ record { world = world; tree = tree; draft = None })
+Does stage (hears client event) written after =
+    (sent : List SentData) × (world : WorldData) × IsHeard stage client event sent world
+    × (shuts sent ≡ false) × (written ≡ sent_lines sent) × (after ≡ record stage { world = world })
 Does stage malformed written after = ⊥
 
 -- these lines take the script in turn from a stage to another, with this written
@@ -59,7 +78,7 @@ pub record FirstLines (script : List ℕ) (before after : Option (List ℕ)) (co
   pub count_is : length first ≡ count
   pub plays : Plays start first written at
   pub appends : Appends before after written
-  pub differ : Differ at.history
+  pub differ : Differ (at.world).history
 
 -- a front of some bytes was written
 abbrev pub AppendsFront : Option (List ℕ) → Option (List ℕ) → List ℕ → Type 0
@@ -71,11 +90,34 @@ abbrev pub StopsWithin : List ℕ → Option (List ℕ) → Type 0
 StopsWithin bytes rest = (taken left : List ℕ) × (rest ≡ Some left) × (bytes ≡ taken ++ left)
     × All (λ byte. byte ≢ newline) taken
 
+-- a client was heard, and the server is to end: its reply was written
+abbrev pub Shuts : StageData → Turn → Option (List ℕ) → Option (List ℕ) → Type 0
+Shuts stage (hears client event) before after =
+    (sent : List SentData) × (world : WorldData) × IsHeard stage client event sent world
+    × (shuts sent ≡ true) × Appends before after (sent_lines sent)
+Shuts _ _ _ _ = ⊥
+
+-- a client was heard, and a front was written of what was sent
+abbrev pub StopsWriting : StageData → Turn → Option (List ℕ) → Option (List ℕ) → Type 0
+StopsWriting stage (hears client event) before after =
+    (sent : List SentData) × (world : WorldData) × IsHeard stage client event sent world
+    × AppendsFront before after (sent_lines sent)
+StopsWriting _ _ _ _ = ⊥
+
 -- all lines were played, and the script is within its limit
-abbrev pub EndsWell : List ℕ → Option (List ℕ) → Option (List ℕ) → Type 0
-EndsWell script before after =
+abbrev pub EndsAll : List ℕ → Option (List ℕ) → Option (List ℕ) → Type 0
+EndsAll script before after =
     (length script ≤ max_script) × (count : ℕ) × (at : StageData)
     × FirstLines script before after count at []
+
+-- some first lines were played, and by the next one the server is to end; what stands behind that
+-- was not read
+abbrev pub EndsServer : List ℕ → Option (List ℕ) → Option (List ℕ) → Option (List ℕ) → Type 0
+EndsServer script before after rest =
+    (count : ℕ) × (at : StageData) × (line : List ℕ) × (left : List ℕ)
+    × (between : Option (List ℕ)) × (rest ≡ Some left)
+    × FirstLines script before between count at (line ∷ lines_of left)
+    × Shuts at (turn_of at line) between after
 
 -- the lines before the one of this number were played, and it is malformed
 abbrev pub EndsAtLine : ℕ → List ℕ → Option (List ℕ) → Option (List ℕ) → Type 0
@@ -93,13 +135,12 @@ abbrev pub EndsReading : List ℕ → Option (List ℕ) → Option (List ℕ) �
 EndsReading script before after rest = (count : ℕ) × (at : StageData) × (bytes : List ℕ)
     × FirstLines script before after count at (lines_of bytes) × StopsWithin bytes rest
 
--- some first lines were played, the next one asks, and a front was written of what is sent for it
+-- some first lines were played, and of what is sent for the next one a front was written
 abbrev pub EndsWriting : List ℕ → Option (List ℕ) → Option (List ℕ) → Type 0
 EndsWriting script before after =
     (count : ℕ) × (at : StageData) × (line : List ℕ) × (later : List (List ℕ))
     × (between : Option (List ℕ)) × FirstLines script before between count at (line ∷ later)
-    × (client : ℤ) × (text sent : List ℕ) × (turn_of at line ≡ answers client text)
-    × IsSent at.history client text sent × AppendsFront between after sent
+    × StopsWriting at (turn_of at line) between after
 
 -- some first lines were played, and the next one, which is not malformed, wrote nothing
 abbrev pub EndsDoing : List ℕ → Option (List ℕ) → Option (List ℕ) → Type 0
@@ -110,7 +151,8 @@ EndsDoing script before after =
 -- how a replay ends, by what the writer held before and after, and what is left to read
 abbrev pub Ends : List ℕ → Option (List ℕ) → Option (List ℕ) → Option (List ℕ)
     → Result (Unit {0}) ReplayFault → Type 0
-Ends script before after rest (Ok _) = EndsWell script before after
+Ends script before after rest (Ok _) =
+    EndsAll script before after ⊎ EndsServer script before after rest
 Ends script before after rest (Err (Line n)) = EndsAtLine n script before after
 Ends script before after rest (Err TooLong) = EndsTooLong script before after
 Ends script before after rest (Err Read) = EndsReading script before after rest

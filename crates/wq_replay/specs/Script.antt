@@ -9,14 +9,18 @@ use Rattle.wq_view.specs.declared.kind.Kind.{Kind}
 
 -- a line by its word
 pub data LineData : Type 0 where
-  -- a listing begins, seen at this second
+  -- a listing begins, seen at this second, with which the root is crawled
   pass : ℤ → LineData
+  -- a listing begins of what there is at this second, which no crawl has seen yet
+  tree : ℤ → LineData
   -- a row of the listing
   row : SeenData → LineData
-  -- the listing ends, and is passed over
+  -- the listing ends
   end : LineData
   -- a client sends a line
   ask : ℤ → List ℕ → LineData
+  -- a client leaves
+  leave : ℤ → LineData
 
 -- the byte between words
 abbrev pub is_space : ℕ → Bool
@@ -58,20 +62,29 @@ row_sized kind (size, rest) = option_map (row_from kind size) (number_then rest)
 abbrev pub row_of : Kind → List ℕ → Option LineData
 row_of kind text = option_and_then (row_sized kind) (number_then text)
 
--- a client's line, where the number is one of a client: 1 to 32
-abbrev pub ask_from : ℤ × List ℕ → Option LineData
-ask_from (client, line) =
-    if int_le (pos 1) client && int_le client (pos 32) then Some (ask client line) else None
+-- whether a number is one of a client: 1 to 32
+abbrev pub is_client : ℤ → Bool
+is_client client = int_le (pos 1) client && int_le client (pos 32)
 
 -- a client's line
+abbrev pub ask_from : ℤ × List ℕ → Option LineData
+ask_from (client, line) = if is_client client then Some (ask client line) else None
+
+-- the same from its text
 abbrev pub ask_of : List ℕ → Option LineData
 ask_of text = option_and_then ask_from (number_then text)
+
+-- that a client leaves
+abbrev pub leave_from : ℤ → Option LineData
+leave_from client = if is_client client then Some (leave client) else None
 
 -- a line by its first word and what follows
 abbrev pub line_worded : List ℕ × List ℕ → Option LineData
 line_worded (word, rest) =
     if bytes_eq word (codes "pass") then option_map pass (signed_of rest)
+    else if bytes_eq word (codes "tree") then option_map tree (signed_of rest)
     else if bytes_eq word (codes "ask") then ask_of rest
+    else if bytes_eq word (codes "leave") then option_and_then leave_from (signed_of rest)
     else option_and_then (λ kind. row_of kind rest) (kind_of word)
 
 -- what a line says, unless it is malformed

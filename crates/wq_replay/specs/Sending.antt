@@ -1,18 +1,17 @@
--- What sending a client the reply to its line came to.
+-- What sending came to.
 -- It is this server's own.
-use Rattle.std.specs.Prelude.{ℕ, ℤ, List, Option, Result, Ok, Err}
+use Rattle.std.specs.Prelude.{◌≡◌, not, ℕ, Bool, List, Option, Result, Ok, Err}
 use Rattle.std.specs.Io.KnownBytes.{Appends}
-use Rattle.wq_view.specs.History.{History}
-use Rattle.wq_replay.specs.Replay.{AppendsFront, IsSent}
+use Rattle.wq_replay.specs.Replay.{AppendsFront, sent_lines, shuts}
+use Rattle.wq_replay.specs.World.{SentData}
 use Rattle.wq_replay.specs.declared.fault.StepFault.{StepFault}
 use Rattle.wq_replay.specs.declared.fault.StepFault.TheVariants.{Malformed, Write, NoMemory}
 
--- its line was written whole, or the writer failed behind a front of it
-abbrev pub Sends : History → ℤ → List ℕ → Option (List ℕ) → Option (List ℕ)
-    → Result (Unit {0}) StepFault → Type 0
-Sends history client line before after (Ok _) =
-    (sent : List ℕ) × IsSent history client line sent × Appends before after sent
-Sends history client line before after (Err Write) =
-    (sent : List ℕ) × IsSent history client line sent × AppendsFront before after sent
-Sends history client line before after (Err Malformed) = ⊥
-Sends history client line before after (Err NoMemory) = ⊥
+-- the lines were written whole, and it is said whether the server goes on; or the writer failed
+-- behind a front of them
+abbrev pub Sends : List SentData → Option (List ℕ) → Option (List ℕ) → Result Bool StepFault → Type 0
+Sends sent before after (Ok goes_on) =
+    (goes_on ≡ not (shuts sent)) × Appends before after (sent_lines sent)
+Sends sent before after (Err Write) = AppendsFront before after (sent_lines sent)
+Sends sent before after (Err Malformed) = ⊥
+Sends sent before after (Err NoMemory) = ⊥

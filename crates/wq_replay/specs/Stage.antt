@@ -1,53 +1,71 @@
 -- Where a script stands, and what its next line does there.
 -- It is this server's own.
-use Rattle.std.specs.Prelude.{◌≡◌, ◌≢◌, ◌⊎◌, ◌<◌, ℕ, ℤ, nat_le, if◌then◌else◌, List, [], ◌∷◌, ◌++◌, length, Option, Some, None, is_none}
+use Rattle.std.specs.Prelude.{ℕ, ℤ, pos, Bool, true, false, nat_le, if◌then◌else◌, List, [], ◌∷◌, ◌++◌, length, codes, Option, Some, None, is_none}
+use Rattle.wq_serve.specs.Stream.{event_of}
+use Rattle.wq_serve.specs.declared.event.Event.{Event}
+use Rattle.wq_serve.specs.declared.event.Event.TheVariants.{End}
 use Rattle.wq_view.specs.Seen.{SeenData}
 use Rattle.wq_view.specs.Listing.{PassData, listing_of, listing_fault}
-use Rattle.wq_view.specs.History.{History, last_stats}
-use Rattle.wq_view.specs.Limit.{max_tick}
 use Rattle.wq_replay.specs.Limit.{max_script_line}
-use Rattle.wq_replay.specs.Script.{LineData, pass, row, end, ask, line_of}
+use Rattle.wq_replay.specs.Script.{LineData, pass, tree, row, end, ask, leave, line_of}
+use Rattle.wq_replay.specs.World.{WorldData, new_world}
 
--- a listing that is open
+-- a listing that is open, and whether the root is crawled at its end
 pub record DraftData : Type 0 where
+  pub crawls : Bool
   pub second : ℤ
   pub rows : List SeenData
 
--- the passes so far, and the listing that is open
+-- the world, what a crawl of the root would list, and the listing that is open
 pub record StageData : Type 0 where
-  pub history : History
+  pub world : WorldData
+  pub tree : PassData
   pub draft : Option DraftData
 
 -- what a line does
 pub data Turn : Type 0 where
   -- the listing that is open is this one now
   drafts : DraftData → Turn
-  -- the root is passed over
-  passes : PassData → Turn
-  -- a client is answered
-  answers : ℤ → List ℕ → Turn
+  -- the root lists this from now on, and is crawled or not
+  lists : (crawls : Bool) → PassData → Turn
+  -- a client is heard
+  hears : (client : ℤ) → Event → Turn
   -- nothing: the line is malformed
   malformed : Turn
 
+-- the server that a script plays: one that started at second 7 as process 9, and its socket
+abbrev pub first_world : WorldData
+first_world = new_world (record { start = 7; pid = 9; root = 1 }) (codes "replay")
+
+-- what the root lists before a script says it
+abbrev pub no_tree : PassData
+no_tree = listing_of [] (pos 0)
+
 -- where a script starts
 abbrev pub start : StageData
-start = record { history = []; draft = None }
+start = record { world = first_world; tree = no_tree; draft = None }
+
+-- a listing that begins
+abbrev pub empty_draft : Bool → ℤ → DraftData
+empty_draft crawls second = record { crawls = crawls; second = second; rows = [] }
 
 -- a line outside of a listing
 abbrev pub turn_outside : LineData → Turn
-turn_outside (pass second) = drafts (record { second = second; rows = [] })
-turn_outside (ask client line) = answers client line
+turn_outside (pass second) = drafts (empty_draft true second)
+turn_outside (tree second) = drafts (empty_draft false second)
+turn_outside (ask client line) = hears client (event_of line)
+turn_outside (leave client) = hears client End
 turn_outside _ = malformed
 
--- the end of a listing, which passes over the root unless the listing has a fault
+-- the end of a listing, which is what the root lists unless it has a fault
 abbrev pub turn_at_end : DraftData → Turn
 turn_at_end draft =
     if is_none (listing_fault draft.rows draft.second)
-    then passes (listing_of draft.rows draft.second) else malformed
+    then lists draft.crawls (listing_of draft.rows draft.second) else malformed
 
 -- a line of a listing
 abbrev pub turn_inside : DraftData → LineData → Turn
-turn_inside draft (row r) = drafts (record { second = draft.second; rows = draft.rows ++ r ∷ [] })
+turn_inside draft (row r) = drafts (record draft { rows = draft.rows ++ r ∷ [] })
 turn_inside draft end = turn_at_end draft
 turn_inside _ _ = malformed
 
@@ -65,12 +83,3 @@ turn_at draft (Some line) = turn_in draft line
 abbrev pub turn_of : StageData → List ℕ → Turn
 turn_of stage line =
     if nat_le (length line) max_script_line then turn_at stage.draft (line_of line) else malformed
-
--- the history after a pass: one that saw what the last pass saw adds nothing; any other is added,
--- unless the ticks are spent
-abbrev pub Passed : History → PassData → History → Type 0
-Passed history seen next =
-    ((last_stats history ≡ seen.stats) × (next ≡ history))
-    ⊎ ((last_stats history ≢ seen.stats) × (length history < max_tick)
-    × (next ≡ history ++ seen ∷ []))
-    ⊎ ((last_stats history ≢ seen.stats) × (length history ≡ max_tick) × (next ≡ history))

@@ -1,20 +1,24 @@
-//! What a client's line is answered, and the replay of scripts: passes over one root with lines of clients between
-//! them. Files, the command line and exit statuses are left to the program above.
+//! The world that sessions play in, without files, sockets and threads; and the replay of scripts in it, in which a tree
+//! of files is listed between the lines of clients. Files, the command line and exit statuses are left to the program
+//! above.
 #![tactic(auto)]
 
-mod command;
 mod fault;
+mod happening;
+mod law;
 mod player;
-mod refusal;
-mod root;
 mod script;
 mod sending;
+mod sent;
 mod stage;
 mod step;
 mod taking;
+mod world;
 
-pub use command::{MAX_LINE, reply};
 pub use fault::ReplayFault;
+pub use happening::Happening;
+pub use law::runs_go_on;
 pub use player::{MAX_SCRIPT, replay};
-pub use refusal::Refusal;
+pub use sent::Sent;
 pub use taking::MAX_SCRIPT_LINE;
+pub use world::World;

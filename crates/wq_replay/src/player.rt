@@ -14,11 +14,12 @@ use std::io::{BufRead, Write};
 /// How many bytes a script may have.
 pub const MAX_SCRIPT: usize = 1 << 30;
 
-/// Replays a script: answers the clients' lines in order, each at the view of the passes before it.
+/// Replays a script: answers the clients' lines in order, in a world that started at second 7 as process 9 and whose
+/// socket is `replay`. A line that asks for a crawl of the root `/r` is answered after one of the tree that the script
+/// has set.
 ///
-/// The root `/r` is watched as root 1 of the instance with start 7 and process 9. Each reply is written
-/// as its client's number, a space, the reply and a newline. The first malformed line ends the
-/// replay, with the lines before it answered. So
+/// Each reply is written as its client's number, a space, the reply and a newline. The first malformed line ends the
+/// replay, with the lines before it answered; and so does, with `Ok`, a line by which the server ends. So
 ///
 /// ```text
 /// pass 100
@@ -36,7 +37,9 @@ pub fn replay<R: BufRead, W: Write>(
     ensures { IfSome (R.remaining reader.old) (λ script.
         Ends script (W.contents writer.old) (W.contents writer.new) (R.remaining reader.new) result) }
 {
-    let mut stage = Stage::new(alloc);
+    let Ok(mut stage) = Stage::new(alloc) else {
+        return Err(ReplayFault::Memory);
+    };
     let mut line = Vec::new(alloc);
     play(alloc, &mut stage, &mut line, reader, writer)
 }
@@ -63,8 +66,10 @@ fn play<R: BufRead, W: Write>(
         if size > MAX_SCRIPT {
             return Err(ReplayFault::TooLong);
         }
-        if let Err(fault) = step(alloc, stage, writer, line) {
-            return Err(fault.at(number));
+        match step(alloc, stage, writer, line) {
+            Ok(true) => {}
+            Ok(false) => return Ok(()),
+            Err(fault) => return Err(fault.at(number)),
         }
     }
     Err(ReplayFault::Read)

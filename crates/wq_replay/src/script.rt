@@ -1,6 +1,6 @@
 //! The lines of a script, each as what it says. What they do is left to `step`.
 ghost use Rattle.std.specs.Prelude.{◌≡◌, option_map};
-ghost use Rattle.wq_replay.specs.Script.{ask_of, first_word, kind_of, line_of, number_then, row_of};
+ghost use Rattle.wq_replay.specs.Script.{ask_of, first_word, is_client, kind_of, leave_from, line_of, number_then, row_of};
 ghost use Rattle.wq_replay.specs.LineData.{line_data};
 
 use memchr::memchr;
@@ -10,14 +10,18 @@ use wq_view::Kind;
 /// What a line of a script says.
 #[derive(Clone, Copy, Debug)]
 pub(crate) enum Line<'a> {
-    /// A listing begins, seen at this second of the Unix epoch.
+    /// A listing begins, seen at this second of the Unix epoch, with which the root is crawled.
     Pass(i64),
+    /// A listing begins of what there is at this second, which no crawl has seen yet.
+    Tree(i64),
     /// A row of the listing.
     Row(RowLine<'a>),
-    /// The listing ends, and is passed over.
+    /// The listing ends.
     End,
     /// A client sends a line.
     Ask(i64, &'a [u8]),
+    /// A client leaves.
+    Leave(i64),
 }
 
 /// A row of a listing: nothing of it is tested yet.
@@ -34,7 +38,11 @@ pub(crate) struct RowLine<'a> {
 /// The words that head lines.
 const PASS: &[u8] = b"pass";
 
+const TREE: &[u8] = b"tree";
+
 const ASK: &[u8] = b"ask";
+
+const LEAVE: &[u8] = b"leave";
 
 const END: &[u8] = b"end";
 
@@ -51,8 +59,12 @@ pub(crate) fn read_line(text: &[u8]) -> Option<Line<'_>>
     let (word, rest) = first_word(text)?;
     if word == PASS {
         Some(Line::Pass(signed_number(rest)?))
+    } else if word == TREE {
+        Some(Line::Tree(signed_number(rest)?))
     } else if word == ASK {
         ask(rest)
+    } else if word == LEAVE {
+        leave(signed_number(rest)?)
     } else {
         row(kind(word)?, rest)
     }
@@ -63,11 +75,29 @@ fn ask(text: &[u8]) -> Option<Line<'_>>
     ensures { option_map line_data result ≡ ask_of text.now }
 {
     let (client, line) = number_then(text)?;
-    if 1 <= client && client <= MAX_CLIENT {
+    if is_client(client) {
         Some(Line::Ask(client, line))
     } else {
         None
     }
+}
+
+/// That a client leaves.
+fn leave<'a>(client: i64) -> Option<Line<'a>>
+    ensures { option_map line_data result ≡ leave_from client }
+{
+    if is_client(client) {
+        Some(Line::Leave(client))
+    } else {
+        None
+    }
+}
+
+/// Whether a number is one of a client.
+fn is_client(number: i64) -> bool
+    ensures { result ≡ is_client number }
+{
+    1 <= number && number <= MAX_CLIENT
 }
 
 /// A row of a kind: its size, its modification time and its name.

@@ -2,14 +2,30 @@
 ghost use Rattle.std.specs.Prelude.{◌≡◌, ◌≤◌, length, take, IfErr, IfOk, OnErr, OnOk};
 ghost use Rattle.std.specs.Io.KnownBytes.{Appends, Keeps};
 ghost use Rattle.wq_replay.specs.Replay.{AppendsFront, sent_line};
+ghost use Rattle.wq_replay.specs.Sending.{Sends};
+ghost use Rattle.wq_replay.specs.World.{sent_to};
 ghost use Rattle.wq_replay.specs.declared.fault.StepFault.TheVariants.{Write as NotWritten};
 
 use crate::fault::StepFault;
 use itoa::Buffer;
 use std::io::{ErrorKind, Write};
+use wq_session::Out;
+
+/// Sends a client its reply, if there is one, and tells whether the server goes on.
+pub(crate) fn send<W: Write>(writer: &mut W, client: i64, out: &Out) -> Result<bool, StepFault>
+    ensures { Sends (sent_to client out.now) (W.contents writer.old) (W.contents writer.new) result }
+{
+    match out.reply() {
+        None => Ok(true),
+        Some(text) => {
+            send_line(writer, client, text)?;
+            Ok(!out.shuts())
+        }
+    }
+}
 
 /// Writes a line to a client: its number, a space, a text and a newline.
-pub(crate) fn send_line<W: Write>(writer: &mut W, client: i64, text: &[u8]) -> Result<(), StepFault>
+fn send_line<W: Write>(writer: &mut W, client: i64, text: &[u8]) -> Result<(), StepFault>
     ensures done { OnOk result
         (Appends (W.contents writer.old) (W.contents writer.new) (sent_line client text.now)) }
     ensures front { OnErr result

@@ -1,41 +1,36 @@
 //! One line of a script: what it does at the stage where the script stands.
-ghost use Rattle.std.specs.Prelude.{◌≡◌, ℕ, List, Option, None, Some, IfOk};
-ghost use Rattle.wq_view.specs.History.{History};
-ghost use Rattle.wq_view.specs.View.{IsViewOf};
+ghost use Rattle.std.specs.Prelude.{◌≡◌, ℕ, ℤ, List, Option, None, Some, IfOk, Ok};
+ghost use Rattle.wq_serve.specs.Stream.{event_of, is_binary};
+ghost use Rattle.wq_serve.specs.declared.event.Event.{Event};
+ghost use Rattle.wq_session.specs.Reading.{Asks};
 ghost use Rattle.wq_replay.specs.LineData.{line_data, seen_data};
-ghost use Rattle.wq_replay.specs.Sending.{Sends};
-ghost use Rattle.wq_replay.specs.Stage.{StageData, turn_inside, turn_of, turn_outside};
-ghost use Rattle.wq_replay.specs.Step.{IsAt, PassesOver, Takes, TakesIn, draft_data};
+ghost use Rattle.wq_replay.specs.Replay.{happens_by};
+ghost use Rattle.wq_replay.specs.Stage.{StageData, drafts, empty_draft, hears, turn_at_end, turn_inside, turn_of, turn_outside};
+ghost use Rattle.wq_replay.specs.Stands.{Stands};
+ghost use Rattle.wq_replay.specs.Step.{IsAt, Takes, draft_data};
+ghost use Rattle.wq_replay.specs.World.{Runs, WorldData, sent_to};
 
-use crate::command::reply;
 use crate::fault::StepFault;
 use crate::script::{Line, RowLine, read_line};
-use crate::sending::send_line;
+use crate::sending::send;
 use crate::stage::{Draft, Stage};
 use crate::taking::MAX_SCRIPT_LINE;
+use crate::world::crawls_root;
 use std::alloc::{AllocError, Global};
 use std::io::Write;
 use std::sync::ArcSlice;
-use wq_clock::Instance;
-use wq_view::{Pass, Seen, View, ViewFault};
+use wq_base::Table;
+use wq_serve::{Event, MAX_LINE};
+use wq_session::{Ask, Out, Refusal};
+use wq_view::{Pass, Seen};
 
-/// The instance that answers scripts.
-const INSTANCE: Instance = Instance {
-    start: 7,
-    pid: 9,
-    root: 1,
-};
-
-/// What is sent where memory ran out.
-const NO_MEMORY: &[u8] = br#"{"error":"E60: no memory","version":"wq-1"}"#;
-
-/// Does what a line of a script says.
+/// Does what a line of a script says, and tells whether the server goes on.
 pub(crate) fn step<W: Write>(
     alloc: Global,
     stage: &mut Stage,
     writer: &mut W,
     text: &[u8],
-) -> Result<(), StepFault>
+) -> Result<bool, StepFault>
     ensures { (at : StageData) → IsAt stage.old at
         → Takes at (turn_of at text.now)
         (W.contents writer.old) (W.contents writer.new) result stage.new }
@@ -58,23 +53,35 @@ fn step_outside<W: Write>(
     stage: &mut Stage,
     writer: &mut W,
     line: Line<'_>,
-) -> Result<(), StepFault>
+) -> Result<bool, StepFault>
     requires { stage.old.draft ≡ None }
     ensures { (at : StageData) → IsAt stage.old at
         → Takes at (turn_outside (line_data line.entry))
         (W.contents writer.old) (W.contents writer.new) result stage.new }
 {
     match line {
-        Line::Pass(second) => {
-            stage.draft = Some(Draft {
-                second,
-                rows: Vec::new(alloc),
-            });
-            Ok(())
+        Line::Pass(second) => Ok(begin(alloc, stage, true, second)),
+        Line::Tree(second) => Ok(begin(alloc, stage, false, second)),
+        Line::Ask(client, line) => {
+            let ask = ask_of(alloc, line);
+            hear(alloc, stage, writer, client, ask)
         }
-        Line::Ask(client, line) => send(alloc, &stage.view, writer, client, line),
+        Line::Leave(client) => hear(alloc, stage, writer, client, Ask::Leave),
         Line::Row(_) | Line::End => Err(StepFault::Malformed),
     }
+}
+
+/// Begins a listing; the server goes on.
+fn begin(alloc: Global, stage: &mut Stage, crawls: bool, second: i64) -> bool
+    ensures { (at : StageData) → IsAt stage.old at → (known : Option (List ℕ))
+        → Takes at (drafts (empty_draft crawls second)) known known (Ok result) stage.new }
+{
+    stage.draft = Some(Draft {
+        crawls,
+        second,
+        rows: Vec::new(alloc),
+    });
+    true
 }
 
 /// Does what a line of a listing says.
@@ -83,9 +90,9 @@ fn step_inside(
     stage: &mut Stage,
     mut draft: Draft,
     line: Line<'_>,
-) -> Result<(), StepFault>
+) -> Result<bool, StepFault>
     requires { stage.old.draft ≡ None }
-    ensures { (at : StageData) → IsViewOf at.history stage.old.view
+    ensures { (at : StageData) → Stands at.world stage.old.world → at.tree ≡ stage.old.tree
         → at.draft ≡ Some (draft_data draft) → (known : Option (List ℕ))
         → Takes at (turn_inside (draft_data draft) (line_data line.entry))
         known known result stage.new }
@@ -94,27 +101,10 @@ fn step_inside(
         Line::Row(row) => {
             draft.rows.push(seen(alloc, row)?)?;
             stage.draft = Some(draft);
-            Ok(())
+            Ok(true)
         }
-        Line::End => pass_over(&mut stage.view, draft),
-        Line::Pass(_) | Line::Ask(_, _) => Err(StepFault::Malformed),
-    }
-}
-
-/// Sends a client the reply to its line.
-fn send<W: Write>(
-    alloc: Global,
-    view: &View,
-    writer: &mut W,
-    client: i64,
-    line: &[u8],
-) -> Result<(), StepFault>
-    ensures { (history : History) → IsViewOf history view.now
-        → Sends history client line.now (W.contents writer.old) (W.contents writer.new) result }
-{
-    match reply(alloc, &INSTANCE, view, line) {
-        Ok(text) => send_line(writer, client, &text),
-        Err(AllocError) => send_line(writer, client, NO_MEMORY),
+        Line::End => end_listing(stage, draft),
+        _ => Err(StepFault::Malformed),
     }
 }
 
@@ -130,24 +120,77 @@ fn seen(alloc: Global, row: RowLine<'_>) -> Result<Seen, AllocError>
     })
 }
 
-/// Takes the pass of a listing into the view.
-fn pass_over(view: &mut View, draft: Draft) -> Result<(), StepFault>
-    ensures { (history : History) → IsViewOf history view.old
-        → PassesOver history (draft_data draft) result view.new }
+/// Ends a listing: the root lists it from now on, and is crawled or not.
+fn end_listing(stage: &mut Stage, draft: Draft) -> Result<bool, StepFault>
+    requires { stage.old.draft ≡ None }
+    ensures { (at : StageData) → Stands at.world stage.old.world → (known : Option (List ℕ))
+        → Takes at (turn_at_end (draft_data draft)) known known result stage.new }
 {
-    let Ok(pass) = Pass::new(draft.rows, draft.second) else {
+    let crawls = draft.crawls;
+    let Ok(tree) = Pass::new(draft.rows, draft.second) else {
         return Err(StepFault::Malformed);
     };
-    take_in(view, &pass)
+    if !crawls {
+        stage.tree = tree;
+        return Ok(true);
+    }
+    stage.world.crawl(&tree);
+    if stage.world.lacks_memory() {
+        return Err(StepFault::NoMemory);
+    }
+    stage.tree = tree;
+    Ok(true)
 }
 
-/// Takes a pass into the view; one that comes when the ticks are spent is left out.
-fn take_in(view: &mut View, pass: &Pass) -> Result<(), StepFault>
-    ensures { (history : History) → IsViewOf history view.old
-        → TakesIn history pass.now result view.new }
+/// What a client's line asks.
+fn ask_of(alloc: Global, line: &[u8]) -> Ask
+    ensures { Asks (event_of line.now) result }
 {
-    match view.absorb(pass) {
-        Ok(_) | Err(ViewFault::TicksSpent) => Ok(()),
-        Err(ViewFault::NoMemory) => Err(StepFault::NoMemory),
+    if is_binary(line) {
+        return Ask::read(alloc, Event::Binary);
+    }
+    if line.len() > MAX_LINE {
+        return Ask::read(alloc, Event::Long);
+    }
+    match Vec::from_slice(alloc, line) {
+        Ok(bytes) => Ask::read(alloc, Event::Line(Table::from_vec(bytes))),
+        Err(_) => Ask::Refused(Refusal::NoMemory),
+    }
+}
+
+/// Whether the line begins with byte 0.
+fn is_binary(line: &[u8]) -> bool
+    ensures { result ≡ is_binary line.now }
+{
+    line.first() == Some(&0)
+}
+
+/// Hears a client, and tells whether the server goes on.
+fn hear<W: Write>(
+    alloc: Global,
+    stage: &mut Stage,
+    writer: &mut W,
+    client: i64,
+    ask: Ask,
+) -> Result<bool, StepFault>
+    ensures { (at : StageData) → IsAt stage.old at → (event : Event) → Asks event ask
+        → Takes at (hears client event)
+        (W.contents writer.old) (W.contents writer.new) result stage.new }
+{
+    let out = answer(alloc, stage, ask);
+    send(writer, client, &out)
+}
+
+/// The answer to an ask, for which the root is crawled first, if that is needed.
+fn answer(alloc: Global, stage: &mut Stage, ask: Ask) -> Out
+    ensures { (at : StageData) → IsAt stage.old at → (client : ℤ) → (world : WorldData)
+        × Runs at.world (happens_by at.tree client ask) (sent_to client result) world
+        × IsAt stage.new (record at { world = world }) }
+{
+    if crawls_root(ask.need()) {
+        stage.world.crawl(&stage.tree);
+        stage.world.answer(alloc, ask)
+    } else {
+        stage.world.answer(alloc, ask)
     }
 }

@@ -1,6 +1,6 @@
 -- The lines are played from the front.
-use Rattle.std.proofs.Common.{Ok, Err, arith}
-use Rattle.wq_replay.proofs.Ending.{ends_as, ends_handed, ends_stepping, ends_taking, ends_too_long, ends_untaken, ends_well, goes_on, holds_first, stepped_as}
+use Rattle.std.proofs.Common.{Ok, Err, true, false, ap, arith, ◌∙◌}
+use Rattle.wq_replay.proofs.Ending.{ends_as, ends_handed, ends_server, ends_stepping, ends_taking, ends_too_long, ends_untaken, ends_well, goes_on, holds_first, stepped_as}
 use Rattle.wq_replay.proofs.player.play.Goals as goal
 
 pub loop-number-init : goal.loop-number-init
@@ -19,6 +19,11 @@ pub returns-then-size-gt-MAX_SCRIPT : goal.returns-then-size-gt-MAX_SCRIPT
 returns-then-size-gt-MAX_SCRIPT g c =
     ends_too_long _ _ _ _ _ (g.R.Read.remaining c.next_line.new.reader) c.loop-number.size c.loop-number.number c.in_ok-taken.taken c.loop-number.stage c.next_line.new.line.items c.loop-number.invariant.1 (omega arith) c.in_ok-taken.ensures.done
 
+pub returns-in-Ok-false : goal.returns-in-Ok-false
+returns-in-Ok-false g c =
+    ends_server _ _ _ _ _ _ c.loop-number.size c.loop-number.number c.in_ok-taken.taken c.loop-number.stage c.step.new.stage c.next_line.new.line.items c.loop-number.invariant.1 (omega arith) c.in_ok-taken.ensures.done
+    (stepped_as c.loop-number.stage c.step.new.stage _ _ c.deref.result.now c.next_line.new.line.items c.step.result (Ok false) c.deref.ensures.value (c.in-Ok-false.is ∙ ap Ok c.in-Ok-false.field-0-test) c.step.ensures)
+
 pub returns-in-Err : goal.returns-in-Err
 returns-in-Err g c =
     ends_as _ _ _ _ _ _ c.at.ensures
@@ -29,7 +34,7 @@ pub loop-number-preserved : goal.loop-number-preserved
 loop-number-preserved g c = (
   omega arith,
   goes_on _ _ _ _ _ _ c.loop-number.size c.loop-number.number c.in_ok-taken.taken c.loop-number.stage c.step.new.stage c.next_line.new.line.items c.loop-number.invariant.1 (omega arith) c.in_ok-taken.ensures.done
-      (stepped_as c.loop-number.stage c.step.new.stage _ _ c.deref.result.now c.next_line.new.line.items c.step.result (Ok tt) c.deref.ensures.value c.in_default.is c.step.ensures),
+      (stepped_as c.loop-number.stage c.step.new.stage _ _ c.deref.result.now c.next_line.new.line.items c.step.result (Ok true) c.deref.ensures.value (c.in-Ok-true.is ∙ ap Ok c.in-Ok-true.field-0-test) c.step.ensures),
 )
 
 pub returns : goal.returns

@@ -1,18 +1,41 @@
--- A listing is open, and has no rows yet.
-use Rattle.std.proofs.Common.{ℤ, FitsSigned, w64, rules, [], Some, Ok, sym, subst}
+-- A listing is begun, or a client is heard.
+use Rattle.std.proofs.Common.{FitsSigned, w64, rules, Ok, true, false, refl, sym, subst}
 use mir.Facts.{to_z-of_z}
+use Rattle.wq_serve.specs.Stream.{event_of}
+use Rattle.wq_serve.specs.declared.event.Event.TheVariants.{End}
 use Rattle.wq_replay.specs.LineData.{line_data}
-use Rattle.wq_replay.specs.Stage.{turn_outside}
+use Rattle.wq_replay.specs.Stage.{drafts, empty_draft, hears, turn_outside}
 use Rattle.wq_replay.specs.Step.{Takes}
-use Rattle.wq_replay.specs.declared.stage.Stage.{Stage}
-use Rattle.wq_replay.proofs.Steps.{draft_open, rows_are}
 use Rattle.wq_replay.proofs.step.step_outside.Goals as goal
 
 pub returns-in-Pass : goal.returns-in-Pass
 returns-in-Pass g c = λ at is.
     let known = g.W.Write.contents c.args.writer.now in
     let fits : FitsSigned w64 c.in-Pass.second = search rules in
-    let code : ℤ → Stage = λ second. record { view = c.args.stage.now.view; draft = Some (record { second = second; rows = c.new.result }) } in
-    subst (λ second. Takes at (turn_outside (line_data c.args.line)) known known (Ok tt) (code second)) (sym (to_z-of_z fits))
-    (subst (λ line. Takes at (turn_outside (line_data line)) known known (Ok tt) (code c.in-Pass.second)) (sym c.in-Pass.is)
-    (draft_open at _ (code c.in-Pass.second) known is.view (rows_are c.in-Pass.second [] _ (sym c.new.ensures.items))))
+    subst (λ line. Takes at (turn_outside (line_data line)) known known (Ok c.begin.result) c.begin.new.stage) (sym c.in-Pass.is)
+    (subst (λ z. Takes at (drafts (empty_draft true z)) known known (Ok c.begin.result) c.begin.new.stage) (to_z-of_z fits)
+    (c.begin.ensures at is known))
+
+pub returns-in-Tree : goal.returns-in-Tree
+returns-in-Tree g c = λ at is.
+    let known = g.W.Write.contents c.args.writer.now in
+    let fits : FitsSigned w64 c.in-Tree.second = search rules in
+    subst (λ line. Takes at (turn_outside (line_data line)) known known (Ok c.begin-in-Tree.result) c.begin-in-Tree.new.stage) (sym c.in-Tree.is)
+    (subst (λ z. Takes at (drafts (empty_draft false z)) known known (Ok c.begin-in-Tree.result) c.begin-in-Tree.new.stage) (to_z-of_z fits)
+    (c.begin-in-Tree.ensures at is known))
+
+pub returns-in-Ask : goal.returns-in-Ask
+returns-in-Ask g c = λ at is.
+    let known = g.W.Write.contents c.args.writer.now in
+    let fits : FitsSigned w64 c.in-Ask.client = search rules in
+    subst (λ line. Takes at (turn_outside (line_data line)) known (g.W.Write.contents c.hear.new.writer) c.hear.result c.hear.new.stage) (sym c.in-Ask.is)
+    (subst (λ z. Takes at (hears z (event_of c.in-Ask.line.now)) known (g.W.Write.contents c.hear.new.writer) c.hear.result c.hear.new.stage) (to_z-of_z fits)
+    (c.hear.ensures at is (event_of c.in-Ask.line.now) c.ask_of-ask.ensures))
+
+pub returns-in-Leave : goal.returns-in-Leave
+returns-in-Leave g c = λ at is.
+    let known = g.W.Write.contents c.args.writer.now in
+    let fits : FitsSigned w64 c.in-Leave.client = search rules in
+    subst (λ line. Takes at (turn_outside (line_data line)) known (g.W.Write.contents c.hear-in-Leave.new.writer) c.hear-in-Leave.result c.hear-in-Leave.new.stage) (sym c.in-Leave.is)
+    (subst (λ z. Takes at (hears z End) known (g.W.Write.contents c.hear-in-Leave.new.writer) c.hear-in-Leave.result c.hear-in-Leave.new.stage) (to_z-of_z fits)
+    (c.hear-in-Leave.ensures at is End refl))

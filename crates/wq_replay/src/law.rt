@@ -1,0 +1,8 @@
+//! Laws about worlds, each a function without a body whose contract is the law.
+//! A proof of another crate gets a law by a call, which costs nothing.
+ghost use Rattle.wq_replay.specs.World.{RunsGoOn};
+
+/// What happens first, and what happens then, are one run.
+pub fn runs_go_on()
+    ensures { RunsGoOn }
+{}
