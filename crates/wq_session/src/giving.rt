@@ -5,7 +5,7 @@ ghost use Rattle.wq_session.specs.Out.{refuses, replies, runs_out, saying_text, 
 ghost use Rattle.wq_session.specs.Reply.{shutdown_data, version_data};
 
 use crate::cursor::Cursor;
-use crate::out::{Out, Reply};
+use crate::outcome::{Out, Reply};
 use crate::refusal::Refusal;
 use crate::replies;
 use std::alloc::Global;

@@ -16,7 +16,7 @@ ghost use Rattle.wq_session.specs.Work.{Begins, at_data};
 
 use crate::at::At;
 use crate::cursor::Cursor;
-use crate::out::Out;
+use crate::outcome::Out;
 use crate::refusal::Refusal;
 use crate::taking::watched;
 use crate::work::Work;

@@ -7,7 +7,7 @@ ghost use Rattle.wq_session.specs.Work.{at_data, work_data};
 use crate::ask::Ask;
 use crate::at::At;
 use crate::cursor::Cursor;
-use crate::out::Out;
+use crate::outcome::Out;
 use crate::querying::listed;
 use crate::taking::begin;
 use crate::work::Work;

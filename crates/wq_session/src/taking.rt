@@ -12,7 +12,7 @@ ghost use Rattle.wq_registry.specs.Root.{numbered};
 
 use crate::ask::Ask;
 use crate::at::At;
-use crate::out::Out;
+use crate::outcome::Out;
 use crate::querying::try_query;
 use crate::refusal::Refusal;
 use crate::replies;

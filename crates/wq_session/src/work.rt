@@ -1,7 +1,7 @@
 //! What is left to do of an answer when the shelf is not held any more.
 
 use crate::cursor::Cursor;
-use crate::out::Out;
+use crate::outcome::Out;
 use wq_query::Plan;
 
 /// What is left to do of an answer.
