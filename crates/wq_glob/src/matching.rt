@@ -150,6 +150,7 @@ fn hit_by_rows(steps: &[Step], text: &[u8], from: usize, flags: Flags) -> Hit
 }
 
 /// Whether the steps fit the text, and at what cost.
+#[inline(always)]
 pub(crate) fn hit_of(steps: &[Step], text: &[u8], flags: Flags) -> Hit
     requires small { length steps.now ≤ MAX_PATTERN }
     requires short { length text.now ≤ MAX_TEXT }

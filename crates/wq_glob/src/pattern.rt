@@ -148,6 +148,7 @@ impl Pattern {
     /// ```text
     /// src/**/*.c   with wholename fits src/a.c and src/x/y/a.c, and not src/.x/a.c
     /// ```
+    #[inline(always)]
     pub fn matches(&self, text: &[u8]) -> Hit
         requires { length text.now ≤ max_text_length }
 
