@@ -9,7 +9,7 @@ from generators import ANY_DEPTH
 from json_values import NotJson, read
 from limits import MAX_NUMBER
 from patterns import Flags, atoms_of
-from queries import FIELDS, LEFT_OUT_KEYS, Query, listed_records, read_query
+from queries import FIELDS, LEFT_OUT_KEYS, Query, listed_records
 from replay import Malformed, Turn, turns
 from terms import COMBINATIONS, RELATIONS, SINCE_FIELDS, TERMS, TYPE_LETTERS, read_term
 from views import View
@@ -27,6 +27,7 @@ def expected_cases() -> List[str]:
     """Every case that has to come."""
     cases = ["clock answered", "query answered", "files listed", "no file listed", "deleted file listed"]
     cases += ["empty on fresh instance", "one field", "several fields", "a field twice", "default fields"]
+    cases += ["cursor at its first use", "cursor that was used", "query by a program"]
     cases += [f"error {error}" for error in errors.ALL]
     cases += ["script ends well"] + [f"script line: {fault}" for fault in SCRIPT_FAULTS]
     cases += [f"field {name}" for name in FIELDS] + [f"bound: {bound}" for bound in BOUNDS]
@@ -64,10 +65,10 @@ def count_turn(turn: Turn, counts: Counter) -> None:
         counts[f"error {reply['error']}"] += 1
         count_left_out_keys(turn.line, counts)
     elif "files" not in reply:
-        counts["clock answered"] += 1
+        counts["clock answered"] += "clock" in reply
     else:
         counts["query answered"] += 1
-        count_query(read(turn.line)[2], turn.view, counts)
+        count_query(read(turn.line)[2], turn.query, turn.view, counts)
 
 
 def count_left_out_keys(line: bytes, counts: Counter) -> None:
@@ -79,11 +80,13 @@ def count_left_out_keys(line: bytes, counts: Counter) -> None:
         counts.update(f"left out key {key}" for key in LEFT_OUT_KEYS if key in value[2])
 
 
-def count_query(asked: Dict[str, Any], view: View, counts: Counter) -> None:
-    query = read_query(asked)
+def count_query(asked: Dict[str, Any], query: Query, view: View, counts: Counter) -> None:
     files = listed_records(query, view)
     counts["files listed" if files else "no file listed"] += 1
     counts["deleted file listed"] += any(not record.exists for record in files)
+    counts["cursor at its first use"] += query.cursor is not None and query.bound.kind == "fresh"
+    counts["cursor that was used"] += query.cursor is not None and query.bound.kind == "tick"
+    counts["query by a program"] += query.program is not None
     counts[f"bound: {bound_case(asked, query, view)}"] += 1
     counts["empty on fresh instance"] += query.bound.kind == "fresh" and query.is_empty_on_fresh
     count_fields(asked, query, counts)

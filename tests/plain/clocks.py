@@ -25,7 +25,11 @@ class BadClockSpec(Exception):
 
 
 class NamedCursor(Exception):
-    """The value is a clock spec, and names a cursor."""
+    """The value is a clock spec, and names this cursor."""
+
+    def __init__(self, name: str) -> None:
+        super().__init__(name)
+        self.name = name
 
 
 def clock_id(tick: int) -> str:
@@ -43,7 +47,7 @@ def bound_of(value: Any) -> Bound:
 
 def bound_of_text(text: str) -> Bound:
     if text.startswith("n:") and 1 <= len(text[2:].encode()) <= MAX_CURSOR_NAME:
-        raise NamedCursor
+        raise NamedCursor(text[2:])
     if not text.startswith("c:"):
         raise BadClockSpec
     numbers = [number_of(part) for part in text[2:].split(":")]

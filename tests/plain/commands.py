@@ -1,26 +1,38 @@
 """What a client's line is answered."""
 
-from typing import Any, Dict, List
+from typing import Any, Dict, List, NamedTuple, Optional
 
 from clocks import clock_id
-from errors import (BINARY, LINE_TOO_LONG, NOT_A_COMMAND, NOT_JSON, NOT_WATCHED, UNKNOWN_COMMAND, WRONG_ARGUMENTS,
-                    Refused)
-from json_values import NotJson, compact_text, read
-from limits import MAX_LINE
-from queries import read_query, reply_to
-from views import View
+from errors import (BAD_NAME, BINARY, LINE_TOO_LONG, NOT_A_COMMAND, NOT_JSON, NOT_WATCHED, UNKNOWN_COMMAND,
+                    WRONG_ARGUMENTS, Refused)
+from json_values import NotJson, compact_text, is_whole_number, read
+from limits import MAX_LINE, MAX_PROGRAM_NAME
+from programs import program_of
+from queries import Query, read_query, reply_to, settled
+from servers import Server
 
 
-def answer(line: bytes, view: View) -> bytes:
-    """The reply to a line, without a newline."""
+class Answer(NamedTuple):
+    """A reply without a newline, whether the server ends with it, and the query that it answers, if it does."""
+
+    reply: bytes
+    shuts: bool = False
+    query: Optional[Query] = None
+
+
+def answer(line: bytes, server: Server) -> Answer:
+    """What a line is answered. The root is crawled first, if the line asks for that."""
     try:
-        reply = reply_to_line(line, view)
+        return answer_line(line, server)
     except Refused as refused:
-        reply = {"error": refused.error, "version": "wq-1"}
-    return compact_text(reply).encode()
+        return said({"error": refused.error})
 
 
-def reply_to_line(line: bytes, view: View) -> Dict[str, Any]:
+def said(reply: Dict[str, Any], shuts: bool = False, query: Optional[Query] = None) -> Answer:
+    return Answer(compact_text({**reply, "version": "wq-1"}).encode(), shuts, query)
+
+
+def answer_line(line: bytes, server: Server) -> Answer:
     if line.startswith(b"\0"):
         raise Refused(BINARY)
     if len(line) > MAX_LINE:
@@ -34,30 +46,82 @@ def reply_to_line(line: bytes, view: View) -> Dict[str, Any]:
     name, arguments = value[0], value[1:]
     if name not in COMMANDS:
         raise Refused(UNKNOWN_COMMAND)
-    return COMMANDS[name](arguments, view)
+    return COMMANDS[name](arguments, server)
 
 
-def query(arguments: List[Any], view: View) -> Dict[str, Any]:
-    if len(arguments) != 2 or not isinstance(arguments[0], str) or not isinstance(arguments[1], dict):
+def query(arguments: List[Any], server: Server) -> Answer:
+    require(len(arguments) == 2 and isinstance(arguments[0], str) and isinstance(arguments[1], dict))
+    root, asked = arguments
+    timeout = asked.get("sync_timeout", 1)
+    look_at(root, is_whole_number(timeout) and timeout != 0, server)
+    settled_query = settled(read_query(asked), server)
+    return said(reply_to(settled_query, server.view), query=settled_query)
+
+
+def clock(arguments: List[Any], server: Server) -> Answer:
+    require(len(arguments) in (1, 2) and isinstance(arguments[0], str))
+    require(len(arguments) == 1 or isinstance(arguments[1], dict))
+    timeout = arguments[1].get("sync_timeout", 0) if len(arguments) == 2 else 0
+    look_at(arguments[0], is_whole_number(timeout) and timeout > 0, server)
+    return said({"clock": clock_id(server.view.tick)})
+
+
+def version(arguments: List[Any], server: Server) -> Answer:
+    require(not arguments or (len(arguments) == 1 and isinstance(arguments[0], dict)))
+    return said({})
+
+
+def get_sockname(arguments: List[Any], server: Server) -> Answer:
+    require(not arguments)
+    return said({"sockname": "replay"})
+
+
+def shutdown_server(arguments: List[Any], server: Server) -> Answer:
+    require(not arguments)
+    return said({"shutdown-server": True}, shuts=True)
+
+
+def program_add(arguments: List[Any], server: Server) -> Answer:
+    require(len(arguments) == 2 and all(isinstance(argument, str) for argument in arguments))
+    name, text = arguments
+    require_name(name)
+    program = program_of(text)
+    replaced = server.add_program(name, program)
+    return said({"instructions": program.instructions, "program-add": name, "replaced": replaced})
+
+
+def program_list(arguments: List[Any], server: Server) -> Answer:
+    require(not arguments)
+    return said({"programs": server.program_names()})
+
+
+def program_del(arguments: List[Any], server: Server) -> Answer:
+    require(len(arguments) == 1 and isinstance(arguments[0], str))
+    require_name(arguments[0])
+    deleted = server.programs.pop(arguments[0], None) is not None
+    return said({"deleted": deleted, "program-del": arguments[0]})
+
+
+def require(are_right: bool) -> None:
+    if not are_right:
         raise Refused(WRONG_ARGUMENTS)
-    require_root(arguments[0])
-    return reply_to(read_query(arguments[1]), view)
 
 
-def clock(arguments: List[Any], view: View) -> Dict[str, Any]:
-    """The object that may follow the root changes nothing so far."""
-    if len(arguments) not in (1, 2) or not isinstance(arguments[0], str):
-        raise Refused(WRONG_ARGUMENTS)
-    if len(arguments) == 2 and not isinstance(arguments[1], dict):
-        raise Refused(WRONG_ARGUMENTS)
-    require_root(arguments[0])
-    return {"clock": clock_id(view.tick), "version": "wq-1"}
+def require_name(name: str) -> None:
+    if not 1 <= len(name.encode()) <= MAX_PROGRAM_NAME:
+        raise Refused(BAD_NAME)
 
 
-def require_root(root: str) -> None:
+def look_at(root: str, crawls: bool, server: Server) -> None:
     """The root is `/r`, where slashes at the end change nothing."""
     if root.rstrip("/") != "/r":
         raise Refused(NOT_WATCHED)
+    if crawls:
+        server.crawl()
 
 
-COMMANDS = {"query": query, "clock": clock}
+COMMANDS = {
+    "query": query, "clock": clock, "version": version, "get-sockname": get_sockname,
+    "shutdown-server": shutdown_server, "program-add": program_add, "program-list": program_list,
+    "program-del": program_del,
+}

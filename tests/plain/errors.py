@@ -18,14 +18,21 @@ CURSOR_IN_TERM = "E27: cursor in a term"
 PATTERN_TOO_LONG = "E28: pattern too long"
 EXPRESSION_AND_PROGRAM = "E29: expression and program"
 PROGRAM_TOO_LARGE = "E30: program too large"
+NOT_BASE64 = "E31: not base64"
+WRONG_FILE = "E32: F3"
+WRONG_PROGRAM = "E33: Y2 at 0"
 NO_SUCH_PROGRAM = "E34: no such program"
+SHELF_FULL = "E35: shelf is full"
+BAD_NAME = "E36: bad name"
 WRONG_QUERY_VALUE = "E37: wrong query value"
 
-# All but the one for expressions that are too long to be drawn: tests/size has those.
+# All but those for expressions that are too long to be drawn, which tests/size has, and for a shelf that is full,
+# which tests/scripts has.
 ALL = [
     LINE_TOO_LONG, NOT_JSON, NOT_A_COMMAND, UNKNOWN_COMMAND, WRONG_ARGUMENTS, BINARY, NOT_WATCHED, LEFT_OUT_KEY,
     UNKNOWN_FIELD, BAD_GENERATOR, BAD_CLOCK_SPEC, UNKNOWN_TERM, WRONG_TERM_ARGUMENTS, TOO_DEEP, CURSOR_IN_TERM,
-    PATTERN_TOO_LONG, EXPRESSION_AND_PROGRAM, NO_SUCH_PROGRAM, WRONG_QUERY_VALUE,
+    PATTERN_TOO_LONG, EXPRESSION_AND_PROGRAM, NOT_BASE64, WRONG_FILE, WRONG_PROGRAM, NO_SUCH_PROGRAM, BAD_NAME,
+    WRONG_QUERY_VALUE,
 ]
 
 

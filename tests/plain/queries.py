@@ -4,10 +4,10 @@ from typing import Any, Callable, Dict, List, NamedTuple, Optional
 
 import clocks
 from clocks import FRESH, Bound, clock_id
-from errors import (BAD_CLOCK_SPEC, EXPRESSION_AND_PROGRAM, LEFT_OUT_KEY, NO_SUCH_PROGRAM, UNKNOWN_FIELD,
-                    WRONG_QUERY_VALUE, Refused)
+from errors import BAD_CLOCK_SPEC, EXPRESSION_AND_PROGRAM, LEFT_OUT_KEY, UNKNOWN_FIELD, WRONG_QUERY_VALUE, Refused
 from generators import Generators, candidate_test, read_generators
 from json_values import is_whole_number
+from servers import Server
 from terms import Test, read_term
 from views import Record, View
 
@@ -34,6 +34,8 @@ class Query(NamedTuple):
     bound: Bound
     is_empty_on_fresh: bool
     generators: Generators = Generators()
+    cursor: Optional[str] = None
+    program: Optional[str] = None
 
 
 def read_query(asked: Dict[str, Any]) -> Query:
@@ -45,18 +47,21 @@ def read_query(asked: Dict[str, Any]) -> Query:
     matches = read_term(asked.get("expression", "true"))
     fields = read_fields(asked.get("fields", DEFAULT_FIELDS))
     generators = read_generators(asked)
-    bound = read_since(asked["since"]) if "since" in asked else FRESH
-    if not isinstance(asked.get("program", ""), str):
+    cursor, bound = None, FRESH
+    if "since" in asked:
+        try:
+            bound = clocks.bound_of(asked["since"])
+        except clocks.NamedCursor as named:
+            cursor = named.name
+        except clocks.BadClockSpec:
+            raise Refused(BAD_CLOCK_SPEC) from None
+    program = asked.get("program")
+    if "program" in asked and not isinstance(program, str):
         raise Refused(WRONG_QUERY_VALUE)
     is_empty_on_fresh = asked.get("empty_on_fresh_instance", False)
     if not isinstance(is_empty_on_fresh, bool) or not is_whole_number(asked.get("sync_timeout", 0)):
         raise Refused(WRONG_QUERY_VALUE)
-    # No cursor is kept yet, and no program has a name.
-    if bound is None:
-        raise Refused(BAD_CLOCK_SPEC)
-    if "program" in asked:
-        raise Refused(NO_SUCH_PROGRAM)
-    return Query(matches, fields, bound, is_empty_on_fresh, generators)
+    return Query(matches, fields, bound, is_empty_on_fresh, generators, cursor, program)
 
 
 def read_fields(value: Any) -> List[str]:
@@ -67,14 +72,13 @@ def read_fields(value: Any) -> List[str]:
     return value
 
 
-def read_since(value: Any) -> Optional[Bound]:
-    """The bound of a clock spec; none where it is a cursor."""
-    try:
-        return clocks.bound_of(value)
-    except clocks.NamedCursor:
-        return None
-    except clocks.BadClockSpec:
-        raise Refused(BAD_CLOCK_SPEC) from None
+def settled(query: Query, server: Server) -> Query:
+    """The query with its program and with the bound of its cursor, which is moved."""
+    if query.program is not None:
+        query = query._replace(matches=server.program(query.program).matches)
+    if query.cursor is not None:
+        query = query._replace(bound=server.use_cursor(query.cursor))
+    return query
 
 
 def reply_to(query: Query, view: View) -> Dict[str, Any]:

@@ -11,18 +11,21 @@ from typing import Iterator, List, NamedTuple, Optional, Tuple, Union
 
 from commands import answer
 from limits import MAX_SCRIPT, MAX_SCRIPT_LINE
-from views import History, ListingFault, Row, Sight, View, pass_of
+from queries import Query
+from servers import Server
+from views import ListingFault, Row, Sight, View, pass_of
 
 LETTERS = [b"f", b"d", b"l", b"b", b"c", b"p", b"s", b"D", b"?"]
 NUMBER = re.compile(rb"0|-?[1-9][0-9]{0,18}")
 MAX_CLIENT = 32
 
 
-class PassBegins(NamedTuple):
+class ListingBegins(NamedTuple):
     second: int
+    crawls: bool
 
 
-class PassEnds(NamedTuple):
+class ListingEnds(NamedTuple):
     pass
 
 
@@ -31,13 +34,18 @@ class Ask(NamedTuple):
     line: bytes
 
 
+class Leave(NamedTuple):
+    client: int
+
+
 class Turn(NamedTuple):
-    """A client's line, the view that it met, and the reply."""
+    """A client's line, the view that it met, the reply, and the query that this answers, if it does."""
 
     client: int
     line: bytes
     view: View
     reply: bytes
+    query: Optional[Query]
 
 
 class Malformed(Exception):
@@ -72,27 +80,31 @@ def replay(script: bytes) -> Tuple[bytes, bytes, int]:
 
 def turns(script: bytes) -> Iterator[Turn]:
     """Plays the script, and gives each client's line with its reply."""
-    history = History()
-    view = history.view()
-    second = 0
+    server = Server()
+    begun = ListingBegins(0, False)
     rows: Optional[List[Row]] = None
     for number, line in lines_of(script):
         said = line_said(number, line)
         is_inside = rows is not None
-        if is_inside != isinstance(said, (Row, PassEnds)):
+        if is_inside != isinstance(said, (Row, ListingEnds)):
             raise Malformed(number, "in a pass" if is_inside else "outside of a pass")
-        if isinstance(said, PassBegins):
-            second, rows = said.second, []
+        if isinstance(said, ListingBegins):
+            begun, rows = said, []
         elif isinstance(said, Row):
             rows.append(said)
-        elif isinstance(said, PassEnds):
+        elif isinstance(said, ListingEnds):
             try:
-                history.add(pass_of(second, rows))
+                server.tree = pass_of(begun.second, rows)
             except ListingFault as fault:
                 raise Malformed(number, str(fault)) from None
-            view, rows = history.view(), None
-        else:
-            yield Turn(said.client, said.line, view, answer(said.line, view))
+            rows = None
+            if begun.crawls:
+                server.crawl()
+        elif isinstance(said, Ask):
+            answered = answer(said.line, server)
+            yield Turn(said.client, said.line, server.view, answered.reply, answered.query)
+            if answered.shuts:
+                return
 
 
 def lines_of(script: bytes) -> Iterator[Tuple[int, bytes]]:
@@ -109,7 +121,7 @@ def lines_of(script: bytes) -> Iterator[Tuple[int, bytes]]:
         number += 1
 
 
-def line_said(number: int, line: bytes) -> Union[PassBegins, Row, PassEnds, Ask]:
+def line_said(number: int, line: bytes) -> Union[ListingBegins, Row, ListingEnds, Ask, Leave]:
     if len(line) > MAX_SCRIPT_LINE:
         raise Malformed(number, "line too long")
     try:
@@ -118,18 +130,18 @@ def line_said(number: int, line: bytes) -> Union[PassBegins, Row, PassEnds, Ask]
         raise Malformed(number, "not a line") from None
 
 
-def read_line(line: bytes) -> Union[PassBegins, Row, PassEnds, Ask]:
+def read_line(line: bytes) -> Union[ListingBegins, Row, ListingEnds, Ask, Leave]:
     """What a line says. One space separates two words, and the last word of a row and of an ask is the rest."""
     if line == b"end":
-        return PassEnds()
+        return ListingEnds()
     word, rest = split_word(line)
-    if word == b"pass":
-        return PassBegins(number_of(rest))
+    if word in (b"pass", b"tree"):
+        return ListingBegins(number_of(rest), crawls=word == b"pass")
+    if word == b"leave":
+        return Leave(client_of(rest))
     if word == b"ask":
         client, asked = split_word(rest)
-        if not 1 <= number_of(client) <= MAX_CLIENT:
-            raise NotALine
-        return Ask(number_of(client), asked)
+        return Ask(client_of(client), asked)
     if word in LETTERS:
         size, rest = split_word(rest)
         mtime_ms, name = split_word(rest)
@@ -142,6 +154,13 @@ def split_word(line: bytes) -> Tuple[bytes, bytes]:
     if not space:
         raise NotALine
     return word, rest
+
+
+def client_of(word: bytes) -> int:
+    number = number_of(word)
+    if not 1 <= number <= MAX_CLIENT:
+        raise NotALine
+    return number
 
 
 def number_of(word: bytes) -> int:
