@@ -10,6 +10,7 @@ from typing import Dict, List, Tuple
 
 from draws import Draws, array, json_object
 from generate_terms import MAX, WRONG_NUMBERS, World, clock_spec, expression, paths, suffixes
+from programs import FAULTS, PROGRAMS
 
 NAMES = [
     "a", "a.c", "A.C", ".a.c", "b.txt", "src", "src/a.c", "src/A.c", "Src/a.c", "src/b/c.TXT", "src/.y/a.c",
@@ -29,7 +30,7 @@ WRONG_FIELDS = [
     '"name"', "[]", '["name",7]', '["mode"]', '["Name"]', "null", "{}", '[["name"]]', '[""]', '["name",null]',
 ]
 LEFT_OUT_KEYS = ["glob", "glob_includedotfiles", "relative_root", "settle_period", "settle_timeout"]
-PROGRAMS = ['"p"', '""', '"%s"' % ("p" * 300), "7", "null", '["p"]']
+PROGRAM_NAMES = ['"p"', '"p"', '"p"', '"q"', '"ü"', '""', '"' + "p" * 256 + '"', "7"]
 IGNORED_KEYS = ["dedup_results", "defer", "drop", "frob", "", "Fields", "case_sensitive "]
 ANY_VALUES = ["true", "null", "[]", '{"a":[1,2]}', '"x"', "1.5", "-0", '"\\ud83d\\ude00"']
 ROOTS = ['"/r"', '"/r/"', '"/r///"', '"\\u002fr"']
@@ -111,8 +112,10 @@ def script(counter: int) -> bytes:
         lines += questions(draws, World(names, number, seconds), draws.below(3))
         tree = next_tree(draws, names, tree)
         seconds.append(next_second(draws, seconds[-1]))
-        lines += pass_lines(draws, tree, seconds[-1])
+        lines += pass_lines(draws, tree, seconds[-1], b"tree" if draws.one_in(4) else b"pass")
     lines += questions(draws, World(names, passes, seconds), draws.between(6, 30))
+    if draws.one_in(40):
+        lines += [b'ask 3 ["shutdown-server"]', b"pass"]
     if draws.one_in(8):
         lines += malformed_end(draws, tree)
         lines += questions(draws, World(names, passes, seconds), 1)
@@ -158,11 +161,11 @@ def sight(draws: Draws) -> Tuple[str, int, int]:
     return draws.pick(LETTERS), size, mtime_ms
 
 
-def pass_lines(draws: Draws, tree: Tree, second: int) -> List[bytes]:
+def pass_lines(draws: Draws, tree: Tree, second: int, word: bytes = b"pass") -> List[bytes]:
     rows = [f"{letter} {size} {mtime_ms} {name}".encode() for name, (letter, size, mtime_ms) in tree.items()]
     if draws.one_in(2):
         rows.reverse()
-    return [b"pass %d" % second, *rows, b"end"]
+    return [word + b" %d" % second, *rows, b"end"]
 
 
 def malformed_end(draws: Draws, tree: Tree) -> List[bytes]:
@@ -180,18 +183,39 @@ def malformed_end(draws: Draws, tree: Tree) -> List[bytes]:
 
 
 def questions(draws: Draws, world: World, count: int) -> List[bytes]:
-    return [b"ask %d " % draws.between(1, 32) + line(draws, world) for _ in range(count)]
+    return [question(draws, world) for _ in range(count)]
+
+
+def question(draws: Draws, world: World) -> bytes:
+    client = draws.between(1, 32)
+    if draws.one_in(60):
+        return b"leave %d" % client
+    return b"ask %d " % client + line(draws, world)
 
 
 def line(draws: Draws, world: World) -> bytes:
     if draws.one_in(12):
         return draws.pick(BAD_LINES)
     root = draws.pick(OTHER_ROOTS) if draws.one_in(40) else draws.pick(ROOTS)
+    if draws.one_in(10):
+        return command(draws).encode()
     if draws.one_in(15):
         options = json_object(draws, [("sync_timeout", draws.pick(ANY_VALUES + ["0", "5000"]))])
         return array(draws, ['"clock"', root] + draws.pick([[], [options]])).encode()
     asked = array(draws, ['"query"', root, query(draws, world)]).encode()
     return damage(draws, asked) if draws.one_in(20) else asked
+
+
+def command(draws: Draws) -> str:
+    """A command that names no root."""
+    name = draws.pick(PROGRAM_NAMES)
+    text = f'"{draws.pick(list(PROGRAMS) * 3 + list(FAULTS))}"'
+    words = draws.pick([
+        ['"program-add"', name, text], ['"program-add"', name, text], ['"program-add"', name, text],
+        ['"program-del"', name], ['"program-list"'], ['"version"'], ['"version"', "{}"], ['"version"', "null"],
+        ['"get-sockname"'], ['"get-sockname"', "{}"], ['"program-list"', "[]"], ['"program-add"', name],
+    ])
+    return array(draws, words)
 
 
 def damage(draws: Draws, text: bytes) -> bytes:
@@ -203,10 +227,11 @@ def damage(draws: Draws, text: bytes) -> bytes:
 
 def query(draws: Draws, world: World) -> str:
     members: List[Tuple[str, str]] = []
-    if not draws.one_in(6):
+    by_program = draws.one_in(10)
+    if draws.one_in(8) if by_program else not draws.one_in(6):
         members.append(("expression", expression(draws, world)))
-    if draws.one_in(60):
-        members.append(("program", draws.pick(PROGRAMS)))
+    if by_program:
+        members.append(("program", draws.pick(PROGRAM_NAMES)))
     if not draws.one_in(4):
         members.append(("fields", fields(draws)))
     if draws.one_in(2):

@@ -237,8 +237,8 @@ def since_term(draws: Draws, world: World, head: str) -> str:
 def clock_spec(draws: Draws, world: World) -> str:
     if draws.one_in(20):
         return draws.pick(BAD_CLOCK_SPECS)
-    if draws.one_in(25):
-        names = ["k", "c:1:2", " ", "\\u0000", "k" * 255, "ü" * 127]
+    if draws.one_in(12):
+        names = ["k", "k", "k", "c:1:2", " ", "\\u0000", "k" * 255, "ü" * 127]
         return f'"n:{draws.pick(names)}"'
     if draws.one_in(8):
         return draws.pick(FRESH_IDS)
