@@ -243,11 +243,13 @@ def clock_spec(text: str, meaning: str, in_key: str, in_term: str, page: Page) -
     elif meaning.startswith("fresh"):
         yield writes(f"{text}, in the key", in_key, reply(3, '["a","b","c"]', True))
         yield writes(f"{text}, in the term", in_term, reply(3, '["a","b","c"]', True))
+    elif meaning.startswith("the cursor"):
+        yield writes(f"{text}, in the key for the first time", in_key, reply(3, '["a","b","c"]', True))
+        yield is_refused(f"{text}, in the term", in_term, "cursor in a term", page)
     else:
-        assert meaning.startswith(("the cursor", "refused")), meaning
+        assert meaning.startswith("refused"), meaning
         yield is_refused(f"{text}, in the key", in_key, "bad clockspec", page)
-        words = "cursor in a term" if meaning.startswith("the cursor") else "bad clockspec"
-        yield is_refused(f"{text}, in the term", in_term, words, page)
+        yield is_refused(f"{text}, in the term", in_term, "bad clockspec", page)
 
 
 def what_passes_saw(element: Element, page: Page) -> Examples:
