@@ -91,7 +91,7 @@ clock_arguments _ = None
 -- whether there is nothing, or one object
 abbrev pub are_options : Items → Bool
 are_options no_items = true
-are_options (item (object members) no_items) = true
+are_options (item (object _) no_items) = true
 are_options _ = false
 
 -- whether there is nothing
