@@ -5,7 +5,7 @@ use mathlib.Core.Bool.{false≢true}
 use Rattle.serde_json.specs.View.{items_view, view}
 use Rattle.serde_json.specs.Data.{Data, null, boolean, number, string, array, object, Items, item}
 use Rattle.serde_json.specs.declared.value.Value.{Value}
-use Rattle.wq_session.specs.Reading.{are_none, are_options, behind}
+use Rattle.wq_session.specs.Argument.{are_none, are_options, behind}
 
 -- two are more than one
 two_are_more : (n : ℕ) → leb (suc (suc n)) 1 ≡ false

@@ -1,9 +1,9 @@
 -- What is taken and then finished is the answer.
-use Rattle.std.proofs.Common.{◌≡◌, ◌⊎◌, inl, inr, Bool, true, false, not, Option, Some, None, refl, sym, ap, subst, ◌∙◌}
+use Rattle.std.proofs.Common.{◌≡◌, inl, inr, true, Option, Some, None, refl, sym, ap, subst, ◌∙◌}
 use Rattle.wq_query.specs.Query.{PlanData}
 use Rattle.wq_registry.specs.Shelf.{cursor_unset}
-use Rattle.wq_session.specs.Answer.{Answers, CanFinish, Finishes, Takes, AnswerData, answer, finished, listed, settled, unmade, without}
-use Rattle.wq_session.specs.Begun.{BegunData, WorkData, says, lists, begun, or_refused, saying, takes_memory}
+use Rattle.wq_session.specs.Answer.{Answers, Finishes, Takes, AnswerData, finished, settled, unmade, without}
+use Rattle.wq_session.specs.Begun.{BegunData, WorkData, says, evaluates, begun, takes_memory}
 use Rattle.wq_session.specs.Out.{OutData, runs_out}
 use Rattle.wq_session.specs.Query.{AtData, ShelfNow}
 use Rattle.wq_session.specs.declared.ask.Ask.{Ask}
@@ -12,8 +12,8 @@ use Rattle.wq_session.specs.declared.cursor.Cursor.{Cursor}
 -- what is finished names no cursor
 none_named : (work : WorkData) (at : Option AtData) → (finished work at).unset ≡ None
 none_named (says out) at = refl
-none_named (lists plan cursor) None = refl
-none_named (lists plan cursor) (Some at) = refl
+none_named (evaluates plan cursor) None = refl
+none_named (evaluates plan cursor) (Some at) = refl
 
 -- where no cursor is named, nothing more is done
 nothing_more : (out : OutData) (shelf : ShelfNow) → out.unset ≡ None → without out.unset shelf ≡ shelf
@@ -40,7 +40,7 @@ whole ask at shelf work after is =
 
 -- memory ran out when files were listed
 unlisted : (ask : Ask) (at : Option AtData) (shelf : ShelfNow) (plan : PlanData) (cursor : Option Cursor) (after : ShelfNow)
-    → begun ask at shelf ≡ record { work = lists plan cursor; shelf = after }
+    → begun ask at shelf ≡ record { work = evaluates plan cursor; shelf = after }
     → Answers ask at shelf (runs_out None) (without cursor after)
 unlisted ask at shelf plan cursor after is =
     inr (inr (plan, cursor, ap (λ (b : BegunData). b.work) is, refl, ap (λ (b : BegunData). without cursor b.shelf) (sym is)))
@@ -50,7 +50,7 @@ unmade_work : (ask : Ask) (at : Option AtData) (shelf : ShelfNow) (work : WorkDa
     → begun ask at shelf ≡ record { work = work; shelf = after }
     → Answers ask at shelf (settled (unmade work)) (without (unmade work).unset after)
 unmade_work ask at shelf (says out) after is = whole ask at shelf (says out) after is
-unmade_work ask at shelf (lists plan cursor) after is = unlisted ask at shelf plan cursor after is
+unmade_work ask at shelf (evaluates plan cursor) after is = unlisted ask at shelf plan cursor after is
 
 -- memory ran out before anything was done
 untaken : (ask : Ask) (at : Option AtData) (shelf : ShelfNow) (after : ShelfNow) (out : OutData) → takes_memory ask ≡ true

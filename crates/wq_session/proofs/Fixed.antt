@@ -1,7 +1,7 @@
 -- Texts of replies that are always the same.
-use Rattle.std.proofs.Common.{◌≡◌, ℕ, true, false, List, Option, Some, None, refl}
+use Rattle.std.proofs.Common.{◌≡◌, true, false, Option, Some, None, refl}
 use Rattle.json.specs.Print.{escape_byte}
-use Rattle.wq_session.specs.Out.{OutData, refuses, replies, runs_out, shuts_with}
+use Rattle.wq_session.specs.Out.{refuses, replies, runs_out, shuts_with}
 use Rattle.wq_session.specs.Reply.{shutdown_data, version_data}
 use Rattle.wq_session.specs.declared.cursor.Cursor.{Cursor}
 use Rattle.wq_session.specs.declared.giving.TheConstants.{LINE_TOO_LONG, BSER, NO_MEMORY, VERSION_ALONE, SHUTS_DOWN}

@@ -3,4 +3,5 @@ mod Texts
 mod Fixed
 mod Rooted
 mod Strings
-mod Ending
+pub mod Ending
+mod Again

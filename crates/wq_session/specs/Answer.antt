@@ -5,7 +5,7 @@ use Rattle.std.specs.Prelude.{◌≡◌, ◌⊎◌, true, false, Option, Some, N
 use Rattle.wq_query.specs.Query.{PlanData}
 use Rattle.wq_query.specs.Reply.{reply_of}
 use Rattle.wq_registry.specs.Shelf.{cursor_unset}
-use Rattle.wq_session.specs.Begun.{WorkData, says, lists, BegunData, begun, takes_memory}
+use Rattle.wq_session.specs.Begun.{WorkData, says, evaluates, begun, takes_memory}
 use Rattle.wq_session.specs.Out.{OutData, refuses, replies, runs_out, silence}
 use Rattle.wq_session.specs.Query.{AtData, ShelfNow}
 use Rattle.wq_session.specs.declared.ask.Ask.{Ask}
@@ -30,7 +30,7 @@ settled out = record {
 -- what is given out when the work is done
 abbrev pub finished : WorkData → Option AtData → OutData
 finished (says out) at = settled out
-finished (lists plan cursor) at = listed plan at
+finished (evaluates plan cursor) at = listed plan at
 
 -- what a refusal may come to: it is said; or memory ran out, but not where the session ends with it
 abbrev pub MayRefuse : Refusal → OutData → Type 0
@@ -59,7 +59,7 @@ Takes ask at shelf work after =
 -- what work comes to where memory runs out
 abbrev pub unmade : WorkData → OutData
 unmade (says out) = settled out
-unmade (lists plan cursor) = runs_out cursor
+unmade (evaluates plan cursor) = runs_out cursor
 
 -- what work was finished to
 abbrev pub Finishes : WorkData → Option AtData → OutData → Type 0
@@ -68,8 +68,8 @@ Finishes work at out = (out ≡ finished work at) ⊎ (out ≡ unmade work)
 -- files can be listed of what is looked at, if any are to be listed
 abbrev pub CanFinish : WorkData → Option AtData → Type 0
 CanFinish (says out) at = Unit {0}
-CanFinish (lists plan cursor) None = ⊥
-CanFinish (lists plan cursor) (Some at) = Unit {0}
+CanFinish (evaluates plan cursor) None = ⊥
+CanFinish (evaluates plan cursor) (Some at) = Unit {0}
 
 -- the shelf without a cursor, if there is one
 abbrev pub without : Option Cursor → ShelfNow → ShelfNow
@@ -83,6 +83,6 @@ Answers ask at shelf out after =
     (answer ask at shelf ≡ record { out = out; shelf = after })
     ⊎ ((takes_memory ask ≡ true) × (out ≡ runs_out None) × (after ≡ shelf))
     ⊎ ((plan : PlanData) × (cursor : Option Cursor)
-    × ((begun ask at shelf).work ≡ lists plan cursor)
+    × ((begun ask at shelf).work ≡ evaluates plan cursor)
     × (out ≡ runs_out None)
     × (after ≡ without cursor (begun ask at shelf).shelf))

@@ -2,7 +2,7 @@
 -- and the shelf then. One small definition for each command.
 -- From Watchman's documentation of its commands; those of programs are this server's own.
 use Rattle.std.specs.Prelude.{ℕ, Bool, true, false, not, List, length, is_some}
-use Rattle.std.specs.Prelude.{Option, Some, None, Result, Ok, Err}
+use Rattle.std.specs.Prelude.{Option, Result, Ok, Err}
 use Rattle.serde_json.specs.Data.{Data}
 use Rattle.serde_json.specs.View.{view as data_of}
 use Rattle.wq_base.specs.Fault.{or_fault, or_its_fault, or_own_fault, unless_fault}
@@ -11,27 +11,32 @@ use Rattle.wq_query.specs.Query.{QueryData, PlanData}
 use Rattle.wq_query.specs.Reading.{asks as queries}
 use Rattle.wq_registry.specs.Limit.{max_programs}
 use Rattle.wq_registry.specs.Named.{has_no_place, names, under}
+use Rattle.wq_registry.specs.Shelf.{root_added, root_has_no_place, root_removed}
 use Rattle.wq_registry.specs.Shelf.{with_program, without_program}
 use Rattle.wq_session.specs.Out.{OutData, refuses, replies, shuts_with, silence}
-use Rattle.wq_session.specs.Query.{AtData, ShelfNow, watched, program_of, has_place}
-use Rattle.wq_session.specs.Query.{used_at, cursor_in, plan_at}
+use Rattle.wq_session.specs.Query.{AtData, ShelfNow, watched, program_for, has_place}
+use Rattle.wq_session.specs.Query.{used_at, moved_cursor, plan_at}
 use Rattle.wq_session.specs.Refusal.{ends_session}
 use Rattle.wq_session.specs.Reply.{clock_data, version_data, socket_data, shutdown_data}
 use Rattle.wq_session.specs.Reply.{added_data, programs_data, deleted_data}
+use Rattle.wq_session.specs.Reply.{root_deleted_data, roots_data, texts_of, watch_data}
+use Rattle.wq_session.specs.Root.{root_named}
 use Rattle.wq_session.specs.declared.ask.Ask.{Ask}
-use Rattle.wq_session.specs.declared.ask.Ask.TheVariants.{Refused, Query as AsksQuery, Clock, Version}
+use Rattle.wq_session.specs.declared.ask.Ask.TheVariants.{Refused, Watch, ListRoots, DeleteRoot}
+use Rattle.wq_session.specs.declared.ask.Ask.TheVariants.{Query as AsksQuery, Clock, Version}
 use Rattle.wq_session.specs.declared.ask.Ask.TheVariants.{SocketName, ShutDown, AddProgram, ListPrograms}
 use Rattle.wq_session.specs.declared.ask.Ask.TheVariants.{DeleteProgram, Leave, Nothing}
 use Rattle.wq_session.specs.declared.cursor.Cursor.{Cursor}
 use Rattle.wq_session.specs.declared.refusal.Refusal.{Refusal}
-use Rattle.wq_session.specs.declared.refusal.Refusal.TheVariants.{NotWatched, Query, ShelfFull}
+use Rattle.wq_session.specs.declared.refusal.Refusal.TheVariants.{NotWatched, TooManyRoots, Query}
+use Rattle.wq_session.specs.declared.refusal.Refusal.TheVariants.{ShelfFull}
 
 -- what is left to do of an answer
 pub data WorkData : Type 0 where
   -- nothing: this is given out
   says : OutData → WorkData
   -- the files of a plan are to be listed; this cursor was moved for it
-  lists : PlanData → Option Cursor → WorkData
+  evaluates : PlanData → Option Cursor → WorkData
 
 -- what an ask comes to while the shelf is held
 pub record BegunData : Type 0 where
@@ -45,10 +50,11 @@ saying out shelf = record { work = says out; shelf = shelf }
 -- the files of a query that was read, of a root that is looked at
 abbrev pub begun_query : AtData → QueryData → ShelfNow → Result BegunData Refusal
 begun_query at q shelf =
-    or_own_fault (program_of q shelf) (λ program.
+    or_own_fault (program_for q shelf) (λ program.
     unless_fault ShelfFull (has_place (at.instance).root q.since shelf) (
     Ok (record {
-      work = lists (plan_at (at.instance).root q program shelf) (cursor_in (at.instance).root q.since);
+      work = evaluates (plan_at (at.instance).root q program shelf)
+          (moved_cursor (at.instance).root q.since);
       shelf = used_at (at.instance).root q.since (at.view).tick shelf;
     })))
 
@@ -58,6 +64,26 @@ try_query root d at shelf =
     or_fault NotWatched (watched root at shelf) (λ at.
     or_its_fault Query (queries at.instance d) (λ q.
     begun_query at q shelf))
+
+-- `watch` and `watch-project`: what is looked at stands on the shelf as the root of this text
+abbrev pub try_watch : List ℕ → Option AtData → ShelfNow → Result BegunData Refusal
+try_watch root at shelf =
+    or_fault NotWatched at (λ at.
+    unless_fault TooManyRoots
+    (not (root_has_no_place (root_named root) (at.instance).root shelf)) (
+    Ok (record {
+      work = says (replies (watch_data (root_named root)));
+      shelf = root_added (root_named root) (at.instance).root shelf;
+    })))
+
+-- `watch-del`
+abbrev pub try_delete_root : List ℕ → Option AtData → ShelfNow → Result BegunData Refusal
+try_delete_root root at shelf =
+    or_fault NotWatched (watched root at shelf) (λ at.
+    Ok (record {
+      work = says (replies (root_deleted_data (root_named root)));
+      shelf = root_removed (at.instance).root shelf;
+    }))
 
 -- `clock`
 abbrev pub try_clock : List ℕ → Option AtData → ShelfNow → Result BegunData Refusal
@@ -70,7 +96,8 @@ abbrev pub try_add : List ℕ → Raw → ShelfNow → Result BegunData Refusal
 try_add name program shelf =
     unless_fault ShelfFull (not (has_no_place max_programs name shelf.programs)) (
     Ok (record {
-      work = says (replies (added_data name (length program.code) (is_some (under name shelf.programs))));
+      work = says (replies
+          (added_data name (length program.code) (is_some (under name shelf.programs))));
       shelf = with_program name program shelf;
     }))
 
@@ -84,6 +111,9 @@ deleting name shelf = record {
 -- what an ask comes to at a root that is looked at and a shelf, or why the line is refused there
 abbrev pub tried : Ask → Option AtData → ShelfNow → Result BegunData Refusal
 tried (Refused refusal) at shelf = Err refusal
+tried (Watch root) at shelf = try_watch root at shelf
+tried ListRoots at shelf = Ok (saying (replies (roots_data (texts_of shelf.roots))) shelf)
+tried (DeleteRoot root) at shelf = try_delete_root root at shelf
 tried (AsksQuery root q) at shelf = try_query root (data_of q) at shelf
 tried (Clock root crawl) at shelf = try_clock root at shelf
 tried Version at shelf = Ok (saying (replies version_data) shelf)

@@ -1,6 +1,9 @@
+pub mod Limit
 pub mod Refusal
+pub mod Crawl
 pub mod Root
 pub mod Command
+pub mod Argument
 pub mod Reading
 pub mod Words
 pub mod Need
@@ -13,3 +16,4 @@ pub mod Begun
 pub mod Answer
 pub mod Work
 pub mod Taking
+pub mod Law

@@ -3,15 +3,13 @@
 use Rattle.std.specs.Prelude.{ℕ, Bool, true, false, not, nat_eq, if◌then◌else◌, List}
 use Rattle.std.specs.Prelude.{Option, Some, None, Result, Ok}
 use Rattle.std.specs.Option.{option_map_or}
-use Rattle.serde_json.specs.Data.{Data}
-use Rattle.wq_base.specs.Fault.{or_fault, or_its_fault, or_own_fault, unless_fault}
+use Rattle.wq_base.specs.Fault.{or_fault, unless_fault}
 use Rattle.wq_clock.specs.Instance.{InstanceData}
 use Rattle.wq_clock.specs.declared.bound.Bound.{Bound}
 use Rattle.wq_clock.specs.declared.bound.Bound.TheVariants.{Fresh, Tick}
 use Rattle.wq_code.specs.declared.raw.Raw.{Raw}
 use Rattle.wq_compile.specs.Large.{is_too_large}
 use Rattle.wq_query.specs.Query.{QueryData, PlanData, SinceData, at_bound, at_cursor}
-use Rattle.wq_query.specs.Reading.{asks}
 use Rattle.wq_registry.specs.Limit.{max_cursors}
 use Rattle.wq_registry.specs.Named.{has_no_place, under}
 use Rattle.wq_registry.specs.Root.{called}
@@ -20,8 +18,8 @@ use Rattle.wq_view.specs.View.{ViewData}
 use Rattle.wq_session.specs.Root.{root_named}
 use Rattle.wq_session.specs.declared.cursor.Cursor.{Cursor}
 use Rattle.wq_session.specs.declared.refusal.Refusal.{Refusal}
-use Rattle.wq_session.specs.declared.refusal.Refusal.TheVariants.{NotWatched, Query, NoSuchProgram}
-use Rattle.wq_session.specs.declared.refusal.Refusal.TheVariants.{ProgramTooLarge, ShelfFull}
+use Rattle.wq_session.specs.declared.refusal.Refusal.TheVariants.{NoSuchProgram}
+use Rattle.wq_session.specs.declared.refusal.Refusal.TheVariants.{ProgramTooLarge}
 
 -- a shelf, on which nothing is kept of triggers yet
 abbrev pub ShelfNow : Type 0
@@ -38,7 +36,7 @@ is_watched root at shelf =
     option_map_or (λ r. nat_eq (at.instance).root r.number)
     (called (root_named root) shelf.roots) false
 
--- what is looked at, if it is the root of a text
+-- what is looked at, if it is the root of a text under its number on the shelf
 abbrev pub watched : List ℕ → Option AtData → ShelfNow → Option AtData
 watched root None shelf = None
 watched root (Some at) shelf = if is_watched root at shelf then Some at else None
@@ -51,8 +49,8 @@ program_named (Some name) q shelf =
     or_fault NoSuchProgram (under name shelf.programs) (λ raw. Ok (Some raw))
 
 -- the program that says which files match a query, or none where its expression says it
-abbrev pub program_of : QueryData → ShelfNow → Result (Option Raw) Refusal
-program_of q shelf = program_named q.program q shelf
+abbrev pub program_for : QueryData → ShelfNow → Result (Option Raw) Refusal
+program_for q shelf = program_named q.program q shelf
 
 -- the bound of a tick that a cursor may have: at its first use nothing is known to the client
 abbrev pub since_tick : Option ℕ → Bound
@@ -75,9 +73,9 @@ used_at root (at_bound bound) tick shelf = shelf
 used_at root (at_cursor name) tick shelf = cursor_used root name tick shelf
 
 -- the cursor that a query uses
-abbrev pub cursor_in : ℕ → SinceData → Option Cursor
-cursor_in root (at_bound bound) = None
-cursor_in root (at_cursor name) = Some (record { root = root; name = name })
+abbrev pub moved_cursor : ℕ → SinceData → Option Cursor
+moved_cursor root (at_bound bound) = None
+moved_cursor root (at_cursor name) = Some (record { root = root; name = name })
 
 -- the plan of a query of a root, by the program that it names, if it names one
 abbrev pub plan_at : ℕ → QueryData → Option Raw → ShelfNow → PlanData

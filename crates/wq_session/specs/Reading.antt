@@ -1,15 +1,12 @@
 -- What the lines of a client ask: the first reason to refuse a line, or its command.
 -- From Watchman's documentation of its commands; base64 is that of RFC 4648. The refusals are this
 -- server's own.
-use Rattle.std.specs.Prelude.{◌≡◌, ◌⊎◌, ℕ, pos, Bool, true, false, ◌&&◌, not, nat_le, int_lt}
-use Rattle.std.specs.Prelude.{if◌then◌else◌, List, [], ◌∷◌, length, codes}
-use Rattle.std.specs.Prelude.{Option, Some, None, option_and_then, Result, Ok, Err}
-use Rattle.std.specs.Option.{option_map_or}
+use Rattle.std.specs.Prelude.{◌≡◌, ◌⊎◌, ℕ, if◌then◌else◌, List}
+use Rattle.std.specs.Prelude.{Option, Some, None, Result, Ok, Err}
 use Rattle.std.specs.Str.{is_utf8}
 use Rattle.base64.specs.GeneralPurpose.{decode_of}
 use Rattle.base64.specs.Engines.{standard}
-use Rattle.serde_json.specs.Data.{Data, string, array, object, Items, no_items, item}
-use Rattle.serde_json.specs.Find.{get}
+use Rattle.serde_json.specs.Data.{Data, string, array, Items, item}
 use Rattle.serde_json.specs.Read.{read as read_text}
 use Rattle.serde_json.specs.View.{view as data_of}
 use Rattle.wq_base.specs.Fault.{or_fault, or_its_fault, unless_fault}
@@ -18,11 +15,16 @@ use Rattle.wq_code.specs.declared.raw.Raw.{Raw}
 use Rattle.wq_code.specs.declared.fault.FileFault.{FileFault}
 use Rattle.wq_serve.specs.declared.event.Event.{Event}
 use Rattle.wq_serve.specs.declared.event.Event.TheVariants.{Line, Long, Binary, Idle, End, Fault}
-use Rattle.wq_term.specs.Argument.{whole_number_of}
 use Rattle.wq_verify.specs.Typing.{IsFirstFault, IsValid}
+use Rattle.wq_session.specs.Argument.{are_none, are_options, clock_arguments, is_name, one_text}
+use Rattle.wq_session.specs.Argument.{query_arguments, two_texts}
 use Rattle.wq_session.specs.Command.{command_named}
+use Rattle.wq_session.specs.Root.{is_absolute}
 use Rattle.wq_session.specs.declared.ask.Ask.{Ask}
-use Rattle.wq_session.specs.declared.ask.Ask.TheVariants.{Refused, Query as AsksQuery, Clock as AsksClock}
+use Rattle.wq_session.specs.declared.ask.Ask.TheVariants.{Refused, Watch as AsksWatch}
+use Rattle.wq_session.specs.declared.ask.Ask.TheVariants.{ListRoots as AsksListRoots}
+use Rattle.wq_session.specs.declared.ask.Ask.TheVariants.{DeleteRoot as AsksDeleteRoot}
+use Rattle.wq_session.specs.declared.ask.Ask.TheVariants.{Query as AsksQuery, Clock as AsksClock}
 use Rattle.wq_session.specs.declared.ask.Ask.TheVariants.{Version as AsksVersion}
 use Rattle.wq_session.specs.declared.ask.Ask.TheVariants.{SocketName as AsksSocketName}
 use Rattle.wq_session.specs.declared.ask.Ask.TheVariants.{ShutDown as AsksShutDown}
@@ -31,19 +33,22 @@ use Rattle.wq_session.specs.declared.ask.Ask.TheVariants.{ListPrograms as AsksLi
 use Rattle.wq_session.specs.declared.ask.Ask.TheVariants.{DeleteProgram as AsksDeleteProgram}
 use Rattle.wq_session.specs.declared.ask.Ask.TheVariants.{Leave, Nothing}
 use Rattle.wq_session.specs.declared.command.Command.{Command}
+use Rattle.wq_session.specs.declared.command.Command.TheVariants.{Watch, WatchProject, ListRoots}
+use Rattle.wq_session.specs.declared.command.Command.TheVariants.{DeleteRoot}
 use Rattle.wq_session.specs.declared.command.Command.TheVariants.{Query, Clock, Version, SocketName}
 use Rattle.wq_session.specs.declared.command.Command.TheVariants.{ShutDown, AddProgram, ListPrograms}
 use Rattle.wq_session.specs.declared.command.Command.TheVariants.{DeleteProgram}
 use Rattle.wq_session.specs.declared.refusal.Refusal.{Refusal}
 use Rattle.wq_session.specs.declared.refusal.Refusal.TheVariants.{LineTooLong, NotJson, NotACommand}
 use Rattle.wq_session.specs.declared.refusal.Refusal.TheVariants.{UnknownCommand, WrongArguments, Bser}
+use Rattle.wq_session.specs.declared.refusal.Refusal.TheVariants.{RootNotAbsolute}
 use Rattle.wq_session.specs.declared.refusal.Refusal.TheVariants.{NotBase64, WrongFile, WrongProgram}
 use Rattle.wq_session.specs.declared.refusal.Refusal.TheVariants.{BadName, NoMemory}
 
 -- what a line wishes before the program that it adds, if it adds one, is looked at
 pub data WishData : Type 0 where
-  -- this is asked
-  asks : Ask → WishData
+  -- this ask, of which nothing is left to be looked at
+  complete : Ask → WishData
   -- which files of a root there are, as an object says
   queries : (root : List ℕ) → Data → WishData
   -- that the program of a file is kept under a name
@@ -64,55 +69,6 @@ words_of (array (item (string name) arguments)) =
     Some (record { name = name; arguments = arguments })
 words_of _ = None
 
--- what stands behind the first item
-abbrev pub behind : Items → Items
-behind no_items = no_items
-behind (item d ds) = ds
-
--- the root and the object of `query`
-abbrev pub query_arguments : Items → Option (List ℕ × Data)
-query_arguments (item (string root) (item (object members) no_items)) =
-    Some (root, object members)
-query_arguments _ = None
-
--- whether the options of `clock` ask that the root is crawled first: by a whole number above 0
-abbrev pub asks_crawl : Data → Bool
-asks_crawl options =
-    option_map_or (int_lt (pos 0))
-    (option_and_then whole_number_of (get (codes "sync_timeout") options)) false
-
--- the root of `clock`, behind which an object of options may stand, and whether it is to be crawled
-abbrev pub clock_arguments : Items → Option (List ℕ × Bool)
-clock_arguments (item (string root) no_items) = Some (root, false)
-clock_arguments (item (string root) (item (object members) no_items)) =
-    Some (root, asks_crawl (object members))
-clock_arguments _ = None
-
--- whether there is nothing, or one object
-abbrev pub are_options : Items → Bool
-are_options no_items = true
-are_options (item (object _) no_items) = true
-are_options _ = false
-
--- whether there is nothing
-abbrev pub are_none : Items → Bool
-are_none no_items = true
-are_none _ = false
-
--- one text
-abbrev pub one_text : Items → Option (List ℕ)
-one_text (item (string text) no_items) = Some text
-one_text _ = None
-
--- two texts
-abbrev pub two_texts : Items → Option (List ℕ × List ℕ)
-two_texts (item (string first) (item (string second) no_items)) = Some (first, second)
-two_texts _ = None
-
--- whether a text may be the name of a program
-abbrev pub is_name : List ℕ → Bool
-is_name name = nat_le 1 (length name) && nat_le (length name) 255
-
 -- that the program of a base64 text is kept under a name
 abbrev pub adding : List ℕ × List ℕ → Result WishData Refusal
 adding (name, text) =
@@ -120,22 +76,35 @@ adding (name, text) =
     or_its_fault (λ _. NotBase64) (decode_of standard text) (λ file.
     Ok (adds name file)))
 
+-- that a root is watched
+abbrev pub watching : List ℕ → Result WishData Refusal
+watching root = unless_fault RootNotAbsolute (is_absolute root) (Ok (complete (AsksWatch root)))
+
 -- what a command with these arguments wishes
 abbrev pub wish_of : Command → Items → Result WishData Refusal
+wish_of Watch arguments = or_fault WrongArguments (one_text arguments) watching
+wish_of WatchProject arguments = or_fault WrongArguments (one_text arguments) watching
+wish_of ListRoots arguments =
+    unless_fault WrongArguments (are_none arguments) (Ok (complete AsksListRoots))
+wish_of DeleteRoot arguments =
+    or_fault WrongArguments (one_text arguments) (λ root. Ok (complete (AsksDeleteRoot root)))
 wish_of Query arguments =
     or_fault WrongArguments (query_arguments arguments) (λ (root, d). Ok (queries root d))
 wish_of Clock arguments =
-    or_fault WrongArguments (clock_arguments arguments) (λ (root, crawl). Ok (asks (AsksClock root crawl)))
-wish_of Version arguments = unless_fault WrongArguments (are_options arguments) (Ok (asks AsksVersion))
+    or_fault WrongArguments (clock_arguments arguments) (λ (root, crawl).
+    Ok (complete (AsksClock root crawl)))
+wish_of Version arguments =
+    unless_fault WrongArguments (are_options arguments) (Ok (complete AsksVersion))
 wish_of SocketName arguments =
-    unless_fault WrongArguments (are_none arguments) (Ok (asks AsksSocketName))
-wish_of ShutDown arguments = unless_fault WrongArguments (are_none arguments) (Ok (asks AsksShutDown))
+    unless_fault WrongArguments (are_none arguments) (Ok (complete AsksSocketName))
+wish_of ShutDown arguments =
+    unless_fault WrongArguments (are_none arguments) (Ok (complete AsksShutDown))
 wish_of AddProgram arguments = or_fault WrongArguments (two_texts arguments) adding
 wish_of ListPrograms arguments =
-    unless_fault WrongArguments (are_none arguments) (Ok (asks AsksListPrograms))
+    unless_fault WrongArguments (are_none arguments) (Ok (complete AsksListPrograms))
 wish_of DeleteProgram arguments =
     or_fault WrongArguments (one_text arguments) (λ name.
-    unless_fault BadName (is_name name) (Ok (asks (AsksDeleteProgram name))))
+    unless_fault BadName (is_name name) (Ok (complete (AsksDeleteProgram name))))
 
 -- what the value of a line wishes
 abbrev pub wish_of_value : Data → Result WishData Refusal
@@ -164,7 +133,7 @@ IsQuerying root d _ = ⊥
 -- what is asked by a wish
 abbrev pub IsWished : Result WishData Refusal → Ask → Type 0
 IsWished (Err refusal) ask = ask ≡ Refused refusal
-IsWished (Ok (asks asked)) ask = ask ≡ asked
+IsWished (Ok (complete asked)) ask = ask ≡ asked
 IsWished (Ok (queries root d)) ask = IsQuerying root d ask
 IsWished (Ok (adds name file)) ask = IsAdding name (file_at file) ask
 

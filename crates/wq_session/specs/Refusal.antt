@@ -14,7 +14,8 @@ use Rattle.wq_query.specs.declared.fault.QueryFault.TheVariants.{WrongValue, NoM
 use Rattle.wq_session.specs.declared.refusal.Refusal.{Refusal}
 use Rattle.wq_session.specs.declared.refusal.Refusal.TheVariants.{LineTooLong, NotJson, NotACommand}
 use Rattle.wq_session.specs.declared.refusal.Refusal.TheVariants.{UnknownCommand, WrongArguments, Bser}
-use Rattle.wq_session.specs.declared.refusal.Refusal.TheVariants.{UnreadableRoot, TooManyFiles, NotWatched}
+use Rattle.wq_session.specs.declared.refusal.Refusal.TheVariants.{RootNotAbsolute, UnreadableRoot, TooManyFiles}
+use Rattle.wq_session.specs.declared.refusal.Refusal.TheVariants.{TooManyRoots, NotWatched}
 use Rattle.wq_session.specs.declared.refusal.Refusal.TheVariants.{TicksSpent, Query, ProgramTooLarge}
 use Rattle.wq_session.specs.declared.refusal.Refusal.TheVariants.{NotBase64, WrongFile, WrongProgram}
 use Rattle.wq_session.specs.declared.refusal.Refusal.TheVariants.{NoSuchProgram, ShelfFull, BadName, NoMemory}
@@ -48,8 +49,10 @@ refusal_text NotACommand = codes "E3: not a command array"
 refusal_text UnknownCommand = codes "E4: unknown command"
 refusal_text WrongArguments = codes "E5: wrong arguments"
 refusal_text Bser = codes "E6: BSER is not spoken here"
+refusal_text RootNotAbsolute = codes "E10: root is not absolute"
 refusal_text UnreadableRoot = codes "E11: root cannot be read"
 refusal_text TooManyFiles = codes "E12: too many files"
+refusal_text TooManyRoots = codes "E13: too many roots"
 refusal_text NotWatched = codes "E14: root is not watched"
 refusal_text TicksSpent = codes "E15: ticks are spent"
 refusal_text (Query fault) = query_text fault

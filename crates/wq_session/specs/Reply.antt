@@ -8,6 +8,7 @@ use Rattle.serde_json.specs.View.{items_of}
 use Rattle.wq_base.specs.Version.{version}
 use Rattle.wq_clock.specs.ClockText.{clock_text}
 use Rattle.wq_clock.specs.Instance.{InstanceData}
+use Rattle.wq_registry.specs.Root.{RootData}
 use Rattle.wq_view.specs.View.{ViewData}
 use Rattle.wq_session.specs.Refusal.{refusal_text}
 use Rattle.wq_session.specs.declared.refusal.Refusal.{Refusal}
@@ -17,6 +18,30 @@ abbrev pub error_data : Refusal → Data
 error_data refusal =
     object (member (codes "error") (string (refusal_text refusal))
     (member (codes "version") (string version) no_members))
+
+-- that a root is watched: by listing it again and again
+abbrev pub watch_data : List ℕ → Data
+watch_data root =
+    object (member (codes "version") (string version)
+    (member (codes "watch") (string root)
+    (member (codes "watcher") (string (codes "poll")) no_members)))
+
+-- the texts of roots
+abbrev pub texts_of : List (RootData (Unit {0})) → List (List ℕ)
+texts_of roots = map (λ r. r.text) roots
+
+-- the roots that are watched
+abbrev pub roots_data : List (List ℕ) → Data
+roots_data roots =
+    object (member (codes "roots") (array (items_of (map string roots)))
+    (member (codes "version") (string version) no_members))
+
+-- that a root is watched no more
+abbrev pub root_deleted_data : List ℕ → Data
+root_deleted_data root =
+    object (member (codes "root") (string root)
+    (member (codes "version") (string version)
+    (member (codes "watch-del") (boolean true) no_members)))
 
 -- the clock id of a view
 abbrev pub clock_data : InstanceData → ViewData → Data

@@ -1,6 +1,6 @@
 -- What the parts of taking a query come to: its program, and the bound that its cursor sets.
 -- No public document is behind it.
-use Rattle.std.specs.Prelude.{◌≡◌, ℕ, true, false, List, Option, Some, None, option_map, Result, Ok, Err}
+use Rattle.std.specs.Prelude.{◌≡◌, ℕ, true, false, List, Some, None, option_map, Result, Ok, Err}
 use Rattle.std.specs.declared.alloc.Global.{Global}
 use Rattle.std.specs.declared.sync.Arc.{Arc}
 use Rattle.wq_clock.specs.declared.bound.Bound.{Bound}
@@ -9,7 +9,7 @@ use Rattle.wq_compile.specs.Large.{is_too_large}
 use Rattle.wq_compile.specs.Meaning.{AnswersMeaning}
 use Rattle.wq_query.specs.Query.{QueryData, SinceData}
 use Rattle.wq_registry.specs.Named.{under}
-use Rattle.wq_session.specs.Query.{AtData, ShelfNow, program_of, bound_at, has_place, used_at}
+use Rattle.wq_session.specs.Query.{AtData, ShelfNow, program_for, bound_at, has_place, used_at}
 use Rattle.wq_session.specs.declared.refusal.Refusal.{Refusal}
 use Rattle.wq_session.specs.declared.refusal.Refusal.TheVariants.{NoSuchProgram, ProgramTooLarge}
 use Rattle.wq_session.specs.declared.refusal.Refusal.TheVariants.{ShelfFull, NoMemory}
@@ -18,10 +18,10 @@ use Rattle.wq_session.specs.declared.refusal.Refusal.TheVariants.{ShelfFull, NoM
 -- why there is none; or memory ran out
 abbrev pub FindsProgram : QueryData → ShelfNow → Result (Arc Raw Global) Refusal → Type 0
 FindsProgram q shelf (Ok program) =
-    (program_of q shelf ≡ Ok (option_map (λ _. program.value) q.program))
+    (program_for q shelf ≡ Ok (option_map (λ _. program.value) q.program))
     × (q.program ≡ None → AnswersMeaning program.value q.expression)
 FindsProgram q shelf (Err NoMemory) = Unit {0}
-FindsProgram q shelf (Err refusal) = program_of q shelf ≡ Err refusal
+FindsProgram q shelf (Err refusal) = program_for q shelf ≡ Err refusal
 
 -- the program of a name
 abbrev pub FindsNamed : List ℕ → ShelfNow → Result (Arc Raw Global) Refusal → Type 0

@@ -9,7 +9,7 @@ use Rattle.serde_json.specs.Written.{has_float}
 use Rattle.serde_json.specs.declared.value.Value.{Value}
 use Rattle.wq_clock.specs.Instance.{instance_data}
 use Rattle.wq_query.specs.Query.{planned}
-use Rattle.wq_session.specs.Begun.{WorkData, says, lists, BegunData}
+use Rattle.wq_session.specs.Begun.{WorkData, says, evaluates, BegunData}
 use Rattle.wq_session.specs.Query.{AtData, ShelfNow}
 use Rattle.wq_session.specs.Reading.{WishData, IsWished}
 use Rattle.wq_session.specs.declared.ask.Ask.{Ask}
@@ -18,12 +18,12 @@ use Rattle.wq_session.specs.declared.at.At.{At}
 use Rattle.wq_session.specs.declared.refusal.Refusal.{Refusal}
 use Rattle.wq_session.specs.declared.refusal.Refusal.TheVariants.{NoMemory, NotBase64, NotJson}
 use Rattle.wq_session.specs.declared.work.Work.{Work}
-use Rattle.wq_session.specs.declared.work.Work.TheVariants.{Says, Lists}
+use Rattle.wq_session.specs.declared.work.Work.TheVariants.{Says, Evaluates}
 
 -- the work
 abbrev pub work_data : Work → WorkData
 work_data (Says out) = says out
-work_data (Lists plan cursor) = lists (planned plan) cursor
+work_data (Evaluates plan cursor) = evaluates (planned plan) cursor
 
 -- what is looked at
 abbrev pub at_data : At → AtData

@@ -3,7 +3,8 @@ ghost use Rattle.std.specs.Prelude.{◌≡◌, ◌≢◌, IfOk, IfErr, Ok, Err};
 ghost use Rattle.base64.specs.GeneralPurpose.{decode_of};
 ghost use Rattle.base64.specs.Engines.{standard};
 ghost use Rattle.wq_code.specs.File.{file_at};
-ghost use Rattle.wq_session.specs.Reading.{WishData, adding, adds, is_name};
+ghost use Rattle.wq_session.specs.Argument.{is_name};
+ghost use Rattle.wq_session.specs.Reading.{WishData, adding, adds};
 ghost use Rattle.wq_session.specs.Work.{Wishes, DecodesTo};
 
 use crate::ask::Ask;
@@ -15,7 +16,7 @@ use wq_base::Text;
 use wq_code::{FileFault, decode};
 use wq_verify::{ProgramFault, verify};
 
-/// The greatest length of a name, in bytes.
+/// How many bytes the name of a program may have.
 const MAX_NAME: usize = 255;
 
 /// That the program of a base64 text is kept under a name.

@@ -1,8 +1,8 @@
 //! The arguments of commands: the words of a line, of which the first is the command's name.
 ghost use Rattle.std.specs.Prelude.{◌≡◌, option_map};
 ghost use Rattle.serde_json.specs.View.{view as data_of, items_view};
-ghost use Rattle.wq_session.specs.Reading.{are_none, are_options, asks_crawl, behind, clock_arguments};
-ghost use Rattle.wq_session.specs.Reading.{one_text, query_arguments, two_texts};
+ghost use Rattle.wq_session.specs.Argument.{are_none, are_options, asks_crawl, behind, clock_arguments};
+ghost use Rattle.wq_session.specs.Argument.{one_text, query_arguments, two_texts};
 ghost use Rattle.wq_session.specs.Words.{as_text, one_behind, two_behind};
 
 use serde_json::Value;

@@ -10,6 +10,12 @@ use wq_verify::Program;
 pub enum Ask {
     /// This is the first reason to refuse the line.
     Refused(Refusal),
+    /// That a root is watched.
+    Watch { root: Text },
+    /// The roots that are watched.
+    ListRoots,
+    /// That a root is watched no more.
+    DeleteRoot { root: Text },
     /// Which files of a root there are, and which of them changed, as the object says.
     Query { root: Text, query: Value },
     /// The clock of a root, and whether the root is crawled first.

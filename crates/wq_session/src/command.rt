@@ -5,6 +5,14 @@ ghost use Rattle.wq_session.specs.Command.{command_named};
 /// A command, by its name alone.
 #[derive(Clone, Copy, Debug, PartialEq, Eq)]
 pub(crate) enum Command {
+    /// A root is watched.
+    Watch,
+    /// The same.
+    WatchProject,
+    /// The roots that are watched.
+    ListRoots,
+    /// A root is watched no more.
+    DeleteRoot,
     /// Which files there are, and which of them changed.
     Query,
     /// Which pass was the last.
@@ -29,6 +37,10 @@ impl Command {
         ensures { result ≡ command_named name.now }
     {
         match name {
+            "watch" => Some(Command::Watch),
+            "watch-project" => Some(Command::WatchProject),
+            "watch-list" => Some(Command::ListRoots),
+            "watch-del" => Some(Command::DeleteRoot),
             "query" => Some(Command::Query),
             "clock" => Some(Command::Clock),
             "version" => Some(Command::Version),

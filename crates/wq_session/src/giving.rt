@@ -124,7 +124,12 @@ impl Out {
 
     /// The last reply of a session.
     fn last(text: &'static [u8]) -> Out
-        ensures { result ≡ record { reply = Some text.now; goes_on = false; shuts = false; unset = None } }
+        ensures { result ≡ record {
+          reply = Some text.now;
+          goes_on = false;
+          shuts = false;
+          unset = None;
+        } }
     {
         Out {
             reply: Reply::Fixed(text),

@@ -14,7 +14,7 @@ use wq_term::whole_number;
 
 impl Ask {
     /// What has to come before this is answered. A line that needs a crawl is answered after that crawl, at the view
-    /// that it left.
+    /// that it left; one that opens a root, at the view of that root; one that retires it, at its number.
     pub fn need(&self) -> Need<'_>
         ensures { need_data result ≡ need_of self.now }
     {
@@ -24,6 +24,8 @@ impl Ask {
                 seen(crawl, root)
             }
             Ask::Clock { root, crawl } => seen(*crawl, root),
+            Ask::Watch { root } => Need::Open(root_named(root.as_str())),
+            Ask::DeleteRoot { root } => Need::Retire(root_named(root.as_str())),
             _ => Need::None,
         }
     }

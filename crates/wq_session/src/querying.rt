@@ -9,8 +9,8 @@ ghost use Rattle.wq_query.specs.Query.{asked_of, planned};
 ghost use Rattle.wq_query.specs.Reading.{asks};
 ghost use Rattle.wq_registry.specs.Root.{numbered};
 ghost use Rattle.wq_session.specs.Answer.{Finishes};
-ghost use Rattle.wq_session.specs.Begun.{begun_query, lists, try_query};
-ghost use Rattle.wq_session.specs.Query.{cursor_in};
+ghost use Rattle.wq_session.specs.Begun.{begun_query, evaluates, try_query};
+ghost use Rattle.wq_session.specs.Query.{moved_cursor};
 ghost use Rattle.wq_session.specs.Taking.{FindsCompiled, FindsNamed, FindsProgram, MovesCursor};
 ghost use Rattle.wq_session.specs.Work.{Begins, at_data};
 
@@ -38,8 +38,9 @@ pub(crate) fn try_query(
     at: Option<At<'_>>,
     shelf: &mut Shelf<()>,
 ) -> Result<Work, Refusal>
-    ensures { Begins (try_query root.now (data_of object.now) (option_map at_data at.entry) shelf.old) shelf.old
-        result shelf.new }
+    ensures { Begins
+        (try_query root.now (data_of object.now) (option_map at_data at.entry) shelf.old)
+        shelf.old result shelf.new }
 {
     let Some(at) = watched(root, at, shelf) else {
         return Err(Refusal::NotWatched);
@@ -61,16 +62,17 @@ fn begin_query(
 ) -> Result<Work, Refusal>
     requires read { asks (instance_data at.instance) (data_of object.now) ≡ Ok (asked_of query) }
     requires watched { is_none (numbered at.instance.root shelf.old.roots) ≡ false }
-    ensures { Begins (begun_query (at_data at.entry) (asked_of query) shelf.old) shelf.old result shelf.new }
+    ensures { Begins (begun_query (at_data at.entry) (asked_of query) shelf.old) shelf.old
+        result shelf.new }
 {
-    let program = program_of(alloc, &query, object, &at.instance, shelf)?;
+    let program = program_for(alloc, &query, object, &at.instance, shelf)?;
     let cursor = cursor_of(alloc, &query, at.instance.root)?;
     let bound = move_cursor(&query, at, shelf)?;
-    Ok(Work::Lists(query.plan(bound, program), cursor))
+    Ok(Work::Evaluates(query.plan(bound, program), cursor))
 }
 
 /// The program that says which files match a query.
-fn program_of(
+fn program_for(
     alloc: Global,
     query: &Query,
     object: &Value,
@@ -146,7 +148,7 @@ fn kept(
 
 /// The cursor of a query, by a name of its own.
 fn cursor_of(alloc: Global, query: &Query, root: u64) -> Result<Option<Cursor>, AllocError>
-    ensures { IfOk result (λ cursor. cursor ≡ cursor_in root (asked_of query.now).since) }
+    ensures { IfOk result (λ cursor. cursor ≡ moved_cursor root (asked_of query.now).since) }
 {
     match query.cursor() {
         None => Ok(None),
@@ -176,7 +178,7 @@ fn move_cursor(query: &Query, at: At<'_>, shelf: &mut Shelf<()>) -> Result<Bound
 
 /// The listing of the files of a plan, of what is looked at.
 pub(crate) fn listed(alloc: Global, plan: &Plan, cursor: Option<Cursor>, at: At<'_>) -> Out
-    ensures { Finishes (lists (planned plan.now) cursor) (Some (at_data at.entry)) result }
+    ensures { Finishes (evaluates (planned plan.now) cursor) (Some (at_data at.entry)) result }
 {
     match answer_bytes(alloc, plan, &at.instance, at.view) {
         Ok(text) => Out::of_text(text),

@@ -3,8 +3,8 @@ ghost use Rattle.std.specs.Prelude.{Ok};
 ghost use Rattle.serde_json.specs.View.{view as data_of, items_view};
 ghost use Rattle.wq_base.specs.Fault.{unless_fault};
 ghost use Rattle.wq_session.specs.Command.{command_named};
-ghost use Rattle.wq_session.specs.Reading.{Asks, asks, behind, value_of, wish_of, wish_of_value};
-ghost use Rattle.wq_session.specs.Reading.{wished};
+ghost use Rattle.wq_session.specs.Argument.{behind};
+ghost use Rattle.wq_session.specs.Reading.{Asks, complete, value_of, watching, wish_of, wish_of_value, wished};
 ghost use Rattle.wq_session.specs.declared.refusal.Refusal.TheVariants.{WrongArguments};
 ghost use Rattle.wq_session.specs.Work.{GivesValue, Wishes};
 
@@ -15,13 +15,15 @@ use crate::arguments::{
 use crate::ask::Ask;
 use crate::command::Command;
 use crate::refusal::Refusal;
+use crate::root::is_absolute;
 use serde_json::Value;
 use std::alloc::Global;
+use wq_base::Text;
 use wq_serve::Event;
 
 impl Ask {
-    /// What an event asks. A line whose text, words or program are wrong is refused here, whatever is asked; the first
-    /// fault counts, as [`Refusal`] lists them.
+    /// What an event asks. A line whose text, words, root or program are wrong is refused here, whatever is asked; of
+    /// several faults the one counts that stands first in [`Refusal`].
     ///
     /// Where memory runs out over a line, that is refused for it.
     pub fn read(alloc: Global, event: Event) -> Ask
@@ -81,6 +83,15 @@ impl Command {
         ensures { Wishes (wish_of self (behind (items_view words.items))) result }
     {
         match self {
+            Command::Watch | Command::WatchProject => match one_text(words) {
+                Some(root) => watching(root),
+                None => Err(Refusal::WrongArguments),
+            },
+            Command::ListRoots => unless_wrong(are_none(&words), Ask::ListRoots),
+            Command::DeleteRoot => match one_text(words) {
+                Some(root) => Ok(Ask::DeleteRoot { root }),
+                None => Err(Refusal::WrongArguments),
+            },
             Command::Query => match query_arguments(words) {
                 Some((root, query)) => Ok(Ask::Query { root, query }),
                 None => Err(Refusal::WrongArguments),
@@ -106,9 +117,20 @@ impl Command {
     }
 }
 
+/// That a root is watched.
+fn watching(root: Text) -> Result<Ask, Refusal>
+    ensures { Wishes (watching root) result }
+{
+    if is_absolute(&root) {
+        Ok(Ask::Watch { root })
+    } else {
+        Err(Refusal::RootNotAbsolute)
+    }
+}
+
 /// What is asked, where the arguments are right.
 fn unless_wrong(right: bool, ask: Ask) -> Result<Ask, Refusal>
-    ensures { Wishes (unless_fault WrongArguments right (Ok (asks ask))) result }
+    ensures { Wishes (unless_fault WrongArguments right (Ok (complete ask))) result }
 {
     if right {
         Ok(ask)

@@ -8,11 +8,14 @@ use wq_query::QueryFault;
 use wq_term::TermFault;
 use wq_verify::ProgramFault;
 
-/// The first reason why a line of a client is not carried out.
+/// Why a line of a client is not carried out. The variants stand in the order in which they are looked for, so that of
+/// several reasons the first is told; a growth may be refused before any of them but the first two.
 #[derive(Clone, Copy, Debug, Drop)]
 pub enum Refusal {
     /// A line of over [`MAX_LINE`](wq_serve::MAX_LINE) bytes.
     LineTooLong,
+    /// The line begins with byte 0, as Watchman's binary messages do.
+    Bser,
     /// A line in which there is something else than one JSON value, or bytes that are no UTF-8.
     NotJson,
     /// The value is no array headed by a text.
@@ -21,18 +24,25 @@ pub enum Refusal {
     UnknownCommand,
     /// The number or the kinds of the arguments are not the command's.
     WrongArguments,
-    /// The line begins with byte 0, as Watchman's binary messages do.
-    Bser,
+    /// The root that is to be watched is no absolute path, or has over [`MAX_ROOT`](crate::MAX_ROOT) bytes as it is
+    /// given, or a byte 0.
+    RootNotAbsolute,
+    /// The root is not watched.
+    NotWatched,
+    /// The name of a program has not 1 to 255 bytes.
+    BadName,
+    /// As many roots are watched as may be, or as many were ever watched as there are numbers for.
+    TooManyRoots,
     /// The root could not be read when it was crawled for the line.
     UnreadableRoot,
     /// The root has more files than a view may have.
     TooManyFiles,
-    /// The root is not watched.
-    NotWatched,
     /// The root was crawled 2^62 times with changes.
     TicksSpent,
     /// The query is refused.
     Query(QueryFault),
+    /// No program is kept under this name.
+    NoSuchProgram,
     /// The query's expression has no program: its code or a list in it is too long.
     ProgramTooLarge,
     /// The text of a program is not base64.
@@ -41,12 +51,8 @@ pub enum Refusal {
     WrongFile(FileFault),
     /// The program may not run, for this fault of the instruction at this place, counted from 0.
     WrongProgram { fault: ProgramFault, at: usize },
-    /// No program is kept under this name.
-    NoSuchProgram,
     /// As many programs are kept as may be, or as many cursors of the root.
     ShelfFull,
-    /// The name of a program has not 1 to 255 bytes.
-    BadName,
     /// A growth was refused.
     NoMemory,
 }
@@ -70,8 +76,10 @@ impl Refusal {
             Refusal::UnknownCommand => String::from_str(alloc, "E4: unknown command"),
             Refusal::WrongArguments => String::from_str(alloc, "E5: wrong arguments"),
             Refusal::Bser => String::from_str(alloc, "E6: BSER is not spoken here"),
+            Refusal::RootNotAbsolute => String::from_str(alloc, "E10: root is not absolute"),
             Refusal::UnreadableRoot => String::from_str(alloc, "E11: root cannot be read"),
             Refusal::TooManyFiles => String::from_str(alloc, "E12: too many files"),
+            Refusal::TooManyRoots => String::from_str(alloc, "E13: too many roots"),
             Refusal::NotWatched => String::from_str(alloc, "E14: root is not watched"),
             Refusal::TicksSpent => String::from_str(alloc, "E15: ticks are spent"),
             Refusal::Query(fault) => String::from_str(alloc, query_text(fault)),

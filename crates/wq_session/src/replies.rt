@@ -7,6 +7,7 @@ ghost use Rattle.wq_clock.specs.Instance.{instance_data};
 ghost use Rattle.wq_registry.specs.Named.{names};
 ghost use Rattle.wq_session.specs.Reply.{added_data, clock_data, deleted_data, error_data};
 ghost use Rattle.wq_session.specs.Reply.{programs_data, socket_data};
+ghost use Rattle.wq_session.specs.Reply.{root_deleted_data, roots_data, texts_of, watch_data};
 ghost use Rattle.wq_session.specs.Query.{ShelfNow};
 ghost use Rattle.wq_session.specs.Work.{IsReply};
 
@@ -16,7 +17,7 @@ use serde_json::{Value, json};
 use std::alloc::{AllocError, Global};
 use wq_base::VERSION;
 use wq_clock::print;
-use wq_registry::Shelf;
+use wq_registry::{Root, Shelf};
 
 /// That a line is refused.
 pub(crate) fn error(alloc: Global, refusal: Refusal) -> Result<Vec<u8>, AllocError>
@@ -33,6 +34,61 @@ fn error_value(alloc: Global, refusal: Refusal) -> Result<Value, AllocError>
     json!(in alloc; { "error": text, "version": VERSION })
 }
 
+/// That a root is watched.
+pub(crate) fn watch(alloc: Global, root: &str) -> Result<Vec<u8>, AllocError>
+    ensures { IfOk result (λ text. text.items ≡ compact_text (watch_data root.now)) }
+{
+    watch_value(alloc, root)?.to_vec(alloc)
+}
+
+/// The same as a value.
+fn watch_value(alloc: Global, root: &str) -> Result<Value, AllocError>
+    ensures { IfOk result (IsReply (watch_data root.now)) }
+{
+    json!(in alloc; { "version": VERSION, "watch": root, "watcher": "poll" })
+}
+
+/// The roots that are watched, by their texts.
+pub(crate) fn roots(alloc: Global, roots: &[Root<()>]) -> Result<Vec<u8>, AllocError>
+    ensures { IfOk result (λ text. text.items ≡ compact_text (roots_data (texts_of roots.now))) }
+{
+    let value = roots_value(alloc, roots)?;
+    value.to_vec(alloc)
+}
+
+/// The same as a value.
+fn roots_value(alloc: Global, roots: &[Root<()>]) -> Result<Value, AllocError>
+    ensures { IfOk result (λ value. data_of value ≡ roots_data (texts_of roots.now)) }
+{
+    let texts = Value::Array(texts(alloc, roots)?);
+    json!(in alloc; { "roots": texts, "version": VERSION })
+}
+
+/// The texts as values.
+fn texts(alloc: Global, roots: &[Root<()>]) -> Result<Vec<Value>, AllocError>
+    ensures { IfOk result (λ values. map data_of values.items ≡ map string (texts_of roots.now)) }
+{
+    let mut values = Vec::new(alloc);
+    for root in roots {
+        values.push(Value::try_from_str(alloc, root.text())?)?;
+    }
+    Ok(values)
+}
+
+/// That a root is watched no more.
+pub(crate) fn root_deleted(alloc: Global, root: &str) -> Result<Vec<u8>, AllocError>
+    ensures { IfOk result (λ text. text.items ≡ compact_text (root_deleted_data root.now)) }
+{
+    root_deleted_value(alloc, root)?.to_vec(alloc)
+}
+
+/// The same as a value.
+fn root_deleted_value(alloc: Global, root: &str) -> Result<Value, AllocError>
+    ensures { IfOk result (IsReply (root_deleted_data root.now)) }
+{
+    json!(in alloc; { "root": root, "version": VERSION, "watch-del": true })
+}
+
 /// The clock id of a view.
 pub(crate) fn clock(alloc: Global, at: At<'_>) -> Result<Vec<u8>, AllocError>
     ensures { IfOk result (λ text. text.items
@@ -43,7 +99,8 @@ pub(crate) fn clock(alloc: Global, at: At<'_>) -> Result<Vec<u8>, AllocError>
 
 /// The same as a value.
 fn clock_value(alloc: Global, at: At<'_>) -> Result<Value, AllocError>
-    ensures { IfOk result (IsReply (clock_data (instance_data at.entry.instance) at.entry.view.now)) }
+    ensures { IfOk result
+        (IsReply (clock_data (instance_data at.entry.instance) at.entry.view.now)) }
 {
     let clock = print(&at.instance, at.view.tick());
     json!(in alloc; { "clock": clock.as_str(), "version": VERSION })

@@ -14,7 +14,8 @@ use crate::work::Work;
 use std::alloc::Global;
 use wq_registry::Shelf;
 
-/// What a server keeps of one client. It is nothing yet: what is asked of a session does not depend on the lines before.
+/// What a server keeps of one client. It is nothing yet: what is asked of a session does not depend on the lines
+/// before.
 #[derive(Drop)]
 pub struct Session {}
 
@@ -25,8 +26,9 @@ impl Session {
     }
 
     /// The part of an answer for which the shelf is held: names are looked up, a cursor is moved, a command is done. No
-    /// file is looked at. A command that speaks of a root is refused where that is not what is looked at, or not under
-    /// its number on the shelf.
+    /// file is looked at. A command that speaks of a root is refused where nothing is looked at, and also, but for
+    /// `watch`, where the root does not stand on the shelf under the number of what is looked at. `watch` puts it there
+    /// under that number.
     ///
     /// Where memory runs out, that is the answer, and the shelf is as it was.
     pub fn take(
@@ -76,7 +78,7 @@ impl Work {
                 out.unset = None;
                 out
             }
-            Work::Lists(plan, cursor) => match at {
+            Work::Evaluates(plan, cursor) => match at {
                 Some(at) => listed(alloc, &plan, cursor, at),
                 None => unreachable!(),
             },

@@ -17,6 +17,7 @@ use crate::querying::try_query;
 use crate::refusal::Refusal;
 use crate::replies;
 use crate::root::root_named;
+use crate::watching::{tell_roots, try_delete_root, try_watch};
 use crate::work::Work;
 use std::alloc::Global;
 use wq_base::Text;
@@ -40,12 +41,16 @@ fn tried(
     at: Option<At<'_>>,
     shelf: &mut Shelf<()>,
 ) -> Result<Work, Refusal>
-    ensures begun { Begins (tried ask (option_map at_data at.entry) shelf.old) shelf.old result shelf.new }
+    ensures begun { Begins (tried ask (option_map at_data at.entry) shelf.old) shelf.old
+        result shelf.new }
     ensures memory { IfErr result (λ refusal.
         ends_session refusal ≡ false → takes_memory ask ≡ true) }
 {
     match ask {
         Ask::Refused(refusal) => Err(refusal),
+        Ask::Watch { root } => try_watch(alloc, &root, at, shelf),
+        Ask::ListRoots => tell_roots(alloc, shelf),
+        Ask::DeleteRoot { root } => try_delete_root(alloc, &root, at, shelf),
         Ask::Query { root, query } => try_query(alloc, &root, &query, at, shelf),
         Ask::Clock { root, .. } => try_clock(alloc, &root, at, shelf),
         Ask::Version => Ok(Work::Says(Out::version())),
@@ -59,12 +64,13 @@ fn tried(
     }
 }
 
-/// What is looked at, if it is the root of a text, under its number on the shelf.
+/// What is looked at, if the root that a text names stands on the shelf under its number.
 #[tactic(auto, using(crate::proofs::Rooted::number_there))]
 pub(crate) fn watched<'a>(root: &Text, at: Option<At<'a>>, shelf: &Shelf<()>) -> Option<At<'a>>
     ensures value { option_map at_data result
         ≡ watched root.now (option_map at_data at.entry) shelf.now }
-    ensures there { IfSome result (λ at. is_none (numbered at.instance.root shelf.now.roots) ≡ false) }
+    ensures there { IfSome result (λ at.
+        is_none (numbered at.instance.root shelf.now.roots) ≡ false) }
 {
     let at = at?;
     let root = shelf.root_called(root_named(root.as_str()))?;
@@ -82,7 +88,8 @@ fn try_clock(
     at: Option<At<'_>>,
     shelf: &Shelf<()>,
 ) -> Result<Work, Refusal>
-    ensures { Begins (try_clock root.now (option_map at_data at.entry) shelf.now) shelf.now result shelf.now }
+    ensures { Begins (try_clock root.now (option_map at_data at.entry) shelf.now) shelf.now
+        result shelf.now }
 {
     let Some(at) = watched(root, at, shelf) else {
         return Err(Refusal::NotWatched);

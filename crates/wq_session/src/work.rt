@@ -10,5 +10,5 @@ pub enum Work {
     /// Nothing: this is given out.
     Says(Out),
     /// The files of a plan are to be listed; this cursor was moved for it.
-    Lists(Plan, Option<Cursor>),
+    Evaluates(Plan, Option<Cursor>),
 }

@@ -1,9 +1,8 @@
 -- The names of programs have no floats, so the reply has one text.
-use Rattle.std.proofs.Common.{ap, sym, ◌∙◌, refl, subst, false, IfOk, ◌≡◌}
+use Rattle.std.proofs.Common.{ap, ◌∙◌}
 use Rattle.std.proofs.lemmas.Result.{IfOk-weaker}
 use Rattle.serde_json.specs.Written.{compact_text, has_float}
 use Rattle.wq_registry.specs.Named.{names}
-use Rattle.wq_session.specs.Reply.{programs_data}
 use Rattle.wq_session.proofs.Strings.{no_float_named}
 use Rattle.wq_session.proofs.replies.programs.Goals as goal
 

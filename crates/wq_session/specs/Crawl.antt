@@ -1,0 +1,17 @@
+-- How a line is refused whose root could not be crawled, opened or retired.
+-- No public document is behind it.
+use Rattle.wq_session.specs.declared.crawl.CrawlFault.{CrawlFault}
+use Rattle.wq_session.specs.declared.crawl.CrawlFault.TheVariants.{Unreadable, TooManyFiles as TooManyRows}
+use Rattle.wq_session.specs.declared.crawl.CrawlFault.TheVariants.{TooManyRoots as TooManyShown}
+use Rattle.wq_session.specs.declared.crawl.CrawlFault.TheVariants.{TicksSpent as NoTicks, NoMemory as NoRoom}
+use Rattle.wq_session.specs.declared.refusal.Refusal.{Refusal}
+use Rattle.wq_session.specs.declared.refusal.Refusal.TheVariants.{UnreadableRoot, TooManyFiles, TooManyRoots}
+use Rattle.wq_session.specs.declared.refusal.Refusal.TheVariants.{TicksSpent, NoMemory}
+
+-- why the line is refused
+abbrev pub crawl_refusal : CrawlFault → Refusal
+crawl_refusal Unreadable = UnreadableRoot
+crawl_refusal TooManyRows = TooManyFiles
+crawl_refusal TooManyShown = TooManyRoots
+crawl_refusal NoTicks = TicksSpent
+crawl_refusal NoRoom = NoMemory

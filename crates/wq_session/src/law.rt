@@ -1,0 +1,9 @@
+//! Laws of answers, each a function without a body whose contract is the law.
+ghost use Rattle.wq_session.specs.Law.{WatchingAgainChangesNothing};
+
+/// To watch a root that is watched under the number of what is looked at changes nothing, and is answered as the first
+/// time.
+#[tactic(auto, using(crate::proofs::Again::watching_again_changes_nothing))]
+pub fn watching_again_changes_nothing()
+    ensures { WatchingAgainChangesNothing }
+{}
