@@ -12,3 +12,4 @@ mod Comparing
 mod Sharing
 mod Longest
 mod Fullness
+mod Numbers

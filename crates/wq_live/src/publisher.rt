@@ -137,7 +137,7 @@ impl<N: Named, R: Wait + Drop> Publisher<N, R> {
     }
 
     /// What is published now.
-    fn told(&self) -> Result<Told<N>, AllocError>
+    pub fn told(&self) -> Result<Told<N>, AllocError>
         ensures { IfOk result (λ told. told ≡ self.now) }
     {
         Ok(Told::new(self.writer.published().again()?))

@@ -1,7 +1,8 @@
 //! Seats, which look at what is shown. A look waits for nobody and takes no memory.
-ghost use Rattle.std.specs.Prelude.{◌≡◌, IfSome, MatchResult, Some, is_some, option_map};
+ghost use Rattle.std.specs.Prelude.{◌≡◌, ◌≤◌, IfSome, MatchResult, Some, is_some, option_map};
 ghost use mathlib.Core.List.{IsPrefix};
 ghost use Rattle.left_right.specs.Sides.{view};
+ghost use Rattle.wq_base.specs.Limit.{max_number};
 ghost use Rattle.wq_view.specs.View.{IsViewOf};
 ghost use Rattle.wq_live.specs.Event.{is_shown, passes_over, root_named};
 ghost use Rattle.wq_live.specs.Table.{IsTableOf};
@@ -193,6 +194,7 @@ impl<N: Named> Look<N> {
         ensures number { option_map (λ it. it.0) result
             ≡ option_map (λ root. root.number) (root_named text.now self.now) }
         ensures view { IfSome result (λ it. IsViewOf (passes_over it.0 self.now) it.1.now) }
+        ensures bound { IfSome result (λ it. it.0 ≤ max_number) }
     {
         self.table().root(text)
     }

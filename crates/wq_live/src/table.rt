@@ -105,6 +105,7 @@ impl RootTable {
             ≡ option_map (λ root. root.number) (find (has_text text.now) self.now.roots) }
         ensures view { option_map (λ it. it.1.now) result
             ≡ option_map (λ root. root.view) (find (has_text text.now) self.now.roots) }
+        ensures given { self.now.given ≤ max_number }
     {
         let root = self.root_of_text(text)?;
         Some((root.number, &root.view))
@@ -129,7 +130,8 @@ impl RootTable {
 
     /// The root of this text.
     fn root_of_text(&self, text: &str) -> Option<&ShownRoot>
-        ensures { option_map (λ root. root.now) result ≡ find (has_text text.now) self.now.roots }
+        ensures found { option_map (λ root. root.now) result ≡ find (has_text text.now) self.now.roots }
+        ensures given { self.now.given ≤ max_number }
     {
         self.roots
             .iter()
