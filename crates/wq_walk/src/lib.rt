@@ -1,0 +1,13 @@
+//! Walks the tree of files below a root on disk, and lists what it sees: a row for each file, in the byte order of whole
+//! names as far as the tree holds still. What a view makes of the rows is not said here.
+#![tactic(auto)]
+
+mod folder;
+mod names;
+mod path;
+mod rows;
+mod stat;
+mod walk;
+mod walker;
+
+pub use walker::Walker;

@@ -1,0 +1,74 @@
+//! What the system says of one file, as a row of a listing holds it. Nothing is read here.
+ghost use Rattle.std.specs.Prelude.{◌≡◌, IsTrue};
+ghost use Rattle.std.specs.Fs.{file_type};
+ghost use Rattle.wq_view.specs.Seen.{is_count, is_time};
+ghost use Rattle.wq_walk.specs.Stat.{kind_with, milliseconds_of, nearest_size};
+
+use std::fs::Metadata;
+use std::os::unix::fs::MetadataExt;
+use wq_base::{MAX_NUMBER, MAX_SIGNED};
+use wq_view::Kind;
+
+/// How many milliseconds a second has.
+const MILLISECONDS: i64 = 1000;
+
+/// How many nanoseconds a millisecond has.
+const NANOSECONDS: i64 = 1_000_000;
+
+/// What was seen of a file. Its numbers are in the ranges of a listing.
+#[derive(Clone, Copy)]
+pub(crate) struct Stat {
+    pub(crate) kind: Kind,
+    /// In bytes.
+    pub(crate) size: i64,
+    /// In milliseconds of the Unix epoch.
+    pub(crate) mtime_ms: i64,
+    ghost has_size: { IsTrue (is_count size) },
+    ghost has_time: { IsTrue (is_time mtime_ms) },
+}
+
+/// What a listing says of a file, of which the system says this. A size or a time out of range is brought to the
+/// nearest bound.
+pub(crate) fn stat_of(metadata: &Metadata) -> Stat
+    ensures { result.kind ≡ kind_with (file_type metadata.now).bits }
+{
+    Stat {
+        kind: kind_of(metadata),
+        size: size_of(metadata.len()),
+        mtime_ms: milliseconds(metadata.mtime(), metadata.mtime_nsec()),
+    }
+}
+
+/// The kind of a file.
+fn kind_of(metadata: &Metadata) -> Kind
+    ensures { result ≡ kind_with (file_type metadata.now).bits }
+{
+    if metadata.is_file() {
+        Kind::File
+    } else if metadata.is_dir() {
+        Kind::Dir
+    } else if metadata.is_symlink() {
+        Kind::Link
+    } else {
+        Kind::Unknown
+    }
+}
+
+/// A size in bytes, within the range of sizes.
+fn size_of(len: u64) -> i64
+    ensures value { result ≡ nearest_size len }
+    ensures range { IsTrue (is_count result) }
+{
+    len.min(MAX_NUMBER) as i64
+}
+
+/// Whole seconds and the nanoseconds after them in milliseconds, rounded down, within the range of times.
+fn milliseconds(seconds: i64, nanoseconds: i64) -> i64
+    ensures value { result ≡ milliseconds_of seconds nanoseconds }
+    ensures range { IsTrue (is_time result) }
+{
+    seconds
+        .saturating_mul(MILLISECONDS)
+        .saturating_add(nanoseconds.div_euclid(NANOSECONDS))
+        .clamp(-MAX_SIGNED, MAX_SIGNED)
+}
