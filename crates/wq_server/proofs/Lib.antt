@@ -1,0 +1,5 @@
+mod Fronts
+mod Shown
+mod Held
+mod Getting
+mod Going

@@ -1,0 +1,9 @@
+pub mod Crawl
+pub mod Roots
+pub mod Inbox
+pub mod Desk
+pub mod Run
+pub mod Ready
+pub mod Serving
+pub mod Limit
+pub mod Answering

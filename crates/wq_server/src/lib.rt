@@ -1,0 +1,32 @@
+//! Serving one client: a session over all its events, at ends that are handed in. An inbox hands out the events, a
+//! writer takes the replies, a seat shows the views of roots, the roots are crawled, and a desk holds the shelf that all
+//! clients share.
+//!
+//! Nothing here knows a socket, a file or a thread. What waits does so behind one of the ends.
+#![tactic(auto)]
+
+mod answering;
+mod crawler;
+mod desk;
+mod faults;
+mod inbox;
+mod lock_desk;
+mod lock_roots;
+mod looking;
+mod memory_desk;
+mod memory_roots;
+mod roots;
+mod run;
+mod serving;
+mod writing;
+
+pub use crawler::{Crawler, Seconds};
+pub use desk::Desk;
+pub use inbox::{Inbox, MemoryInbox};
+pub use lock_desk::LockDesk;
+pub use lock_roots::LockRoots;
+pub use memory_desk::MemoryDesk;
+pub use memory_roots::MemoryRoots;
+pub use roots::{Answer, Roots, Wish};
+pub use run::Run;
+pub use serving::{Ended, MAX_EVENTS, serve};

@@ -1,0 +1,39 @@
+//! Roots that many sessions share.
+use crate::crawler::{Crawler, Seconds};
+use crate::roots::Roots;
+use std::sync::{Arc, Mutex, Wait};
+use wq_live::{Named, Told, Tree};
+use wq_session::CrawlFault;
+
+/// Roots over a crawler that threads share. They show no answers.
+#[derive(Drop)]
+pub struct LockRoots<N: Named, R: Wait + Drop, T: Tree + Drop, S: Seconds + Drop> {
+    crawler: Arc<Mutex<Crawler<N, R, T, S>>>,
+    rt: R,
+}
+
+impl<N: Named, R: Wait + Drop, T: Tree + Drop, S: Seconds + Drop> LockRoots<N, R, T, S> {
+    /// Roots over this crawler, for which they wait by this handle.
+    pub fn new(crawler: Arc<Mutex<Crawler<N, R, T, S>>>, rt: R) -> LockRoots<N, R, T, S> {
+        LockRoots { crawler, rt }
+    }
+}
+
+impl<N: Named, R: Wait + Drop, T: Tree + Drop, S: Seconds + Drop> Roots<N>
+    for LockRoots<N, R, T, S> {
+    ghost use Rattle.std.specs.Prelude.{None};
+
+    ghost given = { λ _. None };
+
+    fn open(&mut self, root: &str) -> Result<Told<N>, CrawlFault> {
+        self.crawler.lock(&self.rt).open(root)
+    }
+
+    fn crawl(&mut self, root: &str) -> Result<Option<Told<N>>, CrawlFault> {
+        self.crawler.lock(&self.rt).crawl(root)
+    }
+
+    fn retire(&mut self, number: u64) -> Result<Told<N>, CrawlFault> {
+        self.crawler.lock(&self.rt).retire(number)
+    }
+}
