@@ -1,0 +1,148 @@
+//! The clients that are connected.
+
+use crate::client::run_client;
+use crate::host::Host;
+use crate::link::Link;
+use crate::stop::Stop;
+use std::alloc::{AllocError, Global};
+use std::io::{self, Write};
+use std::os::unix::net::UnixStream;
+use std::sync::{Arc, Wait};
+use std::thread::{self, JoinHandle, Threads};
+use std::time::{Clock, Duration};
+
+/// How many clients may be connected at once.
+pub const MAX_SESSIONS: usize = 32;
+
+/// How many seconds a client may take nothing of what is written to it before it is cut off.
+const PATIENCE: u64 = 60;
+
+/// What a client is told that is one too many.
+const TOO_MANY: &[u8] = b"{\"error\":\"E17: too many sessions\",\"version\":\"wq-1\"}\n";
+
+/// What a client is told for whom no memory or no thread is left.
+const NO_MEMORY: &[u8] = b"{\"error\":\"E60: no memory\",\"version\":\"wq-1\"}\n";
+
+/// A client, and the thread of its session.
+#[derive(Drop)]
+struct Client {
+    link: Arc<Link>,
+    session: JoinHandle<()>,
+}
+
+/// The clients that are connected, at most [`MAX_SESSIONS`].
+#[derive(Drop)]
+pub(crate) struct Clients {
+    clients: Vec<Client>,
+}
+
+impl Clients {
+    /// No client, with room for all that may come.
+    pub(crate) fn new(alloc: Global) -> Result<Clients, AllocError> {
+        Ok(Clients {
+            clients: Vec::with_capacity(alloc, MAX_SESSIONS)?,
+        })
+    }
+
+    /// Takes in a client, or tells it why not.
+    pub(crate) fn admit<R, H>(
+        &mut self,
+        rt: R,
+        alloc: Global,
+        stream: UnixStream,
+        host: &Arc<H>,
+        stop: &Arc<Stop>,
+    )
+    where
+        R: Threads + Wait + Clock + Copy + Drop + Send + Sync + 'static,
+        H: Host + Drop + Send + Sync + 'static,
+    {
+        self.forget_ended(&rt);
+        if self.clients.len() >= MAX_SESSIONS {
+            refuse(&stream, TOO_MANY);
+            return;
+        }
+        if let Some(client) = begin(rt, alloc, stream, host, stop)
+            && let Err(refused) = self.clients.push(client)
+        {
+            end(&rt, refused.value);
+        }
+    }
+
+    /// Ends all sessions, and waits until they have ended.
+    pub(crate) fn end_all<R: Threads + Wait>(self, rt: &R) {
+        for client in &self.clients {
+            client.link.end(rt);
+        }
+        for client in self.clients {
+            end(rt, client);
+        }
+    }
+
+    /// Lets go of the clients whose sessions are over.
+    fn forget_ended<R: Threads + Wait>(&mut self, rt: &R) {
+        for place in (0..self.clients.len()).rev() {
+            if place < self.clients.len() && self.clients[place].link.is_over() {
+                end(rt, self.clients.swap_remove(place));
+            }
+        }
+    }
+}
+
+/// Ends a client's session, if it goes on, and waits until it has ended.
+fn end<R: Threads + Wait>(rt: &R, client: Client) {
+    client.link.end(rt);
+    client.session.join(rt);
+}
+
+/// Begins the session of a client; where no memory or no thread is left for it, the client is told so.
+fn begin<R, H>(
+    rt: R,
+    alloc: Global,
+    stream: UnixStream,
+    host: &Arc<H>,
+    stop: &Arc<Stop>,
+) -> Option<Client>
+where
+    R: Threads + Wait + Clock + Copy + Drop + Send + Sync + 'static,
+    H: Host + Drop + Send + Sync + 'static,
+{
+    if stream
+        .set_write_timeout(Some(Duration::from_secs(PATIENCE)))
+        .is_err()
+    {
+        return None;
+    }
+    let spare = stream.try_clone().ok()?;
+    match run(rt, alloc, stream, host, stop) {
+        Ok(client) => Some(client),
+        Err(_) => {
+            refuse(&spare, NO_MEMORY);
+            None
+        }
+    }
+}
+
+/// Starts the thread of a client's session.
+fn run<R, H>(
+    rt: R,
+    alloc: Global,
+    stream: UnixStream,
+    host: &Arc<H>,
+    stop: &Arc<Stop>,
+) -> Result<Client, AllocError>
+where
+    R: Threads + Wait + Clock + Copy + Drop + Send + Sync + 'static,
+    H: Host + Drop + Send + Sync + 'static,
+{
+    let link = Arc::new(alloc, Link::new(alloc, stream)?)?;
+    let (theirs, host, stop) = (link.clone()?, host.clone()?, stop.clone()?);
+    let session = thread::spawn(&rt, move || run_client(rt, alloc, theirs, &*host, &stop))?;
+    Ok(Client { link, session })
+}
+
+/// Tells a client why there is no session for it.
+fn refuse(mut stream: &UnixStream, line: &[u8]) {
+    // A client that has gone is told nothing.
+    let _ = stream.write_all(line);
+}

@@ -1,0 +1,35 @@
+//! The machine's clock, which tells the second of a pass.
+
+use std::time::{Clock, SystemTime, UNIX_EPOCH};
+use wq_base::MAX_NUMBER;
+use wq_server::Seconds;
+
+/// The seconds of the Unix epoch by the machine's clock. Where it cannot be read, or stands before the epoch, the last second
+/// that it told is told again.
+#[derive(Drop)]
+pub struct MachineClock<R: Clock + Drop> {
+    rt: R,
+    last: i64,
+}
+
+impl<R: Clock + Drop> MachineClock<R> {
+    pub fn new(rt: R) -> MachineClock<R> {
+        MachineClock { rt, last: 0 }
+    }
+
+    /// The second as it is now.
+    fn now(&self) -> Option<i64> {
+        let now = SystemTime::now(&self.rt).ok()?;
+        let since = now.duration_since(UNIX_EPOCH).ok()?;
+        Some(since.as_secs().min(MAX_NUMBER) as i64)
+    }
+}
+
+impl<R: Clock + Drop> Seconds for MachineClock<R> {
+    fn second(&mut self) -> i64 {
+        if let Some(now) = self.now() {
+            self.last = now;
+        }
+        self.last
+    }
+}

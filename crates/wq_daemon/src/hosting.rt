@@ -1,0 +1,154 @@
+//! What the threads of the server share: the shelf, the seats, and what crawls. Each stands under a lock of its own. Looking
+//! at files and listing them takes none.
+
+use crate::clients::MAX_SESSIONS;
+use crate::failing::Failing;
+use crate::host::{Host, Notices};
+use std::alloc::{AllocError, Global};
+use std::io::Write;
+use std::sync::{Arc, Mutex, Wait};
+use wq_live::{Named, Seat, Tree};
+use wq_registry::Shelf;
+use wq_server::{Crawler, Inbox, LockDesk, LockRoots, Run, Seconds, serve};
+use wq_session::CrawlFault;
+
+/// A server's parts. It serves a client for each seat that is free.
+#[derive(Drop)]
+pub struct LockHost<N, R, T, S, O>
+where
+    N: Named,
+    R: Wait + Copy + Drop,
+    T: Tree + Drop,
+    S: Seconds + Drop,
+    O: Notices + Drop,
+{
+    rt: R,
+    alloc: Global,
+    run: Run,
+    seats: Mutex<Vec<Seat<N>>>,
+    crawler: Arc<Mutex<Crawler<N, R, T, S>>>,
+    shelf: Arc<Mutex<Shelf<()>>>,
+    failing: Mutex<Failing>,
+    notices: O,
+}
+
+impl<N, R, T, S, O> LockHost<N, R, T, S, O>
+where
+    N: Named,
+    R: Wait + Copy + Drop,
+    T: Tree + Drop,
+    S: Seconds + Drop,
+    O: Notices + Drop,
+{
+    /// A server over this crawler and this shelf, with a seat for each session that may be.
+    pub fn new(
+        rt: R,
+        alloc: Global,
+        run: Run,
+        mut crawler: Crawler<N, R, T, S>,
+        shelf: Shelf<()>,
+        notices: O,
+    ) -> Result<LockHost<N, R, T, S, O>, AllocError> {
+        let mut seats = Vec::with_capacity(alloc, MAX_SESSIONS)?;
+        for _ in 0..MAX_SESSIONS {
+            seats.push(crawler.seat()?).map_err(AllocError::from)?;
+        }
+        Ok(LockHost {
+            rt,
+            alloc,
+            run,
+            seats: Mutex::new(seats),
+            crawler: Arc::new(alloc, Mutex::new(crawler))?,
+            shelf: Arc::new(alloc, Mutex::new(shelf))?,
+            failing: Mutex::new(Failing::new(alloc)),
+            notices,
+        })
+    }
+
+    /// Where the operator is told of what went wrong.
+    pub(crate) fn notices(&self) -> &O {
+        &self.notices
+    }
+
+    /// The roots, as a session reaches them.
+    fn lock_roots(&self) -> Result<LockRoots<N, R, T, S>, AllocError> {
+        Ok(LockRoots::new(self.crawler.clone()?, self.rt))
+    }
+
+    /// The shelf, as a session reaches it.
+    fn lock_desk(&self) -> Result<LockDesk<R>, AllocError> {
+        Ok(LockDesk::new(self.shelf.clone()?, self.rt))
+    }
+
+    /// A seat that is free.
+    fn take_seat(&self) -> Option<Seat<N>> {
+        self.seats.lock(&self.rt).pop()
+    }
+
+    /// Gives a seat back.
+    fn give_seat(&self, seat: Seat<N>) {
+        // There is room for all seats, so no memory is wanted.
+        let _ = self.seats.lock(&self.rt).push(seat);
+    }
+
+    /// The texts of the roots that are watched.
+    fn roots(&self) -> Result<Vec<String>, AllocError> {
+        let mut texts = Vec::new(self.alloc);
+        for root in self.shelf.lock(&self.rt).roots() {
+            texts.push(String::from_str(self.alloc, root.text())?)?;
+        }
+        Ok(texts)
+    }
+
+    /// Crawls these roots, and tells which can no longer be crawled.
+    fn crawl_all(&self, roots: Vec<String>) {
+        let mut failing = Failing::new(self.alloc);
+        for root in roots {
+            let crawled = self.crawler.lock(&self.rt).crawl(&root);
+            if let Err(fault) = crawled {
+                if !self.failing.lock(&self.rt).has(&root) {
+                    self.tell(&root, fault);
+                }
+                failing.add(root);
+            }
+        }
+        *self.failing.lock(&self.rt) = failing;
+    }
+
+    /// Tells that a root cannot be crawled.
+    fn tell(&self, root: &str, fault: CrawlFault) {
+        if let Ok(line) = format!(in self.alloc; "{root}: {fault}") {
+            self.notices.tell(&line);
+        }
+    }
+}
+
+impl<N, R, T, S, O> Host for LockHost<N, R, T, S, O>
+where
+    N: Named,
+    R: Wait + Copy + Drop,
+    T: Tree + Drop,
+    S: Seconds + Drop,
+    O: Notices + Drop,
+{
+    fn serve<I: Inbox, W: Write>(&self, inbox: &mut I, writer: &mut W) -> bool {
+        let (Ok(mut roots), Ok(mut desk)) = (self.lock_roots(), self.lock_desk()) else {
+            return false;
+        };
+        let Some(seat) = self.take_seat() else {
+            return false;
+        };
+        let ended = serve(
+            self.alloc, self.run, inbox, writer, seat, &mut roots, &mut desk,
+        );
+        self.give_seat(ended.seat);
+        ended.shut
+    }
+
+    fn crawl(&self) {
+        // Where memory is wanted for the texts of the roots, they are crawled in the next round.
+        if let Ok(roots) = self.roots() {
+            self.crawl_all(roots);
+        }
+    }
+}

@@ -1,0 +1,29 @@
+//! A session's inbox over the queue of its client.
+
+use crate::link::Link;
+use std::sync::{Arc, Wait};
+use wq_serve::Event;
+use wq_server::Inbox;
+
+/// The events of a client, in their order. It does not show them.
+#[derive(Drop)]
+pub(crate) struct LinkInbox<R: Wait + Drop> {
+    link: Arc<Link>,
+    rt: R,
+}
+
+impl<R: Wait + Drop> LinkInbox<R> {
+    pub(crate) fn new(link: Arc<Link>, rt: R) -> LinkInbox<R> {
+        LinkInbox { link, rt }
+    }
+}
+
+impl<R: Wait + Drop> Inbox for LinkInbox<R> {
+    ghost use Rattle.std.specs.Prelude.{None};
+
+    ghost left = { λ _. None };
+
+    fn next(&mut self) -> Event {
+        self.link.queue.take(&self.rt)
+    }
+}

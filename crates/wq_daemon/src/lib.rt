@@ -1,0 +1,27 @@
+//! What runs behind the server's socket: the threads, the queues between them, the socket, and how all of it ends. What a
+//! session answers is not said here, nor how a tree is walked.
+#![tactic(auto)]
+
+mod client;
+mod clients;
+mod clock;
+mod failing;
+mod host;
+mod hosting;
+mod inbox;
+mod link;
+mod queue;
+mod reading;
+mod running;
+mod serving;
+mod socket;
+mod stop;
+mod waiting;
+
+pub use clients::MAX_SESSIONS;
+pub use clock::MachineClock;
+pub use host::{Host, Notices};
+pub use hosting::LockHost;
+pub use running::run;
+pub use serving::{Parts, SEATS, serve_clients};
+pub use socket::{Listening, listen, remove};

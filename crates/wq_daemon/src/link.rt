@@ -1,0 +1,44 @@
+//! What the threads of one client share.
+
+use crate::queue::Queue;
+use std::alloc::{AllocError, Global};
+use std::net::Shutdown;
+use std::os::unix::net::UnixStream;
+use std::sync::Wait;
+use std::sync::atomic::{AtomicBool, Ordering};
+
+/// A client's stream, the events that came of it, and whether its session is over.
+#[derive(Drop)]
+pub(crate) struct Link {
+    pub(crate) stream: UnixStream,
+    pub(crate) queue: Queue,
+    is_over: AtomicBool,
+}
+
+impl Link {
+    /// The link to a client of which nothing has come.
+    pub(crate) fn new(alloc: Global, stream: UnixStream) -> Result<Link, AllocError> {
+        Ok(Link {
+            stream,
+            queue: Queue::new(alloc)?,
+            is_over: AtomicBool::new(false),
+        })
+    }
+
+    /// Ends the session and what reads and writes for it. What was written before still reaches the client.
+    pub(crate) fn end<R: Wait>(&self, rt: &R) {
+        self.queue.close(rt);
+        // A client that has gone already leaves a stream that cannot be shut down.
+        let _ = self.stream.shutdown(Shutdown::Both);
+    }
+
+    /// Says that the session's thread does nothing more.
+    pub(crate) fn set_over(&self) {
+        self.is_over.store(true, Ordering::SeqCst);
+    }
+
+    /// Whether the session's thread does nothing more.
+    pub(crate) fn is_over(&self) -> bool {
+        self.is_over.load(Ordering::SeqCst)
+    }
+}

@@ -1,0 +1,84 @@
+//! What brings the events of a client's stream into its session's queue. What they ask is not looked at here.
+
+use crate::queue::Queue;
+use std::alloc::{AllocError, Global};
+use std::io::{ErrorKind, Read};
+use std::sync::Wait;
+use std::time::Clock;
+use wq_serve::{Event, Splitter};
+
+/// How many bytes of a stream are asked for at once.
+const PIECE: usize = 65_536;
+
+/// Reads a stream to its end, as long as the queue is open. The last event that it puts is the stream's end or its fault.
+///
+/// Where memory is refused, it waits and tries the same bytes again.
+pub(crate) fn read_all<R: Wait + Clock, S: Read>(
+    rt: &R,
+    alloc: Global,
+    stream: &mut S,
+    queue: &Queue,
+) {
+    let Ok(mut piece) = room(alloc) else {
+        queue.put(rt, Event::Fault);
+        return;
+    };
+    let mut splitter = Splitter::new(alloc);
+    for _ in rt.forever() {
+        let count = match stream.read(&mut piece) {
+            Ok(0) => {
+                queue.put(rt, Event::End);
+                return;
+            }
+            Ok(count) => count,
+            Err(error) if error.kind() == ErrorKind::Interrupted => continue,
+            Err(_) => {
+                queue.put(rt, Event::Fault);
+                return;
+            }
+        };
+        if !put_events(rt, &mut splitter, &piece[..count], queue) {
+            return;
+        }
+    }
+}
+
+fn room(alloc: Global) -> Result<Vec<u8>, AllocError> {
+    vec![in alloc; 0; PIECE]
+}
+
+/// Puts the events of a piece into the queue, and says whether the queue is open.
+fn put_events<R: Wait + Clock>(
+    rt: &R,
+    splitter: &mut Splitter,
+    piece: &[u8],
+    queue: &Queue,
+) -> bool {
+    let Some(events) = split(rt, splitter, piece, queue) else {
+        return false;
+    };
+    for event in events {
+        if !queue.put(rt, event) {
+            return false;
+        }
+    }
+    true
+}
+
+/// The events of a piece. Where memory is refused it is tried again after a moment; none where the queue is closed.
+fn split<R: Wait + Clock>(
+    rt: &R,
+    splitter: &mut Splitter,
+    piece: &[u8],
+    queue: &Queue,
+) -> Option<Vec<Event>> {
+    for _ in rt.forever() {
+        if let Ok(events) = splitter.feed(piece) {
+            return Some(events);
+        }
+        if queue.pause(rt) {
+            return None;
+        }
+    }
+    unreachable!()
+}

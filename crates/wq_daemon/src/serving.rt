@@ -1,0 +1,63 @@
+//! The server whole: its parts put together, and run.
+ghost use Rattle.std.specs.Prelude.{◌≡◌};
+
+use crate::host::Notices;
+use crate::hosting::LockHost;
+use crate::running::run;
+use crate::socket::Listening;
+use std::alloc::Global;
+use std::io;
+use std::sync::Wait;
+use std::thread::Threads;
+use std::time::{Clock, Duration};
+use wq_live::{Blank, Named, Tree};
+use wq_registry::{Cache, Shelf};
+use wq_server::{Crawler, Run, Seconds};
+
+/// How many seats a server has: one for each session, and some to spare.
+pub const SEATS: usize = 48;
+
+/// What a server works with.
+#[derive(Drop)]
+pub struct Parts<T: Tree + Drop, S: Seconds + Drop, O: Notices + Drop> {
+    /// Which run of the server it is.
+    pub run: Run,
+    /// What lists roots.
+    pub tree: T,
+    /// What tells the second of a pass.
+    pub seconds: S,
+    /// Where the operator is told of what went wrong.
+    pub notices: O,
+    /// The name of the socket, as clients are told it.
+    pub sockname: String,
+    /// How long the server waits between two rounds of crawls.
+    pub interval: Duration,
+}
+
+/// Serves the clients of a socket until one asks that the server ends. The operator is told that it listens.
+///
+/// # Errors
+/// What the server needs could not be made, and nothing was served.
+pub fn serve_clients<N, R, T, S, O>(
+    rt: R,
+    alloc: Global,
+    listening: &Listening,
+    blank: Blank,
+    parts: Parts<T, S, O>,
+) -> io::Result<()>
+where
+    N: Named + Send + Sync + 'static,
+    R: Threads + Wait + Clock + Copy + Drop + Send + Sync + 'static,
+    T: Tree + Drop + Send + 'static,
+    S: Seconds + Drop + Send + 'static,
+    O: Notices + Drop + Send + Sync + 'static,
+    requires { blank.book ≡ N.book }
+{
+    let crawler = Crawler::new(blank.open::<N, R>(rt), parts.tree, parts.seconds);
+    let cache = Cache::new(alloc, parts.run.start, parts.run.pid)?;
+    let greeting = format!(in alloc; "listening on {}", parts.sockname)?;
+    let shelf = Shelf::new(alloc, cache, parts.sockname);
+    let host = LockHost::new(rt, alloc, parts.run, crawler, shelf, parts.notices)?;
+    host.notices().tell(&greeting);
+    run(rt, alloc, listening, host, parts.interval)
+}

@@ -1,0 +1,119 @@
+//! The server's socket in the file system: how it comes, so that nobody else can connect to it, and how it goes.
+
+use std::alloc::{AllocError, Global};
+use std::fs::{self, DirBuilder, Files, Metadata, Permissions};
+use std::io::{self, Error, ErrorKind};
+use std::net::Net;
+use std::os::unix::fs::{DirBuilderExt, FileTypeExt, MetadataExt, PermissionsExt};
+use std::os::unix::net::{SocketAddr, UnixListener, UnixStream};
+
+/// How many names are tried for the folder in which the socket is made.
+const TRIES: u32 = 100;
+
+/// Only the owner may read and write, which connecting asks for.
+const SOCKET_MODE: u32 = 0o600;
+
+/// Only the owner may enter.
+const FOLDER_MODE: u32 = 0o700;
+
+/// A socket that is listened on.
+#[derive(Drop)]
+pub struct Listening {
+    pub listener: UnixListener,
+    path: String,
+    /// Device and number of its file.
+    file: (u64, u64),
+}
+
+/// Listens on a socket at a path, which only the owner can connect to.
+///
+/// The folder has to be there. A socket at the path that nobody listens on is replaced; one that somebody listens on, and any
+/// other file, is an error. The socket is made in a folder beside it that nobody else can enter, gets its mode there, and is
+/// then given its name.
+pub fn listen<R: Files + Net>(rt: &R, alloc: Global, path: &str) -> io::Result<Listening> {
+    // A path that is too long for clients is refused.
+    SocketAddr::from_pathname(path)?;
+    clear(rt, path)?;
+    let folder = make_folder(rt, alloc, path)?;
+    let listener = listen_in(rt, alloc, &folder, path);
+    let _ = fs::remove_dir(rt, folder.as_str());
+    let listener = listener?;
+    let metadata = fs::symlink_metadata(rt, path)?;
+    Ok(Listening {
+        listener,
+        path: String::from_str(alloc, path)?,
+        file: identity(&metadata),
+    })
+}
+
+/// Removes the file of a socket, unless another stands in its place.
+pub fn remove<R: Files>(rt: &R, listening: &Listening) {
+    let path = listening.path.as_str();
+    if let Ok(metadata) = fs::symlink_metadata(rt, path)
+        && identity(&metadata) == listening.file
+    {
+        let _ = fs::remove_file(rt, path);
+    }
+}
+
+fn identity(metadata: &Metadata) -> (u64, u64) {
+    (metadata.dev(), metadata.ino())
+}
+
+/// Removes a socket on which nobody listens, if there is one.
+fn clear<R: Files + Net>(rt: &R, path: &str) -> io::Result<()> {
+    let metadata = match fs::symlink_metadata(rt, path) {
+        Ok(metadata) => metadata,
+        Err(error) if error.kind() == ErrorKind::NotFound => return Ok(()),
+        Err(error) => return Err(error),
+    };
+    if !metadata.file_type().is_socket() {
+        return Err(Error::from(ErrorKind::AlreadyExists));
+    }
+    match UnixStream::connect(rt, path) {
+        Ok(_) => Err(Error::from(ErrorKind::AddrInUse)),
+        Err(error) if error.kind() == ErrorKind::ConnectionRefused => fs::remove_file(rt, path),
+        Err(error) => Err(error),
+    }
+}
+
+/// Makes a folder beside a path that nobody else can enter, and gives its path.
+fn make_folder<R: Files>(rt: &R, alloc: Global, path: &str) -> io::Result<String> {
+    let beside = match path.rfind('/') {
+        Some(slash) => path.split_at(slash + 1).0,
+        None => "",
+    };
+    for number in 0..TRIES {
+        let folder = format!(in alloc; "{beside}.wqd{number}")?;
+        match DirBuilder::new()
+            .mode(FOLDER_MODE)
+            .create(rt, folder.as_str())
+        {
+            Ok(()) => return Ok(folder),
+            Err(error) if error.kind() == ErrorKind::AlreadyExists => {}
+            Err(error) => return Err(error),
+        }
+    }
+    Err(Error::from(ErrorKind::AlreadyExists))
+}
+
+/// Listens on a socket that is made in a folder of its own, and then named by a path at which nothing may stand.
+fn listen_in<R: Files + Net>(
+    rt: &R,
+    alloc: Global,
+    folder: &str,
+    path: &str,
+) -> io::Result<UnixListener> {
+    let made = format!(in alloc; "{folder}/s")?;
+    let listener = UnixListener::bind(rt, made.as_str())?;
+    let named = name(rt, &made, path);
+    let _ = fs::remove_file(rt, made.as_str());
+    named?;
+    Ok(listener)
+}
+
+/// Gives a socket its mode and its name.
+fn name<R: Files>(rt: &R, made: &str, path: &str) -> io::Result<()> {
+    fs::set_permissions(rt, made, Permissions::from_mode(SOCKET_MODE))?;
+    fs::hard_link(rt, made, path)
+}

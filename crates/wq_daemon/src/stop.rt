@@ -1,0 +1,51 @@
+//! How the server ends: who asks for it, and who hears of it.
+
+use std::io;
+use std::net::Shutdown;
+use std::os::fd::OwnedFd;
+use std::os::unix::net::{UnixListener, UnixStream};
+use std::sync::{Condvar, Mutex, Wait};
+use std::time::{Clock, Duration};
+
+/// Whether the server ends. Threads share it.
+#[derive(Drop)]
+pub(crate) struct Stop {
+    is_asked: Mutex<bool>,
+    asked: Condvar,
+    /// The listener's socket, as which it can be shut down.
+    door: UnixStream,
+}
+
+impl Stop {
+    /// A server that goes on, with this listener.
+    pub(crate) fn new(listener: &UnixListener) -> io::Result<Stop> {
+        let door = UnixStream::from(OwnedFd::from(listener.try_clone()?));
+        Ok(Stop {
+            is_asked: Mutex::new(false),
+            asked: Condvar::new(),
+            door,
+        })
+    }
+
+    /// Has the server end: no more connections are accepted, and who waits for this wakes up.
+    pub(crate) fn ask<R: Wait>(&self, rt: &R) {
+        *self.is_asked.lock(rt) = true;
+        self.asked.notify_all();
+        // A socket that is shut down already wakes nobody, and nobody has to be woken.
+        let _ = self.door.shutdown(Shutdown::Both);
+    }
+
+    /// Whether the server ends.
+    pub(crate) fn is_asked<R: Wait>(&self, rt: &R) -> bool {
+        *self.is_asked.lock(rt)
+    }
+
+    /// Waits so long, but no longer than the server goes on. Says whether it ends.
+    pub(crate) fn wait<R: Wait + Clock>(&self, rt: &R, time: Duration) -> bool {
+        let lock = self.is_asked.lock(rt);
+        let (is_asked, _) = self
+            .asked
+            .wait_timeout_while(rt, lock, time, |is_asked| !*is_asked);
+        *is_asked
+    }
+}
