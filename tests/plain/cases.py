@@ -28,6 +28,7 @@ def expected_cases() -> List[str]:
     cases = ["clock answered", "query answered", "files listed", "no file listed", "deleted file listed"]
     cases += ["empty on fresh instance", "one field", "several fields", "a field twice", "default fields"]
     cases += ["cursor at its first use", "cursor that was used", "query by a program"]
+    cases += ["root watched", "root watched no more", "root listed", "no root listed", "clock id of an earlier root"]
     cases += [f"error {error}" for error in errors.ALL]
     cases += ["script ends well"] + [f"script line: {fault}" for fault in SCRIPT_FAULTS]
     cases += [f"field {name}" for name in FIELDS] + [f"bound: {bound}" for bound in BOUNDS]
@@ -66,9 +67,17 @@ def count_turn(turn: Turn, counts: Counter) -> None:
         count_left_out_keys(turn.line, counts)
     elif "files" not in reply:
         counts["clock answered"] += "clock" in reply
+        count_roots(reply, counts)
     else:
         counts["query answered"] += 1
         count_query(read(turn.line)[2], turn.query, turn.view, counts)
+
+
+def count_roots(reply: Dict[str, Any], counts: Counter) -> None:
+    counts["root watched"] += "watch" in reply
+    counts["root watched no more"] += "watch-del" in reply
+    if "roots" in reply:
+        counts["root listed" if reply["roots"] else "no root listed"] += 1
 
 
 def count_left_out_keys(line: bytes, counts: Counter) -> None:
@@ -87,16 +96,17 @@ def count_query(asked: Dict[str, Any], query: Query, view: View, counts: Counter
     counts["cursor at its first use"] += query.cursor is not None and query.bound.kind == "fresh"
     counts["cursor that was used"] += query.cursor is not None and query.bound.kind == "tick"
     counts["query by a program"] += query.program is not None
+    counts["clock id of an earlier root"] += is_of_an_earlier_root(asked.get("since"), query.root)
     counts[f"bound: {bound_case(asked, query, view)}"] += 1
     counts["empty on fresh instance"] += query.bound.kind == "fresh" and query.is_empty_on_fresh
     count_fields(asked, query, counts)
     count_generators(asked, query, view, counts)
     for record in files:
-        is_new = "true" if FIELDS["new"](record, query.bound) else "false"
+        is_new = "true" if FIELDS["new"](record, query) else "false"
         counts[f"new is {is_new} after a {query.bound.kind}"] += "new" in query.fields
     if "expression" in asked:
         for term in terms_in(asked["expression"]):
-            count_term(term, view, counts)
+            count_term(term, query.root, view, counts)
 
 
 def count_generators(asked: Dict[str, Any], query: Query, view: View, counts: Counter) -> None:
@@ -107,6 +117,11 @@ def count_generators(asked: Dict[str, Any], query: Query, view: View, counts: Co
         counts["path to any depth" if path.depth == ANY_DEPTH else "path to a depth"] += 1
     alone = query._replace(bound=query.bound._replace(number=MAX_NUMBER)) if query.bound.kind != "fresh" else query
     counts["deleted file by a generator"] += any(not record.exists for record in listed_records(alone, view))
+
+
+def is_of_an_earlier_root(spec: Any, root: int) -> bool:
+    ids = [clocks.clock_id(earlier, 0)[:-1] for earlier in range(1, root)]
+    return isinstance(spec, str) and any(spec.startswith(start) for start in ids)
 
 
 def bound_case(asked: Dict[str, Any], query: Query, view: View) -> str:
@@ -135,9 +150,9 @@ def terms_in(value: Any) -> Iterator[List[Any]]:
             yield from terms_in(inner)
 
 
-def count_term(term: List[Any], view: View, counts: Counter) -> None:
+def count_term(term: List[Any], root: int, view: View, counts: Counter) -> None:
     head = term[0]
-    test = read_term(term)
+    test = read_term(term, root)
     for answer in {test(record) for record in view.records}:
         counts[f"term {head} {'matches' if answer else 'does not match'}"] += 1
     if head == "type":
@@ -152,7 +167,7 @@ def count_term(term: List[Any], view: View, counts: Counter) -> None:
         count_match(term, counts)
     elif head == "since":
         field = term[2] if len(term) == 3 else "oclock"
-        counts[f"since {field} with a {clocks.bound_of(term[1]).kind}"] += 1
+        counts[f"since {field} with a {clocks.bound_of(term[1], root).kind}"] += 1
 
 
 def scope_of(term: List[Any]) -> str:

@@ -1,4 +1,4 @@
-"""Clock ids and clock specs, at a server with start 7 and process 9, and the root with number 1."""
+"""Clock ids and clock specs, at a server with start 7 and process 9, and at a root with a number."""
 
 import re
 from typing import Any, List, NamedTuple, Optional
@@ -6,7 +6,8 @@ from typing import Any, List, NamedTuple, Optional
 from json_values import is_whole_number
 from limits import MAX_CURSOR_NAME, MAX_NUMBER
 
-INSTANCE = [7, 9, 1]
+SERVER = [7, 9]
+FIRST_ROOT = 1
 DECIMAL = re.compile(r"0|[1-9][0-9]{0,18}")
 
 
@@ -32,20 +33,20 @@ class NamedCursor(Exception):
         self.name = name
 
 
-def clock_id(tick: int) -> str:
-    return ":".join(["c", *(str(number) for number in INSTANCE), str(tick)])
+def clock_id(root: int, tick: int) -> str:
+    return ":".join(["c", *(str(number) for number in [*SERVER, root, tick])])
 
 
-def bound_of(value: Any) -> Bound:
-    """The bound of a clock spec in JSON."""
+def bound_of(value: Any, root: int = FIRST_ROOT) -> Bound:
+    """The bound of a clock spec in JSON, at the root of this number."""
     if isinstance(value, str):
-        return bound_of_text(value)
+        return bound_of_text(value, root)
     if is_whole_number(value) and value >= 0:
         return Bound("second", value)
     raise BadClockSpec
 
 
-def bound_of_text(text: str) -> Bound:
+def bound_of_text(text: str, root: int) -> Bound:
     if text.startswith("n:") and 1 <= len(text[2:].encode()) <= MAX_CURSOR_NAME:
         raise NamedCursor(text[2:])
     if not text.startswith("c:"):
@@ -53,12 +54,12 @@ def bound_of_text(text: str) -> Bound:
     numbers = [number_of(part) for part in text[2:].split(":")]
     if None in numbers or len(numbers) not in (2, 4):
         raise BadClockSpec
-    return bound_of_numbers(numbers)
+    return bound_of_numbers(numbers, root)
 
 
-def bound_of_numbers(numbers: List[Optional[int]]) -> Bound:
-    """A clock id of this server is its tick. One of another server, and one of the older form, is fresh."""
-    if len(numbers) == 4 and numbers[:3] == INSTANCE:
+def bound_of_numbers(numbers: List[Optional[int]], root: int) -> Bound:
+    """A clock id of this root is its tick. One of another root or server, and one of the older form, is fresh."""
+    if len(numbers) == 4 and numbers[:3] == [*SERVER, root]:
         return Bound("tick", numbers[3])
     return FRESH
 

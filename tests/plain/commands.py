@@ -3,10 +3,10 @@
 from typing import Any, Dict, List, NamedTuple, Optional
 
 from clocks import clock_id
-from errors import (BAD_NAME, BINARY, LINE_TOO_LONG, NOT_A_COMMAND, NOT_JSON, NOT_WATCHED, UNKNOWN_COMMAND,
+from errors import (BAD_NAME, BINARY, LINE_TOO_LONG, NOT_A_COMMAND, NOT_JSON, ROOT_NOT_ABSOLUTE, UNKNOWN_COMMAND,
                     WRONG_ARGUMENTS, Refused)
 from json_values import NotJson, compact_text, is_whole_number, read
-from limits import MAX_LINE, MAX_PROGRAM_NAME
+from limits import MAX_LINE, MAX_PROGRAM_NAME, MAX_ROOT
 from programs import program_of
 from queries import Query, read_query, reply_to, settled
 from servers import Server
@@ -53,8 +53,8 @@ def query(arguments: List[Any], server: Server) -> Answer:
     require(len(arguments) == 2 and isinstance(arguments[0], str) and isinstance(arguments[1], dict))
     root, asked = arguments
     timeout = asked.get("sync_timeout", 1)
-    look_at(root, is_whole_number(timeout) and timeout != 0, server)
-    settled_query = settled(read_query(asked), server)
+    number = look_at(root, is_whole_number(timeout) and timeout != 0, server)
+    settled_query = settled(read_query(asked, number), server)
     return said(reply_to(settled_query, server.view), query=settled_query)
 
 
@@ -62,8 +62,27 @@ def clock(arguments: List[Any], server: Server) -> Answer:
     require(len(arguments) in (1, 2) and isinstance(arguments[0], str))
     require(len(arguments) == 1 or isinstance(arguments[1], dict))
     timeout = arguments[1].get("sync_timeout", 0) if len(arguments) == 2 else 0
-    look_at(arguments[0], is_whole_number(timeout) and timeout > 0, server)
-    return said({"clock": clock_id(server.view.tick)})
+    number = look_at(arguments[0], is_whole_number(timeout) and timeout > 0, server)
+    return said({"clock": clock_id(number, server.view.tick)})
+
+
+def watch(arguments: List[Any], server: Server) -> Answer:
+    text = one_text(arguments)
+    if not text.startswith("/") or len(text.encode()) > MAX_ROOT or "\0" in text:
+        raise Refused(ROOT_NOT_ABSOLUTE)
+    server.watch(root_named(text))
+    return said({"watch": root_named(text), "watcher": "poll"})
+
+
+def watch_list(arguments: List[Any], server: Server) -> Answer:
+    require(not arguments)
+    return said({"roots": server.roots()})
+
+
+def watch_del(arguments: List[Any], server: Server) -> Answer:
+    root = root_named(one_text(arguments))
+    server.end_watch(root)
+    return said({"root": root, "watch-del": True})
 
 
 def version(arguments: List[Any], server: Server) -> Answer:
@@ -96,10 +115,15 @@ def program_list(arguments: List[Any], server: Server) -> Answer:
 
 
 def program_del(arguments: List[Any], server: Server) -> Answer:
+    name = one_text(arguments)
+    require_name(name)
+    deleted = server.programs.pop(name, None) is not None
+    return said({"deleted": deleted, "program-del": name})
+
+
+def one_text(arguments: List[Any]) -> str:
     require(len(arguments) == 1 and isinstance(arguments[0], str))
-    require_name(arguments[0])
-    deleted = server.programs.pop(arguments[0], None) is not None
-    return said({"deleted": deleted, "program-del": arguments[0]})
+    return arguments[0]
 
 
 def require(are_right: bool) -> None:
@@ -112,15 +136,21 @@ def require_name(name: str) -> None:
         raise Refused(BAD_NAME)
 
 
-def look_at(root: str, crawls: bool, server: Server) -> None:
-    """The root is `/r`, where slashes at the end change nothing."""
-    if root.rstrip("/") != "/r":
-        raise Refused(NOT_WATCHED)
+def look_at(root: str, crawls: bool, server: Server) -> int:
+    """The number of the root, which is crawled first or not."""
+    number = server.watched(root_named(root))
     if crawls:
         server.crawl()
+    return number
+
+
+def root_named(text: str) -> str:
+    """Slashes at the end change nothing, but slashes alone are the root `/`."""
+    return "/" if text and not text.strip("/") else text.rstrip("/")
 
 
 COMMANDS = {
+    "watch": watch, "watch-project": watch, "watch-list": watch_list, "watch-del": watch_del,
     "query": query, "clock": clock, "version": version, "get-sockname": get_sockname,
     "shutdown-server": shutdown_server, "program-add": program_add, "program-list": program_list,
     "program-del": program_del,

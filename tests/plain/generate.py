@@ -34,6 +34,10 @@ PROGRAM_NAMES = ['"p"', '"p"', '"p"', '"q"', '"ü"', '""', '"' + "p" * 256 + '"'
 IGNORED_KEYS = ["dedup_results", "defer", "drop", "frob", "", "Fields", "case_sensitive "]
 ANY_VALUES = ["true", "null", "[]", '{"a":[1,2]}', '"x"', "1.5", "-0", '"\\ud83d\\ude00"']
 ROOTS = ['"/r"', '"/r/"', '"/r///"', '"\\u002fr"']
+WRONG_ROOTS = [
+    '""', '"r"', '"./r"', '"/r\\u0000"', '"/q/"', '"/"', '"//"', '"' + "/" * 4097 + '"',
+    '"/' + "q" * 4095 + '"', "7", "null",
+]
 OTHER_ROOTS = ['"/q"', '"/"', '"r"', '""', '"//r"', '"/r/x"', '"/R"', '"/r "']
 
 BAD_LINES = [
@@ -108,12 +112,19 @@ def script(counter: int) -> bytes:
     seconds = [draws.pick([0, 10, 100, 1000])]
     tree: Tree = {}
     passes = 0 if draws.one_in(10) else draws.between(1, 7)
+    root = 1
     for number in range(passes):
-        lines += questions(draws, World(names, number, seconds), draws.below(3))
+        lines += questions(draws, World(names, number, seconds, root), draws.below(3))
+        if draws.one_in(12):
+            lines += watching_again(draws, World(names, number, seconds, root), tree)
+            root += 1
         tree = next_tree(draws, names, tree)
         seconds.append(next_second(draws, seconds[-1]))
         lines += pass_lines(draws, tree, seconds[-1], b"tree" if draws.one_in(4) else b"pass")
-    lines += questions(draws, World(names, passes, seconds), draws.between(6, 30))
+    lines += questions(draws, World(names, passes, seconds, root), draws.between(6, 30))
+    if draws.one_in(6):
+        lines += watching_again(draws, World(names, passes, seconds, root), tree)
+        lines += questions(draws, World(names, passes, seconds, root + 1), draws.between(2, 8))
     if draws.one_in(40):
         lines += [b'ask 3 ["shutdown-server"]', b"pass"]
     if draws.one_in(8):
@@ -182,6 +193,16 @@ def malformed_end(draws: Draws, tree: Tree) -> List[bytes]:
     return [b"pass 5", *rows] if choice == 4 and draws.one_in(2) else [b"pass 5", *rows, b"end"]
 
 
+def watching_again(draws: Draws, world: World, tree: Tree) -> List[bytes]:
+    """The root is watched no more, and then anew, but now and then not."""
+    end = b'ask 2 ["watch-del",%s]' % draws.pick(ROOTS).encode()
+    begin = b'ask 2 ["%s",%s]' % (draws.pick([b"watch", b"watch-project"]), draws.pick(ROOTS).encode())
+    between = questions(draws, world, draws.below(3))
+    if draws.one_in(2):
+        between += pass_lines(draws, tree, draws.pick(world.seconds))
+    return [end, *between] + ([] if draws.one_in(10) else [begin])
+
+
 def questions(draws: Draws, world: World, count: int) -> List[bytes]:
     return [question(draws, world) for _ in range(count)]
 
@@ -199,6 +220,8 @@ def line(draws: Draws, world: World) -> bytes:
     root = draws.pick(OTHER_ROOTS) if draws.one_in(40) else draws.pick(ROOTS)
     if draws.one_in(10):
         return command(draws).encode()
+    if draws.one_in(30):
+        return root_command(draws, root).encode()
     if draws.one_in(15):
         options = json_object(draws, [("sync_timeout", draws.pick(ANY_VALUES + ["0", "5000"]))])
         return array(draws, ['"clock"', root] + draws.pick([[], [options]])).encode()
@@ -214,6 +237,17 @@ def command(draws: Draws) -> str:
         ['"program-add"', name, text], ['"program-add"', name, text], ['"program-add"', name, text],
         ['"program-del"', name], ['"program-list"'], ['"version"'], ['"version"', "{}"], ['"version"', "null"],
         ['"get-sockname"'], ['"get-sockname"', "{}"], ['"program-list"', "[]"], ['"program-add"', name],
+    ])
+    return array(draws, words)
+
+
+def root_command(draws: Draws, root: str) -> str:
+    """A command on the roots that are watched. The root stays watched."""
+    watched = draws.pick([root] * 4 + WRONG_ROOTS)
+    ended = draws.pick(OTHER_ROOTS + WRONG_ROOTS)
+    words = draws.pick([
+        ['"watch"', watched], ['"watch"', watched], ['"watch-project"', watched], ['"watch-del"', ended],
+        ['"watch-list"'], ['"watch-list"', root], ['"watch"'], ['"watch"', root, "{}"], ['"watch-del"'], ['"watch-del"', root, root],
     ])
     return array(draws, words)
 

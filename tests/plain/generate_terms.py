@@ -29,11 +29,13 @@ PIECES = ["*", "**", "?", "/", "**/", "a", "A", ".", "\\", "x", "[", "]", "!", "
 
 
 class World(NamedTuple):
-    """What generated questions speak of: the names of the script, the number of its passes and their seconds."""
+    """What generated questions speak of: the names of the script, the number of its passes and their seconds, and the
+    number of the root."""
 
     names: List[str]
     passes: int
     seconds: List[int]
+    root: int = 1
 
 
 def expression(draws: Draws, world: World) -> str:
@@ -246,7 +248,8 @@ def clock_spec(draws: Draws, world: World) -> str:
         second = draws.pick(world.seconds) + draws.between(-1, 1)
         return str(draws.pick([second, second, second, 0, MAX, MAX - 1]))
     tick = draws.pick([99, MAX]) if draws.one_in(8) else draws.below(world.passes + 1)
-    return f'"c:7:9:1:{tick}"'
+    root = draws.between(1, world.root) if draws.one_in(4) else world.root
+    return f'"c:7:9:{root}:{tick}"'
 
 
 FRESH_IDS = [

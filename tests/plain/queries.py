@@ -3,7 +3,7 @@
 from typing import Any, Callable, Dict, List, NamedTuple, Optional
 
 import clocks
-from clocks import FRESH, Bound, clock_id
+from clocks import FIRST_ROOT, FRESH, Bound, clock_id
 from errors import BAD_CLOCK_SPEC, EXPRESSION_AND_PROGRAM, LEFT_OUT_KEY, UNKNOWN_FIELD, WRONG_QUERY_VALUE, Refused
 from generators import Generators, candidate_test, read_generators
 from json_values import is_whole_number
@@ -14,17 +14,17 @@ from views import Record, View
 LEFT_OUT_KEYS = ["glob", "glob_includedotfiles", "relative_root", "settle_period", "settle_timeout"]
 DEFAULT_FIELDS = ["name", "exists", "new", "size"]
 
-# What a field says of a record. Of `new` the bound decides.
-FIELDS: Dict[str, Callable[[Record, Bound], Any]] = {
-    "name": lambda record, bound: record.name.decode(),
-    "exists": lambda record, bound: record.exists,
-    "new": lambda record, bound: is_new(record, bound),
-    "size": lambda record, bound: record.size,
-    "type": lambda record, bound: record.kind,
-    "cclock": lambda record, bound: clock_id(record.ctick),
-    "oclock": lambda record, bound: clock_id(record.otick),
-    "mtime": lambda record, bound: record.mtime,
-    "mtime_ms": lambda record, bound: record.mtime_ms,
+# What a field says of a record. Of `new` the bound of the query decides.
+FIELDS: Dict[str, Callable[[Record, "Query"], Any]] = {
+    "name": lambda record, query: record.name.decode(),
+    "exists": lambda record, query: record.exists,
+    "new": lambda record, query: is_new(record, query.bound),
+    "size": lambda record, query: record.size,
+    "type": lambda record, query: record.kind,
+    "cclock": lambda record, query: clock_id(query.root, record.ctick),
+    "oclock": lambda record, query: clock_id(query.root, record.otick),
+    "mtime": lambda record, query: record.mtime,
+    "mtime_ms": lambda record, query: record.mtime_ms,
 }
 
 
@@ -36,21 +36,22 @@ class Query(NamedTuple):
     generators: Generators = Generators()
     cursor: Optional[str] = None
     program: Optional[str] = None
+    root: int = FIRST_ROOT
 
 
-def read_query(asked: Dict[str, Any]) -> Query:
-    """What the object of a query asks, or the refusal of its first fault."""
+def read_query(asked: Dict[str, Any], root: int = FIRST_ROOT) -> Query:
+    """What the object of a query asks at the root of this number, or the refusal of its first fault."""
     if any(key in asked for key in LEFT_OUT_KEYS) or asked.get("case_sensitive", True) is not True:
         raise Refused(LEFT_OUT_KEY)
     if "expression" in asked and "program" in asked:
         raise Refused(EXPRESSION_AND_PROGRAM)
-    matches = read_term(asked.get("expression", "true"))
+    matches = read_term(asked.get("expression", "true"), root)
     fields = read_fields(asked.get("fields", DEFAULT_FIELDS))
     generators = read_generators(asked)
     cursor, bound = None, FRESH
     if "since" in asked:
         try:
-            bound = clocks.bound_of(asked["since"])
+            bound = clocks.bound_of(asked["since"], root)
         except clocks.NamedCursor as named:
             cursor = named.name
         except clocks.BadClockSpec:
@@ -61,7 +62,7 @@ def read_query(asked: Dict[str, Any]) -> Query:
     is_empty_on_fresh = asked.get("empty_on_fresh_instance", False)
     if not isinstance(is_empty_on_fresh, bool) or not is_whole_number(asked.get("sync_timeout", 0)):
         raise Refused(WRONG_QUERY_VALUE)
-    return Query(matches, fields, bound, is_empty_on_fresh, generators, cursor, program)
+    return Query(matches, fields, bound, is_empty_on_fresh, generators, cursor, program, root)
 
 
 def read_fields(value: Any) -> List[str]:
@@ -83,7 +84,7 @@ def settled(query: Query, server: Server) -> Query:
 
 def reply_to(query: Query, view: View) -> Dict[str, Any]:
     return {
-        "clock": clock_id(view.tick),
+        "clock": clock_id(query.root, view.tick),
         "files": [file_of(record, query) for record in listed_records(query, view)],
         "is_fresh_instance": query.bound.kind == "fresh",
         "version": "wq-1",
@@ -109,5 +110,5 @@ def is_new(record: Record, bound: Bound) -> bool:
 def file_of(record: Record, query: Query) -> Any:
     """The bare value of one field, or an object of several."""
     if len(query.fields) == 1:
-        return FIELDS[query.fields[0]](record, query.bound)
-    return {field: FIELDS[field](record, query.bound) for field in query.fields}
+        return FIELDS[query.fields[0]](record, query)
+    return {field: FIELDS[field](record, query) for field in query.fields}

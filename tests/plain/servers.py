@@ -1,26 +1,59 @@
-"""The server that a script plays: one root, and the cursors and programs that all clients share."""
+"""The server that a script plays: one root that can be read, and what all clients share."""
 
-from typing import Dict, List
+from typing import Dict, List, Optional
 
-from clocks import FRESH, Bound
-from errors import NO_SUCH_PROGRAM, SHELF_FULL, Refused
+from clocks import FIRST_ROOT, FRESH, Bound
+from errors import NO_SUCH_PROGRAM, NOT_WATCHED, SHELF_FULL, UNREADABLE_ROOT, Refused
 from limits import MAX_CURSORS, MAX_PROGRAMS
 from programs import Program
 from views import History, Pass, View
 
+READABLE = "/r"
+
 
 class Server:
     def __init__(self) -> None:
+        self.tree = Pass(0, {})
+        self.programs: Dict[str, Program] = {}
+        self.root: Optional[int] = FIRST_ROOT
+        self.last_root = FIRST_ROOT
+        self.begin_root()
+
+    def begin_root(self) -> None:
+        """Nothing was seen of the root, and no cursor was used on it."""
         self.history = History()
         self.view = self.history.view()
-        self.tree = Pass(0, {})
         self.cursors: Dict[str, int] = {}
-        self.programs: Dict[str, Program] = {}
+
+    def roots(self) -> List[str]:
+        return [] if self.root is None else [READABLE]
+
+    def watched(self, root: str) -> int:
+        """The number of a root that is watched."""
+        if self.root is None or root != READABLE:
+            raise Refused(NOT_WATCHED)
+        return self.root
+
+    def watch(self, root: str) -> None:
+        """A root that is watched stays as it is; another one gets the next number, and is listed."""
+        if root != READABLE:
+            raise Refused(UNREADABLE_ROOT)
+        if self.root is None:
+            self.last_root += 1
+            self.root = self.last_root
+            self.begin_root()
+            self.crawl()
+
+    def end_watch(self, root: str) -> None:
+        self.watched(root)
+        self.root = None
+        self.begin_root()
 
     def crawl(self) -> None:
-        """The root is crawled, and lists the tree."""
-        self.history.add(self.tree)
-        self.view = self.history.view()
+        """The root is crawled, if it is watched, and lists the tree."""
+        if self.root is not None:
+            self.history.add(self.tree)
+            self.view = self.history.view()
 
     def use_cursor(self, name: str) -> Bound:
         """The bound of a cursor, which is moved to the last pass."""

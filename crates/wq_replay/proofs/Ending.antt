@@ -17,7 +17,7 @@ use Rattle.wq_replay.specs.declared.stage.Stage.{Stage}
 use Rattle.wq_replay.specs.declared.fault.ReplayFault.{ReplayFault}
 use Rattle.wq_replay.proofs.Fronts.{keeps_same}
 use Rattle.wq_replay.proofs.Inside.{within_kept}
-use Rattle.wq_replay.proofs.Playing.{first_kept, first_none, first_then}
+use Rattle.wq_replay.proofs.Played.{first_kept, first_none, first_then}
 
 -- where the playing of a script stands: so many bytes were taken, and the lines before this number were played
 abbrev pub Holds : Option (List ℕ) → Option (List ℕ) → Option (List ℕ) → Option (List ℕ) → ℕ → ℕ → Stage → Type 0
@@ -35,32 +35,30 @@ taken_of : (left rest : Option (List ℕ)) (bytes line : List ℕ) (taken : ℕ)
     → IfSome left (λ bytes. TakesLine bytes taken line rest) → TakesLine bytes taken line rest
 taken_of left rest bytes line taken is takes = subst (λ k. IfSome k (λ bytes. TakesLine bytes taken line rest)) is takes
 
-nothing_left : (bytes line : List ℕ) (rest : Option (List ℕ)) (taken : ℕ) → taken ≡ 0 → TakesLine bytes taken line rest → bytes ≡ []
+nothing_left : (bytes line : List ℕ) (rest : Option (List ℕ)) (taken : ℕ) → taken ≡ 0 → TakesLine bytes taken line rest
+    → (bytes ≡ []) × (rest ≡ Some [])
 nothing_left bytes line rest taken none takes = subst (λ n. TakesLine bytes n line rest) none takes
 
 -- no line is left: the script ends well
-pub ends_well : (script left before now rest after : Option (List ℕ)) (size n taken : ℕ) (code : Stage) (line : List ℕ)
+pub ends_well : (script left before now rest : Option (List ℕ)) (size n taken : ℕ) (code : Stage) (line : List ℕ)
     → Holds script left before now size n code → size ≤ max_script → taken ≡ 0
-    → IfSome left (λ bytes. TakesLine bytes taken line rest) → IfSome script (λ bytes. Ends bytes before now after (Ok tt))
-ends_well None left before now rest after size n taken code line holds within none takes = tt
-ends_well (Some bytes) left before now rest after size n taken code line (at, rest_bytes, count, is, numbered, stands, sized, first) within none takes =
-    let ended : rest_bytes ≡ [] = nothing_left rest_bytes line rest taken none (taken_of left rest rest_bytes line taken is takes) in
-    let short : length rest_bytes ≡ 0 = ap length ended in
-    inl (omega (arith, sized, short), count, at, subst (λ bs. FirstLines bytes before now count at (lines_of bs)) ended first)
-
--- a line that was taken is counted
-counted : (bytes line : List ℕ) (rest : Option (List ℕ)) (taken : ℕ) → TakesLine bytes taken line rest → taken ≤ length bytes
-counted bytes line rest zero takes = omega arith
-counted bytes line rest (suc taken) (left, is, sized, begins) = omega (arith, sized)
+    → IfSome left (λ bytes. TakesLine bytes taken line rest) → IfSome script (λ bytes. Ends bytes before now rest (Ok tt))
+ends_well None left before now rest size n taken code line holds within none takes = tt
+ends_well (Some bytes) left before now rest size n taken code line (at, rest_bytes, count, is, numbered, stands, sized, first) within none takes =
+    let ended = nothing_left rest_bytes line rest taken none (taken_of left rest rest_bytes line taken is takes) in
+    let short : length rest_bytes ≡ 0 = ap length ended.0 in
+    inl (omega (arith, sized, short), count, at, subst (λ bs. FirstLines bytes before now count at (lines_of bs)) ended.0 first, ended.1)
 
 -- the line that was taken makes the script too long
-pub ends_too_long : (script left before now rest after : Option (List ℕ)) (size n taken : ℕ) (code : Stage) (line : List ℕ)
-    → Holds script left before now size n code → max_script < size + taken
-    → IfSome left (λ bytes. TakesLine bytes taken line rest) → IfSome script (λ bytes. Ends bytes before now after (Err TooLong))
-ends_too_long None left before now rest after size n taken code line holds over takes = tt
-ends_too_long (Some bytes) left before now rest after size n taken code line (at, rest_bytes, count, is, numbered, stands, sized, first) over takes =
-    let few : taken ≤ length rest_bytes = counted rest_bytes line rest taken (taken_of left rest rest_bytes line taken is takes) in
-    (omega (arith, sized, few), count, at, lines_of rest_bytes, first)
+pub ends_too_long : (script left before now rest : Option (List ℕ)) (size n taken : ℕ) (code : Stage) (line : List ℕ)
+    → Holds script left before now size n code → size ≤ max_script → max_script < size + taken
+    → IfSome left (λ bytes. TakesLine bytes taken line rest) → IfSome script (λ bytes. Ends bytes before now rest (Err TooLong))
+ends_too_long None left before now rest size n taken code line holds within over takes = tt
+ends_too_long (Some bytes) left before now rest size n zero code line holds within over takes = absurd (omega arith)
+ends_too_long (Some bytes) left before now rest size n (suc taken) code line (at, rest_bytes, count, is, numbered, stands, sized, first) within over takes =
+    let took : TakesLine rest_bytes (suc taken) line rest = taken_of left rest rest_bytes line (suc taken) is takes in
+    let sizes = took.2 in
+    (count, at, rest_bytes, took.0, took.1, first, omega (arith, sized), omega (arith, sized, sizes))
 
 -- the next line was not taken to its end
 ends_reading : (script left before now rest : Option (List ℕ)) (size n : ℕ) (code : Stage)
@@ -145,7 +143,7 @@ goes_on (Some bytes) left before now later rest size n (suc taken) code next lin
       subst (FirstLines bytes before later (suc count) step.1) behind
           (first_then bytes before now later count at step.1 whole.0 step.0 whole.1
           (subst (FirstLines bytes before now count at) whole.2 first)
-          (subst (λ turn. Does at turn step.0 step.1) whole.3 step.3) step.2),
+          (subst (λ turn. Does at turn step.0 step.1) whole.3 step.3) step.2 (step.4).world.roots.lawful),
     )
 
 -- by a line the server ends

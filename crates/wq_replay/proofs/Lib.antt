@@ -1,3 +1,4 @@
+mod Tables
 mod Worlds
 mod Words
 mod NewLines
@@ -5,6 +6,6 @@ mod Parts
 mod Inside
 mod Fronts
 mod Steps
-mod Playing
+mod Played
 mod Ending
 mod Sendings

@@ -268,8 +268,10 @@ none_taken_of_some n none some = omega arith
 pub line_taken : (known rest : Option (List ℕ)) (taken : ℕ) (buffer line : List ℕ) → IfSome known (λ bytes. TakesPart bytes [] true buffer rest) → taken ≡ length buffer → line ≡ strip_last 10 buffer → IfSome known (λ bytes. TakesLine bytes taken line rest)
 line_taken None rest taken buffer line took count stripped = tt
 line_taken (Some []) rest taken buffer line (left, is, split, holds) count stripped =
-    let none : taken ≡ 0 = count ∙ ap length (sym holds ∙ kept_none (max_kept - 0)) in
-    rw none refl
+    let nothing : buffer ≡ [] = sym holds ∙ kept_none (max_kept - 0) in
+    let none : taken ≡ 0 = count ∙ ap length nothing in
+    let ended : [] ≡ left = split ∙ ap (λ bs. bs ++ left) nothing in
+    rw none (refl, is ∙ ap Some (sym ended))
 line_taken (Some (b ∷ bs)) rest zero buffer line (left, is, split, holds) count stripped =
     absurd (none_taken_of_some (length buffer) (count) (subst (λ l. 0 < length l) holds (kept_some (max_kept - 0) b bs (some_room _ _ room_for_more))))
 line_taken (Some (b ∷ bs)) rest (suc taken) buffer line (left, is, split, holds) count stripped = (

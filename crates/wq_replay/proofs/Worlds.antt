@@ -1,20 +1,30 @@
 -- How worlds go on.
-use Rattle.std.proofs.Common.{◌≡◌, Bool, List, [], ◌∷◌, ◌++◌, length, arith, Option, Some, None, Result, Ok, Err, IfOk, Vec, map, refl, sym, ap, subst, ◌∙◌}
+use Rattle.std.proofs.Common.{◌≡◌, ◌+◌, ℕ, Bool, true, false, List, [], ◌∷◌, ◌++◌, length, arith, inr, Option, Some, None, Result, Ok, Err, IfOk, MatchOption, Vec, map, option_map, refl, sym, ap, subst, ◌∙◌}
 use Rattle.std.proofs.lemmas.List.{append-nil, append_assoc}
 use Rattle.wq_clock.specs.Instance.{InstanceData}
+use Rattle.wq_live.specs.Table.{TableData, IsTableOf}
 use Rattle.wq_session.specs.Answer.{Answers, MayRefuse}
-use Rattle.wq_session.specs.Need.{need_of}
+use Rattle.wq_session.specs.Crawl.{crawl_refusal}
+use Rattle.wq_session.specs.Need.{NeedData, need_of}
 use Rattle.wq_session.specs.Out.{OutData}
-use Rattle.wq_session.specs.Query.{ShelfNow}
+use Rattle.wq_session.specs.Query.{AtData, ShelfNow}
 use Rattle.wq_session.specs.declared.ask.Ask.{Ask}
+use Rattle.wq_session.specs.declared.crawl.CrawlFault.{CrawlFault}
+use Rattle.wq_session.specs.declared.crawl.CrawlFault.TheVariants.{NoMemory as CrawlNoMemory}
 use Rattle.wq_session.specs.declared.refusal.Refusal.{Refusal}
-use Rattle.wq_view.specs.View.{ViewData, IsViewOf}
+use Rattle.wq_view.specs.Listing.{PassData}
+use Rattle.wq_view.specs.View.{ViewData}
 use Rattle.std.specs.declared.alloc.Global.{Global}
 use Rattle.std.specs.declared.alloc.AllocError.{AllocError}
-use Rattle.wq_replay.specs.Stands.{Leads, Stands, sent_data}
+use Rattle.wq_replay.specs.Stands.{CrawlsOver, Leads, OpensOver, Stands, StartsOver, happening_data, sent_data, sent_list}
+use Rattle.wq_replay.proofs.Tables.{at_data_of}
+use Rattle.wq_replay.specs.declared.happening.Happening.{Happening}
 use Rattle.wq_replay.specs.declared.sent.Sent.{Sent}
 use Rattle.wq_replay.specs.declared.world.World.{World}
-use Rattle.wq_replay.specs.World.{WorldData, HappeningData, SentData, Does, GetsAfter, Runs, crawls_root, looked, looks_at_root, refusal_for}
+use Rattle.wq_replay.specs.World.{AnswersAt, Crawls, CrawlsAt, Does, EndsAt, Gets, GetsAt, GetsFor, HappeningData, IsFull, Opens, OpensAt, OpensNew, RefusedData, RunData, Runs, SentData, WorldData, at_end, ending, fault_for, instance_of, looked, number_in, shows, unrefused}
+
+some_same : {X : Type 0} {x y : X} → Some x ≡ Some y → x ≡ y
+some_same h = cc h
 
 -- what happens first and what happens then are one run
 pub runs_go_on : (world between after : WorldData) (first later : List HappeningData)
@@ -31,36 +41,138 @@ pub runs_one : (world after : WorldData) (happening : HappeningData) (sent : Lis
     → Runs world (happening ∷ []) sent after
 runs_one world after happening sent does = (after, sent, [], does, sym (append-nil sent), (refl, refl))
 
--- an ask whose crawl was refused
-pub gets_refused : (before : WorldData) (ask : Ask) (out : OutData) (refusal : Refusal)
-    → refusal_for (crawls_root (need_of ask)) before.refused ≡ Some refusal → MayRefuse refusal out
-    → GetsAfter (refusal_for (crawls_root (need_of ask)) before.refused) before ask out before.shelf
-gets_refused before ask out refusal is may =
-    subst (λ r. GetsAfter r before ask out before.shelf) (sym is) (may, refl)
+-- a crawl of a root that is not shown
+pub crawls_none : (before : WorldData) (root : List ℕ) (pass : PassData) (table : TableData) → IsTableOf before.events table
+    → number_in root table ≡ None → Crawls before root (Ok pass) (unrefused before)
+crawls_none before root pass table is none =
+    (table, is, subst (λ n. CrawlsAt n before root pass (unrefused before)) (sym none) refl)
 
--- any other
-pub gets_answer : (before : WorldData) (ask : Ask) (out : OutData) (shelf : ShelfNow) (view : ViewData)
-    → refusal_for (crawls_root (need_of ask)) before.refused ≡ None → IsViewOf before.history view
-    → Answers ask (looked (looks_at_root (need_of ask)) before.instance view) before.shelf out shelf
-    → GetsAfter (refusal_for (crawls_root (need_of ask)) before.refused) before ask out shelf
-gets_answer before ask out shelf view none is answers =
-    subst (λ r. GetsAfter r before ask out shelf) (sym none) (view, is, answers)
+-- a crawl of a root that is shown
+pub crawls_shown : (before after : WorldData) (root : List ℕ) (pass : PassData) (table : TableData) (number : ℕ)
+    → IsTableOf before.events table → number_in root table ≡ Some number → CrawlsAt (Some number) before root pass after
+    → Crawls before root (Ok pass) after
+crawls_shown before after root pass table number is some crawls =
+    (table, is, subst (λ n. CrawlsAt n before root pass after) (sym some) crawls)
 
--- the refusal that is found in the code's values
-pub refusal_is : (crawls said : Bool) (mine taken worlds got : Option Refusal) → got ≡ refusal_for crawls taken
-    → crawls ≡ said → taken ≡ mine → worlds ≡ mine → refusal_for said worlds ≡ got
-refusal_is crawls said mine taken worlds got is same took stands =
-    ap (refusal_for said) (stands ∙ sym took) ∙ ap (λ b. refusal_for b taken) (sym same) ∙ sym is
+-- a crawl of what was seen, which is known
+pub crawls_seen : (before after : WorldData) (root : List ℕ) (seen said : Result PassData CrawlFault) (result : Result (Unit {0}) AllocError)
+    → seen ≡ said → CrawlsOver before root said result after → CrawlsOver before root seen result after
+crawls_seen before after root seen said result same crawls =
+    subst (λ s. CrawlsOver before root s result after) (sym same) crawls
+
+-- an opening of a root that is shown
+pub opens_shown : (before : WorldData) (root : List ℕ) (seen : Result PassData CrawlFault) (table : TableData)
+    → IsTableOf before.events table → shows root table ≡ true → Opens before root seen (unrefused before)
+opens_shown before root seen table is shown =
+    (table, is, subst (λ b. OpensAt b table before root seen (unrefused before)) (sym shown) refl)
+
+-- an opening of a root that is not shown
+pub opens_new : (before after : WorldData) (root : List ℕ) (seen : Result PassData CrawlFault) (table : TableData)
+    → IsTableOf before.events table → shows root table ≡ false → OpensNew table before root seen after → Opens before root seen after
+opens_new before after root seen table is new opens =
+    (table, is, subst (λ b. OpensAt b table before root seen after) (sym new) opens)
+
+-- an opening by which a root starts with a pass
+pub opens_start : (before after : WorldData) (root : List ℕ) (pass : PassData) (table : TableData) (result : Result (Unit {0}) AllocError)
+    → IsTableOf before.events table → shows root table ≡ false → (IsFull table → ⊥)
+    → StartsOver (table.given + 1) before root pass result after → OpensOver before root (Ok pass) result after
+opens_start before after root pass table (Ok done) is new room starts =
+    opens_new before after root (Ok pass) table is new (inr (room, starts))
+opens_start before after root pass table (Err error) is new room starts =
+    opens_new before after root (Err CrawlNoMemory) table is new (inr (room, starts))
+
+-- an opening of what was seen, which is known
+pub opens_seen : (before after : WorldData) (root : List ℕ) (seen said : Result PassData CrawlFault) (result : Result (Unit {0}) AllocError)
+    → seen ≡ said → OpensOver before root said result after → OpensOver before root seen result after
+opens_seen before after root seen said result same opens =
+    subst (λ s. OpensOver before root s result after) (sym same) opens
+
+-- the fault that is found in the code's values
+pub fault_is : (said need : NeedData) (table : TableData) (taken worlds : Option RefusedData) (got : Option CrawlFault)
+    → got ≡ fault_for said table taken → said ≡ need → worlds ≡ taken → fault_for need table worlds ≡ got
+fault_is said need table taken worlds got is same stands =
+    ap (fault_for need table) stands ∙ ap (λ n. fault_for n table taken) (sym same) ∙ sym is
+
+-- an ask whose crawl or opening was refused
+pub gets_refused : (before : WorldData) (ask : Ask) (out : OutData) (table : TableData) (fault : CrawlFault) (refusal : Refusal)
+    → IsTableOf before.events table → fault_for (need_of ask) table before.refused ≡ Some fault → refusal ≡ crawl_refusal fault
+    → MayRefuse refusal out → Gets before ask out (unrefused before)
+gets_refused before ask out table fault refusal is some named may = (
+  table,
+  is,
+  subst (λ f. GetsFor f table before ask out (unrefused before)) (sym some) (subst (λ r. MayRefuse r out) named may, refl),
+)
+
+-- an ask that ends a root
+pub gets_ended : (before after : WorldData) (ask : Ask) (out : OutData) (table : TableData) (number : ℕ) → IsTableOf before.events table
+    → fault_for (need_of ask) table before.refused ≡ None → ending (need_of ask) table ≡ Some number
+    → EndsAt number before ask out after → Gets before ask out after
+gets_ended before after ask out table number is none ends gets = (
+  table,
+  is,
+  subst (λ f. GetsFor f table before ask out after) (sym none) (subst (λ n. GetsAt n table before ask out after) (sym ends) gets),
+)
+
+-- any other ask
+pub gets_looked : (before after : WorldData) (ask : Ask) (out : OutData) (table : TableData) → IsTableOf before.events table
+    → fault_for (need_of ask) table before.refused ≡ None → ending (need_of ask) table ≡ None
+    → AnswersAt (looked (need_of ask) before.run table) before ask out after → Gets before ask out after
+gets_looked before after ask out table is none ends gets = (
+  table,
+  is,
+  subst (λ f. GetsFor f table before ask out after) (sym none) (subst (λ n. GetsAt n table before ask out after) (sym ends) gets),
+)
 
 -- an answer that is found in the code's values
-pub answers_at : (before : WorldData) (ask : Ask) (out : OutData) (shelf from : ShelfNow) (instance : InstanceData)
-    (view : ViewData) (looks : Bool) → looks ≡ looks_at_root (need_of ask) → before.instance ≡ instance
-    → before.shelf ≡ from → Answers ask (looked looks instance view) from out shelf
-    → Answers ask (looked (looks_at_root (need_of ask)) before.instance view) before.shelf out shelf
-answers_at before ask out shelf from instance view looks same at stands answers =
-    subst (λ b. Answers ask (looked b before.instance view) before.shelf out shelf) same
-    (subst (λ i. Answers ask (looked looks i view) before.shelf out shelf) (sym at)
-    (subst (λ s. Answers ask (looked looks instance view) s out shelf) (sym stands) answers))
+pub answers_at : (ask : Ask) (out : OutData) (at said : Option AtData) (from mine shelf : ShelfNow) → at ≡ said → mine ≡ from
+    → Answers ask at from out shelf → Answers ask said mine out shelf
+answers_at ask out at said from mine shelf same stands answers =
+    subst (λ s. Answers ask said s out shelf) (sym stands) (subst (λ a. Answers ask a from out shelf) same answers)
+
+-- the root that an ask ends, which is found in the code's values
+pub ends_none : (mine : RunData) (said need : NeedData) (table : TableData) → None ≡ option_map (instance_of mine) (ending said table)
+    → said ≡ need → ending need table ≡ None
+ends_none mine said need table is same = subst (λ n. ending n table ≡ None) same (none_of (ending said table) is)
+  where
+    none_of : (number : Option ℕ) → None ≡ option_map (instance_of mine) number → number ≡ None
+    none_of None is = refl
+    none_of (Some number) is = absurd cc
+
+pub ends_some : (mine : RunData) (said need : NeedData) (table : TableData) (instance : InstanceData)
+    → Some instance ≡ option_map (instance_of mine) (ending said table) → said ≡ need
+    → (ending need table ≡ Some instance.root) × (instance ≡ instance_of mine instance.root)
+ends_some mine said need table instance is same =
+    let found = some_of (ending said table) is in (subst (λ n. ending n table ≡ Some instance.root) same found.0, found.1)
+  where
+    some_of : (number : Option ℕ) → Some instance ≡ option_map (instance_of mine) number
+        → (number ≡ Some instance.root) × (instance ≡ instance_of mine instance.root)
+    some_of None is = absurd cc
+    some_of (Some number) is =
+        let same : instance ≡ instance_of mine number = some_same is in
+        (ap (λ i. Some i.root) (sym same), same ∙ ap (λ i. instance_of mine i.root) (sym same))
+
+-- what is looked at, in the code's values
+pub looked_is : (said need : NeedData) (mine run : RunData) (table : TableData) (got : Option AtData) → got ≡ looked said mine table
+    → said ≡ need → run ≡ mine → got ≡ looked need run table
+looked_is said need mine run table got is same stands =
+    is ∙ ap (λ n. looked n mine table) same ∙ ap (λ r. looked need r table) (sym stands)
+
+-- a root that has ended, in the code's values
+pub ended_is : (instance : InstanceData) (view : ViewData) (run : RunData) → instance ≡ instance_of run instance.root
+    → view ≡ record { tick = 0; records = [] } → Some (at_data_of instance view) ≡ Some (at_end run instance.root)
+ended_is instance view run is none =
+    ap (λ v. Some (at_data_of instance v)) none ∙ ap (λ i. Some (at_data_of i (record { tick = 0; records = [] }))) is
+
+-- what holds of an option that was given
+pub given_none : {X E : Type 0} (A : Type 0) (B : X → Type 0) (result : Result (Option X) E) (field : Option X) → result ≡ Ok field → field ≡ None
+    → IfOk result (λ next. MatchOption next A B) → A
+given_none A B result field is none holds =
+    subst (λ f. MatchOption f A B) none (subst (λ r. IfOk r (λ next. MatchOption next A B)) is holds)
+
+pub given_some : {X E : Type 0} (A : Type 0) (B : X → Type 0) (result : Result (Option X) E) (field : Option X) (x : X) → result ≡ Ok field
+    → field ≡ Some x → IfOk result (λ next. MatchOption next A B) → B x
+given_some A B result field x is some holds =
+    subst (λ f. MatchOption f A B) some (subst (λ r. IfOk r (λ next. MatchOption next A B)) is holds)
 
 -- what was played so far, whatever is played behind it
 abbrev pub PlaysOn : WorldData → List HappeningData → List SentData → WorldData → List HappeningData → Type 0
@@ -73,6 +185,31 @@ pub plays_one : (before now next : WorldData) (all left : List HappeningData) (h
 plays_one before now next all left happening sent said plays does = λ rest after runs.
     subst (λ s. Runs before all s after) (sym (append_assoc sent said rest))
     (plays (said ++ rest) after (next, said, rest, does, refl, runs))
+
+-- the same of the code's happenings and replies
+pub plays_next : (before now next : WorldData) (all : List HappeningData) (left behind : List Happening) (happening : Happening)
+    (sent after : List Sent) (reply : Option Sent) → left ≡ happening ∷ behind → map sent_data after ≡ map sent_data sent ++ sent_list reply
+    → PlaysOn before all (map sent_data sent) now (map happening_data left) → Does now (happening_data happening) (sent_list reply) next
+    → PlaysOn before all (map sent_data after) next (map happening_data behind)
+plays_next before now next all left behind happening sent after reply is said plays does =
+    subst (λ s. PlaysOn before all s next (map happening_data behind)) (sym said)
+    (plays_one before now next all (map happening_data behind) (happening_data happening) (map sent_data sent) (sent_list reply)
+    (subst (λ l. PlaysOn before all (map sent_data sent) now (map happening_data l)) is plays) does)
+
+-- one reply more
+map_then : (sent : List Sent) (one : Sent) → map sent_data (sent ++ one ∷ []) ≡ map sent_data sent ++ sent_data one ∷ []
+map_then [] one = refl
+map_then (first ∷ sent) one = ap (λ rest. sent_data first ∷ rest) (map_then sent one)
+
+pub said_some : (sent after : List Sent) (one : Sent) (reply : Option Sent) → after ≡ sent ++ one ∷ [] → reply ≡ Some one
+    → map sent_data after ≡ map sent_data sent ++ sent_list reply
+said_some sent after one reply is some =
+    ap (map sent_data) is ∙ map_then sent one ∙ ap (λ r. map sent_data sent ++ sent_list r) (sym some)
+
+-- and none
+pub said_none : (sent : List Sent) (reply : Option Sent) → reply ≡ None → map sent_data sent ≡ map sent_data sent ++ sent_list reply
+said_none sent reply none =
+    sym (append-nil (map sent_data sent)) ∙ ap (λ r. map sent_data sent ++ sent_list r) (sym none)
 
 -- nothing is left
 pub plays_all : (before now : WorldData) (all : List HappeningData) (sent : List SentData) → PlaysOn before all sent now []

@@ -1,21 +1,24 @@
 -- What the replay of a script writes, and how it ends.
 -- It is this server's own.
-use Rattle.std.specs.Prelude.{◌≡◌, ◌≢◌, ◌≤◌, ◌<◌, ◌⊎◌, ℕ, suc, ℤ, Bool, true, false, List, [], ◌∷◌, ◌++◌}
-use Rattle.std.specs.Prelude.{length, codes, All, if◌then◌else◌, Option, Some, None, Result, Ok, Err}
+use Rattle.std.specs.Prelude.{◌≡◌, ◌≢◌, ◌≤◌, ◌<◌, ◌⊎◌, ℕ, suc, ◌+◌, ℤ, Bool, true, false, List, [], ◌∷◌, ◌++◌}
+use Rattle.std.specs.Prelude.{length, codes, bytes_eq, All, if◌then◌else◌, Option, Some, None, Result, Ok, Err}
 use Rattle.std.specs.Fmt.{signed_decimal}
 use Rattle.std.specs.List.{list_any}
 use Rattle.std.specs.Io.KnownBytes.{Appends}
 use Rattle.wq_base.specs.Byte.{newline}
 use Rattle.wq_serve.specs.declared.event.Event.{Event}
-use Rattle.wq_session.specs.Need.{need_of}
+use Rattle.wq_live.specs.Event.{IsLawful}
+use Rattle.wq_session.specs.Need.{NeedData, crawl as crawl_of, opening as opening_of, need_of}
 use Rattle.wq_session.specs.Reading.{Asks}
 use Rattle.wq_session.specs.declared.ask.Ask.{Ask}
-use Rattle.wq_view.specs.History.{Differ}
+use Rattle.wq_session.specs.declared.crawl.CrawlFault.{CrawlFault}
+use Rattle.wq_session.specs.declared.crawl.CrawlFault.TheVariants.{Unreadable, NoMemory}
 use Rattle.wq_view.specs.Listing.{PassData}
 use Rattle.wq_replay.specs.Limit.{max_script}
 use Rattle.wq_replay.specs.Line.{lines_of}
 use Rattle.wq_replay.specs.Stage.{StageData, Turn, drafts, lists, hears, malformed, start, turn_of}
-use Rattle.wq_replay.specs.World.{WorldData, HappeningData, crawl, asked, SentData, Runs, crawls_root}
+use Rattle.wq_replay.specs.World.{WorldData, HappeningData, crawl, opening, asked, SentData, Runs}
+use Rattle.wq_replay.specs.World.{root_text}
 use Rattle.wq_replay.specs.declared.fault.ReplayFault.{ReplayFault}
 use Rattle.wq_replay.specs.declared.fault.ReplayFault.TheVariants.{Line, TooLong, Read, Write, Memory}
 
@@ -32,29 +35,42 @@ sent_lines (sent ∷ later) = sent_line sent.client sent.text ++ sent_lines late
 abbrev pub shuts : List SentData → Bool
 shuts = list_any (λ sent. sent.shuts)
 
--- what happens where the root is crawled first, or is not
-abbrev pub crawled_first : Bool → PassData → List HappeningData → List HappeningData
-crawled_first crawls tree later = if crawls then crawl (Ok tree) ∷ later else later
+-- what happens where a listing of `/r` ends: it is crawled, or is not
+abbrev pub crawled : Bool → PassData → List HappeningData
+crawled crawls tree = if crawls then crawl root_text (Ok tree) ∷ [] else []
 
--- what happens where a client asks: the root is crawled first, if that is needed
-abbrev pub happens_by : PassData → ℤ → Ask → List HappeningData
-happens_by tree client ask =
-    crawled_first (crawls_root (need_of ask)) tree (asked client ask ∷ [])
+-- what is listed of a root, where `/r` lists this: that, or memory runs out over it; another root
+-- cannot be read
+abbrev pub ListsAs : PassData → List ℕ → Result PassData CrawlFault → Type 0
+ListsAs tree root (Ok seen) = (bytes_eq root root_text ≡ true) × (seen ≡ tree)
+ListsAs tree root (Err Unreadable) = bytes_eq root root_text ≡ false
+ListsAs tree root (Err NoMemory) = Unit {0}
+ListsAs tree root (Err _) = ⊥
+
+-- what happens before an ask, where `/r` lists this: the crawl or the opening that it needs, if any
+abbrev pub Precedes : PassData → NeedData → List HappeningData → Type 0
+Precedes tree (crawl_of root) first =
+    (seen : Result PassData CrawlFault) × ListsAs tree root seen × (first ≡ crawl root seen ∷ [])
+Precedes tree (opening_of root) first =
+    (seen : Result PassData CrawlFault) × ListsAs tree root seen × (first ≡ opening root seen ∷ [])
+Precedes tree _ first = first ≡ []
 
 -- a client is heard: this is sent, and the world is another then
 pub record IsHeard (stage : StageData) (client : ℤ) (event : Event) (sent : List SentData)
     (after : WorldData) : Type 0 where
   pub ask : Ask
   pub asks : Asks event ask
-  pub runs : Runs stage.world (happens_by stage.tree client ask) sent after
+  pub first : List HappeningData
+  pub precedes : Precedes stage.tree (need_of ask) first
+  pub runs : Runs stage.world (first ++ asked client ask ∷ []) sent after
 
 -- what a line does takes the script from a stage to the next, with this written, and the server
--- goes on; a malformed line does nothing
+-- goes on; a malformed line leads nowhere
 abbrev pub Does : StageData → Turn → List ℕ → StageData → Type 0
 Does stage (drafts draft) written after =
     (written ≡ []) × (after ≡ record stage { draft = Some draft })
 Does stage (lists crawls tree) written after =
-    (world : WorldData) × Runs stage.world (crawled_first crawls tree []) [] world
+    (world : WorldData) × Runs stage.world (crawled crawls tree) [] world
     × (written ≡ []) × (after ≡ record { world = world; tree = tree; draft = None })
 Does stage (hears client event) written after =
     (sent : List SentData) × (world : WorldData) × IsHeard stage client event sent world
@@ -69,7 +85,7 @@ Plays stage (line ∷ lines) written after = (next : StageData) × (first later 
     × Plays next lines later after
 
 -- so many first lines of a script were played, their replies were written, the script stands
--- here, and these lines are left; of the passes that were added, neighbours differ
+-- here, and these lines are left
 pub record FirstLines (script : List ℕ) (before after : Option (List ℕ)) (count : ℕ)
     (at : StageData) (left : List (List ℕ)) : Type 0 where
   pub first : List (List ℕ)
@@ -78,7 +94,7 @@ pub record FirstLines (script : List ℕ) (before after : Option (List ℕ)) (co
   pub count_is : length first ≡ count
   pub plays : Plays start first written at
   pub appends : Appends before after written
-  pub differ : Differ (at.world).history
+  pub lawful : IsLawful (at.world).events
 
 -- a front of some bytes was written
 abbrev pub AppendsFront : Option (List ℕ) → Option (List ℕ) → List ℕ → Type 0
@@ -104,11 +120,11 @@ StopsWriting stage (hears client event) before after =
     × AppendsFront before after (sent_lines sent)
 StopsWriting _ _ _ _ = ⊥
 
--- all lines were played, and the script is within its limit
-abbrev pub EndsAll : List ℕ → Option (List ℕ) → Option (List ℕ) → Type 0
-EndsAll script before after =
+-- all lines were played, the script is within its limit, and was read to its end
+abbrev pub EndsAll : List ℕ → Option (List ℕ) → Option (List ℕ) → Option (List ℕ) → Type 0
+EndsAll script before after rest =
     (length script ≤ max_script) × (count : ℕ) × (at : StageData)
-    × FirstLines script before after count at []
+    × FirstLines script before after count at [] × (rest ≡ Some [])
 
 -- some first lines were played, and by the next one the server is to end; what stands behind that
 -- was not read
@@ -125,10 +141,13 @@ EndsAtLine n script before after =
     (count : ℕ) × (at : StageData) × (line : List ℕ) × (later : List (List ℕ)) × (n ≡ suc count)
     × FirstLines script before after count at (line ∷ later) × (turn_of at line ≡ malformed)
 
--- the script is over its limit; some first lines were played
-abbrev pub EndsTooLong : List ℕ → Option (List ℕ) → Option (List ℕ) → Type 0
-EndsTooLong script before after = (max_script < length script) × (count : ℕ) × (at : StageData)
-    × (left : List (List ℕ)) × FirstLines script before after count at left
+-- some first lines were played, with which the script is within its limit, and with the next one,
+-- behind which it was read no further, it is not
+abbrev pub EndsTooLong : List ℕ → Option (List ℕ) → Option (List ℕ) → Option (List ℕ) → Type 0
+EndsTooLong script before after rest =
+    (count : ℕ) × (at : StageData) × (bytes left : List ℕ) × (rest ≡ Some left)
+    × FirstLines script before after count at (lines_of bytes)
+    × (length script ≤ max_script + length bytes) × (max_script + length left < length script)
 
 -- some first lines were played, and the next one was not taken to its end
 abbrev pub EndsReading : List ℕ → Option (List ℕ) → Option (List ℕ) → Option (List ℕ) → Type 0
@@ -152,9 +171,9 @@ EndsDoing script before after =
 abbrev pub Ends : List ℕ → Option (List ℕ) → Option (List ℕ) → Option (List ℕ)
     → Result (Unit {0}) ReplayFault → Type 0
 Ends script before after rest (Ok _) =
-    EndsAll script before after ⊎ EndsServer script before after rest
+    EndsAll script before after rest ⊎ EndsServer script before after rest
 Ends script before after rest (Err (Line n)) = EndsAtLine n script before after
-Ends script before after rest (Err TooLong) = EndsTooLong script before after
+Ends script before after rest (Err TooLong) = EndsTooLong script before after rest
 Ends script before after rest (Err Read) = EndsReading script before after rest
 Ends script before after rest (Err Write) = EndsWriting script before after
 Ends script before after rest (Err Memory) =

@@ -10,13 +10,13 @@ use Rattle.wq_replay.specs.Limit.{max_script_line}
 use Rattle.wq_replay.specs.Script.{LineData, pass, tree, row, end, ask, leave, line_of}
 use Rattle.wq_replay.specs.World.{WorldData, new_world}
 
--- a listing that is open, and whether the root is crawled at its end
+-- a listing of `/r` that is open, and whether the root is crawled at its end
 pub record DraftData : Type 0 where
   pub crawls : Bool
   pub second : ℤ
   pub rows : List SeenData
 
--- the world, what a crawl of the root would list, and the listing that is open
+-- the world, what a crawl of `/r` would list, and the listing that is open
 pub record StageData : Type 0 where
   pub world : WorldData
   pub tree : PassData
@@ -26,18 +26,18 @@ pub record StageData : Type 0 where
 pub data Turn : Type 0 where
   -- the listing that is open is this one now
   drafts : DraftData → Turn
-  -- the root lists this from now on, and is crawled or not
+  -- `/r` lists this from now on, and is crawled or not
   lists : (crawls : Bool) → PassData → Turn
   -- a client is heard
   hears : (client : ℤ) → Event → Turn
-  -- nothing: the line is malformed
+  -- the line is malformed, and leads nowhere
   malformed : Turn
 
 -- the server that a script plays: one that started at second 7 as process 9, and its socket
 abbrev pub first_world : WorldData
-first_world = new_world (record { start = 7; pid = 9; root = 1 }) (codes "replay")
+first_world = new_world (record { start = 7; pid = 9 }) (codes "replay")
 
--- what the root lists before a script says it
+-- what `/r` lists before a script says it
 abbrev pub no_tree : PassData
 no_tree = listing_of [] (pos 0)
 
@@ -57,7 +57,7 @@ turn_outside (ask client line) = hears client (event_of line)
 turn_outside (leave client) = hears client End
 turn_outside _ = malformed
 
--- the end of a listing, which is what the root lists unless it has a fault
+-- the end of a listing, which is what `/r` lists unless it has a fault
 abbrev pub turn_at_end : DraftData → Turn
 turn_at_end draft =
     if is_none (listing_fault draft.rows draft.second)

@@ -1,34 +1,46 @@
 -- Where the world of the code stands.
 -- No public document is behind it.
-use Rattle.std.specs.Prelude.{◌≡◌, ℕ, false, List, [], ◌∷◌, Option, Some, None, Result, Ok, Err}
+use Rattle.std.specs.Prelude.{◌≡◌, ℕ, false, List, [], ◌∷◌, Option, Some, None, option_map, Result, Ok, Err}
 use Rattle.std.specs.Borrow.{Bor}
-use Rattle.wq_clock.specs.Instance.{instance_data}
-use Rattle.wq_session.specs.declared.refusal.Refusal.{Refusal}
-use Rattle.wq_view.specs.History.{History}
+use Rattle.std.specs.declared.alloc.AllocError.{AllocError}
+use Rattle.wq_live.specs.Table.{IsTableOf}
+use Rattle.wq_session.specs.declared.crawl.CrawlFault.{CrawlFault}
+use Rattle.wq_session.specs.declared.crawl.CrawlFault.TheVariants.{NoMemory}
 use Rattle.wq_view.specs.Listing.{PassData}
-use Rattle.wq_view.specs.View.{ViewData, IsViewOf}
-use Rattle.wq_replay.specs.World.{Absorbs, WorldData, HappeningData, crawl, asked, SentData, Runs}
+use Rattle.wq_replay.specs.World.{Crawls, Opens, Starts, RunData, RefusedData, WorldData, Runs}
+use Rattle.wq_replay.specs.World.{HappeningData, crawl, opening, asked, SentData}
 use Rattle.wq_replay.specs.declared.happening.Happening.{Happening}
-use Rattle.wq_replay.specs.declared.happening.Happening.TheVariants.{Crawl, Asked}
+use Rattle.wq_replay.specs.declared.happening.Happening.TheVariants.{Crawl, Open, Asked}
+use Rattle.wq_replay.specs.declared.refused.Refused.{Refused}
+use Rattle.wq_replay.specs.declared.run.Run.{Run}
 use Rattle.wq_replay.specs.declared.sent.Sent.{Sent}
 use Rattle.wq_replay.specs.declared.world.World.{World}
 
+-- the numbers of a run of the server
+abbrev pub run_data : Run → RunData
+run_data run = record { start = run.start; pid = run.pid }
+
+-- a crawl or an opening that was refused
+abbrev pub refused_data : Refused → RefusedData
+refused_data refused = record { root = refused.root; fault = refused.fault }
+
 -- the code stands where the world does, and memory never ran out over a list of what was sent
 pub record Stands (world : WorldData) (code : World) : Type 0 where
-  pub instance : world.instance ≡ instance_data code.instance
-  pub view : IsViewOf world.history code.view
+  pub run : world.run ≡ run_data code.run
+  pub roots : IsTableOf world.events code.table
   pub shelf : world.shelf ≡ code.shelf
-  pub refused : world.refused ≡ code.refused
+  pub refused : world.refused ≡ option_map refused_data code.refused
   pub whole : code.spent ≡ false
 
--- what a crawl listed, or why it could not
-abbrev pub crawl_data : Result (Bor PassData) Refusal → Result PassData Refusal
+-- what a root lists, or why it could not be read
+abbrev pub crawl_data : Result (Bor PassData) CrawlFault → Result PassData CrawlFault
 crawl_data (Ok seen) = Ok seen.now
-crawl_data (Err refusal) = Err refusal
+crawl_data (Err fault) = Err fault
 
 -- what happens
 abbrev pub happening_data : Happening → HappeningData
-happening_data (Crawl seen) = crawl (crawl_data seen)
+happening_data (Crawl root seen) = crawl root (crawl_data seen)
+happening_data (Open root seen) = opening root (crawl_data seen)
 happening_data (Asked client ask) = asked client ask
 
 -- the text of a reply, and nothing where there is none
@@ -54,7 +66,21 @@ abbrev pub Leads : WorldData → List HappeningData → List SentData → World 
 Leads first happenings sent code =
     (world : WorldData) × Runs first happenings sent world × Stands world code
 
--- what taking in what a crawl listed came to: the view is that of the history then
-abbrev pub TakesIn : History → PassData → Option Refusal → ViewData → Type 0
-TakesIn history seen refused view =
-    (after : History) × Absorbs history seen refused after × IsViewOf after view
+-- what a crawl that came to this led to; where memory ran out over it, it is one that was refused
+-- for that
+abbrev pub CrawlsOver : WorldData → List ℕ → Result PassData CrawlFault
+    → Result (Unit {0}) AllocError → WorldData → Type 0
+CrawlsOver world root seen (Ok _) after = Crawls world root seen after
+CrawlsOver world root seen (Err _) after = Crawls world root (Err NoMemory) after
+
+-- what an opening that came to this led to, alike
+abbrev pub OpensOver : WorldData → List ℕ → Result PassData CrawlFault
+    → Result (Unit {0}) AllocError → WorldData → Type 0
+OpensOver world root seen (Ok _) after = Opens world root seen after
+OpensOver world root seen (Err _) after = Opens world root (Err NoMemory) after
+
+-- what a start with this pass led to, alike
+abbrev pub StartsOver : ℕ → WorldData → List ℕ → PassData
+    → Result (Unit {0}) AllocError → WorldData → Type 0
+StartsOver number world root pass (Ok _) after = Starts number world root (Ok pass) after
+StartsOver number world root pass (Err _) after = Starts number world root (Err NoMemory) after

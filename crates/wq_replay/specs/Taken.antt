@@ -44,7 +44,7 @@ BeginsWith bytes line left =
 
 -- so many of some bytes are taken for their first line, if any are left, and those are behind it
 abbrev pub TakesLine : List ℕ → ℕ → List ℕ → Option (List ℕ) → Type 0
-TakesLine bytes zero line rest = bytes ≡ []
+TakesLine bytes zero line rest = (bytes ≡ []) × (rest ≡ Some [])
 TakesLine bytes (suc taken) line rest =
     (left : List ℕ) × (rest ≡ Some left) × (length bytes ≡ suc taken + length left)
     × BeginsWith bytes line left

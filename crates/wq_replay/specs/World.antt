@@ -1,34 +1,53 @@
--- The world that sessions play in: one root, `/r`, and what all clients share; what may happen there, and what is sent then.
--- Crawls before answers are from Watchman's documentation of synchronisation (`sync_timeout`); the
--- rest is this server's own.
-use Rattle.std.specs.Prelude.{◌≡◌, ◌≢◌, ◌⊎◌, ◌<◌, ℕ, ℤ, Bool, false, List, [], ◌∷◌, ◌++◌}
-use Rattle.std.specs.Prelude.{length, codes, bytes_eq, if◌then◌else◌, Option, Some, None, Result, Ok, Err}
+-- The world that sessions play in: what happened to its roots, and what all clients share; what may happen there, and what is sent then.
+-- Crawls and openings before answers are from Watchman's documentation of synchronisation
+-- (`sync_timeout`), of `watch` and of `watch-del`; the rest is this server's own.
+use Rattle.std.specs.Prelude.{◌≡◌, ◌⊎◌, ◌+◌, ℕ, ℤ, Bool, true, false, List, [], ◌∷◌, ◌++◌, find}
+use Rattle.std.specs.Prelude.{length, codes, bytes_eq, is_some, if◌then◌else◌, Option, Some, None, option_map, Result, Ok, Err}
+use Rattle.wq_base.specs.Limit.{max_number}
 use Rattle.wq_clock.specs.Instance.{InstanceData}
+use Rattle.wq_live.specs.Event.{passes_over, start_events}
+use Rattle.wq_live.specs.Limit.{max_roots}
+use Rattle.wq_live.specs.Table.{RootView, TableData, IsTableOf, IsNews, IsNoNews, has_text}
+use Rattle.wq_live.specs.declared.event.RootEvent.{RootEvent}
+use Rattle.wq_live.specs.declared.event.RootEvent.TheVariants.{Started, Passed, Ended}
 use Rattle.wq_registry.specs.Shelf.{blank, root_added}
 use Rattle.wq_session.specs.Answer.{Answers, MayRefuse}
-use Rattle.wq_session.specs.Need.{NeedData, none, look, crawl as crawl_of, need_of}
+use Rattle.wq_session.specs.Crawl.{crawl_refusal}
+use Rattle.wq_session.specs.Need.{NeedData, none, look, crawl as crawl_of, opening as opening_of, retire, need_of}
 use Rattle.wq_session.specs.Out.{OutData}
 use Rattle.wq_session.specs.Query.{AtData, ShelfNow}
 use Rattle.wq_session.specs.declared.ask.Ask.{Ask}
+use Rattle.wq_session.specs.declared.crawl.CrawlFault.{CrawlFault}
+use Rattle.wq_session.specs.declared.crawl.CrawlFault.TheVariants.{TicksSpent, TooManyRoots}
 use Rattle.wq_session.specs.declared.refusal.Refusal.{Refusal}
-use Rattle.wq_session.specs.declared.refusal.Refusal.TheVariants.{TicksSpent, NoMemory}
-use Rattle.wq_view.specs.History.{History, last_stats}
+use Rattle.wq_session.specs.declared.refusal.Refusal.TheVariants.{NoMemory}
 use Rattle.wq_view.specs.Limit.{max_tick}
 use Rattle.wq_view.specs.Listing.{PassData}
-use Rattle.wq_view.specs.View.{ViewData, IsViewOf}
 
--- a world: the run of the server with the number of its root, the passes over the root, what all
--- clients share, and why the crawl was refused that came last, if nothing followed it
+-- one run of the server: the second at which it started, and its process
+pub record RunData : Type 0 where
+  pub start : ℕ
+  pub pid : ℕ
+
+-- a crawl or an opening of a root that was refused
+pub record RefusedData : Type 0 where
+  pub root : List ℕ
+  pub fault : CrawlFault
+
+-- a world: the run of the server, what happened to roots, what all clients share, and the crawl or
+-- opening that came last, if it was refused and nothing followed it
 pub record WorldData : Type 0 where
-  pub instance : InstanceData
-  pub history : History
+  pub run : RunData
+  pub events : List RootEvent
   pub shelf : ShelfNow
-  pub refused : Option Refusal
+  pub refused : Option RefusedData
 
 -- what may happen
 pub data HappeningData : Type 0 where
-  -- the root is crawled: what it lists, or why it could not be
-  crawl : Result PassData Refusal → HappeningData
+  -- a root is crawled: what it lists, or why it could not be
+  crawl : (root : List ℕ) → Result PassData CrawlFault → HappeningData
+  -- a root is opened, unless it is shown: what it lists, or why it could not be
+  opening : (root : List ℕ) → Result PassData CrawlFault → HappeningData
   -- a client asks, or leaves
   asked : (client : ℤ) → Ask → HappeningData
 
@@ -40,70 +59,154 @@ pub record SentData : Type 0 where
   -- whether the server is to end
   pub shuts : Bool
 
--- the root
+-- the root that a new world has
 abbrev pub root_text : List ℕ
 root_text = codes "/r"
 
--- a world before anything: this run of the server with the number of the root, and this socket
-abbrev pub new_world : InstanceData → List ℕ → WorldData
-new_world instance sockname = record {
-  instance = instance;
-  history = [];
-  shelf = root_added root_text instance.root (blank sockname);
+-- a world before anything: this run of the server, and this socket. Its root is watched as root 1,
+-- and no pass went over it
+abbrev pub new_world : RunData → List ℕ → WorldData
+new_world run sockname = record {
+  run = run;
+  events = Started 1 root_text ∷ [];
+  shelf = root_added root_text 1 (blank sockname);
   refused = None;
 }
 
--- whether the root is to be crawled first
-abbrev pub crawls_root : NeedData → Bool
-crawls_root (crawl_of root) = bytes_eq root root_text
-crawls_root _ = false
+-- the world after a crawl or an opening that was refused
+abbrev pub refusing : List ℕ → CrawlFault → WorldData → WorldData
+refusing root fault world = record world { refused = Some (record { root = root; fault = fault }) }
 
--- whether the root is looked at
-abbrev pub looks_at_root : NeedData → Bool
-looks_at_root none = false
-looks_at_root (look root) = bytes_eq root root_text
-looks_at_root (crawl_of root) = bytes_eq root root_text
+-- the world after something else
+abbrev pub unrefused : WorldData → WorldData
+unrefused world = record world { refused = None }
 
--- the passes after a crawl that listed this, and why it is refused, if it is: a pass that saw what
--- the last one saw adds nothing; any other is added, unless the ticks are spent or memory ran out
-abbrev pub Absorbs : History → PassData → Option Refusal → History → Type 0
-Absorbs history seen refused after =
-    ((last_stats history ≡ seen.stats) × (refused ≡ None) × (after ≡ history))
-    ⊎ ((last_stats history ≢ seen.stats) × (length history < max_tick) × (refused ≡ None)
-    × (after ≡ history ++ seen ∷ []))
-    ⊎ ((last_stats history ≢ seen.stats) × (length history ≡ max_tick)
-    × (refused ≡ Some TicksSpent) × (after ≡ history))
-    ⊎ ((last_stats history ≢ seen.stats) × (refused ≡ Some NoMemory) × (after ≡ history))
+-- the world with these events behind the others
+abbrev pub adding : List RootEvent → WorldData → WorldData
+adding events world = record world { events = world.events ++ events }
 
--- a crawl of the root
-abbrev pub Crawls : WorldData → Result PassData Refusal → WorldData → Type 0
-Crawls world (Ok seen) after =
-    (history : History) × (refused : Option Refusal) × Absorbs world.history seen refused history
-    × (after ≡ record world { history = history; refused = refused })
-Crawls world (Err refusal) after = after ≡ record world { refused = Some refusal }
+-- the root of a text, if it is shown
+abbrev pub root_in : List ℕ → TableData → Option RootView
+root_in root table = find (has_text root) table.roots
 
--- why the crawl was refused that is needed first, if it is and was
-abbrev pub refusal_for : Bool → Option Refusal → Option Refusal
-refusal_for crawls refused = if crawls then refused else None
+-- its number
+abbrev pub number_in : List ℕ → TableData → Option ℕ
+number_in root table = option_map (λ r. r.number) (root_in root table)
 
--- what is looked at, if the root is
-abbrev pub looked : Bool → InstanceData → ViewData → Option AtData
-looked looks instance view =
-    if looks then Some (record { instance = instance; view = view }) else None
+-- whether it is shown
+abbrev pub shows : List ℕ → TableData → Bool
+shows root table = is_some (number_in root table)
 
--- the answer to an ask: that its crawl was refused; or at the view of the passes so far
-abbrev pub GetsAfter : Option Refusal → WorldData → Ask → OutData → ShelfNow → Type 0
-GetsAfter (Some refusal) world ask out shelf = MayRefuse refusal out × (shelf ≡ world.shelf)
-GetsAfter None world ask out shelf =
-    (view : ViewData) × IsViewOf world.history view
-    × Answers ask (looked (looks_at_root (need_of ask)) world.instance view) world.shelf out shelf
+-- a crawl of a root that listed this. A root that is not shown stays so; what tells nothing adds
+-- nothing; else the pass is added, unless the root's ticks are spent
+abbrev pub CrawlsAt : Option ℕ → WorldData → List ℕ → PassData → WorldData → Type 0
+CrawlsAt None world root pass after = after ≡ unrefused world
+CrawlsAt (Some number) world root pass after =
+    (IsNoNews world.events number pass × (after ≡ unrefused world))
+    ⊎ (IsNews world.events number pass
+    × (after ≡ unrefused (adding (Passed number pass ∷ []) world)))
+    ⊎ (IsNews world.events number pass × (length (passes_over number world.events) ≡ max_tick)
+    × (after ≡ refusing root TicksSpent world))
+
+-- a crawl of a root
+abbrev pub Crawls : WorldData → List ℕ → Result PassData CrawlFault → WorldData → Type 0
+Crawls world root (Ok pass) after = (table : TableData) × IsTableOf world.events table
+    × CrawlsAt (number_in root table) world root pass after
+Crawls world root (Err fault) after = after ≡ refusing root fault world
+
+-- no other root may be shown: as many are as may be, or the last number was given
+abbrev pub IsFull : TableData → Type 0
+IsFull table = (length table.roots ≡ max_roots) ⊎ (table.given ≡ max_number)
+
+-- a root starts under the next number, by an opening that listed this; or the opening is refused
+abbrev pub Starts : ℕ → WorldData → List ℕ → Result PassData CrawlFault → WorldData → Type 0
+Starts number world root (Ok pass) after =
+    after ≡ unrefused (adding (start_events number root pass) world)
+Starts number world root (Err fault) after = after ≡ refusing root fault world
+
+-- an opening of a root that is not shown
+abbrev pub OpensNew : TableData → WorldData → List ℕ → Result PassData CrawlFault → WorldData → Type 0
+OpensNew table world root seen after =
+    (IsFull table × (after ≡ refusing root TooManyRoots world))
+    ⊎ ((IsFull table → ⊥) × Starts (table.given + 1) world root seen after)
+
+-- an opening of a root: one that is shown stays as it is
+abbrev pub OpensAt : Bool → TableData → WorldData → List ℕ → Result PassData CrawlFault → WorldData → Type 0
+OpensAt true table world root seen after = after ≡ unrefused world
+OpensAt false table world root seen after = OpensNew table world root seen after
+
+-- an opening of a root
+abbrev pub Opens : WorldData → List ℕ → Result PassData CrawlFault → WorldData → Type 0
+Opens world root seen after = (table : TableData) × IsTableOf world.events table
+    × OpensAt (shows root table) table world root seen after
+
+-- why the crawl or the opening of this root was refused that came last, if it was
+abbrev pub fault_of : List ℕ → Option RefusedData → Option CrawlFault
+fault_of root None = None
+fault_of root (Some refused) = if bytes_eq refused.root root then Some refused.fault else None
+
+-- why the crawl that an ask needs was refused, where its root is shown; or the opening, where it is
+-- not
+abbrev pub fault_for : NeedData → TableData → Option RefusedData → Option CrawlFault
+fault_for (crawl_of root) table refused = if shows root table then fault_of root refused else None
+fault_for (opening_of root) table refused = if shows root table then None else fault_of root refused
+fault_for _ table refused = None
+
+-- the number of the root that an ask ends, if it is shown
+abbrev pub ending : NeedData → TableData → Option ℕ
+ending (retire root) table = number_in root table
+ending _ table = None
+
+-- a root of a number in a run of the server
+abbrev pub instance_of : RunData → ℕ → InstanceData
+instance_of run number = record { start = run.start; pid = run.pid; root = number }
+
+-- a root as it is looked at
+abbrev pub at_root : RunData → RootView → AtData
+at_root run root = record { instance = instance_of run root.number; view = root.view }
+
+-- a root that has ended: no file is seen there
+abbrev pub at_end : RunData → ℕ → AtData
+at_end run number =
+    record { instance = instance_of run number; view = record { tick = 0; records = [] } }
+
+-- what an ask is answered at that ends no root: the root that it names, if it names one that is
+-- shown
+abbrev pub looked : NeedData → RunData → TableData → Option AtData
+looked (look root) run table = option_map (at_root run) (root_in root table)
+looked (crawl_of root) run table = option_map (at_root run) (root_in root table)
+looked (opening_of root) run table = option_map (at_root run) (root_in root table)
+looked _ run table = None
+
+-- an answer at what is looked at, and at what all clients share
+abbrev pub AnswersAt : Option AtData → WorldData → Ask → OutData → WorldData → Type 0
+AnswersAt at world ask out after = (shelf : ShelfNow) × Answers ask at world.shelf out shelf
+    × (after ≡ record world { shelf = shelf; refused = None })
+
+-- the answer to an ask that ends the root of this number: that ends first, unless memory runs out
+-- over it
+abbrev pub EndsAt : ℕ → WorldData → Ask → OutData → WorldData → Type 0
+EndsAt number world ask out after =
+    AnswersAt (Some (at_end world.run number)) (adding (Ended number ∷ []) world) ask out after
+    ⊎ (MayRefuse NoMemory out × (after ≡ unrefused world))
+
+-- the answer to an ask that ends this root, or none
+abbrev pub GetsAt : Option ℕ → TableData → WorldData → Ask → OutData → WorldData → Type 0
+GetsAt None table world ask out after =
+    AnswersAt (looked (need_of ask) world.run table) world ask out after
+GetsAt (Some number) table world ask out after = EndsAt number world ask out after
+
+-- what an ask gets: that its crawl or opening was refused, or its answer
+abbrev pub GetsFor : Option CrawlFault → TableData → WorldData → Ask → OutData → WorldData → Type 0
+GetsFor (Some fault) table world ask out after =
+    MayRefuse (crawl_refusal fault) out × (after ≡ unrefused world)
+GetsFor None table world ask out after =
+    GetsAt (ending (need_of ask) table) table world ask out after
 
 -- what an ask gets, and the world then
 abbrev pub Gets : WorldData → Ask → OutData → WorldData → Type 0
-Gets world ask out after =
-    (shelf : ShelfNow)
-    × GetsAfter (refusal_for (crawls_root (need_of ask)) world.refused) world ask out shelf
-    × (after ≡ record world { shelf = shelf; refused = None })
+Gets world ask out after = (table : TableData) × IsTableOf world.events table
+    × GetsFor (fault_for (need_of ask) table world.refused) table world ask out after
 
 -- what is sent of a reply, if there is one
 abbrev pub sent_for : ℤ → Bool → Option (List ℕ) → List SentData
@@ -116,7 +219,8 @@ sent_to client out = sent_for client out.shuts out.reply
 
 -- something happens: this is sent, and the world is another then
 abbrev pub Does : WorldData → HappeningData → List SentData → WorldData → Type 0
-Does world (crawl seen) sent after = (sent ≡ []) × Crawls world seen after
+Does world (crawl root seen) sent after = (sent ≡ []) × Crawls world root seen after
+Does world (opening root seen) sent after = (sent ≡ []) × Opens world root seen after
 Does world (asked client ask) sent after =
     (out : OutData) × Gets world ask out after × (sent ≡ sent_to client out)
 

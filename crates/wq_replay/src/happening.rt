@@ -1,13 +1,25 @@
 //! What may happen in a world.
 
-use wq_session::{Ask, Refusal};
+use wq_base::Text;
+use wq_session::{Ask, CrawlFault};
 use wq_view::Pass;
 
-/// What may happen.
+/// What may happen. A root is named without slashes at its end, but for `/`.
 #[derive(Drop)]
 pub enum Happening<'a> {
-    /// The root is crawled: what it lists, or why it could not be.
-    Crawl(Result<&'a Pass, Refusal>),
+    /// A root is crawled: what it lists, or why it could not be. Nothing comes of it where the root is not shown.
+    Crawl {
+        root: Text,
+        seen: Result<&'a Pass, CrawlFault>,
+    },
+    /// A root that is not shown is to be: what it lists, or why it could not be read. One that is shown stays so.
+    Open {
+        root: Text,
+        seen: Result<&'a Pass, CrawlFault>,
+    },
     /// A client asks. That it leaves is [`Ask::Leave`].
-    Asked { client: i64, ask: Ask },
+    Asked {
+        client: i64,
+        ask: Ask,
+    },
 }

@@ -1,16 +1,13 @@
-//! Where a script stands: the world, what a crawl of its root would list, and the listing that is open.
+//! Where a script stands: the world, what a crawl of `/r` would list, and the listing that is open.
 
+use crate::playing::no_files;
+use crate::run::Run;
 use crate::world::World;
 use std::alloc::{AllocError, Global};
-use wq_clock::Instance;
 use wq_view::{Pass, Seen};
 
-/// The server that a script plays, with the number of its root.
-const INSTANCE: Instance = Instance {
-    start: 7,
-    pid: 9,
-    root: 1,
-};
+/// The run of the server that a script plays.
+const RUN: Run = Run { start: 7, pid: 9 };
 
 /// The name of its socket.
 const SOCKET: &str = "replay";
@@ -32,15 +29,12 @@ impl Stage {
         ensures { IfOk result (λ stage. IsAt stage start) }
     {
         let socket = String::from_str(alloc, SOCKET)?;
-        let world = World::new(alloc, INSTANCE, socket)?;
-        match Pass::new(Vec::new(alloc), 0) {
-            Ok(tree) => Ok(Stage {
-                world,
-                tree,
-                draft: None,
-            }),
-            Err(_) => Err(AllocError),
-        }
+        let world = World::new(alloc, RUN, socket)?;
+        Ok(Stage {
+            world,
+            tree: no_files(alloc)?,
+            draft: None,
+        })
     }
 }
 

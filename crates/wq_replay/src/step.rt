@@ -1,27 +1,28 @@
 //! One line of a script: what it does at the stage where the script stands.
-ghost use Rattle.std.specs.Prelude.{◌≡◌, ℕ, ℤ, List, Option, None, Some, IfOk, Ok};
+ghost use Rattle.std.specs.Prelude.{◌≡◌, ℕ, ℤ, [], List, Option, None, Some, IfOk, OnOk};
 ghost use Rattle.wq_serve.specs.Stream.{event_of, is_binary};
 ghost use Rattle.wq_serve.specs.declared.event.Event.{Event};
 ghost use Rattle.wq_session.specs.Reading.{Asks};
 ghost use Rattle.wq_replay.specs.LineData.{line_data, seen_data};
-ghost use Rattle.wq_replay.specs.Replay.{happens_by};
+ghost use Rattle.wq_replay.specs.Replay.{ListsAs, Precedes};
+ghost use Rattle.wq_session.specs.Needed.{need_data};
 ghost use Rattle.wq_replay.specs.Stage.{StageData, drafts, empty_draft, hears, turn_at_end, turn_inside, turn_of, turn_outside};
-ghost use Rattle.wq_replay.specs.Stands.{Stands};
+ghost use Rattle.wq_replay.specs.Stands.{Stands, crawl_data};
 ghost use Rattle.wq_replay.specs.Step.{IsAt, Takes, draft_data};
-ghost use Rattle.wq_replay.specs.World.{Runs, WorldData, sent_to};
+ghost use Rattle.wq_replay.specs.World.{HappeningData, Runs, WorldData};
 
 use crate::fault::StepFault;
+use crate::playing::ROOT;
 use crate::script::{Line, RowLine, read_line};
 use crate::sending::send;
 use crate::stage::{Draft, Stage};
 use crate::taking::MAX_SCRIPT_LINE;
-use crate::world::crawls_root;
 use std::alloc::{AllocError, Global};
 use std::io::Write;
 use std::sync::ArcSlice;
-use wq_base::Table;
+use wq_base::{Table, Text};
 use wq_serve::{Event, MAX_LINE};
-use wq_session::{Ask, Out, Refusal};
+use wq_session::{Ask, CrawlFault, Need, Refusal};
 use wq_view::{Pass, Seen};
 
 /// Does what a line of a script says, and tells whether the server goes on.
@@ -103,7 +104,7 @@ fn step_inside(
             stage.draft = Some(draft);
             Ok(true)
         }
-        Line::End => end_listing(stage, draft),
+        Line::End => end_listing(alloc, stage, draft),
         _ => Err(StepFault::Malformed),
     }
 }
@@ -120,8 +121,8 @@ fn seen(alloc: Global, row: RowLine<'_>) -> Result<Seen, AllocError>
     })
 }
 
-/// Ends a listing: the root lists it from now on, and is crawled or not.
-fn end_listing(stage: &mut Stage, draft: Draft) -> Result<bool, StepFault>
+/// Ends a listing: `/r` lists it from now on, and is crawled or not.
+fn end_listing(alloc: Global, stage: &mut Stage, draft: Draft) -> Result<bool, StepFault>
     requires { stage.old.draft ≡ None }
     ensures { (at : StageData) → Stands at.world stage.old.world → (known : Option (List ℕ))
         → Takes at (turn_at_end (draft_data draft)) known known result stage.new }
@@ -134,12 +135,19 @@ fn end_listing(stage: &mut Stage, draft: Draft) -> Result<bool, StepFault>
         stage.tree = tree;
         return Ok(true);
     }
-    stage.world.crawl(&tree);
-    if stage.world.lacks_memory() {
+    let root = text(alloc, ROOT)?;
+    if stage.world.crawl(root, Ok(&tree)).is_err() {
         return Err(StepFault::NoMemory);
     }
     stage.tree = tree;
     Ok(true)
+}
+
+/// A text that is kept.
+fn text(alloc: Global, text: &str) -> Result<Text, AllocError>
+    ensures { IfOk result (λ kept. kept ≡ text.now) }
+{
+    Ok(Text::from_string(String::from_str(alloc, text)?))
 }
 
 /// What a client's line asks.
@@ -177,20 +185,40 @@ fn hear<W: Write>(
         → Takes at (hears client event)
         (W.contents writer.old) (W.contents writer.new) result stage.new }
 {
-    let out = answer(alloc, stage, ask);
+    prepare(alloc, stage, ask.need())?;
+    let out = stage.world.answer(alloc, ask);
     send(writer, client, &out)
 }
 
-/// The answer to an ask, for which the root is crawled first, if that is needed.
-fn answer(alloc: Global, stage: &mut Stage, ask: Ask) -> Out
-    ensures { (at : StageData) → IsAt stage.old at → (client : ℤ) → (world : WorldData)
-        × Runs at.world (happens_by at.tree client ask) (sent_to client result) world
-        × IsAt stage.new (record at { world = world }) }
+/// Crawls or opens the root for which an ask needs that. Where it is refused, also for memory, the ask is.
+fn prepare(alloc: Global, stage: &mut Stage, need: Need<'_>) -> Result<(), AllocError>
+    ensures { (at : StageData) → IsAt stage.old at → OnOk result (
+        (first : List HappeningData) × Precedes at.tree (need_data need.entry) first
+        × (world : WorldData) × Runs at.world first [] world
+        × IsAt stage.new (record at { world = world })) }
 {
-    if crawls_root(ask.need()) {
-        stage.world.crawl(&stage.tree);
-        stage.world.answer(alloc, ask)
+    match need {
+        Need::Crawl(name) => {
+            let root = text(alloc, name)?;
+            let _ = stage.world.crawl(root, listed(&stage.tree, name));
+            Ok(())
+        }
+        Need::Open(name) => {
+            let root = text(alloc, name)?;
+            let _ = stage.world.open(root, listed(&stage.tree, name));
+            Ok(())
+        }
+        _ => Ok(()),
+    }
+}
+
+/// What is listed of a root: of `/r` the tree that a script has set. No other root can be read.
+fn listed<'a>(tree: &'a Pass, root: &str) -> Result<&'a Pass, CrawlFault>
+    ensures { ListsAs tree.now root.now (crawl_data result) }
+{
+    if root == ROOT {
+        Ok(tree)
     } else {
-        stage.world.answer(alloc, ask)
+        Err(CrawlFault::Unreadable)
     }
 }

@@ -13,11 +13,11 @@ returns-in_err-taken g c =
 
 pub returns-then-taken-eq0 : goal.returns-then-taken-eq0
 returns-then-taken-eq0 g c =
-    ends_well _ _ _ _ _ (g.R.Read.remaining c.next_line.new.reader) c.loop-number.size c.loop-number.number c.in_ok-taken.taken c.loop-number.stage c.next_line.new.line.items c.loop-number.invariant.1 c.loop-number.invariant.0 c.if-taken-eq0.true c.in_ok-taken.ensures.done
+    ends_well _ _ _ _ (g.R.Read.remaining c.next_line.new.reader) c.loop-number.size c.loop-number.number c.in_ok-taken.taken c.loop-number.stage c.next_line.new.line.items c.loop-number.invariant.1 c.loop-number.invariant.0 c.if-taken-eq0.true c.in_ok-taken.ensures.done
 
 pub returns-then-size-gt-MAX_SCRIPT : goal.returns-then-size-gt-MAX_SCRIPT
 returns-then-size-gt-MAX_SCRIPT g c =
-    ends_too_long _ _ _ _ _ (g.R.Read.remaining c.next_line.new.reader) c.loop-number.size c.loop-number.number c.in_ok-taken.taken c.loop-number.stage c.next_line.new.line.items c.loop-number.invariant.1 (omega arith) c.in_ok-taken.ensures.done
+    ends_too_long _ _ _ _ (g.R.Read.remaining c.next_line.new.reader) c.loop-number.size c.loop-number.number c.in_ok-taken.taken c.loop-number.stage c.next_line.new.line.items c.loop-number.invariant.1 c.loop-number.invariant.0 (omega arith) c.in_ok-taken.ensures.done
 
 pub returns-in-Ok-false : goal.returns-in-Ok-false
 returns-in-Ok-false g c =

@@ -1,5 +1,5 @@
 -- The root lists it from now on.
-use Rattle.std.proofs.Common.{◌≡◌, FitsSigned, w64, rules, None, subst, refl, sym, ap, option_map}
+use Rattle.std.proofs.Common.{◌≡◌, FitsSigned, w64, rules, None, subst, refl, sym, ap, option_map, ◌∙◌}
 use mir.Facts.{to_z-of_z}
 use Rattle.wq_view.specs.Listing.{listing_fault, listing_of}
 use Rattle.wq_replay.specs.Step.{draft_data}
@@ -24,5 +24,5 @@ returns c = λ at stands known.
     let lists = subst (λ z. c.in-Ok.tree ≡ listing_of rows z) (to_z-of_z fits) c.in-Ok.ensures.pass in
     let crawled = c.crawl.ensures at.world stands in
     listed_now at (draft_data c.args.draft) c.in-Ok.tree crawled.0 _ known none lists
-    (crawl_runs at.world crawled.0 c.in-Ok.tree c.args.draft.crawls c.if-not-crawls.false crawled.1) crawled.2 refl
+    (crawl_runs at.world crawled.0 c.in_ok-root.root c.in-Ok.tree c.args.draft.crawls c.crawl.result c.if-not-crawls.false c.in_ok-root.ensures (sym c.is_err.ensures.value ∙ c.if-is_err.false) crawled.1) crawled.2 refl
     (sym (ap (option_map draft_data) c.requires))

@@ -1,37 +1,45 @@
--- The answer is the refusal of the crawl, or the one at the view.
-use Rattle.std.proofs.Common.{None, refl, sym, ap, subst, ◌∙◌}
+-- The answer is the refusal of the crawl or the opening, that of a root that ends, or any other.
+use Rattle.std.proofs.Common.{option_map, sym, ap, ◌∙◌}
 use Rattle.wq_clock.specs.Instance.{instance_data}
-use Rattle.wq_view.specs.View.{IsViewOf}
-use Rattle.wq_replay.specs.World.{crawls_root, looks_at_root}
-use Rattle.wq_replay.proofs.Worlds.{answers_at, gets_answer, gets_refused, refusal_is}
+use Rattle.wq_session.specs.Need.{need_of}
+use Rattle.wq_session.specs.Needed.{need_data}
+use Rattle.wq_replay.specs.Stands.{Stands, refused_data, run_data}
+use Rattle.wq_replay.specs.World.{instance_of, unrefused}
+use Rattle.wq_replay.proofs.Worlds.{ends_none, ends_some, fault_is, gets_ended, gets_looked, gets_refused}
 use Rattle.wq_replay.proofs.world.World.answer.Goals as goal
 
 pub returns-in-Some : goal.returns-in-Some
 returns-in-Some c = λ before stands.
-    let crawls = c.crawls_root-crawls.ensures ∙ ap crawls_root c.need.ensures in
-    let is = refusal_is _ _ _ _ before.refused _ c.refusal_for.ensures crawls c.take-refused.ensures.value stands.refused ∙ c.in-Some.is in (
-      record before { refused = None },
-      (before.shelf, gets_refused before c.args.ask c.refused.result c.in-Some.refusal is c.refused.ensures, refl),
-      record { instance = stands.instance; view = stands.view; shelf = stands.shelf; refused = sym c.take-refused.ensures.after; whole = stands.whole },
+    let fault = fault_is (need_data c.need.result) (need_of c.args.ask) c.args.self.now.table (option_map refused_data c.take-refused.result) before.refused c.fault_for.result
+    c.fault_for.ensures c.need.ensures (stands.refused ∙ ap (option_map refused_data) (sym c.take-refused.ensures.value)) in (
+      unrefused before,
+      gets_refused before c.args.ask c.refused.result c.args.self.now.table c.in-Some.fault c.from.result stands.roots (fault ∙ c.in-Some.is) c.from.ensures c.refused.ensures,
+      record { run = stands.run; roots = stands.roots; shelf = stands.shelf; refused = sym (ap (option_map refused_data) c.take-refused.ensures.after); whole = stands.whole },
+    )
+
+pub returns-in-Some-ending : goal.returns-in-Some-ending
+returns-in-Some-ending c = λ before stands.
+    let fault = fault_is (need_data c.need.result) (need_of c.args.ask) c.args.self.now.table (option_map refused_data c.take-refused.result) before.refused c.fault_for.result
+    c.fault_for.ensures c.need.ensures (stands.refused ∙ ap (option_map refused_data) (sym c.take-refused.ensures.value)) in
+    let mid : Stands (unrefused before) (record c.args.self.now { refused = c.take-refused.new.self }) = record { run = stands.run; roots = stands.roots; shelf = stands.shelf; refused = sym (ap (option_map refused_data) c.take-refused.ensures.after); whole = stands.whole } in
+    let instance = c.in-Some-ending.instance in
+    let found = ends_some (run_data c.args.self.now.run) (need_data c.need-2.result) (need_of c.args.ask) c.args.self.now.table (instance_data instance)
+    (sym (ap (option_map instance_data) c.in-Some-ending.is) ∙ c.ending.ensures before.events stands.roots) c.need-2.ensures in
+    let got = c.answer_ended.ensures (unrefused before) mid (found.1 ∙ ap (λ run. instance_of run c.in-Some-ending.instance.root) (sym stands.run)) in (
+      got.0,
+      gets_ended before got.0 c.args.ask c.answer_ended.result c.args.self.now.table c.in-Some-ending.instance.root stands.roots (fault ∙ c.in_default.is) found.0 got.1,
+      got.2,
     )
 
 pub returns-in-None : goal.returns-in-None
 returns-in-None c = λ before stands.
-    let crawls = c.crawls_root-crawls.ensures ∙ ap crawls_root c.need.ensures in
-    let looks = c.looks_at_root-looks.ensures ∙ ap looks_at_root c.need-2.ensures in
-    let is = refusal_is _ _ _ _ before.refused _ c.refusal_for.ensures crawls c.take-refused.ensures.value stands.refused ∙ c.in-None.is in (
-      record before { shelf = c.answer_at.new.self.shelf; refused = None },
-      (
-        c.answer_at.new.self.shelf,
-        gets_answer before c.args.ask c.answer_at.result _ _ is stands.view
-            (answers_at before _ _ _ _ _ _ _ looks stands.instance stands.shelf c.answer_at.ensures.answers),
-        refl,
-      ),
-      record {
-        instance = stands.instance ∙ ap instance_data (sym c.answer_at.ensures.instance);
-        view = subst (IsViewOf before.history) (sym c.answer_at.ensures.view) stands.view;
-        shelf = refl;
-        refused = sym (c.answer_at.ensures.refused ∙ c.take-refused.ensures.after);
-        whole = c.answer_at.ensures.spent ∙ stands.whole;
-      },
+    let fault = fault_is (need_data c.need.result) (need_of c.args.ask) c.args.self.now.table (option_map refused_data c.take-refused.result) before.refused c.fault_for.result
+    c.fault_for.ensures c.need.ensures (stands.refused ∙ ap (option_map refused_data) (sym c.take-refused.ensures.value)) in
+    let mid : Stands (unrefused before) (record c.args.self.now { refused = c.take-refused.new.self }) = record { run = stands.run; roots = stands.roots; shelf = stands.shelf; refused = sym (ap (option_map refused_data) c.take-refused.ensures.after); whole = stands.whole } in
+    let none = ends_none (run_data c.args.self.now.run) (need_data c.need-2.result) (need_of c.args.ask) c.args.self.now.table
+    (sym (ap (option_map instance_data) c.in-None.is) ∙ c.ending.ensures before.events stands.roots) c.need-2.ensures in
+    let got = c.answer_at.ensures (unrefused before) mid in (
+      got.0,
+      gets_looked before got.0 c.args.ask c.answer_at.result c.args.self.now.table stands.roots (fault ∙ c.in_default.is) none got.1,
+      got.2,
     )

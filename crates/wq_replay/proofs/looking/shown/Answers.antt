@@ -1,0 +1,10 @@
+-- The number that is found.
+use Rattle.std.proofs.Common.{Some, option_map, sym, ap, ◌∙◌}
+use Rattle.wq_replay.specs.Stands.{run_data}
+use Rattle.wq_replay.specs.World.{instance_of}
+use Rattle.wq_replay.proofs.looking.shown.Goals as goal
+
+pub returns : goal.returns
+returns c = λ events is.
+    let there = sym c.number_of.ensures ∙ c.in_ok-number.was in
+    ap Some (c.instance.ensures events is c.args.root.now there) ∙ ap (option_map (instance_of (run_data c.args.run))) (sym there)

@@ -1,0 +1,113 @@
+//! What an ask finds of the roots of a world.
+ghost use Rattle.std.specs.Prelude.{◌≡◌, ◌↔◌, ℕ, IsTrue, List, Some, option_map};
+ghost use Rattle.wq_clock.specs.Instance.{instance_data};
+ghost use Rattle.wq_live.specs.Table.{IsTableOf};
+ghost use Rattle.wq_live.specs.declared.event.RootEvent.{RootEvent};
+ghost use Rattle.wq_session.specs.Needed.{need_data};
+ghost use Rattle.wq_session.specs.Work.{at_data};
+ghost use Rattle.wq_replay.specs.Stands.{refused_data, run_data};
+ghost use Rattle.wq_replay.specs.World.{IsFull, at_root, ending, fault_for, fault_of, instance_of, looked, number_in, root_in, shows};
+
+use crate::refused::Refused;
+use crate::run::Run;
+use wq_base::MAX_NUMBER;
+use wq_clock::Instance;
+use wq_live::{MAX_ROOTS, RootTable};
+use wq_session::{At, CrawlFault, Need};
+
+/// Whether the root of this text is shown.
+pub(crate) fn shows(table: &RootTable, root: &str) -> bool
+    ensures { result ≡ shows root.now table.now }
+{
+    table.number_of(root).is_some()
+}
+
+/// Whether no other root may be shown.
+pub(crate) fn is_full(table: &RootTable) -> bool
+    ensures { IsTrue result ↔ IsFull table.now }
+{
+    table.len() == MAX_ROOTS || table.given() == MAX_NUMBER
+}
+
+/// Why the crawl or the opening was refused that an ask needs, if it needs one and that was refused.
+pub(crate) fn fault_for(
+    need: Need<'_>,
+    table: &RootTable,
+    refused: Option<Refused>,
+) -> Option<CrawlFault>
+    ensures { result ≡ fault_for (need_data need.entry) table.now (option_map refused_data refused) }
+{
+    match need {
+        Need::Crawl(root) if shows(table, root) => fault_of(root, refused),
+        Need::Open(root) if !shows(table, root) => fault_of(root, refused),
+        _ => None,
+    }
+}
+
+/// Why this root could not be crawled or opened.
+fn fault_of(root: &str, refused: Option<Refused>) -> Option<CrawlFault>
+    ensures { result ≡ fault_of root.now (option_map refused_data refused) }
+{
+    let refused = refused?;
+    if refused.root.as_str() == root {
+        Some(refused.fault)
+    } else {
+        None
+    }
+}
+
+/// The root that an ask ends, if it is shown.
+pub(crate) fn ending(need: Need<'_>, run: Run, table: &RootTable) -> Option<Instance>
+    ensures { (events : List RootEvent) → IsTableOf events table.now → option_map instance_data result
+        ≡ option_map (instance_of (run_data run)) (ending (need_data need.entry) table.now) }
+{
+    match need {
+        Need::Retire(root) => shown(run, table, root),
+        _ => None,
+    }
+}
+
+/// The root of this text, if it is shown.
+fn shown(run: Run, table: &RootTable, root: &str) -> Option<Instance>
+    ensures { (events : List RootEvent) → IsTableOf events table.now → option_map instance_data result
+        ≡ option_map (instance_of (run_data run)) (number_in root.now table.now) }
+{
+    let number = table.number_of(root)?;
+    Some(instance(run, table, number))
+}
+
+/// The root of this number, which is one of those that are shown.
+fn instance(run: Run, table: &RootTable, number: u64) -> Instance
+    ensures { (events : List RootEvent) → IsTableOf events table.now → (root : List ℕ)
+        → number_in root table.now ≡ Some number
+        → instance_data result ≡ instance_of (run_data run) number }
+{
+    // No root has a greater number than was given.
+    let given = table.given();
+    if number <= given {
+        run.instance(number)
+    } else {
+        run.instance(given)
+    }
+}
+
+/// What is looked at for an ask that ends no root: the root that it names, if that is shown.
+pub(crate) fn looked<'a>(need: Need<'_>, run: Run, table: &'a RootTable) -> Option<At<'a>>
+    ensures { (events : List RootEvent) → IsTableOf events table.now → option_map at_data result
+        ≡ looked (need_data need.entry) (run_data run) table.now }
+{
+    match need {
+        Need::None | Need::Retire(_) => None,
+        Need::Look(root) | Need::Crawl(root) | Need::Open(root) => at_root(run, table, root),
+    }
+}
+
+/// A root as it is looked at, if it is shown.
+fn at_root<'a>(run: Run, table: &'a RootTable, root: &str) -> Option<At<'a>>
+    ensures { (events : List RootEvent) → IsTableOf events table.now → option_map at_data result
+        ≡ option_map (at_root (run_data run)) (root_in root.now table.now) }
+{
+    let (number, view) = table.root(root)?;
+    let instance = instance(run, table, number);
+    Some(At { instance, view })
+}

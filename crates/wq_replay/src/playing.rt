@@ -1,0 +1,312 @@
+//! What happens in a world: crawls and openings of roots, and the answers to what clients ask. What a session answers is
+//! not said here.
+ghost use Rattle.std.specs.Prelude.{◌≡◌, ◌+◌, ◌++◌, ◌∷◌, List, Ok, [], false, map, string_bytes, true};
+ghost use Rattle.std.specs.Prelude.{IfOk, IsErr, OnErr};
+ghost use Rattle.std.specs.Prelude.{None, pos};
+ghost use Rattle.wq_clock.specs.Instance.{instance_data};
+ghost use Rattle.wq_live.specs.Table.{IsTableOf};
+ghost use Rattle.wq_live.specs.declared.event.RootEvent.TheVariants.{Started};
+ghost use Rattle.wq_session.specs.Need.{need_of};
+ghost use Rattle.wq_view.specs.Listing.{listing_of};
+ghost use Rattle.wq_replay.specs.Stands.{CrawlsOver, Leads, OpensOver, Stands, StartsOver, crawl_data, happening_data, run_data, sent_data, sent_list};
+ghost use Rattle.wq_replay.specs.World.{AnswersAt, Does, EndsAt, Gets, HappeningData, IsFull, Runs, SentData};
+ghost use Rattle.wq_replay.specs.World.{WorldData, instance_of, looked, new_world, root_text, sent_to, shows};
+
+use crate::happening::Happening;
+use crate::looking::{ending, fault_for, is_full, looked, shows};
+use crate::refused::Refused;
+use crate::run::Run;
+use crate::sent::Sent;
+use crate::world::World;
+use std::alloc::{AllocError, Global};
+use wq_base::Text;
+use wq_clock::Instance;
+use wq_live::RootTable;
+use wq_registry::{Cache, Shelf};
+use wq_session::{Ask, At, CrawlFault, Out, Refusal, Session};
+use wq_view::{Pass, View, ViewFault};
+
+/// The root of a new world.
+pub(crate) const ROOT: &str = "/r";
+
+impl World {
+    /// A world before anything, of this run of the server, whose socket has this name. The root `/r` is watched, and no
+    /// pass went over it.
+    pub fn new(alloc: Global, run: Run, sockname: String) -> Result<World, AllocError>
+        ensures { IfOk result (Stands (new_world (run_data run) (string_bytes sockname))) }
+    {
+        let cache = Cache::new(alloc, run.start, run.pid)?;
+        let mut shelf = Shelf::new(alloc, cache, sockname);
+        let table = first_table(alloc)?;
+        match shelf.add_root(ROOT, 1) {
+            Ok(()) => Ok(World {
+                run,
+                table,
+                shelf,
+                refused: None,
+                spent: false,
+            }),
+            Err(_) => Err(AllocError),
+        }
+    }
+
+    /// Lets this happen, one after the other, and gives what is sent.
+    ///
+    /// An ask that needs a crawl of a root, or has to open it, is to come directly behind that. Where that was refused,
+    /// so is the ask.
+    ///
+    /// # Errors
+    /// Where a growth is refused for a view, or for the list of what is sent. From then on every call is refused.
+    pub fn play(
+        &mut self,
+        alloc: Global,
+        happenings: Vec<Happening<'_>>,
+    ) -> Result<Vec<Sent>, AllocError>
+        // For every world that this one stands for:
+        ensures runs { (before : WorldData) → Stands before self.old → IfOk result (λ sent.
+            (after : WorldData) × Runs before (map happening_data happenings.entry.items)
+            (map sent_data sent.items) after × Stands after self.new) }
+        // For everything that led to it from a first one:
+        ensures leads { (first : WorldData) (events : List HappeningData) (said : List SentData)
+            → Leads first events said self.old → IfOk result (λ sent.
+            Leads first (events ++ map happening_data happenings.entry.items)
+            (said ++ map sent_data sent.items) self.new) }
+        ensures spent { self.old.spent ≡ true → IsErr result }
+        ensures spends { OnErr result (self.new.spent ≡ true) }
+    {
+        if self.spent {
+            return Err(AllocError);
+        }
+        let sent = self.play_all(alloc, happenings);
+        if sent.is_err() {
+            self.spent = true;
+        }
+        sent
+    }
+
+    /// The same, where memory suffices.
+    fn play_all(
+        &mut self,
+        alloc: Global,
+        happenings: Vec<Happening<'_>>,
+    ) -> Result<Vec<Sent>, AllocError>
+        ensures { (before : WorldData) → Stands before self.old → IfOk result (λ sent.
+            (after : WorldData) × Runs before (map happening_data happenings.entry.items)
+            (map sent_data sent.items) after × Stands after self.new) }
+    {
+        let mut sent = Vec::new(alloc);
+        for happening in happenings {
+            if let Some(reply) = self.happen(alloc, happening)? {
+                sent.push(reply)?;
+            }
+        }
+        Ok(sent)
+    }
+
+    /// Lets one thing happen.
+    fn happen(
+        &mut self,
+        alloc: Global,
+        happening: Happening<'_>,
+    ) -> Result<Option<Sent>, AllocError>
+        ensures { (before : WorldData) → Stands before self.old → IfOk result (λ sent.
+            (after : WorldData) × Does before (happening_data happening.entry) (sent_list sent) after
+            × Stands after self.new) }
+    {
+        match happening {
+            Happening::Crawl { root, seen } => {
+                self.crawl(root, seen)?;
+                Ok(None)
+            }
+            Happening::Open { root, seen } => {
+                self.open(root, seen)?;
+                Ok(None)
+            }
+            Happening::Asked { client, ask } => {
+                let out = self.answer(alloc, ask);
+                Ok(sent(client, out))
+            }
+        }
+    }
+
+    /// A root is crawled, and lists this, or could not be. Where memory runs out, the crawl counts as one that was
+    /// refused for that.
+    pub(crate) fn crawl(
+        &mut self,
+        root: Text,
+        seen: Result<&Pass, CrawlFault>,
+    ) -> Result<(), AllocError>
+        ensures { (before : WorldData) → Stands before self.old
+            → (after : WorldData) × CrawlsOver before root (crawl_data seen.entry) result after
+            × Stands after self.new }
+    {
+        match seen {
+            Ok(pass) => self.pass(root, pass),
+            Err(fault) => {
+                self.refused = Some(Refused { root, fault });
+                Ok(())
+            }
+        }
+    }
+
+    /// A root is crawled, and lists this.
+    fn pass(&mut self, root: Text, pass: &Pass) -> Result<(), AllocError>
+        ensures { (before : WorldData) → Stands before self.old
+            → (after : WorldData) × CrawlsOver before root (Ok pass.now) result after
+            × Stands after self.new }
+    {
+        self.refused = None;
+        let Some(number) = self.table.number_of(root.as_str()) else {
+            return Ok(());
+        };
+        match self.table.with_pass(number, pass) {
+            Ok(None) => Ok(()),
+            Ok(Some(table)) => {
+                self.table = table;
+                Ok(())
+            }
+            Err(ViewFault::TicksSpent) => {
+                let fault = CrawlFault::TicksSpent;
+                self.refused = Some(Refused { root, fault });
+                Ok(())
+            }
+            Err(ViewFault::NoMemory) => {
+                let fault = CrawlFault::NoMemory;
+                self.refused = Some(Refused { root, fault });
+                Err(AllocError)
+            }
+        }
+    }
+
+    /// A root that is not shown is opened, and lists this, or could not be read. Where memory runs out, the opening
+    /// counts as one that was refused for that.
+    pub(crate) fn open(
+        &mut self,
+        root: Text,
+        seen: Result<&Pass, CrawlFault>,
+    ) -> Result<(), AllocError>
+        ensures { (before : WorldData) → Stands before self.old
+            → (after : WorldData) × OpensOver before root (crawl_data seen.entry) result after
+            × Stands after self.new }
+    {
+        if shows(&self.table, root.as_str()) {
+            self.refused = None;
+            return Ok(());
+        }
+        if is_full(&self.table) {
+            let fault = CrawlFault::TooManyRoots;
+            self.refused = Some(Refused { root, fault });
+            return Ok(());
+        }
+        match seen {
+            Ok(pass) => self.start(root, pass),
+            Err(fault) => {
+                self.refused = Some(Refused { root, fault });
+                Ok(())
+            }
+        }
+    }
+
+    /// A root that is not shown starts with this pass.
+    fn start(&mut self, root: Text, pass: &Pass) -> Result<(), AllocError>
+        requires new { shows root self.old.table ≡ false }
+        requires room { IsFull self.old.table → ⊥ }
+        ensures { (before : WorldData) → Stands before self.old
+            → (after : WorldData)
+            × StartsOver (self.old.table.given + 1) before root pass.now result after
+            × Stands after self.new }
+    {
+        match self.table.with_start(root.as_str(), pass) {
+            Ok(table) => {
+                self.table = table;
+                self.refused = None;
+                Ok(())
+            }
+            Err(_) => {
+                let fault = CrawlFault::NoMemory;
+                self.refused = Some(Refused { root, fault });
+                Err(AllocError)
+            }
+        }
+    }
+
+    /// What an ask gets. One that needs a crawl of a root, or has to open it, is to come directly behind that.
+    pub(crate) fn answer(&mut self, alloc: Global, ask: Ask) -> Out
+        ensures { (before : WorldData) → Stands before self.old
+            → (after : WorldData) × Gets before ask result after × Stands after self.new }
+    {
+        let refused = self.refused.take();
+        if let Some(fault) = fault_for(ask.need(), &self.table, refused) {
+            return Out::refused(alloc, Refusal::from(fault));
+        }
+        match ending(ask.need(), self.run, &self.table) {
+            Some(instance) => self.answer_ended(alloc, ask, instance),
+            None => self.answer_at(alloc, ask),
+        }
+    }
+
+    /// What an ask gets that ends this root.
+    fn answer_ended(&mut self, alloc: Global, ask: Ask, instance: Instance) -> Out
+        requires followed { self.old.refused ≡ None }
+        ensures { (before : WorldData) → Stands before self.old
+            → instance_data instance ≡ instance_of before.run instance.root
+            → (after : WorldData) × EndsAt instance.root before ask result after × Stands after self.new }
+    {
+        // The root is shown, so that only memory can be lacking.
+        let Ok(Some(table)) = self.table.with_end(instance.root) else {
+            return Out::refused(alloc, Refusal::NoMemory);
+        };
+        self.table = table;
+        let view = View::new(alloc);
+        let at = At {
+            instance,
+            view: &view,
+        };
+        Session::new().on(alloc, ask, Some(at), &mut self.shelf)
+    }
+
+    /// What any other ask gets, at the root that it names. Nothing is kept of a client yet, so that each ask has a
+    /// session of its own.
+    fn answer_at(&mut self, alloc: Global, ask: Ask) -> Out
+        requires followed { self.old.refused ≡ None }
+        ensures { (before : WorldData) → Stands before self.old
+            → (after : WorldData)
+            × AnswersAt (looked (need_of ask) before.run self.old.table) before ask result after
+            × Stands after self.new }
+    {
+        let at = looked(ask.need(), self.run, &self.table);
+        Session::new().on(alloc, ask, at, &mut self.shelf)
+    }
+}
+
+/// The table of a new world: `/r` is shown, and no pass went over it.
+fn first_table(alloc: Global) -> Result<RootTable, AllocError>
+    ensures { IfOk result (IsTableOf (Started 1 root_text ∷ [])) }
+{
+    let pass = no_files(alloc)?;
+    let table = RootTable::new(alloc);
+    match table.with_start(ROOT, &pass) {
+        Ok(table) => Ok(table),
+        Err(_) => Err(AllocError),
+    }
+}
+
+/// A pass that saw no file.
+pub(crate) fn no_files(alloc: Global) -> Result<Pass, AllocError>
+    ensures { IfOk result (λ pass. pass ≡ listing_of [] (pos 0)) }
+{
+    match Pass::new(Vec::new(alloc), 0) {
+        Ok(pass) => Ok(pass),
+        Err(_) => Err(AllocError),
+    }
+}
+
+/// What is sent to a client, if there is a reply.
+fn sent(client: i64, out: Out) -> Option<Sent>
+    ensures { sent_list result ≡ sent_to client out }
+{
+    if out.reply().is_none() {
+        return None;
+    }
+    Some(Sent { client, out })
+}

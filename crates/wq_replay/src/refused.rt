@@ -1,0 +1,11 @@
+//! A crawl or an opening that was refused.
+
+use wq_base::Text;
+use wq_session::CrawlFault;
+
+/// A root that could not be crawled or opened, and why.
+#[derive(Drop)]
+pub(crate) struct Refused {
+    pub(crate) root: Text,
+    pub(crate) fault: CrawlFault,
+}
