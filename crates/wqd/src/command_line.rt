@@ -1,8 +1,24 @@
 //! The words of the command line.
+ghost use Rattle.std.specs.Prelude.{◌≤◌, IfOk, IfSome};
 
+use crate::serving::Settings;
 use clap::error::ErrorKind;
-use clap::{Arg, Command, Error};
+use clap::{Arg, ArgMatches, Command, Error};
 use std::alloc::{AllocError, AllocFailed, Global};
+use wq_base::{MAX_NUMBER, unsigned_number};
+use wq_server::Run;
+
+/// How many milliseconds lie between two rounds of crawls, where the command line does not say it.
+const INTERVAL: u64 = 1_000;
+
+/// The fewest milliseconds that may lie between two rounds of crawls.
+const MIN_INTERVAL: u64 = 10;
+
+/// The most milliseconds that may lie between two rounds of crawls: an hour.
+const MAX_INTERVAL: u64 = 3_600_000;
+
+/// How many threads a query may use at most.
+const MAX_WORKERS: u64 = 16;
 
 /// What the command line asks for.
 #[derive(Debug, Drop)]
@@ -11,6 +27,8 @@ pub(crate) enum Task {
     Replay,
     /// Say what the program file of this path is.
     Check(String),
+    /// Serve clients.
+    Serve(Settings),
 }
 
 /// Why the command line asks for nothing.
@@ -34,8 +52,46 @@ pub(crate) fn task_of(alloc: Global, words: &[String]) -> Result<Task, CommandLi
             Some(path) => Ok(Task::Check(String::from_str(alloc, path)?)),
             None => Err(CommandLineFault::Wrong),
         },
+        Some(("serve", given)) => Ok(Task::Serve(settings_of(alloc, given)?)),
         _ => Err(CommandLineFault::Wrong),
     }
+}
+
+/// What the words after `serve` say.
+fn settings_of(alloc: Global, given: &ArgMatches<'_>) -> Result<Settings, CommandLineFault> {
+    let Some(sockname) = given.get_str("sockname") else {
+        return Err(CommandLineFault::Wrong);
+    };
+    let start = number_of(given, "start", None, MAX_NUMBER)?;
+    let pid = number_of(given, "pid", None, MAX_NUMBER)?;
+    let interval = number_of(given, "interval", Some(INTERVAL), MAX_INTERVAL)?;
+    let workers = number_of(given, "workers", Some(1), MAX_WORKERS)?;
+    if interval < MIN_INTERVAL || workers == 0 {
+        return Err(CommandLineFault::Wrong);
+    }
+    Ok(Settings {
+        sockname: String::from_str(alloc, sockname)?,
+        run: Run::new(start, pid),
+        interval,
+        workers,
+    })
+}
+
+/// The number of at most `most` that stands under a name, or what is taken where none does.
+fn number_of(
+    given: &ArgMatches<'_>,
+    name: &str,
+    default: Option<u64>,
+    most: u64,
+) -> Result<u64, CommandLineFault>
+    requires { IfSome default (λ number. number ≤ most) }
+    ensures { IfOk result (λ number. number ≤ most) }
+{
+    let number = match given.get_str(name) {
+        Some(text) => unsigned_number(text, most),
+        None => default,
+    };
+    number.ok_or(CommandLineFault::Wrong)
 }
 
 fn command<'a>(alloc: Global) -> Result<Command<'a>, AllocError> {
@@ -43,7 +99,20 @@ fn command<'a>(alloc: Global) -> Result<Command<'a>, AllocError> {
     Command::new(alloc, "wqd")
         .subcommand_required(true)
         .subcommand(Command::new(alloc, "replay"))?
-        .subcommand(Command::new(alloc, "check").arg(file)?)
+        .subcommand(Command::new(alloc, "check").arg(file)?)?
+        .subcommand(serve_command(alloc)?)
+}
+
+/// The words of `serve`.
+fn serve_command<'a>(alloc: Global) -> Result<Command<'a>, AllocError> {
+    let mut command = Command::new(alloc, "serve");
+    for name in ["sockname", "start", "pid"] {
+        command = command.arg(Arg::new(alloc, name).long(name).required(true))?;
+    }
+    for name in ["interval", "workers"] {
+        command = command.arg(Arg::new(alloc, name).long(name))?;
+    }
+    Ok(command)
 }
 
 /// Memory that ran out is told apart from words that are wrong.

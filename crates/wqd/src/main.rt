@@ -3,14 +3,18 @@
 #![tactic(auto)]
 
 mod command_line;
+mod serving;
 
 use command_line::{CommandLineFault, Task};
+use serving::{Machine, StandardError, serve};
 use std::env;
 use std::fs::File;
 use std::io::{self, BufReader, BufWriter, ErrorKind, Read, Write};
 use std::process::ExitCode;
 use wq_check::{FAULT, MAX_FILE, check};
+use wq_daemon::MachineClock;
 use wq_replay::{ReplayFault, replay};
+use wq_walk::Walker;
 
 /// The exit status after a wrong command line.
 const WRONG_COMMAND_LINE: u8 = 2;
@@ -19,6 +23,14 @@ fn main(rt: HostRuntime) -> ExitCode {
     match task(&rt) {
         Ok(Task::Replay) => replay_status(&rt, replay_script(&rt)),
         Ok(Task::Check(path)) => ExitCode::from(check_file(&rt, &path)),
+        Ok(Task::Serve(settings)) => {
+            let machine = Machine {
+                tree: Walker::new(rt, rt.alloc()),
+                seconds: MachineClock::new(rt),
+                notices: StandardError { rt },
+            };
+            serve(&rt, rt, machine, settings)
+        }
         Err(CommandLineFault::Wrong) => {
             eprintln!(rt; "wqd: wrong command line").ok();
             ExitCode::from(WRONG_COMMAND_LINE)

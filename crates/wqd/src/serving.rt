@@ -1,0 +1,100 @@
+//! The server as the command line asks for it: what it works with on this machine.
+
+use std::alloc::Global;
+use std::io;
+use std::marker::Brand;
+use std::process::ExitCode;
+use std::sync::Wait;
+use std::thread::Threads;
+use std::time::{Clock, Duration};
+use wq_daemon::{Listening, Notices, Parts, SEATS, listen, remove, serve_clients};
+use wq_live::{Blank, Tree};
+use wq_server::{Run, Seconds};
+
+/// What the command line says of the server.
+#[derive(Debug, Drop)]
+pub(crate) struct Settings {
+    /// The path of its socket.
+    pub(crate) sockname: String,
+    pub(crate) run: Run,
+    /// How many milliseconds it waits between two rounds of crawls.
+    pub(crate) interval: u64,
+    /// How many threads a query may use, 1 to 16. One is used so far.
+    pub(crate) workers: u64,
+}
+
+/// Lines on standard error.
+#[derive(Drop)]
+pub(crate) struct StandardError<R: Eprint + Drop> {
+    pub(crate) rt: R,
+}
+
+impl<R: Eprint + Drop> Notices for StandardError<R> {
+    fn tell(&self, line: &str) {
+        let rt = &self.rt;
+        // A standard error that cannot be written is not told of anywhere.
+        eprintln!(rt; "{line}").ok();
+    }
+}
+
+/// What the server works with on this machine.
+#[derive(Drop)]
+pub(crate) struct Machine<T: Tree + Drop, S: Seconds + Drop, O: Notices + Drop> {
+    pub(crate) tree: T,
+    pub(crate) seconds: S,
+    pub(crate) notices: O,
+}
+
+/// Serves clients until one of them asks that the server ends, and gives the exit status. Threads wait by the second handle.
+pub(crate) fn serve<R, T, S, O>(
+    rt: &HostRuntime,
+    threads: R,
+    machine: Machine<T, S, O>,
+    settings: Settings,
+) -> ExitCode
+where
+    R: Threads + Wait + Clock + Copy + Drop + Send + Sync + 'static,
+    T: Tree + Drop + Send + 'static,
+    S: Seconds + Drop + Send + 'static,
+    O: Notices + Drop + Send + Sync + 'static,
+{
+    let Ok(listening) = listen(rt, rt.alloc(), &settings.sockname) else {
+        return cannot_listen(rt);
+    };
+    let served = serve_socket(threads, rt.alloc(), &listening, machine, settings);
+    remove(rt, &listening);
+    match served {
+        Ok(()) => ExitCode::SUCCESS,
+        Err(_) => cannot_listen(rt),
+    }
+}
+
+fn cannot_listen(rt: &HostRuntime) -> ExitCode {
+    eprintln!(rt; "cannot listen").ok();
+    ExitCode::FAILURE
+}
+
+fn serve_socket<R, T, S, O>(
+    rt: R,
+    alloc: Global,
+    listening: &Listening,
+    machine: Machine<T, S, O>,
+    settings: Settings,
+) -> io::Result<()>
+where
+    R: Threads + Wait + Clock + Copy + Drop + Send + Sync + 'static,
+    T: Tree + Drop + Send + 'static,
+    S: Seconds + Drop + Send + 'static,
+    O: Notices + Drop + Send + Sync + 'static,
+{
+    let parts = Parts {
+        run: settings.run,
+        tree: machine.tree,
+        seconds: machine.seconds,
+        notices: machine.notices,
+        sockname: settings.sockname,
+        interval: Duration::from_millis(settings.interval),
+    };
+    let blank = Blank::new(alloc, &rt, SEATS)?;
+    serve_clients::<Brand, R, T, S, O>(rt, alloc, listening, blank, parts)
+}

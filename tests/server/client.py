@@ -1,0 +1,170 @@
+"""A server that runs, a plain client of it, and a plain walk of a tree."""
+
+import json
+import os
+import select
+import socket
+import stat
+import subprocess
+import tempfile
+import time
+from pathlib import Path
+from typing import Callable, List, Tuple
+
+import built
+
+PATIENCE = 60.0
+Row = Tuple[str, str, int, int]
+
+
+class Client:
+    """A client that sends a JSON value on a line, and reads one on a line."""
+
+    def __init__(self, sockname: str) -> None:
+        self.socket = socket.socket(socket.AF_UNIX, socket.SOCK_STREAM)
+        self.socket.settimeout(PATIENCE)
+        self.socket.connect(sockname)
+        self.read = b""
+
+    def __enter__(self) -> "Client":
+        return self
+
+    def __exit__(self, *_: object) -> None:
+        self.close()
+
+    def close(self) -> None:
+        self.socket.close()
+
+    @staticmethod
+    def text(value: object) -> bytes:
+        return json.dumps(value).encode()
+
+    def send_bytes(self, data: bytes) -> None:
+        try:
+            self.socket.sendall(data)
+        except (BrokenPipeError, ConnectionResetError):
+            pass  # the server ended the session; what it said before can still be read
+
+    def send(self, *command: object) -> None:
+        self.send_bytes(self.text(list(command)) + b"\n")
+
+    def reply(self) -> dict:
+        while b"\n" not in self.read:
+            piece = self.socket.recv(65_536)
+            if not piece:
+                raise ValueError(f"the stream ended behind {self.read!r}")
+            self.read += piece
+        line, self.read = self.read.split(b"\n", 1)
+        return json.loads(line)
+
+    def ask(self, *command: object) -> dict:
+        self.send(*command)
+        return self.reply()
+
+    def ask_until(self, name: str, root: str, query: dict, is_right: Callable[[dict], object]) -> dict:
+        """Asks until the reply is right, or the patience ends."""
+        end = time.monotonic() + PATIENCE
+        while True:
+            reply = self.ask(name, root, query)
+            if is_right(reply) or time.monotonic() > end:
+                return reply
+            time.sleep(0.01)
+
+    def rest(self) -> bytes:
+        """What comes until the server closes the stream."""
+        while True:
+            try:
+                piece = self.socket.recv(65_536)
+            except ConnectionResetError:
+                return self.read
+            if not piece:
+                return self.read
+            self.read += piece
+
+
+class Server:
+    """A server whose socket stands in a folder."""
+
+    def __init__(self, room: Path, interval: int = 1000) -> None:
+        self.sockname = str(room / "socket")
+        self.said = tempfile.TemporaryFile()
+        words = ["serve", "--sockname", self.sockname, "--start", "7", "--pid", "9", "--interval", str(interval)]
+        self.process = subprocess.Popen([str(built.program_path()), *words], stderr=self.said)
+        if not self.says(f"listening on {self.sockname}\n".encode()):
+            self.kill()
+            raise ValueError(f"the server does not listen: {self.errors()!r}")
+
+    def __enter__(self) -> "Server":
+        return self
+
+    def __exit__(self, *_: object) -> None:
+        self.kill()
+        self.said.close()
+
+    def client(self) -> Client:
+        return Client(self.sockname)
+
+    def client_when_free(self) -> Client:
+        """A client that has a session: a session that is over may still end."""
+        end = time.monotonic() + PATIENCE
+        while True:
+            client = self.client()
+            if not select.select([client.socket], [], [], 0.2)[0] or time.monotonic() > end:
+                return client
+            client.close()
+
+    def errors(self) -> bytes:
+        return os.pread(self.said.fileno(), 1_000_000, 0)
+
+    def says(self, line: bytes) -> bool:
+        """Whether the server says this on standard error before the patience ends."""
+        end = time.monotonic() + PATIENCE
+        while line not in self.errors():
+            if time.monotonic() > end or self.process.poll() is not None:
+                return line in self.errors()
+            time.sleep(0.01)
+        return True
+
+    def shut_down(self, client: Client) -> object:
+        """Has a client end the server, and gives the exit status."""
+        reply = client.ask("shutdown-server")
+        if reply != {"shutdown-server": True, "version": "wq-1"}:
+            return reply
+        return self.process.wait(PATIENCE)
+
+    def kill(self) -> None:
+        self.process.kill()
+        self.process.wait()
+
+
+def walked(root: Path) -> List[Row]:
+    """Name, letter, size and time of each file below a root, by name."""
+    rows: List[Row] = []
+    walk_into(bytes(root), b"", rows)
+    return sorted(rows, key=lambda row: row[0].encode())
+
+
+def walk_into(folder: bytes, above: bytes, rows: List[Row]) -> None:
+    try:
+        names = os.listdir(folder)
+    except OSError:
+        return
+    for name in names:
+        whole = above + name
+        try:
+            text = whole.decode()
+        except UnicodeDecodeError:
+            continue
+        found = os.lstat(os.path.join(folder, name))
+        letter = letter_of(found.st_mode)
+        rows.append((text, letter, found.st_size, found.st_mtime_ns // 1_000_000))
+        if letter == "d":
+            walk_into(os.path.join(folder, name), whole + b"/", rows)
+
+
+def letter_of(mode: int) -> str:
+    if stat.S_ISREG(mode):
+        return "f"
+    if stat.S_ISDIR(mode):
+        return "d"
+    return "l" if stat.S_ISLNK(mode) else "?"
