@@ -12,8 +12,13 @@ pub(crate) type Sight = (u64, u64, usize);
 /// The row of a file, named by its number.
 fn row(alloc: Global, number: u64) -> Result<Seen, AllocError> {
     let mut name = Buffer::new();
+    named_row(alloc, name.format(number).as_bytes())
+}
+
+/// The row of a file of this name.
+pub(crate) fn named_row(alloc: Global, name: &[u8]) -> Result<Seen, AllocError> {
     Ok(Seen {
-        name: ArcSlice::from_slice(alloc, name.format(number).as_bytes())?,
+        name: ArcSlice::from_slice(alloc, name)?,
         kind: Kind::File,
         size: 1,
         mtime_ms: 1,
