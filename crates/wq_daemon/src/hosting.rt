@@ -9,7 +9,7 @@ use std::io::Write;
 use std::sync::{Arc, Mutex, Wait};
 use wq_live::{Named, Seat, Tree};
 use wq_registry::Shelf;
-use wq_server::{Crawler, Inbox, LockDesk, LockRoots, Run, Seconds, serve};
+use wq_server::{Crawler, Inbox, LockDesk, LockRoots, Run, Seconds, SharedCrawler, serve};
 use wq_session::CrawlFault;
 
 /// A server's parts. It serves a client for each seat that is free.
@@ -26,7 +26,7 @@ where
     alloc: Global,
     run: Run,
     seats: Mutex<Vec<Seat<N>>>,
-    crawler: Arc<Mutex<Crawler<N, R, T, S>>>,
+    crawler: Arc<SharedCrawler<N, R, T, S>>,
     shelf: Arc<Mutex<Shelf<()>>>,
     failing: Mutex<Failing>,
     notices: O,
@@ -58,7 +58,7 @@ where
             alloc,
             run,
             seats: Mutex::new(seats),
-            crawler: Arc::new(alloc, Mutex::new(crawler))?,
+            crawler: Arc::new(alloc, SharedCrawler::new(alloc, crawler)?)?,
             shelf: Arc::new(alloc, Mutex::new(shelf))?,
             failing: Mutex::new(Failing::new(alloc)),
             notices,
@@ -104,7 +104,7 @@ where
     fn crawl_all(&self, roots: Vec<String>) {
         let mut failing = Failing::new(self.alloc);
         for root in roots {
-            let crawled = self.crawler.lock(&self.rt).crawl(&root);
+            let crawled = self.crawler.crawl(&self.rt, &root);
             if let Err(fault) = crawled {
                 if !self.failing.lock(&self.rt).has(&root) {
                     self.tell(&root, fault);

@@ -13,7 +13,7 @@ use wq_base::Table;
 use wq_live::{Blank, Named, Seat};
 use wq_registry::Shelf;
 use wq_serve::Event;
-use wq_server::{Crawler, Inbox, LockDesk, LockRoots, Run, serve};
+use wq_server::{Crawler, Inbox, LockDesk, LockRoots, Run, SharedCrawler, serve};
 
 /// How often it is looked whether the other client got its reply.
 const TURNS: u64 = 1_000_000_000;
@@ -111,14 +111,14 @@ struct Talker<N: Named, R: Wait + Drop> {
     inbox: Waiting,
     writer: Telling,
     seat: Seat<N>,
-    crawler: Arc<Mutex<Crawler<N, R, SameFiles, Still>>>,
+    crawler: Arc<SharedCrawler<N, R, SameFiles, Still>>,
     shelf: Arc<Mutex<Shelf<()>>>,
 }
 
 /// What all clients share.
 #[derive(Drop)]
 struct Shared<N: Named, R: Wait + Drop> {
-    crawler: Arc<Mutex<Crawler<N, R, SameFiles, Still>>>,
+    crawler: Arc<SharedCrawler<N, R, SameFiles, Still>>,
     shelf: Arc<Mutex<Shelf<()>>>,
 }
 
@@ -153,7 +153,7 @@ fn share<N: Named, R: Wait + Drop>(
     crawler: Crawler<N, R, SameFiles, Still>,
 ) -> Option<Shared<N, R>> {
     Some(Shared {
-        crawler: Arc::new(alloc, Mutex::new(crawler)).ok()?,
+        crawler: Arc::new(alloc, SharedCrawler::new(alloc, crawler).ok()?).ok()?,
         shelf: new_shelf(alloc)?,
     })
 }

@@ -58,6 +58,13 @@ impl<N: Named, R: Wait + Drop, T: Tree + Drop, S: Seconds + Drop> Crawler<N, R, 
         self.publisher.seat()
     }
 
+    /// The number of the root of this text, if it is shown.
+    pub fn number(&self, root: &str) -> Option<u64>
+        ensures { result ≡ number_of root.now self.now }
+    {
+        self.publisher.find(root)
+    }
+
     /// Crawls the root of this text, publishes the pass, and tells the list; none where the root is not shown.
     ///
     /// A refused crawl leaves the list. It waits for those that still look at what was published before the last pass.

@@ -18,6 +18,7 @@ mod memory_roots;
 mod roots;
 mod run;
 mod serving;
+mod shared_crawler;
 mod writing;
 
 pub use crawler::{Crawler, Seconds};
@@ -30,3 +31,4 @@ pub use memory_roots::MemoryRoots;
 pub use roots::{Answer, Roots, Wish};
 pub use run::Run;
 pub use serving::{Ended, MAX_EVENTS, serve};
+pub use shared_crawler::SharedCrawler;

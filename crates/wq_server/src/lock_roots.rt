@@ -1,20 +1,21 @@
 //! Roots that many sessions share.
-use crate::crawler::{Crawler, Seconds};
+use crate::crawler::Seconds;
 use crate::roots::Roots;
-use std::sync::{Arc, Mutex, Wait};
+use crate::shared_crawler::SharedCrawler;
+use std::sync::{Arc, Wait};
 use wq_live::{Named, Told, Tree};
 use wq_session::CrawlFault;
 
 /// Roots over a crawler that threads share. They show no answers.
 #[derive(Drop)]
 pub struct LockRoots<N: Named, R: Wait + Drop, T: Tree + Drop, S: Seconds + Drop> {
-    crawler: Arc<Mutex<Crawler<N, R, T, S>>>,
+    crawler: Arc<SharedCrawler<N, R, T, S>>,
     rt: R,
 }
 
 impl<N: Named, R: Wait + Drop, T: Tree + Drop, S: Seconds + Drop> LockRoots<N, R, T, S> {
     /// Roots over this crawler, for which they wait by this handle.
-    pub fn new(crawler: Arc<Mutex<Crawler<N, R, T, S>>>, rt: R) -> LockRoots<N, R, T, S> {
+    pub fn new(crawler: Arc<SharedCrawler<N, R, T, S>>, rt: R) -> LockRoots<N, R, T, S> {
         LockRoots { crawler, rt }
     }
 }
@@ -26,14 +27,14 @@ impl<N: Named, R: Wait + Drop, T: Tree + Drop, S: Seconds + Drop> Roots<N>
     ghost given = { λ _. None };
 
     fn open(&mut self, root: &str) -> Result<Told<N>, CrawlFault> {
-        self.crawler.lock(&self.rt).open(root)
+        self.crawler.open(&self.rt, root)
     }
 
     fn crawl(&mut self, root: &str) -> Result<Option<Told<N>>, CrawlFault> {
-        self.crawler.lock(&self.rt).crawl(root)
+        self.crawler.crawl(&self.rt, root)
     }
 
     fn retire(&mut self, number: u64) -> Result<Told<N>, CrawlFault> {
-        self.crawler.lock(&self.rt).retire(number)
+        self.crawler.retire(&self.rt, number)
     }
 }

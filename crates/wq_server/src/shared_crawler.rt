@@ -1,0 +1,90 @@
+//! A crawler that threads share: one crawls at a time, and those that asked before it began go by what it told.
+
+use crate::crawler::{Crawler, Seconds};
+use lru::LruCache;
+use std::alloc::{AllocError, Global};
+use std::num::NonZeroUsize;
+use std::sync::atomic::{AtomicU64, Ordering};
+use std::sync::{Mutex, Wait};
+use wq_live::{MAX_ROOTS, Named, Told, Tree};
+use wq_session::CrawlFault;
+
+/// A crawler that threads share. Each call waits until it has the crawler for itself.
+#[derive(Drop)]
+pub struct SharedCrawler<N: Named, R: Wait + Drop, T: Tree + Drop, S: Seconds + Drop> {
+    /// How many crawls have begun.
+    begun: AtomicU64,
+    crawls: Mutex<Crawls<N, R, T, S>>,
+}
+
+/// A crawler and its last crawls.
+#[derive(Drop)]
+struct Crawls<N: Named, R: Wait + Drop, T: Tree + Drop, S: Seconds + Drop> {
+    crawler: Crawler<N, R, T, S>,
+    /// How many crawls had begun before the last one of a root that was published, by the number of the root.
+    last: LruCache<u64, u64>,
+}
+
+impl<N: Named, R: Wait + Drop, T: Tree + Drop, S: Seconds + Drop> SharedCrawler<N, R, T, S> {
+    /// This crawler, for threads to share.
+    pub fn new(
+        alloc: Global,
+        crawler: Crawler<N, R, T, S>,
+    ) -> Result<SharedCrawler<N, R, T, S>, AllocError> {
+        Ok(SharedCrawler {
+            begun: AtomicU64::new(0),
+            crawls: Mutex::new(Crawls {
+                crawler,
+                last: LruCache::new(alloc, most_roots())?,
+            }),
+        })
+    }
+
+    /// Crawls the root of this text and publishes the pass, and tells the list of events; none where it is not shown.
+    ///
+    /// Where another thread crawled the root meanwhile, and began after this was called, the list is told as it is.
+    pub fn crawl(&self, rt: &R, root: &str) -> Result<Option<Told<N>>, CrawlFault> {
+        let asked = self.begun.load(Ordering::SeqCst);
+        let mut crawls = self.crawls.lock(rt);
+        let Some(number) = crawls.crawler.number(root) else {
+            return Ok(None);
+        };
+        if crawls.has_begun_since(asked, number) {
+            return crawls.crawler.told().map(Some);
+        }
+        let before = self.begun.fetch_add(1, Ordering::SeqCst);
+        let told = crawls.crawler.crawl(root)?;
+        crawls.keep(number, before);
+        Ok(told)
+    }
+
+    /// Finds the root of this text, or lists it and starts it, and tells the list of events.
+    pub fn open(&self, rt: &R, root: &str) -> Result<Told<N>, CrawlFault> {
+        self.crawls.lock(rt).crawler.open(root)
+    }
+
+    /// Publishes the end of the root of this number, if it is shown, and tells the list of events.
+    pub fn retire(&self, rt: &R, number: u64) -> Result<Told<N>, CrawlFault> {
+        self.crawls.lock(rt).crawler.retire(number)
+    }
+}
+
+impl<N: Named, R: Wait + Drop, T: Tree + Drop, S: Seconds + Drop> Crawls<N, R, T, S> {
+    /// Whether the last crawl of the root of this number began when so many had begun, or later.
+    fn has_begun_since(&mut self, begun: u64, number: u64) -> bool {
+        match self.last.get(&number) {
+            Some(before) => *before >= begun,
+            None => false,
+        }
+    }
+
+    /// Keeps that the root of this number was crawled. Where memory is wanted for that, each thread crawls for itself.
+    fn keep(&mut self, number: u64, before: u64) {
+        let _ = self.last.put(number, before);
+    }
+}
+
+/// How many roots may be shown.
+fn most_roots() -> NonZeroUsize {
+    NonZeroUsize::new(MAX_ROOTS).unwrap_or(NonZeroUsize::MIN)
+}
