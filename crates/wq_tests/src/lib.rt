@@ -18,3 +18,5 @@ mod term;
 mod tree;
 #[cfg(test)]
 mod view;
+#[cfg(test)]
+mod world;

@@ -29,10 +29,20 @@ fn read(alloc: Global, text: &str) -> Result<Query, Fail> {
     Ok(Query::read(alloc, &value, &INSTANCE)?)
 }
 
+/// The bound that a query sets.
+fn bound_of(alloc: Global, text: &str) -> Result<Option<Bound>, Fail> {
+    Ok(read(alloc, text)?.bound())
+}
+
 /// Asserts the bound that each query sets.
-fn check_bounds(rt: &impl Abort, alloc: Global, rows: &[(&str, Bound)]) -> Result<(), Fail> {
+fn check_bounds(
+    rt: &impl Abort,
+    alloc: Global,
+    rows: &[(&str, Option<Bound>)],
+) -> Result<(), Fail> {
     for (text, bound) in rows {
-        assert_eq!(rt; read(alloc, text)?.bound(), Some(*bound), "at {text}");
+        let is_set = bound_of(alloc, text)? == *bound;
+        assert!(rt; is_set, "at {text}");
     }
     Ok(())
 }
@@ -43,17 +53,19 @@ fn since_sets_a_bound(rt: HostRuntime) -> Result<(), Fail> {
         &rt,
         rt.alloc(),
         &[
-            ("{}", Fresh),
-            (r#"{"since":"c:7:9:1:1"}"#, Tick(1)),
-            (r#"{"since":"c:7:9:1:0"}"#, Tick(0)),
+            ("{}", Some(Fresh)),
+            (r#"{"since":"c:7:9:1:1"}"#, Some(Tick(1))),
+            (r#"{"since":"c:7:9:1:0"}"#, Some(Tick(0))),
             // A bound may lie behind every tick of the view.
             (
                 r#"{"since":"c:7:9:1:4611686018427387904"}"#,
-                Tick(MAX_NUMBER),
+                Some(Tick(MAX_NUMBER)),
             ),
-            (r#"{"since":0}"#, Second(0)),
-            (r#"{"since":100}"#, Second(100)),
-            (r#"{"since":4611686018427387904}"#, Second(MAX_SIGNED)),
+            (r#"{"since":0}"#, Some(Second(0))),
+            (r#"{"since":100}"#, Some(Second(100))),
+            (r#"{"since":4611686018427387904}"#, Some(Second(MAX_SIGNED))),
+            // That of a cursor is known where the roots are.
+            (r#"{"since":"n:c:1:2"}"#, None),
         ],
     )
 }
@@ -65,40 +77,62 @@ fn since_of_another_instance_is_fresh(rt: HostRuntime) -> Result<(), Fail> {
         &rt,
         rt.alloc(),
         &[
-            (r#"{"since":"c:6:9:1:1"}"#, Fresh),
-            (r#"{"since":"c:7:8:1:1"}"#, Fresh),
-            (r#"{"since":"c:7:9:2:1"}"#, Fresh),
-            (r#"{"since":"c:9:1"}"#, Fresh),
+            (r#"{"since":"c:6:9:1:1"}"#, Some(Fresh)),
+            (r#"{"since":"c:7:8:1:1"}"#, Some(Fresh)),
+            (r#"{"since":"c:7:9:2:1"}"#, Some(Fresh)),
+            (r#"{"since":"c:9:1"}"#, Some(Fresh)),
         ],
     )
 }
 
 #[test]
+fn a_query_without_an_expression_asks_all(rt: HostRuntime) -> Result<(), Fail> {
+    let query = read(rt.alloc(), "{}")?;
+    assert!(rt; matches!(query.expr(), Expr::True));
+    Ok(())
+}
+
+#[test]
 fn a_query_shows_its_expression(rt: HostRuntime) -> Result<(), Fail> {
-    let asks_all = read(rt.alloc(), "{}")?;
-    let asks_files = read(rt.alloc(), r#"{"expression":["type","f"]}"#)?;
-    assert!(rt; matches!(asks_all.expr(), Expr::True));
-    assert!(rt; matches!(asks_files.expr(), Expr::KindIs(Kind::File)));
+    let query = read(rt.alloc(), r#"{"expression":["type","f"]}"#)?;
+    assert!(rt; matches!(query.expr(), Expr::KindIs(Kind::File)));
+    Ok(())
+}
+
+/// Asserts the cursor and the program that a query names.
+fn check_names(
+    rt: &impl Abort,
+    alloc: Global,
+    text: &str,
+    cursor: Option<&str>,
+    program: Option<&str>,
+) -> Result<(), Fail> {
+    let query = read(alloc, text)?;
+    assert!(rt; query.cursor() == cursor, "at {text}");
+    assert!(rt; query.program() == program, "at {text}");
     Ok(())
 }
 
 #[test]
 fn a_query_shows_its_cursor(rt: HostRuntime) -> Result<(), Fail> {
-    let from_cursor = read(rt.alloc(), r#"{"since":"n:c:1:2"}"#)?;
-    let from_tick = read(rt.alloc(), r#"{"since":"c:7:9:1:1"}"#)?;
-    assert!(rt; from_cursor.cursor() == Some("c:1:2"));
-    assert!(rt; from_cursor.bound().is_none());
-    assert!(rt; from_tick.cursor().is_none());
-    Ok(())
+    check_names(
+        &rt,
+        rt.alloc(),
+        r#"{"since":"n:c:1:2"}"#,
+        Some("c:1:2"),
+        None,
+    )
 }
 
 #[test]
 fn a_query_shows_its_program(rt: HostRuntime) -> Result<(), Fail> {
-    let by_program = read(rt.alloc(), r#"{"program":"p"}"#)?;
-    let by_expression = read(rt.alloc(), r#"{"expression":"true"}"#)?;
-    assert!(rt; by_program.program() == Some("p"));
-    assert!(rt; by_expression.program().is_none());
-    Ok(())
+    check_names(&rt, rt.alloc(), r#"{"program":"p"}"#, None, Some("p"))
+}
+
+#[test]
+fn a_query_may_name_neither(rt: HostRuntime) -> Result<(), Fail> {
+    let text = r#"{"since":"c:7:9:1:1","expression":"true"}"#;
+    check_names(&rt, rt.alloc(), text, None, None)
 }
 
 /// Asserts the name of each field, and that it names the field.
@@ -142,34 +176,78 @@ fn planned_by(alloc: Global, query: Query, program: Program) -> Result<Option<Pl
     Ok(Some(query.plan(Fresh, Arc::new(alloc, program)?)))
 }
 
-/// The program of the name that the query has says which files match.
-#[test]
-fn a_program_answers_for_its_name(rt: HostRuntime) -> Result<(), Fail> {
-    let mut view = View::new(rt.alloc());
-    view.absorb(&pass(rt.alloc(), &[b"src/a.c", b"b.txt"], 100)?)?;
-    let named = read(rt.alloc(), r#"{"program":"p","fields":["name"]}"#)?;
-    let of_suffix = read(rt.alloc(), r#"{"expression":["suffix","c"]}"#)?;
-    let program = compile(rt.alloc(), of_suffix.expr())?;
-    let Some(plan) = planned_by(rt.alloc(), named, program)? else {
-        return Err(Fail::from("the query names no program"));
-    };
-    let want =
-        r#"{"clock":"c:7:9:1:1","files":["src/a.c"],"is_fresh_instance":true,"version":"wq-1"}"#;
-    let bytes = answer_bytes(rt.alloc(), &plan, &INSTANCE, &view)?;
+/// The view of a tree of two files.
+fn view_of_two(alloc: Global) -> Result<View, Fail> {
+    let mut view = View::new(alloc);
+    view.absorb(&pass(alloc, &[b"src/a.c", b"b.txt"], 100)?)?;
+    Ok(view)
+}
+
+/// Asserts the text of the reply by a plan.
+fn check_text(rt: &impl Abort, alloc: Global, plan: &Plan, want: &str) -> Result<(), Fail> {
+    let view = view_of_two(alloc)?;
+    let bytes = answer_bytes(alloc, plan, &INSTANCE, &view)?;
     assert!(rt; bytes.as_slice() == want.as_bytes());
     Ok(())
 }
 
+/// The program of the expression in a query.
+fn program_of(alloc: Global, text: &str) -> Result<Program, Fail> {
+    let query = read(alloc, text)?;
+    Ok(compile(alloc, query.expr())?)
+}
+
+/// The plan of a query by a program's name. It is that of all files of a suffix.
+fn plan_by_name(alloc: Global) -> Result<Option<Plan>, Fail> {
+    let program = program_of(alloc, r#"{"expression":["suffix","c"]}"#)?;
+    let query = read(alloc, r#"{"program":"p","fields":["name"]}"#)?;
+    planned_by(alloc, query, program)
+}
+
+/// The program of the name that the query has says which files match.
 #[test]
-fn answers_the_value_and_the_text_of_the_reply(rt: HostRuntime) -> Result<(), Fail> {
-    let mut view = View::new(rt.alloc());
-    view.absorb(&pass(rt.alloc(), &[b"src/a.c", b"b.txt"], 100)?)?;
-    let plan = planned(rt.alloc(), read(rt.alloc(), r#"{"fields":["name"]}"#)?)?;
-    let want =
-        r#"{"clock":"c:7:9:1:1","files":["b.txt","src/a.c"],"is_fresh_instance":true,"version":"wq-1"}"#;
-    let value = answer(rt.alloc(), &plan, &INSTANCE, &view)?;
-    let bytes = answer_bytes(rt.alloc(), &plan, &INSTANCE, &view)?;
-    assert!(rt; value == Value::from_str(rt.alloc(), want)?);
-    assert!(rt; bytes.as_slice() == want.as_bytes());
+fn a_program_answers_for_its_name(rt: HostRuntime) -> Result<(), Fail> {
+    let Some(plan) = plan_by_name(rt.alloc())? else {
+        return Err(Fail::from("the query names no program"));
+    };
+    check_text(
+        &rt,
+        rt.alloc(),
+        &plan,
+        r#"{"clock":"c:7:9:1:1","files":["src/a.c"],"is_fresh_instance":true,"version":"wq-1"}"#,
+    )
+}
+
+/// The plan of the query for the names of all files.
+fn names_plan(alloc: Global) -> Result<Plan, Fail> {
+    planned(alloc, read(alloc, r#"{"fields":["name"]}"#)?)
+}
+
+const NAMES: &str =
+    r#"{"clock":"c:7:9:1:1","files":["b.txt","src/a.c"],"is_fresh_instance":true,"version":"wq-1"}"#;
+
+#[test]
+fn answers_the_text_of_the_reply(rt: HostRuntime) -> Result<(), Fail> {
+    let plan = names_plan(rt.alloc())?;
+    check_text(&rt, rt.alloc(), &plan, NAMES)
+}
+
+/// The reply by a plan, as a value.
+fn value_by(alloc: Global, plan: &Plan) -> Result<Value, Fail> {
+    let view = view_of_two(alloc)?;
+    Ok(answer(alloc, plan, &INSTANCE, &view)?)
+}
+
+/// The reply for the names of all files, as a value.
+fn names_value(alloc: Global) -> Result<Value, Fail> {
+    let plan = names_plan(alloc)?;
+    value_by(alloc, &plan)
+}
+
+#[test]
+fn answers_the_value_of_the_reply(rt: HostRuntime) -> Result<(), Fail> {
+    let value = names_value(rt.alloc())?;
+    let want = Value::from_str(rt.alloc(), NAMES)?;
+    assert!(rt; value == want);
     Ok(())
 }

@@ -24,10 +24,17 @@ pub(crate) fn pass(alloc: Global, names: &[&[u8]], second: i64) -> Result<Pass, 
     Ok(Pass::new(rows, second)?)
 }
 
+/// The rows of a tree that has this one alone.
+pub(crate) fn only(alloc: Global, row: Seen) -> Result<Vec<Seen>, AllocError> {
+    let mut rows = Vec::new(alloc);
+    rows.push(row)?;
+    Ok(rows)
+}
+
 /// The view of one file that was modified at this time.
 pub(crate) fn view_of_one(alloc: Global, mtime_ms: i64) -> Result<View, Fail> {
     let mut view = View::new(alloc);
     let row = file(alloc, b"a", mtime_ms)?;
-    view.absorb(&Pass::new(vec![in alloc; row]?, 1)?)?;
+    view.absorb(&Pass::new(only(alloc, row)?, 1)?)?;
     Ok(view)
 }

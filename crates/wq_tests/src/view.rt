@@ -1,12 +1,12 @@
 //! Views: names that are kept once, copies, and the greatest pass.
 
-use crate::tree::{file, pass};
+use crate::tree::{file, only, pass};
 use itoa::Buffer;
 use std::alloc::{AllocError, Global};
 use std::process::Abort;
 use std::sync::ArcSlice;
 use std::test::Fail;
-use wq_view::{Kind, MAX_ROWS, Pass, PassFault, Record, Seen, View};
+use wq_view::{Kind, MAX_ROWS, Name, Pass, PassFault, Record, Seen, View};
 
 /// A pass that sees one file of this name, which it shares.
 fn sharing_pass(alloc: Global, name: &ArcSlice<u8>, size: i64) -> Result<Pass, Fail> {
@@ -16,7 +16,7 @@ fn sharing_pass(alloc: Global, name: &ArcSlice<u8>, size: i64) -> Result<Pass, F
         size,
         mtime_ms: 1,
     };
-    Ok(Pass::new(vec![in alloc; row]?, size)?)
+    Ok(Pass::new(only(alloc, row)?, size)?)
 }
 
 /// A name's bytes are kept once: beside their first owner a pass and a view own them, and then the view alone.
@@ -35,15 +35,35 @@ fn a_view_keeps_each_name_once(rt: HostRuntime) -> Result<(), Fail> {
     Ok(())
 }
 
+/// The view of a tree of one file, which shares this name.
+fn view_of_name(alloc: Global, name: &ArcSlice<u8>) -> Result<View, Fail> {
+    let mut view = View::new(alloc);
+    view.absorb(&sharing_pass(alloc, name, 1)?)?;
+    Ok(view)
+}
+
 #[test]
-fn copies_share_names(rt: HostRuntime) -> Result<(), Fail> {
+fn a_copy_shares_names(rt: HostRuntime) -> Result<(), Fail> {
     let name = ArcSlice::from_slice(rt.alloc(), b"src/a.c")?;
-    let mut view = View::new(rt.alloc());
-    view.absorb(&sharing_pass(rt.alloc(), &name, 1)?)?;
-    let copy = view.copy()?;
+    let view = view_of_name(rt.alloc(), &name)?;
+    let _copy = view.copy()?;
     assert_eq!(rt; ArcSlice::strong_count(&name), 3);
-    let copied = copy.records().first().ok_or("no record")?.name.copy()?;
-    assert_eq!(rt; ArcSlice::strong_count(&name), 4);
+    Ok(())
+}
+
+/// A copy of the first name of a view.
+fn first_name(view: &View) -> Result<Name, Fail> {
+    let record = view.records().first().ok_or("no record")?;
+    Ok(record.name.copy()?)
+}
+
+/// A copy of a view keeps the name when the view is gone, and a copy of its name is the same bytes again.
+#[test]
+fn a_copied_name_is_shared(rt: HostRuntime) -> Result<(), Fail> {
+    let name = ArcSlice::from_slice(rt.alloc(), b"src/a.c")?;
+    let copy = view_of_name(rt.alloc(), &name)?.copy()?;
+    let copied = first_name(&copy)?;
+    assert_eq!(rt; ArcSlice::strong_count(&name), 3);
     assert_eq!(rt; copied.as_str(), "src/a.c");
     Ok(())
 }
@@ -99,14 +119,28 @@ fn falling_rows(alloc: Global) -> Result<Vec<Seen>, AllocError> {
     Ok(rows)
 }
 
+/// Asserts at which place a view has each name.
+fn check_places(rt: &impl Abort, view: &View, rows: &[(&str, Option<usize>)]) {
+    for (name, place) in rows {
+        assert_eq!(rt; view.find(name), *place, "at {name}");
+    }
+}
+
 #[test]
 fn takes_in_a_million_rows(rt: HostRuntime) -> Result<(), Fail> {
     let rows = falling_rows(rt.alloc())?;
     let mut view = View::new(rt.alloc());
     assert_eq!(rt; view.absorb(&Pass::new(rows, 1)?), Ok(true));
     assert_eq!(rt; view.len(), 1_000_000);
-    let found = ["1000000", "1999999", "2000000"].map(|name| view.find(name));
-    assert_eq!(rt; found, [Some(0), Some(999_999), None]);
+    check_places(
+        &rt,
+        &view,
+        &[
+            ("1000000", Some(0)),
+            ("1999999", Some(999_999)),
+            ("2000000", None),
+        ],
+    );
     Ok(())
 }
 
@@ -148,7 +182,7 @@ fn tells_a_row_too_many_first(rt: HostRuntime) -> Result<(), Fail> {
 /// The fault of a pass that sees one file of this name.
 fn fault_of_name(alloc: Global, name: &[u8]) -> Result<Option<PassFault>, Fail> {
     let row = file(alloc, name, 0)?;
-    Ok(Pass::new(vec![in alloc; row]?, 0).err())
+    Ok(Pass::new(only(alloc, row)?, 0).err())
 }
 
 #[test]

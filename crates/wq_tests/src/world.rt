@@ -1,0 +1,349 @@
+//! Worlds that are played: crawls and openings of roots, and lines of clients, one after the other.
+
+use crate::tree::pass;
+use itoa::Buffer;
+use std::alloc::{AllocError, Global};
+use std::process::Abort;
+use std::test::Fail;
+use wq_base::{Table, Text};
+use wq_replay::{Happening, Run, Sent, World};
+use wq_serve::Event;
+use wq_session::{Ask, CrawlFault};
+use wq_view::Pass;
+
+/// What happens. A root and a client's line are texts, and what a root lists is one of the trees below.
+#[derive(Clone, Copy)]
+enum Step {
+    Crawl(&'static str, Result<usize, CrawlFault>),
+    Open(&'static str, Result<usize, CrawlFault>),
+    Line(i64, &'static str),
+    /// A line that is too long, by which the client's session ends.
+    Long(i64),
+    /// The client has gone.
+    End(i64),
+}
+
+/// The trees that are listed: none of the files, and one.
+const NONE: usize = 0;
+
+const A: usize = 1;
+
+const B: usize = 2;
+
+fn trees(alloc: Global) -> Result<Vec<Pass>, Fail> {
+    let mut trees = Vec::new(alloc);
+    trees.push(pass(alloc, &[], 100)?)?;
+    trees.push(pass(alloc, &[b"a"], 100)?)?;
+    trees.push(pass(alloc, &[b"b"], 101)?)?;
+    Ok(trees)
+}
+
+const NAMES: &str = r#"["query","/r",{"fields":["name"]}]"#;
+
+const NAMES_AT_ONCE: &str = r#"["query","/r",{"fields":["name"],"sync_timeout":0}]"#;
+
+/// A world that began as process 9 at second 7.
+fn new_world(alloc: Global) -> Result<World, AllocError> {
+    let run = Run { start: 7, pid: 9 };
+    World::new(alloc, run, String::from_str(alloc, "socket")?)
+}
+
+/// What such a world sends while this happens.
+fn play(alloc: Global, happenings: Vec<Happening<'_>>) -> Result<Vec<Sent>, AllocError> {
+    let mut world = new_world(alloc)?;
+    world.play(alloc, happenings)
+}
+
+/// The same of these steps.
+fn played(alloc: Global, steps: &[Step]) -> Result<Vec<Sent>, Fail> {
+    let trees = trees(alloc)?;
+    let happenings = happenings(alloc, &trees, steps)?;
+    Ok(play(alloc, happenings)?)
+}
+
+fn happenings<'a>(
+    alloc: Global,
+    trees: &'a [Pass],
+    steps: &[Step],
+) -> Result<Vec<Happening<'a>>, AllocError> {
+    let mut happenings = Vec::new(alloc);
+    for step in steps {
+        happenings.push(happening(alloc, trees, *step)?)?;
+    }
+    Ok(happenings)
+}
+
+fn happening<'a>(
+    alloc: Global,
+    trees: &'a [Pass],
+    step: Step,
+) -> Result<Happening<'a>, AllocError> {
+    match step {
+        Step::Crawl(root, tree) => crawl(alloc, root, seen(trees, tree)),
+        Step::Open(root, tree) => open(alloc, root, seen(trees, tree)),
+        Step::Line(client, line) => Ok(asked(alloc, client, line_event(alloc, line)?)),
+        Step::Long(client) => Ok(asked(alloc, client, Event::Long)),
+        Step::End(client) => Ok(asked(alloc, client, Event::End)),
+    }
+}
+
+fn crawl<'a>(
+    alloc: Global,
+    root: &str,
+    seen: Result<&'a Pass, CrawlFault>,
+) -> Result<Happening<'a>, AllocError> {
+    let root = Text::from_string(String::from_str(alloc, root)?);
+    Ok(Happening::Crawl { root, seen })
+}
+
+fn open<'a>(
+    alloc: Global,
+    root: &str,
+    seen: Result<&'a Pass, CrawlFault>,
+) -> Result<Happening<'a>, AllocError> {
+    let root = Text::from_string(String::from_str(alloc, root)?);
+    Ok(Happening::Open { root, seen })
+}
+
+fn asked<'a>(alloc: Global, client: i64, event: Event) -> Happening<'a> {
+    let ask = Ask::read(alloc, event);
+    Happening::Asked { client, ask }
+}
+
+fn line_event(alloc: Global, line: &str) -> Result<Event, AllocError> {
+    let bytes = Vec::from_slice(alloc, line.as_bytes())?;
+    Ok(Event::Line(Table::from_vec(bytes)))
+}
+
+fn seen(trees: &[Pass], tree: Result<usize, CrawlFault>) -> Result<&Pass, CrawlFault> {
+    match tree {
+        Ok(at) => trees.get(at).ok_or(CrawlFault::Unreadable),
+        Err(fault) => Err(fault),
+    }
+}
+
+/// Of each reply the client's number, a space, the text and a newline, with `!` before a reply by which the server ends.
+fn shown(alloc: Global, sent: &[Sent]) -> Result<Vec<u8>, AllocError> {
+    let mut written = Vec::new(alloc);
+    for reply in sent {
+        if reply.shuts() {
+            written.push(b'!')?;
+        }
+        show(reply.client(), reply.text(), &mut written)?;
+    }
+    Ok(written)
+}
+
+fn show(client: i64, text: &[u8], written: &mut Vec<u8>) -> Result<(), AllocError> {
+    let mut number = Buffer::new();
+    written.extend_from_slice(number.format(client).as_bytes())?;
+    written.push(b' ')?;
+    written.extend_from_slice(text)?;
+    written.push(b'\n')?;
+    Ok(())
+}
+
+/// Asserts what a world sends while this happens.
+fn check(rt: &impl Abort, alloc: Global, steps: &[Step], want: &str) -> Result<(), Fail> {
+    let written = shown(alloc, &played(alloc, steps)?)?;
+    assert!(rt; written.as_slice() == want.as_bytes());
+    Ok(())
+}
+
+/// What a crawl saw is shown from then on, to a line that synchronises and to one that does not wait for a crawl.
+#[test]
+fn a_crawl_is_seen_by_each_line_behind_it(rt: HostRuntime) -> Result<(), Fail> {
+    check(
+        &rt,
+        rt.alloc(),
+        &[
+            Step::Line(1, NAMES_AT_ONCE),
+            Step::Crawl("/r", Ok(A)),
+            Step::Line(1, NAMES),
+            Step::Line(2, NAMES_AT_ONCE),
+            Step::Crawl("/r", Ok(B)),
+            Step::Line(2, NAMES_AT_ONCE),
+        ],
+        concat!(
+            "1 {\"clock\":\"c:7:9:1:0\",\"files\":[],\"is_fresh_instance\":true,\"version\":\"wq-1\"}\n",
+            "1 {\"clock\":\"c:7:9:1:1\",\"files\":[\"a\"],\"is_fresh_instance\":true,\"version\":\"wq-1\"}\n",
+            "2 {\"clock\":\"c:7:9:1:1\",\"files\":[\"a\"],\"is_fresh_instance\":true,\"version\":\"wq-1\"}\n",
+            "2 {\"clock\":\"c:7:9:1:2\",\"files\":[\"b\"],\"is_fresh_instance\":true,\"version\":\"wq-1\"}\n",
+        ),
+    )
+}
+
+/// A line that synchronises is refused as the crawl before it was; then that is forgotten, and the view is as before.
+#[test]
+fn a_refused_crawl_refuses_the_line_behind_it(rt: HostRuntime) -> Result<(), Fail> {
+    check(
+        &rt,
+        rt.alloc(),
+        &[
+            Step::Crawl("/r", Ok(A)),
+            Step::Line(1, NAMES),
+            Step::Crawl("/r", Err(CrawlFault::Unreadable)),
+            Step::Line(1, NAMES),
+            Step::Line(1, NAMES_AT_ONCE),
+            Step::Line(1, NAMES),
+        ],
+        concat!(
+            "1 {\"clock\":\"c:7:9:1:1\",\"files\":[\"a\"],\"is_fresh_instance\":true,\"version\":\"wq-1\"}\n",
+            "1 {\"error\":\"E11: root cannot be read\",\"version\":\"wq-1\"}\n",
+            "1 {\"clock\":\"c:7:9:1:1\",\"files\":[\"a\"],\"is_fresh_instance\":true,\"version\":\"wq-1\"}\n",
+            "1 {\"clock\":\"c:7:9:1:1\",\"files\":[\"a\"],\"is_fresh_instance\":true,\"version\":\"wq-1\"}\n",
+        ),
+    )
+}
+
+/// One that does not wait for a crawl is answered at the passes so far; and any other line stands between.
+#[test]
+fn a_refused_crawl_refuses_no_other_line(rt: HostRuntime) -> Result<(), Fail> {
+    check(
+        &rt,
+        rt.alloc(),
+        &[
+            Step::Crawl("/r", Err(CrawlFault::TooManyFiles)),
+            Step::Line(1, NAMES_AT_ONCE),
+            Step::Crawl("/r", Err(CrawlFault::TooManyFiles)),
+            Step::Line(2, r#"["version"]"#),
+            Step::Line(1, NAMES),
+            Step::Crawl("/q", Err(CrawlFault::Unreadable)),
+            Step::Line(1, NAMES),
+        ],
+        concat!(
+            "1 {\"clock\":\"c:7:9:1:0\",\"files\":[],\"is_fresh_instance\":true,\"version\":\"wq-1\"}\n",
+            "2 {\"version\":\"wq-1\"}\n",
+            "1 {\"clock\":\"c:7:9:1:0\",\"files\":[],\"is_fresh_instance\":true,\"version\":\"wq-1\"}\n",
+            "1 {\"clock\":\"c:7:9:1:0\",\"files\":[],\"is_fresh_instance\":true,\"version\":\"wq-1\"}\n",
+        ),
+    )
+}
+
+/// A world goes on behind the line that ends the server; who plays it is told which that was.
+#[test]
+fn a_line_behind_the_end_of_the_server_is_answered(rt: HostRuntime) -> Result<(), Fail> {
+    check(
+        &rt,
+        rt.alloc(),
+        &[
+            Step::Line(1, r#"["shutdown-server"]"#),
+            Step::Line(2, r#"["version"]"#),
+        ],
+        "!1 {\"shutdown-server\":true,\"version\":\"wq-1\"}\n2 {\"version\":\"wq-1\"}\n",
+    )
+}
+
+/// A session ends by a line that is too long, and where its client has gone, which is sent nothing. A later line of the
+/// same number is that of a new session.
+#[test]
+fn a_line_behind_the_end_of_a_session_begins_another(rt: HostRuntime) -> Result<(), Fail> {
+    check(
+        &rt,
+        rt.alloc(),
+        &[
+            Step::Long(1),
+            Step::Line(1, r#"["version"]"#),
+            Step::End(1),
+            Step::Line(1, r#"["watch-list"]"#),
+        ],
+        concat!(
+            "1 {\"error\":\"E1: line too long\",\"version\":\"wq-1\"}\n",
+            "1 {\"version\":\"wq-1\"}\n",
+            "1 {\"roots\":[\"/r\"],\"version\":\"wq-1\"}\n",
+        ),
+    )
+}
+
+/// A root is opened once, under the next number; a watch finds it, or is refused as its opening was.
+#[test]
+fn a_root_is_opened_for_its_watch(rt: HostRuntime) -> Result<(), Fail> {
+    let watch = r#"["watch","/q/"]"#;
+    check(
+        &rt,
+        rt.alloc(),
+        &[
+            Step::Line(1, watch),
+            Step::Open("/q", Err(CrawlFault::Unreadable)),
+            Step::Line(1, watch),
+            Step::Open("/q", Ok(A)),
+            Step::Line(1, watch),
+            Step::Open("/q", Err(CrawlFault::Unreadable)),
+            Step::Line(2, watch),
+            Step::Line(1, r#"["clock","/q"]"#),
+            Step::Line(1, r#"["watch-list"]"#),
+        ],
+        concat!(
+            "1 {\"error\":\"E14: root is not watched\",\"version\":\"wq-1\"}\n",
+            "1 {\"error\":\"E11: root cannot be read\",\"version\":\"wq-1\"}\n",
+            "1 {\"version\":\"wq-1\",\"watch\":\"/q\",\"watcher\":\"poll\"}\n",
+            "2 {\"version\":\"wq-1\",\"watch\":\"/q\",\"watcher\":\"poll\"}\n",
+            "1 {\"clock\":\"c:7:9:2:1\",\"version\":\"wq-1\"}\n",
+            "1 {\"roots\":[\"/r\",\"/q\"],\"version\":\"wq-1\"}\n",
+        ),
+    )
+}
+
+/// A root that was deleted is crawled no more, and has another number when it is watched again.
+#[test]
+fn a_root_is_deleted_and_watched_again(rt: HostRuntime) -> Result<(), Fail> {
+    check(
+        &rt,
+        rt.alloc(),
+        &[
+            Step::Crawl("/r", Ok(A)),
+            Step::Line(1, r#"["watch-del","/r"]"#),
+            Step::Crawl("/r", Ok(B)),
+            Step::Line(1, NAMES),
+            Step::Line(1, r#"["watch-del","/r"]"#),
+            Step::Open("/r", Ok(B)),
+            Step::Line(1, r#"["watch","/r"]"#),
+            Step::Line(1, NAMES_AT_ONCE),
+        ],
+        concat!(
+            "1 {\"root\":\"/r\",\"version\":\"wq-1\",\"watch-del\":true}\n",
+            "1 {\"error\":\"E14: root is not watched\",\"version\":\"wq-1\"}\n",
+            "1 {\"error\":\"E14: root is not watched\",\"version\":\"wq-1\"}\n",
+            "1 {\"version\":\"wq-1\",\"watch\":\"/r\",\"watcher\":\"poll\"}\n",
+            "1 {\"clock\":\"c:7:9:2:1\",\"files\":[\"b\"],\"is_fresh_instance\":true,\"version\":\"wq-1\"}\n",
+        ),
+    )
+}
+
+/// A seventeenth root is refused before it is listed; when another was deleted, it has a place.
+#[test]
+fn sixteen_roots_are_shown(rt: HostRuntime) -> Result<(), Fail> {
+    check(
+        &rt,
+        rt.alloc(),
+        &[
+            Step::Open("/1", Ok(NONE)),
+            Step::Open("/2", Ok(NONE)),
+            Step::Open("/3", Ok(NONE)),
+            Step::Open("/4", Ok(NONE)),
+            Step::Open("/5", Ok(NONE)),
+            Step::Open("/6", Ok(NONE)),
+            Step::Open("/7", Ok(NONE)),
+            Step::Open("/8", Ok(NONE)),
+            Step::Open("/9", Ok(NONE)),
+            Step::Open("/a", Ok(NONE)),
+            Step::Open("/b", Ok(NONE)),
+            Step::Open("/c", Ok(NONE)),
+            Step::Open("/d", Ok(NONE)),
+            Step::Open("/e", Ok(NONE)),
+            Step::Open("/f", Ok(NONE)),
+            Step::Open("/q", Err(CrawlFault::Unreadable)),
+            Step::Line(1, r#"["watch","/q"]"#),
+            Step::Line(1, r#"["watch-del","/r"]"#),
+            Step::Open("/q", Ok(NONE)),
+            Step::Line(1, r#"["watch","/q"]"#),
+            Step::Line(1, r#"["clock","/q"]"#),
+        ],
+        concat!(
+            "1 {\"error\":\"E13: too many roots\",\"version\":\"wq-1\"}\n",
+            "1 {\"root\":\"/r\",\"version\":\"wq-1\",\"watch-del\":true}\n",
+            "1 {\"version\":\"wq-1\",\"watch\":\"/q\",\"watcher\":\"poll\"}\n",
+            "1 {\"clock\":\"c:7:9:17:0\",\"version\":\"wq-1\"}\n",
+        ),
+    )
+}
