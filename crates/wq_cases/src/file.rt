@@ -1,6 +1,6 @@
 //! Calls on names and kinds of files, and the words of faults that no case comes to.
 
-use crate::history::{empty_file, view_of_one};
+use crate::history::{only, view_of_one};
 use crate::word::{bytes, text};
 use anyhow::{Context, Result, bail};
 use std::alloc::Global;
@@ -10,8 +10,7 @@ use wq_view::{Kind, Pass, PassFault, ViewFault, is_valid_name};
 pub(crate) fn name_case(alloc: Global, words: &[Vec<u8>]) -> Result<String> {
     let name = bytes(words, 1)?;
     let is_valid = if is_valid_name(name) { "yes" } else { "no" };
-    let row = empty_file(alloc, name)?;
-    match Pass::new(vec![in alloc; row]?, 0) {
+    match Pass::new(only(alloc, name)?, 0) {
         Ok(_) => Ok(format!(in alloc; "{is_valid}, a pass")?),
         Err(fault) => Ok(format!(in alloc; "{is_valid}, {fault}")?),
     }

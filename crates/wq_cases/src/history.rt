@@ -9,13 +9,20 @@ use std::sync::ArcSlice;
 use wq_view::{Kind, Pass, Record, Seen, View};
 
 /// A row of an empty file with this name.
-pub(crate) fn empty_file(alloc: Global, name: &[u8]) -> Result<Seen, AllocError> {
+fn empty_file(alloc: Global, name: &[u8]) -> Result<Seen, AllocError> {
     Ok(Seen {
         name: ArcSlice::from_slice(alloc, name)?,
         kind: Kind::File,
         size: 0,
         mtime_ms: 0,
     })
+}
+
+/// The rows of a tree that has such a file alone.
+pub(crate) fn only(alloc: Global, name: &[u8]) -> Result<Vec<Seen>, AllocError> {
+    let mut rows = Vec::new(alloc);
+    rows.push(empty_file(alloc, name)?)?;
+    Ok(rows)
 }
 
 fn read_row(alloc: Global, text: &str) -> Result<Seen> {
@@ -58,9 +65,15 @@ pub(crate) fn pass_case(alloc: Global, words: &[Vec<u8>]) -> Result<String> {
 
 /// Takes a pass of a history into a view, and says whether the tick moved.
 fn absorb(alloc: Global, view: &mut View, text: &str) -> Result<bool> {
-    let (second, text) = cut(text, ':')?;
-    let pass = Pass::new(rows(alloc, text)?, number(second)?)?;
+    let pass = pass_of(alloc, text)?;
     Ok(view.absorb(&pass)?)
+}
+
+/// A pass of a history.
+fn pass_of(alloc: Global, text: &str) -> Result<Pass> {
+    let (second, text) = cut(text, ':')?;
+    let rows = rows(alloc, text)?;
+    Ok(Pass::new(rows, number(second)?)?)
 }
 
 /// The view after a history; `moves` gets a word for each pass.
@@ -77,9 +90,8 @@ pub(crate) fn view_of(alloc: Global, history: &str, moves: &mut String) -> Resul
 
 /// The view of a tree of one file.
 pub(crate) fn view_of_one(alloc: Global, name: &[u8]) -> Result<View> {
-    let row = empty_file(alloc, name)?;
     let mut view = View::new(alloc);
-    view.absorb(&Pass::new(vec![in alloc; row]?, 0)?)?;
+    view.absorb(&Pass::new(only(alloc, name)?, 0)?)?;
     Ok(view)
 }
 

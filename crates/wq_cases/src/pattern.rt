@@ -14,14 +14,20 @@ fn flags(word: &str) -> Result<Flags> {
         fold: false,
     };
     for flag in word.split(',') {
-        match flag {
-            "plain" => {}
-            "wholename" => flags.wholename = true,
-            "dotfiles" => flags.dotfiles = true,
-            "noescape" => flags.noescape = true,
-            "fold" => flags.fold = true,
-            _ => bail!("no such flag"),
-        }
+        flags = with_flag(flags, flag)?;
+    }
+    Ok(flags)
+}
+
+/// Flags with one more.
+fn with_flag(mut flags: Flags, flag: &str) -> Result<Flags> {
+    match flag {
+        "plain" => {}
+        "wholename" => flags.wholename = true,
+        "dotfiles" => flags.dotfiles = true,
+        "noescape" => flags.noescape = true,
+        "fold" => flags.fold = true,
+        _ => bail!("no such flag"),
     }
     Ok(flags)
 }

@@ -1,6 +1,6 @@
 //! The words of a case. What they say is not looked at here.
 
-use anyhow::{Context, Result};
+use anyhow::{Context, Result, bail};
 use percent_encoding::percent_decode;
 use std::alloc::{AllocError, Global};
 
@@ -32,24 +32,17 @@ pub(crate) fn words_of(alloc: Global, line: &str) -> Result<Vec<Vec<u8>>> {
 }
 
 impl Reading {
-    /// Takes a text in quotes, as a word or as more of the last one.
+    /// Takes a text in quotes, behind a `+` as more of the last word, and else as a new one.
     fn take_text(&mut self, alloc: Global, piece: &str) -> Result<(), AllocError> {
-        let mut word = self.word_to_continue(alloc);
-        self.text_at = word.len();
-        percent_decode(piece.as_bytes()).append_to(&mut word)?;
-        self.words.push(word)?;
-        Ok(())
-    }
-
-    /// The word that a text continues: the last one behind a `+`, and else a new one.
-    fn word_to_continue(&mut self, alloc: Global) -> Vec<u8> {
-        if self.is_joined {
-            self.is_joined = false;
-            if let Some(word) = self.words.pop() {
-                return word;
-            }
+        if !self.is_joined || self.words.is_empty() {
+            self.words.push(Vec::new(alloc))?;
         }
-        Vec::new(alloc)
+        self.is_joined = false;
+        if let Some(word) = self.words.last_mut() {
+            self.text_at = word.len();
+            add_text(word, piece)?;
+        }
+        Ok(())
     }
 
     /// Takes what stands between two texts.
@@ -69,13 +62,30 @@ impl Reading {
     /// Puts so many copies in the place of the last text.
     fn repeat(&mut self, alloc: Global, times: usize) -> Result<()> {
         let word = self.words.last_mut().context("nothing to repeat")?;
-        let text = word.get(self.text_at..).context("no text to repeat")?;
-        let text = Vec::from_slice(alloc, text)?;
-        for _ in 1..times {
-            word.extend_from_slice(&text)?;
-        }
+        let text = text_from(alloc, word, self.text_at)?;
+        add_copies(word, &text, times)?;
         Ok(())
     }
+}
+
+/// Puts a text behind a word.
+fn add_text(word: &mut Vec<u8>, piece: &str) -> Result<(), AllocError> {
+    percent_decode(piece.as_bytes()).append_to(word)?;
+    Ok(())
+}
+
+/// The text that begins at this place of a word.
+fn text_from(alloc: Global, word: &[u8], at: usize) -> Result<Vec<u8>> {
+    let text = word.get(at..).context("no text to repeat")?;
+    Ok(Vec::from_slice(alloc, text)?)
+}
+
+/// Puts copies of its last text behind a word, until it has so many.
+fn add_copies(word: &mut Vec<u8>, text: &[u8], times: usize) -> Result<(), AllocError> {
+    for _ in 1..times {
+        word.extend_from_slice(text)?;
+    }
+    Ok(())
 }
 
 /// The bytes of the word at this place.
@@ -106,5 +116,8 @@ pub(crate) fn number(text: &str) -> Result<i64> {
 
 /// What stands before the first such character of a text, and what follows it.
 pub(crate) fn cut(text: &str, mark: char) -> Result<(&str, &str)> {
-    text.split_once(mark).context("a part is missing")
+    match text.split_once(mark) {
+        Some(parts) => Ok(parts),
+        None => bail!("a part is missing"),
+    }
 }
