@@ -1,2 +1,3 @@
 pub mod Stat
 pub mod Path
+pub mod Part

@@ -2,8 +2,13 @@
 //! names as far as the tree holds still. What a view makes of the rows is not said here.
 #![tactic(auto)]
 
+mod cut;
+mod disk;
 mod folder;
+mod guess;
+mod listing;
 mod names;
+mod part;
 mod path;
 mod rows;
 mod stat;

@@ -51,3 +51,12 @@ impl TreePath {
         self.bytes.extend_from_slice(bytes)
     }
 }
+
+/// The path of a root with a slash behind it, so that a root that is a link is followed.
+pub(crate) fn with_slash(alloc: Global, root: &str) -> Result<String, AllocError> {
+    let mut folder = String::from_str(alloc, root)?;
+    if !root.ends_with('/') {
+        folder.push('/')?;
+    }
+    Ok(folder)
+}

@@ -4,32 +4,38 @@ ghost use Rattle.std.specs.List.{list_all};
 ghost use Rattle.wq_live.specs.Tree.{IsCounted};
 ghost use Rattle.wq_view.specs.Seen.{is_lawful_row};
 
-use crate::walk::rows_below;
+use crate::cut::Cuts;
+use crate::disk::FileDisk;
+use crate::listing::rows_cut;
 use std::alloc::Global;
-use std::fs::Files;
+use std::thread::Threads;
 use wq_live::{Tree, TreeFault};
 use wq_view::Seen;
 
-/// Walks the trees of a disk, and counts how often a root could not be read.
+/// Walks the trees of a disk, a large one on two threads, and counts how often a root could not be read.
 #[derive(Drop)]
-pub struct Walker<R: Files + Drop> {
-    files: R,
+pub struct Walker<T: Threads + Drop> {
+    disk: FileDisk,
+    threads: T,
     alloc: Global,
+    cuts: Cuts,
     failures: u64,
 }
 
-impl<R: Files + Drop> Walker<R> {
+impl<T: Threads + Drop> Walker<T> {
     /// A walker that has listed nothing yet. It takes no memory.
-    pub fn new(files: R, alloc: Global) -> Walker<R> {
+    pub fn new(files: &HostRuntime, threads: T, alloc: Global) -> Walker<T> {
         Walker {
-            files,
+            disk: FileDisk::new(files),
+            threads,
             alloc,
+            cuts: Cuts::new(alloc),
             failures: 0,
         }
     }
 }
 
-impl<R: Files + Drop> Tree for Walker<R> {
+impl<T: Threads + Drop> Tree for Walker<T> {
     ghost failed = { λ walker. walker.failures };
 
     /// The rows of the files below a root, so that names rise as long as the tree holds still. Each is one that a pass takes.
@@ -38,9 +44,15 @@ impl<R: Files + Drop> Tree for Walker<R> {
         ensures lawful { IfOk result (λ rows. IsTrue (list_all is_lawful_row rows.items)) }
         ensures few { IfOk result (λ rows. length rows.items ≤ 1000000) }
     {
-        let listed = rows_below(&self.files, self.alloc, root);
-        if let Err(TreeFault::Unreadable) = listed {
-            self.failures = self.failures.saturating_add(1);
+        let cut = self.cuts.take(root);
+        let listed = rows_cut(&self.threads, &self.disk, self.alloc, root, cut);
+        match &listed {
+            Ok(rows) => {
+                // A cut that is not kept is guessed again.
+                self.cuts.keep(root, rows).ok();
+            }
+            Err(TreeFault::Unreadable) => self.failures = self.failures.saturating_add(1),
+            Err(_) => {}
         }
         listed
     }

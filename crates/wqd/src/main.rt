@@ -25,7 +25,7 @@ fn main(rt: HostRuntime) -> ExitCode {
         Ok(Task::Check(path)) => ExitCode::from(check_file(&rt, &path)),
         Ok(Task::Serve(settings)) => {
             let machine = Machine {
-                tree: Walker::new(rt, rt.alloc()),
+                tree: Walker::new(&rt, rt, rt.alloc()),
                 seconds: MachineClock::new(rt),
                 notices: StandardError { rt },
             };

@@ -1,0 +1,26 @@
+-- The part of a tree that a walk lists, and what a listing of it is.
+-- No public document is behind it.
+use Rattle.std.specs.Prelude.{ℕ, Bool, List, true, not, IsTrue, ◌≤◌, length}
+use Rattle.std.specs.List.{list_all}
+use Rattle.std.specs.Ordering.{is_lt}
+use Rattle.wq_view.specs.Listing.{name_cmp}
+use Rattle.wq_view.specs.Seen.{SeenData, is_lawful_row}
+use Rattle.wq_walk.specs.declared.part.Part.{Part}
+use Rattle.wq_walk.specs.declared.part.Part.TheVariants.{Whole, Before, From}
+
+-- whether a name is in a part: each name, the names below a cut, or the cut itself and the names above it
+abbrev pub is_in : Part → List ℕ → Bool
+is_in Whole name = true
+is_in (Before cut) name = is_lt (name_cmp name cut.items)
+is_in (From cut) name = not (is_lt (name_cmp name cut.items))
+
+-- whether the name of a row is in a part
+abbrev pub is_row_in : Part → SeenData → Bool
+is_row_in part row = is_in part row.name
+
+-- at most 1,000,000 rows, each of which a pass takes, and whose names are in a part
+abbrev pub IsListing : Part → List SeenData → Type 0
+IsListing part rows =
+    IsTrue (list_all is_lawful_row rows)
+    × (length rows ≤ 1000000)
+    × IsTrue (list_all (is_row_in part) rows)

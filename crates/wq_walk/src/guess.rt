@@ -1,0 +1,73 @@
+//! A cut for a root that was not listed yet: a name in the middle of what stands at the top of its tree.
+
+use crate::disk::Disk;
+use crate::names::Block;
+use crate::path::{TreePath, with_slash};
+use std::alloc::{AllocError, Global};
+use wq_live::TreeFault;
+
+/// Where the root has fewer names than this, those below them are weighed too.
+const FEW: usize = 256;
+
+/// The name in the middle of those in the root's folder and, if these are few, of those in its folders. Nothing where the
+/// root has no name.
+pub(crate) fn guessed_cut<D: Disk>(
+    disk: &D,
+    alloc: Global,
+    root: &str,
+) -> Result<Option<Vec<u8>>, TreeFault> {
+    let mut block = Block::new(alloc)?;
+    let folder = with_slash(alloc, root)?;
+    let mut path = TreePath::new(alloc, &folder)?;
+    let mut names = disk.names_in(&mut block, &folder)?;
+    if names.len() < FEW {
+        add_names_below(disk, &mut block, &mut path, &mut names)?;
+        names.sort_unstable();
+    }
+    let middle = names.len() / 2;
+    if middle < names.len() {
+        return Ok(Some(names.swap_remove(middle)));
+    }
+    Ok(None)
+}
+
+/// Adds the whole names of the entries of the folders of these names.
+fn add_names_below<D: Disk>(
+    disk: &D,
+    block: &mut Block,
+    path: &mut TreePath,
+    names: &mut Vec<Vec<u8>>,
+) -> Result<(), TreeFault> {
+    for at in 0..names.len() {
+        let Some(name) = names.get(at) else {
+            break;
+        };
+        path.cut(0);
+        path.add(name)?;
+        add_entries(disk, block, path, names)?;
+    }
+    Ok(())
+}
+
+/// Adds the whole names of the entries of the folder at the path, if it can be read.
+fn add_entries<D: Disk>(
+    disk: &D,
+    block: &mut Block,
+    path: &mut TreePath,
+    names: &mut Vec<Vec<u8>>,
+) -> Result<(), TreeFault> {
+    let Some(text) = path.text() else {
+        return Ok(());
+    };
+    let Ok(entries) = disk.names_in(block, text) else {
+        return Ok(());
+    };
+    path.add(b"/")?;
+    let alloc = *names.allocator();
+    for entry in &entries {
+        let mut name = Vec::from_slice(alloc, path.name())?;
+        name.extend_from_slice(entry)?;
+        names.push(name).map_err(AllocError::from)?;
+    }
+    Ok(())
+}

@@ -1,0 +1,81 @@
+//! A listing of a tree, made in two parts at once or in one. How a part is walked is not said here.
+ghost use Rattle.std.specs.Prelude.{◌≤◌, length, IfOk, IsTrue};
+ghost use Rattle.std.specs.List.{list_all};
+ghost use Rattle.std.specs.Thread.{IsSync};
+ghost use Rattle.wq_view.specs.Seen.{is_lawful_row};
+ghost use Rattle.wq_walk.specs.Part.{IsListing};
+
+use crate::cut::Cut;
+use crate::disk::Disk;
+use crate::guess::guessed_cut;
+use crate::part::Part;
+use crate::walk::rows_in;
+use std::alloc::{AllocError, Global};
+use std::thread::{Threads, join};
+use wq_live::TreeFault;
+use wq_view::{MAX_ROWS, Seen};
+
+/// The rows of the files below a root whose tree is cut here.
+pub(crate) fn rows_cut<T: Threads, D: Disk + Sync>(
+    threads: &T,
+    disk: &D,
+    alloc: Global,
+    root: &str,
+    cut: Cut,
+) -> Result<Vec<Seen>, TreeFault>
+    ensures lawful { IfOk result (λ rows. IsTrue (list_all is_lawful_row rows.items)) }
+    ensures few { IfOk result (λ rows. length rows.items ≤ 1000000) }
+{
+    let name = match cut {
+        Cut::Before(name) => Some(name),
+        Cut::Nowhere => None,
+        Cut::Unknown => guessed_cut(disk, alloc, root)?,
+    };
+    match name {
+        Some(name) => rows_by_two(threads, disk, alloc, root, name),
+        None => rows_in(disk, alloc, root, Part::Whole),
+    }
+}
+
+/// The rows of the files below a root, in two parts. The names below the cut are walked in a thread of their own, or last
+/// where none can be made.
+fn rows_by_two<T: Threads, D: Disk + Sync>(
+    threads: &T,
+    disk: &D,
+    alloc: Global,
+    root: &str,
+    cut: Vec<u8>,
+) -> Result<Vec<Seen>, TreeFault>
+    ensures lawful { IfOk result (λ rows. IsTrue (list_all is_lawful_row rows.items)) }
+    ensures few { IfOk result (λ rows. length rows.items ≤ 1000000) }
+{
+    let before = Part::Before(cut.clone()?);
+    let from = Part::From(cut);
+    let (first, rest) = join(
+        threads,
+        move || -> Result<Vec<Seen>, TreeFault>
+            requires { IsSync D.row }
+            ensures { IfOk result (λ rows. IsListing before rows.items) }
+        { rows_in(disk, alloc, root, before) },
+        move || -> Result<Vec<Seen>, TreeFault>
+            requires { IsSync D.row }
+            ensures { IfOk result (λ rows. IsListing from rows.items) }
+        { rows_in(disk, alloc, root, from) },
+    );
+    joined(first?, rest?)
+}
+
+/// The rows of two parts, one behind the other.
+#[tactic(auto, using(crate::proofs::Joins::all_of_both))]
+fn joined(mut first: Vec<Seen>, mut rest: Vec<Seen>) -> Result<Vec<Seen>, TreeFault>
+    requires lawful { IsTrue (list_all is_lawful_row first.items) × IsTrue (list_all is_lawful_row rest.items) }
+    requires few { (length first.items ≤ 1000000) × (length rest.items ≤ 1000000) }
+    ensures lawful { IfOk result (λ rows. IsTrue (list_all is_lawful_row rows.items)) }
+    ensures few { IfOk result (λ rows. length rows.items ≤ 1000000) }
+{
+    if first.len() + rest.len() > MAX_ROWS {
+        return Err(TreeFault::TooManyRows);
+    }
+    first.append(&mut rest).map_err(AllocError::from)?;
+    Ok(first)
+}
