@@ -10,6 +10,5 @@ mod Beginnings
 mod Adding
 mod Comparing
 mod Sharing
-mod Longest
 mod Fullness
 mod Numbers

@@ -1,6 +1,7 @@
 -- A beginning of the one list of events of all roots, as a thread knows it.
 -- No public document is behind it.
 use Rattle.std.specs.Prelude.{◌≡◌, ◌==◌, MatchBool, ℕ, true, nat_lt, if◌then◌else◌, List, [], ◌∷◌, ◌++◌, length, refl}
+use Rattle.std.specs.Prelude.{Option, Some, None}
 use Rattle.std.specs.Coded.{Coded, code_by, coded×, coded_list}
 use mathlib.Core.List.{IsPrefix}
 use Rattle.logbook.specs.Pages.{Book, Cell, Named, Step, View, book_coded}
@@ -35,9 +36,15 @@ Compared a b = MatchBool (nat_lt (length a.log) (length b.log)) (Begins a b) (Be
 abbrev pub longer_front : FrontData → FrontData → FrontData
 longer_front a b = if nat_lt (length a.log) (length b.log) then b else a
 
--- the longer of two lists
-abbrev pub longer : List RootEvent → List RootEvent → List RootEvent
-longer a b = if nat_lt (length a) (length b) then b else a
+-- what was told goes beyond what is seen, which begins it; or nothing is kept of it
+abbrev pub IsAhead : FrontData → Option FrontData → Type 0
+IsAhead seen None = Unit {0}
+IsAhead seen (Some told) = Begins seen told
+
+-- the list with which a look begins: what was told, where that goes beyond what is seen
+abbrev pub begun_with : FrontData → Option FrontData → List RootEvent
+begun_with seen None = seen.log
+begun_with seen (Some told) = told.log
 
 -- the word that threads share is the length of the list
 abbrev pub IsCount : List Cell → List RootEvent → Type 0

@@ -87,10 +87,10 @@ impl<N: Named, R: Wait + Drop> Publisher<N, R> {
         ensures seat { IfOk result (λ seat. seat ≡ self.new) }
         ensures kept { self.new ≡ self.old }
     {
-        let told = self.writer.published().again()?;
+        let saw = self.writer.published().front().again();
         let mut reader = self.writer.factory().reader()?;
         reader.learn::<Note>(self.writer.tell::<Note>());
-        Ok(Seat::new(reader, told))
+        Ok(Seat::new(reader, saw))
     }
 
     /// The table of what is published.

@@ -5,6 +5,7 @@ ghost use Rattle.left_right.specs.Sides.{view};
 ghost use Rattle.wq_base.specs.Limit.{max_number};
 ghost use Rattle.wq_view.specs.View.{IsViewOf};
 ghost use Rattle.wq_live.specs.Event.{is_shown, passes_over, root_named};
+ghost use Rattle.wq_live.specs.Front.{Begins, IsAhead, begun_with};
 ghost use Rattle.wq_live.specs.Table.{IsTableOf};
 
 use crate::front::Front;
@@ -50,13 +51,13 @@ impl<N: Named> Told<N> {
     }
 }
 
-/// A seat. Contracts see the list with which its next look begins: what it saw, or the longest that it was told, of
-/// which one begins the other.
+/// A seat. Contracts see the list with which its next look begins: the longest that it was told, where that goes beyond
+/// what it saw, and else what it saw. No table is kept that a look would not show.
 #[derive(Drop)]
 pub struct Seat<N: Named> {
     reader: Reader<Shown, Option<Front>, Kept>,
     saw: Front,
-    told: Shown,
+    told: Option<Shown>,
     of: PhantomData<N>,
 }
 
@@ -64,7 +65,7 @@ impl<N: Named> Model for Seat<N> {
     ghost use Rattle.std.specs.Prelude.{◌≡◌, List, Some};
     ghost use Rattle.left_right.specs.Sides.{view as known};
     ghost use Rattle.wq_live.specs.declared.event.RootEvent.{RootEvent};
-    ghost use Rattle.wq_live.specs.Front.{longer};
+    ghost use Rattle.wq_live.specs.Front.{IsAhead, begun_with};
 
     ghost Value = { List RootEvent };
 
@@ -72,24 +73,23 @@ impl<N: Named> Model for Seat<N> {
 
     ghost coded = { events_code };
 
-    ghost view = { λ s. longer s.saw.log s.told.log };
+    ghost view = { λ s. begun_with s.saw s.told };
 
     ghost invariant = { λ s. (known s.reader.place ≡ Some s.saw) × (s.saw.book ≡ N.book)
-        × (s.told.book ≡ N.book) };
+        × IsAhead s.saw s.told };
 }
 
 impl<N: Named> Seat<N> {
-    /// The seat of a reader that knows what was told.
-    pub(crate) fn new(reader: Reader<Shown, Option<Front>, Kept>, told: Shown) -> Seat<N>
-        requires known { view reader.place ≡ Some told }
-        requires named { told.book ≡ N.book }
-        ensures { result ≡ told.log }
+    /// The seat of a reader that knows this list.
+    pub(crate) fn new(reader: Reader<Shown, Option<Front>, Kept>, saw: Front) -> Seat<N>
+        requires known { view reader.place ≡ Some saw }
+        requires named { saw.book ≡ N.book }
+        ensures { result ≡ saw.log }
     {
-        let saw = told.front().again();
         Seat {
             reader,
             saw,
-            told,
+            told: None,
             of: PhantomData,
         }
     }
@@ -106,11 +106,11 @@ impl<N: Named> Seat<N> {
             of,
         } = self;
         let Told { shown, of: _ } = told;
-        saw.is_shorter(shown.front());
+        let told = ahead(&saw, longest(before, shown));
         Seat {
             reader,
             saw,
-            told: before.longer(shown),
+            told,
             of,
         }
     }
@@ -130,13 +130,11 @@ impl<N: Named> Seat<N> {
         } = self;
         match reader.enter_as::<Knowing>() {
             Ok(reading) => {
-                let is_behind = reading.get().front().is_shorter(told.front());
-                Ok(Look {
-                    reading,
-                    told,
-                    is_behind,
-                    of,
-                })
+                let told = match told {
+                    Some(told) => ahead(reading.get().front(), told),
+                    None => None,
+                };
+                Ok(Look { reading, told, of })
             }
             Err(reader) => Err(Seat {
                 reader,
@@ -153,16 +151,16 @@ impl<N: Named> Seat<N> {
 /// It is not `Drop`: end it by `leave`.
 pub struct Look<N: Named> {
     reading: Reading<Shown, Option<Front>, Kept>,
-    told: Shown,
-    is_behind: bool,
+    /// What was told, where that is longer than what is shown.
+    told: Option<Shown>,
     of: PhantomData<N>,
 }
 
 impl<N: Named> Model for Look<N> {
-    ghost use Rattle.std.specs.Prelude.{◌≡◌, List, Some, length as count_of, nat_lt};
+    ghost use Rattle.std.specs.Prelude.{◌≡◌, List, Some};
     ghost use Rattle.left_right.specs.Sides.{view as known};
     ghost use Rattle.wq_live.specs.declared.event.RootEvent.{RootEvent};
-    ghost use Rattle.wq_live.specs.Front.{longer};
+    ghost use Rattle.wq_live.specs.Front.{IsAhead, begun_with};
 
     ghost Value = { List RootEvent };
 
@@ -170,11 +168,10 @@ impl<N: Named> Model for Look<N> {
 
     ghost coded = { events_code };
 
-    ghost view = { λ l. longer l.reading.part.value.log l.told.log };
+    ghost view = { λ l. begun_with l.reading.part.value l.told };
 
     ghost invariant = { λ l. (known l.reading.place ≡ Some l.reading.part.value)
-        × (l.reading.part.value.book ≡ N.book) × (l.told.book ≡ N.book)
-        × (l.is_behind ≡ nat_lt (count_of l.reading.part.value.log) (count_of l.told.log)) };
+        × (l.reading.part.value.book ≡ N.book) × IsAhead l.reading.part.value l.told };
 }
 
 impl<N: Named> Look<N> {
@@ -182,10 +179,9 @@ impl<N: Named> Look<N> {
     pub fn table(&self) -> &RootTable
         ensures { IsTableOf self.now result.now }
     {
-        if self.is_behind {
-            self.told.table()
-        } else {
-            self.reading.get().table()
+        match &self.told {
+            Some(told) => told.table(),
+            None => self.reading.get().table(),
         }
     }
 
@@ -211,12 +207,7 @@ impl<N: Named> Look<N> {
     pub fn leave(self) -> Seat<N>
         ensures { result ≡ self }
     {
-        let Look {
-            reading,
-            told,
-            is_behind: _,
-            of,
-        } = self;
+        let Look { reading, told, of } = self;
         let saw = reading.get().front().again();
         Seat {
             reader: reading.leave(),
@@ -224,5 +215,30 @@ impl<N: Named> Look<N> {
             told,
             of,
         }
+    }
+}
+
+/// What was told, where it goes beyond this list.
+fn ahead(front: &Front, told: Shown) -> Option<Shown>
+    requires { front.now.book ≡ told.book }
+    ensures ahead { IsAhead front.now result }
+    ensures told { IsPrefix told.log (begun_with front.now result) }
+{
+    if front.is_shorter(told.front()) {
+        Some(told)
+    } else {
+        None
+    }
+}
+
+/// The longest that was told.
+fn longest(before: Option<Shown>, told: Shown) -> Shown
+    requires { IfSome before (λ before. before.book ≡ told.book) }
+    ensures before { IfSome before (λ before. Begins before result) }
+    ensures told { Begins told result }
+{
+    match before {
+        Some(before) => before.longer(told),
+        None => told,
     }
 }
