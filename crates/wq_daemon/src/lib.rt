@@ -16,7 +16,6 @@ mod running;
 mod serving;
 mod socket;
 mod stop;
-mod waiting;
 
 pub use clients::MAX_SESSIONS;
 pub use clock::MachineClock;

@@ -1,11 +1,10 @@
 //! The bounded queue between those who bring events and the session that takes them. No contract says that anything
 //! arrives.
 
-use crate::waiting::Waiting;
 use std::alloc::{AllocError, Global};
 use std::sync::{Condvar, Mutex, Wait};
 use std::time::{Clock, Duration};
-use wq_serve::Event;
+use wq_serve::{Event, Waiting};
 
 /// How many milliseconds are waited before what was refused memory is tried again.
 const PAUSE: u64 = 50;

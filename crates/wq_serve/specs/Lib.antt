@@ -3,3 +3,4 @@ pub mod Stream
 pub mod Line
 pub mod Told
 pub mod Law
+pub mod Queue

@@ -1,4 +1,4 @@
-//! Sessions of clients. So far: how the bytes of a client become the events that a session takes.
+//! What sessions of clients take: how the bytes of a client become events, and the events that wait.
 //!
 //! What a line says, and what it is answered, is not looked at here; nor are sockets and threads.
 #![tactic(auto)]
@@ -8,8 +8,10 @@ mod law;
 mod line;
 mod splitter;
 mod telling;
+mod waiting;
 
 pub use event::Event;
 pub use law::{cuts_do_not_matter, pieces_tell_the_stream, told_events_stay};
 pub use line::MAX_LINE;
 pub use splitter::Splitter;
+pub use waiting::{MAX_WAITING, Waiting};

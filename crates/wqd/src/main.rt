@@ -1,5 +1,6 @@
-//! The file watch server's program: the command line, files and exit statuses. What it answers stands in `wq_replay`, and
-//! what it says of program files in `wq_check`.
+//! The file watch server's program: the command line, files, standard streams and exit statuses. The server stands in
+//! `wq_daemon` and what walks trees for it in `wq_walk`; what replays a script in `wq_replay`, and what is said of program
+//! files in `wq_check`.
 #![tactic(auto)]
 
 mod command_line;
