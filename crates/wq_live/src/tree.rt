@@ -1,6 +1,6 @@
 //! What lists the files below a root. How a tree is walked is not said here.
 ghost use Rattle.std.specs.Prelude.{◌≡◌, IfErr};
-ghost use Rattle.wq_live.specs.Tree.{IsCounted};
+ghost use Rattle.wq_live.specs.Tree.{IsCounted, Lists, rows_given};
 
 use std::alloc::AllocError;
 use thiserror::Error;
@@ -32,18 +32,25 @@ impl From<AllocError> for TreeFault {
 }
 
 /// What lists roots.
+///
+/// It may show what it listed last.
 pub trait Tree {
-    ghost use Rattle.std.specs.Prelude.{ℕ};
+    ghost use Rattle.std.specs.Prelude.{ℕ, Option, None};
+    ghost use Rattle.wq_live.specs.Tree.{ListedData};
 
     // How often its device failed so far.
     ghost failed: { Self → ℕ };
+
+    // What it listed last, where it shows that.
+    ghost listed: { Self → Option ListedData } = { λ _. None };
 
     /// The rows of the files below a root, in any order.
     ///
     /// A root is unreadable only where the count of failures rose in this call, or stands at the greatest number that
     /// it can tell.
     fn list(&mut self, root: &str) -> Result<Vec<Seen>, TreeFault>
-        ensures { IfErr result (IsCounted (failed self.old) (failed self.new)) };
+        ensures counted { IfErr result (IsCounted (failed self.old) (failed self.new)) }
+        ensures listed { Lists (listed self.new) root.now (rows_given result) };
 
     /// How often a device failed so far.
     fn failures(&self) -> u64
