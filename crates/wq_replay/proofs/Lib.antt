@@ -9,3 +9,4 @@ mod Steps
 mod Played
 mod Ending
 mod Sendings
+mod Scripts

@@ -1,32 +1,24 @@
 -- What the lines of a script do, and what the code did.
-use Rattle.std.proofs.Common.{◌≡◌, ◌≢◌, ℕ, ℤ, Bool, true, false, not, if◌then◌else◌, List, [], ◌∷◌, Option, Some, None, option_map, is_none, is_err, Result, Ok, Err, IsErr, IsErrAnd, refl, sym, ap, subst, ◌∙◌}
+use Rattle.std.proofs.Common.{◌≡◌, ◌≢◌, ℕ, ℤ, Bool, true, false, not, if◌then◌else◌, List, [], ◌∷◌, ◌++◌, Option, Some, None, option_map, is_none, Result, Ok, Err, IsErr, IsErrAnd, refl, sym, ap, subst, ◌∙◌}
 use mathlib.Core.Bool.{false≢true}
 use Rattle.wq_serve.specs.declared.event.Event.{Event}
-use Rattle.wq_session.specs.Need.{NeedData, crawl as crawl_of, opening as opening_of, need_of}
-use Rattle.std.specs.Borrow.{Bor}
-use Rattle.wq_session.specs.Needed.{need_data}
-use Rattle.wq_session.specs.declared.needs.Need.{Need as NeedNow}
-use Rattle.wq_session.specs.declared.needs.Need.TheVariants.{None as NoNeed, Look, Crawl, Open, Retire}
-use Rattle.wq_session.specs.Out.{OutData}
+use Rattle.wq_session.specs.Need.{need_of}
 use Rattle.wq_session.specs.Reading.{Asks}
-use Rattle.std.specs.declared.alloc.AllocError.{AllocError}
 use Rattle.wq_session.specs.declared.ask.Ask.{Ask}
 use Rattle.wq_session.specs.declared.crawl.CrawlFault.{CrawlFault}
-use Rattle.wq_session.specs.declared.crawl.CrawlFault.TheVariants.{NoMemory as CrawlNoMemory}
 use Rattle.wq_view.specs.Seen.{SeenData}
 use Rattle.wq_view.specs.Listing.{PassData, listing_fault, listing_of}
 use Rattle.wq_view.specs.declared.listing.PassFault.{PassFault}
-use Rattle.wq_replay.specs.Replay.{IsHeard, ListsAs, Precedes, crawled, sent_lines, shuts}
+use Rattle.wq_replay.specs.Replay.{IsHeard, crawled, needed, sent_lines, shuts}
 use Rattle.wq_replay.specs.Sending.{Sends}
 use Rattle.wq_replay.specs.Stage.{DraftData, StageData, drafts, lists, hears, malformed, turn_at_end}
-use Rattle.wq_replay.specs.Stands.{CrawlsOver, OpensOver, Stands}
+use Rattle.wq_replay.specs.Stands.{Stands}
 use Rattle.wq_replay.specs.Step.{IsAt, Takes, draft_data}
-use Rattle.wq_replay.specs.World.{WorldData, HappeningData, SentData, Crawls, Does, Gets, Opens, Runs, asked, crawl, opening, root_text, sent_to}
+use Rattle.wq_replay.specs.World.{WorldData, HappeningData, SentData, Runs, asked, crawl, root_text}
 use Rattle.wq_replay.specs.declared.fault.StepFault.{StepFault}
 use Rattle.wq_replay.specs.declared.fault.StepFault.TheVariants.{Malformed, Write, NoMemory}
 use Rattle.wq_replay.specs.declared.stage.Stage.{Stage}
 use Rattle.wq_replay.proofs.Fronts.{appends_none}
-use Rattle.wq_replay.proofs.Worlds.{runs_go_on, runs_one}
 
 -- a draft of these parts
 abbrev pub draft_with : Bool → ℤ → List SeenData → DraftData
@@ -76,54 +68,23 @@ listed_now at draft tree world code known none is runs stands listed closed =
       record { world = stands; tree = listed; draft = closed },
     )
 
--- something that sends nothing is a run
-silent_runs : (before after : WorldData) (happening : HappeningData) → Does before happening [] after → Runs before (happening ∷ []) [] after
-silent_runs before after happening does = runs_one before after happening [] does
+-- a crawl sends nothing
+crawl_silent : (before after : WorldData) (root : List ℕ) (seen : Result PassData CrawlFault) (sent : List SentData)
+    → Runs before (crawl root seen ∷ []) sent after → Runs before (crawl root seen ∷ []) [] after
+crawl_silent before after root seen sent (next, first, rest, does, is, (nothing, same)) = (next, [], [], (refl, does.1), refl, (refl, same))
 
--- a crawl of `/r` behind its listing
-pub crawl_runs : (before after : WorldData) (root : List ℕ) (tree : PassData) (crawls : Bool) (result : Result (Unit {0}) AllocError)
-    → crawls ≡ true → root ≡ root_text → is_err result ≡ false → CrawlsOver before root (Ok tree) result after
-    → Runs before (crawled crawls tree) [] after
-crawl_runs before after root tree crawls (Ok done) is named well over =
-    subst (λ b. Runs before (crawled b tree) [] after) (sym is)
-    (silent_runs before after (crawl root_text (Ok tree)) (refl, subst (λ r. Crawls before r (Ok tree) after) named over))
-crawl_runs before after root tree crawls (Err error) is named well over = absurd cc
+-- a crawl of `/r`, as it was played
+pub crawl_runs : (before after : WorldData) (root : List ℕ) (tree : PassData) (happenings : List HappeningData) (sent : List SentData)
+    → happenings ≡ crawl root (Ok tree) ∷ [] → root ≡ root_text → Runs before happenings sent after
+    → Runs before (crawled true tree) [] after
+crawl_runs before after root tree happenings sent is named runs =
+    subst (λ r. Runs before (crawl r (Ok tree) ∷ []) [] after) named
+    (crawl_silent before after root (Ok tree) sent (subst (λ all. Runs before all sent after) is runs))
 
--- where nothing is crawled, nothing happens
-pub nothing_runs : (world : WorldData) (tree : PassData) (crawls : Bool) → crawls ≡ false → Runs world (crawled crawls tree) [] world
-nothing_runs world tree crawls is = subst (λ b. Runs world (crawled b tree) [] world) (sym is) (refl, refl)
-
--- what happened before an ask: the world stands where it led, and this is what the ask needs
-abbrev pub Prepares : StageData → NeedData → Stage → Type 0
-Prepares at need code = (first : List HappeningData) × Precedes at.tree need first
-    × (world : WorldData) × Runs at.world first [] world × IsAt code (record at { world = world })
-
--- a root was crawled for an ask
-pub crawl_prepares : (at : StageData) (name root : List ℕ) (seen : Result PassData CrawlFault) (after : WorldData)
-    (result : Result (Unit {0}) AllocError) (code : Stage) → root ≡ name → ListsAs at.tree name seen → CrawlsOver at.world root seen result after
-    → IsAt code (record at { world = after }) → Prepares at (crawl_of name) code
-crawl_prepares at name root seen after (Ok done) code same there over stands =
-    (crawl name seen ∷ [], (seen, there, refl), after, silent_runs at.world after (crawl name seen) (refl, subst (λ r. Crawls at.world r seen after) same over), stands)
-crawl_prepares at name root seen after (Err error) code same there over stands =
-    (crawl name (Err CrawlNoMemory) ∷ [], (Err CrawlNoMemory, tt, refl), after, silent_runs at.world after (crawl name (Err CrawlNoMemory)) (refl, subst (λ r. Crawls at.world r (Err CrawlNoMemory) after) same over), stands)
-
--- a root was opened for an ask
-pub open_prepares : (at : StageData) (name root : List ℕ) (seen : Result PassData CrawlFault) (after : WorldData)
-    (result : Result (Unit {0}) AllocError) (code : Stage) → root ≡ name → ListsAs at.tree name seen → OpensOver at.world root seen result after
-    → IsAt code (record at { world = after }) → Prepares at (opening_of name) code
-open_prepares at name root seen after (Ok done) code same there over stands =
-    (opening name seen ∷ [], (seen, there, refl), after, silent_runs at.world after (opening name seen) (refl, subst (λ r. Opens at.world r seen after) same over), stands)
-open_prepares at name root seen after (Err error) code same there over stands =
-    (opening name (Err CrawlNoMemory) ∷ [], (Err CrawlNoMemory, tt, refl), after, silent_runs at.world after (opening name (Err CrawlNoMemory)) (refl, subst (λ r. Opens at.world r (Err CrawlNoMemory) after) same over), stands)
-
--- an ask that needs neither
-pub nothing_prepares : (at : StageData) (need : NeedNow) (code : Stage) → ((root : Bor (List ℕ)) → need ≡ Crawl root → ⊥)
-    → ((root : Bor (List ℕ)) → need ≡ Open root → ⊥) → IsAt code at → Prepares at (need_data need) code
-nothing_prepares at NoNeed code no_crawl no_opening is = ([], refl, at.world, (refl, refl), is)
-nothing_prepares at (Look root) code no_crawl no_opening is = ([], refl, at.world, (refl, refl), is)
-nothing_prepares at (Retire root) code no_crawl no_opening is = ([], refl, at.world, (refl, refl), is)
-nothing_prepares at (Crawl root) code no_crawl no_opening is = absurd (no_crawl root refl)
-nothing_prepares at (Open root) code no_crawl no_opening is = absurd (no_opening root refl)
+-- what happens at the end of a listing, with which `/r` is crawled or not
+pub crawled_runs : (before after : WorldData) (tree : PassData) (crawls said : Bool) → crawls ≡ said
+    → Runs before (crawled said tree) [] after → Runs before (crawled crawls tree) [] after
+crawled_runs before after tree crawls said is runs = subst (λ b. Runs before (crawled b tree) [] after) (sym is) runs
 
 -- memory ran out before a client was heard
 pub unready : (at : StageData) (client : ℤ) (event : Event) (known : Option (List ℕ)) (result : Result Bool StepFault) (code : Stage)
@@ -132,17 +93,16 @@ unready at client event known (Ok goes_on) code hands = absurd hands.1
 unready at client event known (Err fault) code hands =
     subst (λ f. Takes at (hears client event) known known (Err f) code) (sym hands.1) ((λ h. cc), appends_none known)
 
--- a client was heard behind what its ask needs
-pub heard_behind : (at : StageData) (client : ℤ) (event : Event) (ask : Ask) (need : NeedData) (first : List HappeningData)
-    (between after : WorldData) (out : OutData) → Asks event ask → Precedes at.tree need first → need ≡ need_of ask
-    → Runs at.world first [] between → Gets between ask out after → IsHeard at client event (sent_to client out) after
-heard_behind at client event ask need first between after out asks precedes same runs gets = record {
+-- a client was heard, where its ask and what that needs first were played
+pub heard_of : (at : StageData) (client : ℤ) (event : Event) (ask : Ask) (tree : PassData) (happenings : List HappeningData)
+    (sent : List SentData) (after : WorldData) → Asks event ask → at.tree ≡ tree
+    → happenings ≡ needed tree (need_of ask) ++ asked client ask ∷ [] → Runs at.world happenings sent after
+    → IsHeard at client event sent after
+heard_of at client event ask tree happenings sent after asks same is runs = record {
   ask = ask;
   asks = asks;
-  first = first;
-  precedes = subst (λ n. Precedes at.tree n first) same precedes;
-  runs = runs_go_on at.world between after first (asked client ask ∷ []) [] (sent_to client out) runs
-      (runs_one between after (asked client ask) (sent_to client out) (out, gets, refl));
+  runs = subst (λ all. Runs at.world all sent after)
+      (is ∙ ap (λ t. needed t (need_of ask) ++ asked client ask ∷ []) (sym same)) runs;
 }
 
 -- whether the server ends, from whether it goes on

@@ -1,5 +1,5 @@
 -- How worlds go on.
-use Rattle.std.proofs.Common.{◌≡◌, ◌+◌, ℕ, Bool, true, false, List, [], ◌∷◌, ◌++◌, length, arith, inr, Option, Some, None, Result, Ok, Err, IfOk, MatchOption, Vec, map, option_map, refl, sym, ap, subst, ◌∙◌}
+use Rattle.std.proofs.Common.{◌≡◌, ◌+◌, ℕ, true, false, List, [], ◌∷◌, ◌++◌, length, arith, inr, Option, Some, None, Result, Ok, Err, IfOk, OnOk, MatchOption, Vec, map, option_map, refl, sym, ap, subst, ◌∙◌}
 use Rattle.std.proofs.lemmas.List.{append-nil, append_assoc}
 use Rattle.wq_clock.specs.Instance.{InstanceData}
 use Rattle.wq_live.specs.Table.{TableData, IsTableOf}
@@ -10,18 +10,17 @@ use Rattle.wq_session.specs.Out.{OutData}
 use Rattle.wq_session.specs.Query.{AtData, ShelfNow}
 use Rattle.wq_session.specs.declared.ask.Ask.{Ask}
 use Rattle.wq_session.specs.declared.crawl.CrawlFault.{CrawlFault}
-use Rattle.wq_session.specs.declared.crawl.CrawlFault.TheVariants.{NoMemory as CrawlNoMemory}
 use Rattle.wq_session.specs.declared.refusal.Refusal.{Refusal}
 use Rattle.wq_view.specs.Listing.{PassData}
 use Rattle.wq_view.specs.View.{ViewData}
 use Rattle.std.specs.declared.alloc.Global.{Global}
 use Rattle.std.specs.declared.alloc.AllocError.{AllocError}
-use Rattle.wq_replay.specs.Stands.{CrawlsOver, Leads, OpensOver, Stands, StartsOver, happening_data, sent_data, sent_list}
+use Rattle.wq_replay.specs.Stands.{Leads, Stands, happening_data, sent_data, sent_list}
 use Rattle.wq_replay.proofs.Tables.{at_data_of}
 use Rattle.wq_replay.specs.declared.happening.Happening.{Happening}
 use Rattle.wq_replay.specs.declared.sent.Sent.{Sent}
 use Rattle.wq_replay.specs.declared.world.World.{World}
-use Rattle.wq_replay.specs.World.{AnswersAt, Crawls, CrawlsAt, Does, EndsAt, Gets, GetsAt, GetsFor, HappeningData, IsFull, Opens, OpensAt, OpensNew, RefusedData, RunData, Runs, SentData, WorldData, at_end, ending, fault_for, instance_of, looked, number_in, shows, unrefused}
+use Rattle.wq_replay.specs.World.{AnswersAt, Crawls, CrawlsAt, Does, EndsAt, Gets, GetsAt, GetsFor, HappeningData, IsFull, Opens, OpensAt, OpensNew, RefusedData, RunData, Runs, SentData, Starts, WorldData, at_end, ending, fault_for, instance_of, looked, number_in, shows, unrefused}
 
 some_same : {X : Type 0} {x y : X} → Some x ≡ Some y → x ≡ y
 some_same h = cc h
@@ -54,12 +53,6 @@ pub crawls_shown : (before after : WorldData) (root : List ℕ) (pass : PassData
 crawls_shown before after root pass table number is some crawls =
     (table, is, subst (λ n. CrawlsAt n before root pass after) (sym some) crawls)
 
--- a crawl of what was seen, which is known
-pub crawls_seen : (before after : WorldData) (root : List ℕ) (seen said : Result PassData CrawlFault) (result : Result (Unit {0}) AllocError)
-    → seen ≡ said → CrawlsOver before root said result after → CrawlsOver before root seen result after
-crawls_seen before after root seen said result same crawls =
-    subst (λ s. CrawlsOver before root s result after) (sym same) crawls
-
 -- an opening of a root that is shown
 pub opens_shown : (before : WorldData) (root : List ℕ) (seen : Result PassData CrawlFault) (table : TableData)
     → IsTableOf before.events table → shows root table ≡ true → Opens before root seen (unrefused before)
@@ -73,19 +66,18 @@ opens_new before after root seen table is new opens =
     (table, is, subst (λ b. OpensAt b table before root seen after) (sym new) opens)
 
 -- an opening by which a root starts with a pass
-pub opens_start : (before after : WorldData) (root : List ℕ) (pass : PassData) (table : TableData) (result : Result (Unit {0}) AllocError)
-    → IsTableOf before.events table → shows root table ≡ false → (IsFull table → ⊥)
-    → StartsOver (table.given + 1) before root pass result after → OpensOver before root (Ok pass) result after
-opens_start before after root pass table (Ok done) is new room starts =
-    opens_new before after root (Ok pass) table is new (inr (room, starts))
-opens_start before after root pass table (Err error) is new room starts =
-    opens_new before after root (Err CrawlNoMemory) table is new (inr (room, starts))
-
--- an opening of what was seen, which is known
-pub opens_seen : (before after : WorldData) (root : List ℕ) (seen said : Result PassData CrawlFault) (result : Result (Unit {0}) AllocError)
-    → seen ≡ said → OpensOver before root said result after → OpensOver before root seen result after
-opens_seen before after root seen said result same opens =
-    subst (λ s. OpensOver before root s result after) (sym same) opens
+pub opens_start : (before : WorldData) (root : List ℕ) (pass : PassData) (seen : Result PassData CrawlFault) (table : TableData)
+    (result : Result (Unit {0}) AllocError) (Then : WorldData → Type 0) → IsTableOf before.events table → shows root table ≡ false
+    → (IsFull table → ⊥) → seen ≡ Ok pass
+    → OnOk result ((after : WorldData) × Starts (table.given + 1) before root (Ok pass) after × Then after)
+    → OnOk result ((after : WorldData) × Opens before root seen after × Then after)
+opens_start before root pass seen table (Err error) Then is new room same starts = tt
+opens_start before root pass seen table (Ok done) Then is new room same (after, starts, holds) = (
+  after,
+  opens_new before after root seen table is new
+      (inr (room, subst (λ s. Starts (table.given + 1) before root s after) (sym same) starts)),
+  holds,
+)
 
 -- the fault that is found in the code's values
 pub fault_is : (said need : NeedData) (table : TableData) (taken worlds : Option RefusedData) (got : Option CrawlFault)

@@ -12,7 +12,7 @@ use Rattle.wq_session.specs.Need.{NeedData, crawl as crawl_of, opening as openin
 use Rattle.wq_session.specs.Reading.{Asks}
 use Rattle.wq_session.specs.declared.ask.Ask.{Ask}
 use Rattle.wq_session.specs.declared.crawl.CrawlFault.{CrawlFault}
-use Rattle.wq_session.specs.declared.crawl.CrawlFault.TheVariants.{Unreadable, NoMemory}
+use Rattle.wq_session.specs.declared.crawl.CrawlFault.TheVariants.{Unreadable}
 use Rattle.wq_view.specs.Listing.{PassData}
 use Rattle.wq_replay.specs.Limit.{max_script}
 use Rattle.wq_replay.specs.Line.{lines_of}
@@ -39,30 +39,22 @@ shuts = list_any (λ sent. sent.shuts)
 abbrev pub crawled : Bool → PassData → List HappeningData
 crawled crawls tree = if crawls then crawl root_text (Ok tree) ∷ [] else []
 
--- what is listed of a root, where `/r` lists this: that, or memory runs out over it; another root
--- cannot be read
-abbrev pub ListsAs : PassData → List ℕ → Result PassData CrawlFault → Type 0
-ListsAs tree root (Ok seen) = (bytes_eq root root_text ≡ true) × (seen ≡ tree)
-ListsAs tree root (Err Unreadable) = bytes_eq root root_text ≡ false
-ListsAs tree root (Err NoMemory) = Unit {0}
-ListsAs tree root (Err _) = ⊥
+-- what a root lists, where `/r` lists this: `/r` that; another root cannot be read
+abbrev pub listed : PassData → List ℕ → Result PassData CrawlFault
+listed tree root = if bytes_eq root root_text then Ok tree else Err Unreadable
 
 -- what happens before an ask, where `/r` lists this: the crawl or the opening that it needs, if any
-abbrev pub Precedes : PassData → NeedData → List HappeningData → Type 0
-Precedes tree (crawl_of root) first =
-    (seen : Result PassData CrawlFault) × ListsAs tree root seen × (first ≡ crawl root seen ∷ [])
-Precedes tree (opening_of root) first =
-    (seen : Result PassData CrawlFault) × ListsAs tree root seen × (first ≡ opening root seen ∷ [])
-Precedes tree _ first = first ≡ []
+abbrev pub needed : PassData → NeedData → List HappeningData
+needed tree (crawl_of root) = crawl root (listed tree root) ∷ []
+needed tree (opening_of root) = opening root (listed tree root) ∷ []
+needed tree _ = []
 
 -- a client is heard: this is sent, and the world is another then
 pub record IsHeard (stage : StageData) (client : ℤ) (event : Event) (sent : List SentData)
     (after : WorldData) : Type 0 where
   pub ask : Ask
   pub asks : Asks event ask
-  pub first : List HappeningData
-  pub precedes : Precedes stage.tree (need_of ask) first
-  pub runs : Runs stage.world (first ++ asked client ask ∷ []) sent after
+  pub runs : Runs stage.world (needed stage.tree (need_of ask) ++ asked client ask ∷ []) sent after
 
 -- what a line does takes the script from a stage to the next, with this written, and the server
 -- goes on; a malformed line leads nowhere
@@ -83,6 +75,12 @@ Plays stage [] written after = (written ≡ []) × (after ≡ stage)
 Plays stage (line ∷ lines) written after = (next : StageData) × (first later : List ℕ)
     × Does stage (turn_of stage line) first next × (written ≡ first ++ later)
     × Plays next lines later after
+
+-- what the lines of a script do is one run of its world, and each reply of that run is written
+abbrev pub ScriptsAreRuns : Type 0
+ScriptsAreRuns = (stage after : StageData) (lines : List (List ℕ)) (written : List ℕ)
+    → Plays stage lines written after → (happenings : List HappeningData) × (sent : List SentData)
+    × Runs stage.world happenings sent after.world × (written ≡ sent_lines sent)
 
 -- so many first lines of a script were played, their replies were written, the script stands
 -- here, and these lines are left

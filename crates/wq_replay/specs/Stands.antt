@@ -2,12 +2,10 @@
 -- No public document is behind it.
 use Rattle.std.specs.Prelude.{◌≡◌, ℕ, false, List, [], ◌∷◌, Option, Some, None, option_map, Result, Ok, Err}
 use Rattle.std.specs.Borrow.{Bor}
-use Rattle.std.specs.declared.alloc.AllocError.{AllocError}
 use Rattle.wq_live.specs.Table.{IsTableOf}
 use Rattle.wq_session.specs.declared.crawl.CrawlFault.{CrawlFault}
-use Rattle.wq_session.specs.declared.crawl.CrawlFault.TheVariants.{NoMemory}
 use Rattle.wq_view.specs.Listing.{PassData}
-use Rattle.wq_replay.specs.World.{Crawls, Opens, Starts, RunData, RefusedData, WorldData, Runs}
+use Rattle.wq_replay.specs.World.{RunData, RefusedData, WorldData, Runs}
 use Rattle.wq_replay.specs.World.{HappeningData, crawl, opening, asked, SentData}
 use Rattle.wq_replay.specs.declared.happening.Happening.{Happening}
 use Rattle.wq_replay.specs.declared.happening.Happening.TheVariants.{Crawl, Open, Asked}
@@ -65,22 +63,3 @@ sent_list (Some sent) = sent_data sent ∷ []
 abbrev pub Leads : WorldData → List HappeningData → List SentData → World → Type 0
 Leads first happenings sent code =
     (world : WorldData) × Runs first happenings sent world × Stands world code
-
--- what a crawl that came to this led to; where memory ran out over it, it is one that was refused
--- for that
-abbrev pub CrawlsOver : WorldData → List ℕ → Result PassData CrawlFault
-    → Result (Unit {0}) AllocError → WorldData → Type 0
-CrawlsOver world root seen (Ok _) after = Crawls world root seen after
-CrawlsOver world root seen (Err _) after = Crawls world root (Err NoMemory) after
-
--- what an opening that came to this led to, alike
-abbrev pub OpensOver : WorldData → List ℕ → Result PassData CrawlFault
-    → Result (Unit {0}) AllocError → WorldData → Type 0
-OpensOver world root seen (Ok _) after = Opens world root seen after
-OpensOver world root seen (Err _) after = Opens world root (Err NoMemory) after
-
--- what a start with this pass led to, alike
-abbrev pub StartsOver : ℕ → WorldData → List ℕ → PassData
-    → Result (Unit {0}) AllocError → WorldData → Type 0
-StartsOver number world root pass (Ok _) after = Starts number world root (Ok pass) after
-StartsOver number world root pass (Err _) after = Starts number world root (Err NoMemory) after

@@ -13,13 +13,12 @@ use Rattle.wq_live.specs.declared.event.RootEvent.TheVariants.{Started, Passed, 
 use Rattle.wq_registry.specs.Shelf.{blank, root_added}
 use Rattle.wq_session.specs.Answer.{Answers, MayRefuse}
 use Rattle.wq_session.specs.Crawl.{crawl_refusal}
-use Rattle.wq_session.specs.Need.{NeedData, none, look, crawl as crawl_of, opening as opening_of, retire, need_of}
+use Rattle.wq_session.specs.Need.{NeedData, look, crawl as crawl_of, opening as opening_of, retire, need_of}
 use Rattle.wq_session.specs.Out.{OutData}
 use Rattle.wq_session.specs.Query.{AtData, ShelfNow}
 use Rattle.wq_session.specs.declared.ask.Ask.{Ask}
 use Rattle.wq_session.specs.declared.crawl.CrawlFault.{CrawlFault}
 use Rattle.wq_session.specs.declared.crawl.CrawlFault.TheVariants.{TicksSpent, TooManyRoots}
-use Rattle.wq_session.specs.declared.refusal.Refusal.{Refusal}
 use Rattle.wq_session.specs.declared.refusal.Refusal.TheVariants.{NoMemory}
 use Rattle.wq_view.specs.Limit.{max_tick}
 use Rattle.wq_view.specs.Listing.{PassData}

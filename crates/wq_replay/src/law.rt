@@ -1,8 +1,14 @@
-//! Laws about worlds, each a function without a body whose contract is the law.
+//! Laws about worlds and scripts, each a function without a body whose contract is the law.
 //! A proof of another crate gets a law by a call, which costs nothing.
+ghost use Rattle.wq_replay.specs.Replay.{ScriptsAreRuns};
 ghost use Rattle.wq_replay.specs.World.{RunsGoOn};
 
 /// What happens first, and what happens then, are one run.
 pub fn runs_go_on()
     ensures { RunsGoOn }
+{}
+
+/// What the lines of a script do is one run of its world, of which each reply is written.
+pub fn scripts_are_runs()
+    ensures { ScriptsAreRuns }
 {}

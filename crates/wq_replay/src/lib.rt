@@ -5,6 +5,7 @@
 
 mod fault;
 mod happening;
+mod hearing;
 mod law;
 mod looking;
 mod player;
@@ -21,7 +22,7 @@ mod world;
 
 pub use fault::ReplayFault;
 pub use happening::Happening;
-pub use law::runs_go_on;
+pub use law::{runs_go_on, scripts_are_runs};
 pub use player::{MAX_SCRIPT, replay};
 pub use run::Run;
 pub use sent::Sent;

@@ -1,15 +1,15 @@
 //! What happens in a world: crawls and openings of roots, and the answers to what clients ask. What a session answers is
 //! not said here.
 ghost use Rattle.std.specs.Prelude.{◌≡◌, ◌+◌, ◌++◌, ◌∷◌, List, Ok, [], false, map, string_bytes, true};
-ghost use Rattle.std.specs.Prelude.{IfOk, IsErr, OnErr};
+ghost use Rattle.std.specs.Prelude.{IfOk, IsErr, OnErr, OnOk};
 ghost use Rattle.std.specs.Prelude.{None, pos};
 ghost use Rattle.wq_clock.specs.Instance.{instance_data};
 ghost use Rattle.wq_live.specs.Table.{IsTableOf};
 ghost use Rattle.wq_live.specs.declared.event.RootEvent.TheVariants.{Started};
 ghost use Rattle.wq_session.specs.Need.{need_of};
 ghost use Rattle.wq_view.specs.Listing.{listing_of};
-ghost use Rattle.wq_replay.specs.Stands.{CrawlsOver, Leads, OpensOver, Stands, StartsOver, crawl_data, happening_data, run_data, sent_data, sent_list};
-ghost use Rattle.wq_replay.specs.World.{AnswersAt, Does, EndsAt, Gets, HappeningData, IsFull, Runs, SentData};
+ghost use Rattle.wq_replay.specs.Stands.{Leads, Stands, crawl_data, happening_data, run_data, sent_data, sent_list};
+ghost use Rattle.wq_replay.specs.World.{AnswersAt, Crawls, Does, EndsAt, Gets, HappeningData, IsFull, Opens, Runs, SentData, Starts};
 ghost use Rattle.wq_replay.specs.World.{WorldData, instance_of, looked, new_world, root_text, sent_to, shows};
 
 use crate::happening::Happening;
@@ -129,16 +129,11 @@ impl World {
         }
     }
 
-    /// A root is crawled, and lists this, or could not be. Where memory runs out, the crawl counts as one that was
-    /// refused for that.
-    pub(crate) fn crawl(
-        &mut self,
-        root: Text,
-        seen: Result<&Pass, CrawlFault>,
-    ) -> Result<(), AllocError>
-        ensures { (before : WorldData) → Stands before self.old
-            → (after : WorldData) × CrawlsOver before root (crawl_data seen.entry) result after
-            × Stands after self.new }
+    /// A root is crawled, and lists this, or could not be.
+    fn crawl(&mut self, root: Text, seen: Result<&Pass, CrawlFault>) -> Result<(), AllocError>
+        ensures { (before : WorldData) → Stands before self.old → OnOk result (
+            (after : WorldData) × Crawls before root (crawl_data seen.entry) after
+            × Stands after self.new) }
     {
         match seen {
             Ok(pass) => self.pass(root, pass),
@@ -151,9 +146,8 @@ impl World {
 
     /// A root is crawled, and lists this.
     fn pass(&mut self, root: Text, pass: &Pass) -> Result<(), AllocError>
-        ensures { (before : WorldData) → Stands before self.old
-            → (after : WorldData) × CrawlsOver before root (Ok pass.now) result after
-            × Stands after self.new }
+        ensures { (before : WorldData) → Stands before self.old → OnOk result (
+            (after : WorldData) × Crawls before root (Ok pass.now) after × Stands after self.new) }
     {
         self.refused = None;
         let Some(number) = self.table.number_of(root.as_str()) else {
@@ -170,24 +164,15 @@ impl World {
                 self.refused = Some(Refused { root, fault });
                 Ok(())
             }
-            Err(ViewFault::NoMemory) => {
-                let fault = CrawlFault::NoMemory;
-                self.refused = Some(Refused { root, fault });
-                Err(AllocError)
-            }
+            Err(ViewFault::NoMemory) => Err(AllocError),
         }
     }
 
-    /// A root that is not shown is opened, and lists this, or could not be read. Where memory runs out, the opening
-    /// counts as one that was refused for that.
-    pub(crate) fn open(
-        &mut self,
-        root: Text,
-        seen: Result<&Pass, CrawlFault>,
-    ) -> Result<(), AllocError>
-        ensures { (before : WorldData) → Stands before self.old
-            → (after : WorldData) × OpensOver before root (crawl_data seen.entry) result after
-            × Stands after self.new }
+    /// A root that is not shown is opened, and lists this, or could not be read.
+    fn open(&mut self, root: Text, seen: Result<&Pass, CrawlFault>) -> Result<(), AllocError>
+        ensures { (before : WorldData) → Stands before self.old → OnOk result (
+            (after : WorldData) × Opens before root (crawl_data seen.entry) after
+            × Stands after self.new) }
     {
         if shows(&self.table, root.as_str()) {
             self.refused = None;
@@ -211,10 +196,9 @@ impl World {
     fn start(&mut self, root: Text, pass: &Pass) -> Result<(), AllocError>
         requires new { shows root self.old.table ≡ false }
         requires room { IsFull self.old.table → ⊥ }
-        ensures { (before : WorldData) → Stands before self.old
-            → (after : WorldData)
-            × StartsOver (self.old.table.given + 1) before root pass.now result after
-            × Stands after self.new }
+        ensures { (before : WorldData) → Stands before self.old → OnOk result (
+            (after : WorldData) × Starts (self.old.table.given + 1) before root (Ok pass.now) after
+            × Stands after self.new) }
     {
         match self.table.with_start(root.as_str(), pass) {
             Ok(table) => {
@@ -222,16 +206,12 @@ impl World {
                 self.refused = None;
                 Ok(())
             }
-            Err(_) => {
-                let fault = CrawlFault::NoMemory;
-                self.refused = Some(Refused { root, fault });
-                Err(AllocError)
-            }
+            Err(_) => Err(AllocError),
         }
     }
 
     /// What an ask gets. One that needs a crawl of a root, or has to open it, is to come directly behind that.
-    pub(crate) fn answer(&mut self, alloc: Global, ask: Ask) -> Out
+    fn answer(&mut self, alloc: Global, ask: Ask) -> Out
         ensures { (before : WorldData) → Stands before self.old
             → (after : WorldData) × Gets before ask result after × Stands after self.new }
     {

@@ -1,27 +1,26 @@
 //! The lines that are sent to clients. Where a writer fails, what was written of a line is a front of it.
-ghost use Rattle.std.specs.Prelude.{◌≡◌, ◌≤◌, length, take, IfErr, IfOk, OnErr, OnOk};
+ghost use Rattle.std.specs.Prelude.{◌≡◌, ◌≤◌, length, map, take, IfErr, IfOk, OnErr, OnOk};
 ghost use Rattle.std.specs.Io.KnownBytes.{Appends, Keeps};
 ghost use Rattle.wq_replay.specs.Replay.{AppendsFront, sent_line};
 ghost use Rattle.wq_replay.specs.Sending.{Sends};
-ghost use Rattle.wq_replay.specs.World.{sent_to};
+ghost use Rattle.wq_replay.specs.Stands.{sent_data};
 ghost use Rattle.wq_replay.specs.declared.fault.StepFault.TheVariants.{Write as NotWritten};
 
 use crate::fault::StepFault;
+use crate::sent::Sent;
 use itoa::Buffer;
 use std::io::{ErrorKind, Write};
-use wq_session::Out;
 
-/// Sends a client its reply, if there is one, and tells whether the server goes on.
-pub(crate) fn send<W: Write>(writer: &mut W, client: i64, out: &Out) -> Result<bool, StepFault>
-    ensures { Sends (sent_to client out.now) (W.contents writer.old) (W.contents writer.new) result }
+/// Sends replies to their clients, and tells whether the server goes on.
+pub(crate) fn send<W: Write>(writer: &mut W, replies: &[Sent]) -> Result<bool, StepFault>
+    ensures { Sends (map sent_data replies.now) (W.contents writer.old) (W.contents writer.new) result }
 {
-    match out.reply() {
-        None => Ok(true),
-        Some(text) => {
-            send_line(writer, client, text)?;
-            Ok(!out.shuts())
-        }
+    let mut goes_on = true;
+    for reply in replies {
+        send_line(writer, reply.client(), reply.text())?;
+        goes_on = goes_on && !reply.shuts();
     }
+    Ok(goes_on)
 }
 
 /// Writes a line to a client: its number, a space, a text and a newline.

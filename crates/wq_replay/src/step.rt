@@ -1,28 +1,30 @@
 //! One line of a script: what it does at the stage where the script stands.
-ghost use Rattle.std.specs.Prelude.{◌≡◌, ℕ, ℤ, [], List, Option, None, Some, IfOk, OnOk};
+ghost use Rattle.std.specs.Prelude.{◌≡◌, ℕ, ℤ, [], List, Option, None, Some, IfOk, Ok, OnOk, true};
 ghost use Rattle.wq_serve.specs.Stream.{event_of, is_binary};
 ghost use Rattle.wq_serve.specs.declared.event.Event.{Event};
 ghost use Rattle.wq_session.specs.Reading.{Asks};
 ghost use Rattle.wq_replay.specs.LineData.{line_data, seen_data};
-ghost use Rattle.wq_replay.specs.Replay.{ListsAs, Precedes};
-ghost use Rattle.wq_session.specs.Needed.{need_data};
+ghost use Rattle.wq_replay.specs.Replay.{crawled};
 ghost use Rattle.wq_replay.specs.Stage.{StageData, drafts, empty_draft, hears, turn_at_end, turn_inside, turn_of, turn_outside};
-ghost use Rattle.wq_replay.specs.Stands.{Stands, crawl_data};
+ghost use Rattle.wq_replay.specs.Stands.{Stands};
 ghost use Rattle.wq_replay.specs.Step.{IsAt, Takes, draft_data};
-ghost use Rattle.wq_replay.specs.World.{HappeningData, Runs, WorldData};
+ghost use Rattle.wq_replay.specs.World.{Runs, WorldData};
 
 use crate::fault::StepFault;
+use crate::happening::Happening;
+use crate::hearing::{happenings, text};
 use crate::playing::ROOT;
 use crate::script::{Line, RowLine, read_line};
 use crate::sending::send;
 use crate::stage::{Draft, Stage};
 use crate::taking::MAX_SCRIPT_LINE;
+use crate::world::World;
 use std::alloc::{AllocError, Global};
 use std::io::Write;
 use std::sync::ArcSlice;
-use wq_base::{Table, Text};
+use wq_base::Table;
 use wq_serve::{Event, MAX_LINE};
-use wq_session::{Ask, CrawlFault, Need, Refusal};
+use wq_session::{Ask, Refusal};
 use wq_view::{Pass, Seen};
 
 /// Does what a line of a script says, and tells whether the server goes on.
@@ -135,19 +137,24 @@ fn end_listing(alloc: Global, stage: &mut Stage, draft: Draft) -> Result<bool, S
         stage.tree = tree;
         return Ok(true);
     }
-    let root = text(alloc, ROOT)?;
-    if stage.world.crawl(root, Ok(&tree)).is_err() {
-        return Err(StepFault::NoMemory);
-    }
+    crawl(alloc, &mut stage.world, &tree)?;
     stage.tree = tree;
     Ok(true)
 }
 
-/// A text that is kept.
-fn text(alloc: Global, text: &str) -> Result<Text, AllocError>
-    ensures { IfOk result (λ kept. kept ≡ text.now) }
+/// Crawls `/r`, which lists this.
+fn crawl(alloc: Global, world: &mut World, tree: &Pass) -> Result<(), AllocError>
+    ensures { (before : WorldData) → Stands before world.old → OnOk result (
+        (after : WorldData) × Runs before (crawled true tree.now) [] after × Stands after world.new) }
 {
-    Ok(Text::from_string(String::from_str(alloc, text)?))
+    let root = text(alloc, ROOT)?;
+    let mut happenings = Vec::new(alloc);
+    happenings.push(Happening::Crawl {
+        root,
+        seen: Ok(tree),
+    })?;
+    world.play(alloc, happenings)?;
+    Ok(())
 }
 
 /// What a client's line asks.
@@ -185,40 +192,7 @@ fn hear<W: Write>(
         → Takes at (hears client event)
         (W.contents writer.old) (W.contents writer.new) result stage.new }
 {
-    prepare(alloc, stage, ask.need())?;
-    let out = stage.world.answer(alloc, ask);
-    send(writer, client, &out)
-}
-
-/// Crawls or opens the root for which an ask needs that. Where it is refused, also for memory, the ask is.
-fn prepare(alloc: Global, stage: &mut Stage, need: Need<'_>) -> Result<(), AllocError>
-    ensures { (at : StageData) → IsAt stage.old at → OnOk result (
-        (first : List HappeningData) × Precedes at.tree (need_data need.entry) first
-        × (world : WorldData) × Runs at.world first [] world
-        × IsAt stage.new (record at { world = world })) }
-{
-    match need {
-        Need::Crawl(name) => {
-            let root = text(alloc, name)?;
-            let _ = stage.world.crawl(root, listed(&stage.tree, name));
-            Ok(())
-        }
-        Need::Open(name) => {
-            let root = text(alloc, name)?;
-            let _ = stage.world.open(root, listed(&stage.tree, name));
-            Ok(())
-        }
-        _ => Ok(()),
-    }
-}
-
-/// What is listed of a root: of `/r` the tree that a script has set. No other root can be read.
-fn listed<'a>(tree: &'a Pass, root: &str) -> Result<&'a Pass, CrawlFault>
-    ensures { ListsAs tree.now root.now (crawl_data result) }
-{
-    if root == ROOT {
-        Ok(tree)
-    } else {
-        Err(CrawlFault::Unreadable)
-    }
+    let happenings = happenings(alloc, &stage.tree, client, ask)?;
+    let sent = stage.world.play(alloc, happenings)?;
+    send(writer, &sent)
 }

@@ -1,20 +1,22 @@
 -- The client was heard.
-use Rattle.std.proofs.Common.{subst}
+use Rattle.std.proofs.Common.{◌≡◌, ℤ, List, ◌++◌, ◌∷◌, [], map, subst}
 use mir.Facts.{to_z-of_z}
+use Rattle.wq_session.specs.Need.{need_of}
+use Rattle.wq_replay.specs.Replay.{needed}
 use Rattle.wq_replay.specs.Sending.{Sends}
-use Rattle.wq_replay.specs.World.{sent_to}
-use Rattle.wq_replay.proofs.Steps.{heard, heard_behind, unready}
+use Rattle.wq_replay.specs.declared.sent.Sent.{Sent}
+use Rattle.wq_replay.specs.Stands.{happening_data, sent_data}
+use Rattle.wq_replay.specs.World.{asked}
+use Rattle.wq_replay.proofs.Steps.{heard, heard_of}
 use Rattle.wq_replay.proofs.step.hear.Goals as goal
 
 pub returns : goal.returns
 returns g c = λ at is event asks.
-    let ready = c.in_ok-prepare.ensures at is in
-    let answered = c.answer-out.ensures ready.2 ready.4.world in
-    heard at c.args.client event _ answered.0 _ _ c.send.result (record c.prepare.new.stage { world = c.answer-out.new.self })
-    (heard_behind at c.args.client event c.args.ask _ ready.0 ready.2 answered.0 c.answer-out.result asks ready.1 c.need.ensures ready.3 answered.1)
-    (record { world = answered.2; tree = ready.4.tree; draft = ready.4.draft })
-    (subst (λ z. Sends (sent_to z c.answer-out.result) (g.W.Write.contents c.args.writer.now) (g.W.Write.contents c.send.new.writer) c.send.result) (to_z-of_z c.ranges.client) c.send.ensures)
-
-pub returns-in_err-prepare : goal.returns-in_err-prepare
-returns-in_err-prepare g c = λ at is event asks.
-    unready at c.args.client event (g.W.Write.contents c.args.writer.now) c.from_residual.result c.prepare.new.stage c.from_residual.ensures
+    let played = c.in_ok-sent.ensures.runs at.world is.world in
+    let sent = map sent_data c.in_ok-sent.sent.items in
+    let happened = subst (λ (client : ℤ). map happening_data c.in_ok-happenings.happenings.items ≡ needed c.args.stage.now.tree (need_of c.args.ask) ++ asked client c.args.ask ∷ [])
+    (to_z-of_z c.ranges.client) c.in_ok-happenings.ensures in
+    heard at c.args.client event sent played.0 _ _ c.send.result (record c.args.stage.now { world = c.play.new.self })
+    (heard_of at c.args.client event c.args.ask c.args.stage.now.tree _ sent played.0 asks is.tree happened played.1)
+    (record { world = played.2; tree = is.tree; draft = is.draft })
+    (subst (λ (items : List Sent). Sends (map sent_data items) (g.W.Write.contents c.args.writer.now) (g.W.Write.contents c.send.new.writer) c.send.result) c.deref.ensures.value c.send.ensures)

@@ -1,15 +1,14 @@
 -- What happens is what the arm says.
 use Rattle.std.proofs.Common.{◌≡◌, FitsSigned, w64, rules, [], refl, sym, subst}
 use mir.Facts.{to_z-of_z}
-use Rattle.wq_replay.specs.Stands.{CrawlsOver, crawl_data, happening_data, sent_list}
+use Rattle.wq_replay.specs.Stands.{happening_data, sent_list}
 use Rattle.wq_replay.specs.World.{Does, sent_to}
 use Rattle.wq_replay.proofs.world.World.happen.Goals as goal
 
 pub returns-in_ok-crawl-in-Crawl : goal.returns-in_ok-crawl-in-Crawl
 returns-in_ok-crawl-in-Crawl c = λ before stands.
-    let got = c.crawl.ensures before stands in
-    let crawls = subst (λ result. CrawlsOver before c.in-Crawl.root (crawl_data c.in-Crawl.seen) result got.0) c.in_ok-crawl-in-Crawl.was got.1 in
-    (got.0, subst (λ happening. Does before (happening_data happening) [] got.0) (sym c.in-Crawl.is) (refl, crawls), got.2)
+    let got = c.in_ok-crawl-in-Crawl.ensures before stands in
+    (got.0, subst (λ happening. Does before (happening_data happening) [] got.0) (sym c.in-Crawl.is) (refl, got.1), got.2)
 
 pub returns-in-Asked : goal.returns-in-Asked
 returns-in-Asked c = λ before stands.

@@ -1,10 +1,10 @@
 -- What an opening leads to: of a root that is shown, where no other may be, and else.
-use Rattle.std.proofs.Common.{◌≡◌, ℕ, ◌+◌, true, false, List, Ok, refl, sym, ap, subst, ◌∙◌, inl, inr}
+use Rattle.std.proofs.Common.{◌≡◌, ℕ, ◌+◌, true, false, List, refl, sym, ap, subst, ◌∙◌, inl, inr}
 use mathlib.Core.Bool.{false≢true}
 use Rattle.wq_session.specs.declared.crawl.CrawlFault.TheVariants.{TooManyRoots}
-use Rattle.wq_replay.specs.Stands.{crawl_data}
+use Rattle.wq_replay.specs.Stands.{Stands, crawl_data}
 use Rattle.wq_replay.specs.World.{IsFull, Starts, refusing, shows, unrefused}
-use Rattle.wq_replay.proofs.Worlds.{opens_new, opens_seen, opens_shown, opens_start}
+use Rattle.wq_replay.proofs.Worlds.{opens_new, opens_shown, opens_start}
 use Rattle.wq_replay.proofs.world.World.open.Goals as goal
 
 pub returns-then-shows : goal.returns-then-shows
@@ -28,12 +28,8 @@ pub returns-in-Ok : goal.returns-in-Ok
 returns-in-Ok c = λ before stands.
     let new : shows c.args.root c.args.self.now.table ≡ false = subst (λ (text : List ℕ). shows text c.args.self.now.table ≡ false) c.as_str.ensures (sym c.shows.ensures ∙ c.if-shows.false) in
     let room : IsFull c.args.self.now.table → ⊥ = λ full. false≢true (sym c.if-is_full.false ∙ c.is_full.ensures.1 full) in
-    let got = c.start.ensures before stands in (
-      got.0,
-      opens_seen before got.0 c.args.root (crawl_data c.args.seen) (Ok c.in-Ok.pass.now) c.start.result (ap crawl_data c.in-Ok.is)
-          (opens_start before got.0 c.args.root c.in-Ok.pass.now c.args.self.now.table c.start.result stands.roots new room got.1),
-      got.2,
-    )
+    opens_start before c.args.root c.in-Ok.pass.now (crawl_data c.args.seen) c.args.self.now.table c.start.result (λ after. Stands after c.start.new.self)
+    stands.roots new room (ap crawl_data c.in-Ok.is) (c.start.ensures before stands)
 
 pub returns-in-Err : goal.returns-in-Err
 returns-in-Err c = λ before stands.

@@ -1,0 +1,73 @@
+//! What happens where a client of a script asks: what its ask needs first, and the ask. What comes of it is left to
+//! `playing`.
+ghost use Rattle.std.specs.Prelude.{◌≡◌, ◌++◌, ◌∷◌, [], IfOk, map, option_to_list};
+ghost use Rattle.wq_session.specs.Need.{need_of};
+ghost use Rattle.wq_session.specs.Needed.{need_data};
+ghost use Rattle.wq_replay.specs.Replay.{listed, needed};
+ghost use Rattle.wq_replay.specs.Stands.{crawl_data, happening_data};
+ghost use Rattle.wq_replay.specs.World.{asked};
+
+use crate::happening::Happening;
+use crate::playing::ROOT;
+use std::alloc::{AllocError, Global};
+use wq_base::Text;
+use wq_session::{Ask, CrawlFault, Need};
+use wq_view::Pass;
+
+/// What happens where a client asks this while `/r` lists that.
+pub(crate) fn happenings(
+    alloc: Global,
+    tree: &Pass,
+    client: i64,
+    ask: Ask,
+) -> Result<Vec<Happening<'_>>, AllocError>
+    ensures { IfOk result (λ all. map happening_data all.items
+        ≡ needed tree.now (need_of ask) ++ asked client ask ∷ []) }
+{
+    let mut happenings = Vec::with_capacity(alloc, 2)?;
+    if let Some(first) = needed(alloc, tree, ask.need())? {
+        happenings.push(first)?;
+    }
+    happenings.push(Happening::Asked { client, ask })?;
+    Ok(happenings)
+}
+
+/// The crawl or the opening that an ask needs, if it needs one.
+fn needed<'a>(
+    alloc: Global,
+    tree: &'a Pass,
+    need: Need<'_>,
+) -> Result<Option<Happening<'a>>, AllocError>
+    ensures { IfOk result (λ first. map happening_data (option_to_list first)
+        ≡ needed tree.now (need_data need.entry)) }
+{
+    match need {
+        Need::Crawl(name) => Ok(Some(Happening::Crawl {
+            root: text(alloc, name)?,
+            seen: listed(tree, name),
+        })),
+        Need::Open(name) => Ok(Some(Happening::Open {
+            root: text(alloc, name)?,
+            seen: listed(tree, name),
+        })),
+        _ => Ok(None),
+    }
+}
+
+/// A text that is kept.
+pub(crate) fn text(alloc: Global, text: &str) -> Result<Text, AllocError>
+    ensures { IfOk result (λ kept. kept ≡ text.now) }
+{
+    Ok(Text::from_string(String::from_str(alloc, text)?))
+}
+
+/// What is listed of a root: of `/r` the tree that a script has set. No other root can be read.
+fn listed<'a>(tree: &'a Pass, root: &str) -> Result<&'a Pass, CrawlFault>
+    ensures { crawl_data result ≡ listed tree.now root.now }
+{
+    if root == ROOT {
+        Ok(tree)
+    } else {
+        Err(CrawlFault::Unreadable)
+    }
+}
