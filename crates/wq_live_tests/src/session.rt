@@ -46,6 +46,8 @@ fn rows_of(alloc: Global, names: &[&[u8]]) -> Result<Vec<Seen>, AllocError> {
 pub(crate) struct Still(pub(crate) i64);
 
 impl Seconds for Still {
+    ghost told = { λ s. s.0 };
+
     fn second(&mut self) -> i64 {
         self.0
     }
@@ -96,7 +98,7 @@ fn play<N: Named, R: Wait + Copy + Drop>(
     };
     let mut crawler = Crawler::new(blank.open::<N, R>(rt), tree, Still(100));
     let mut seat = crawler.seat().ok()?;
-    let mut roots = MemoryRoots::new(alloc, crawler);
+    let mut roots = MemoryRoots { crawler };
     let shelf = new_shelf(alloc)?;
     for (place, (stream, want)) in talks.iter().enumerate() {
         let mut desk = LockDesk::new(Arc::try_clone(&shelf).ok()?, rt);

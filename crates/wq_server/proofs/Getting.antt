@@ -10,20 +10,19 @@ use Rattle.wq_session.specs.declared.crawl.CrawlFault.{CrawlFault}
 use Rattle.wq_server.specs.Answering.{AnswersAfter, AnswersEnd, IfRetires, Sees, SeesFirst, SeesNumber, known}
 use Rattle.wq_server.specs.Desk.{AnswersAt}
 use Rattle.wq_server.specs.Ready.{HearsFirst, KnownData, ReadyData, Readies, ended_by}
-use Rattle.wq_server.specs.Roots.{AnswerData, Gives, answer_to, tells}
-use Rattle.wq_server.specs.Serving.{Gets, Replies}
-use Rattle.wq_server.specs.declared.roots.Wish.{Wish}
-use Rattle.wq_server.specs.declared.roots.Wish.TheVariants.{Crawl, Open, Retire}
+use Rattle.wq_server.specs.Crawl.{CrawlerData}
+use Rattle.wq_server.specs.Roots.{WishData, Gives, passing, showing, ending, tells}
+use Rattle.wq_server.specs.Serving.{IsAnswered, Replies}
 use Rattle.wq_server.specs.declared.run.Run.{Run}
 
 module _ (run : Run) (ask : Ask) (seen after : List RootEvent) (shelf left : Option ShelfNow) (out : OutData) where
   -- an ask that needs nothing
-  pub gets_at_none : (before : KnownData) → none ≡ need_of ask → AnswersAt shelf ask None out left → Gets run ask before shelf out before left
+  pub gets_at_none : (before : KnownData) → none ≡ need_of ask → AnswersAt shelf ask None out left → IsAnswered run ask before shelf out before left
   gets_at_none before need answers = (Ok None, subst (λ n. Readies run n before (Ok None) before) need (refl, refl), answers)
 
   -- an ask that needs a look
-  pub gets_by_look : (given : Option (List AnswerData)) (root : List ℕ) → look root ≡ need_of ask → SeesFirst run ask seen shelf out after left
-      → Gets run ask (known given seen) shelf out (known given after) left
+  pub gets_by_look : (given : Option CrawlerData) (root : List ℕ) → look root ≡ need_of ask → SeesFirst run ask seen shelf out after left
+      → IsAnswered run ask (known given seen) shelf out (known given after) left
   gets_by_look given root need (at, sees, answers) = (
     Ok at,
     subst (λ n. Readies run n (known given seen) (Ok at) (known given after)) need
@@ -32,9 +31,9 @@ module _ (run : Run) (ask : Ask) (seen after : List RootEvent) (shelf left : Opt
   )
 
   -- an ask for which the roots are asked first
-  heard_first : (root : List ℕ) (wish : Wish) (told : Result (Option (List RootEvent)) CrawlFault) (given later : Option (List AnswerData))
+  heard_first : (root : List ℕ) (wish : WishData) (told : Result (Option (List RootEvent)) CrawlFault) (given later : Option CrawlerData)
       → ((heard : List RootEvent) (at : Option AtData) → Sees run (need_of ask) heard at after → Sees run (look root) heard at after)
-      → Gives given (answer_to wish told) later → AnswersAfter run ask told seen shelf out after left
+      → Gives given wish told later → AnswersAfter run ask told seen shelf out after left
       → (ready : ReadyData) × HearsFirst run root wish (known given seen) ready (known later after) × Replies ready ask shelf out left
   heard_first root wish (Ok told) given later shown gives (heard, learns, (at, sees, answers)) =
       (Ok at, (Ok told, known later heard, (gives, learns), (at, (refl, shown heard at sees), refl)), answers)
@@ -42,19 +41,19 @@ module _ (run : Run) (ask : Ask) (seen after : List RootEvent) (shelf left : Opt
       (Err fault, (Err fault, known later seen, (gives, refl), (refl, ap (known later) same)), (refuses, kept))
 
   -- an ask that needs a crawl
-  pub gets_by_crawl : (root : List ℕ) (told : Result (Option (List RootEvent)) CrawlFault) (given later : Option (List AnswerData))
-      → crawl root ≡ need_of ask → Gives given (answer_to (Crawl root) told) later → AnswersAfter run ask told seen shelf out after left
-      → Gets run ask (known given seen) shelf out (known later after) left
+  pub gets_by_crawl : (root : List ℕ) (told : Result (Option (List RootEvent)) CrawlFault) (given later : Option CrawlerData)
+      → crawl root ≡ need_of ask → Gives given (passing root) told later → AnswersAfter run ask told seen shelf out after left
+      → IsAnswered run ask (known given seen) shelf out (known later after) left
   gets_by_crawl root told given later need gives answers =
-      let it = heard_first root (Crawl root) told given later (λ heard at sees. subst (λ n. Sees run n heard at after) (sym need) sees) gives answers in
+      let it = heard_first root (passing root) told given later (λ heard at sees. subst (λ n. Sees run n heard at after) (sym need) sees) gives answers in
       (it.0, subst (λ n. Readies run n (known given seen) it.0 (known later after)) need it.1, it.2)
 
   -- an ask that needs that a root is opened
-  pub gets_by_open : (root : List ℕ) (told : Result (Option (List RootEvent)) CrawlFault) (given later : Option (List AnswerData))
-      → opening root ≡ need_of ask → Gives given (answer_to (Open root) told) later → AnswersAfter run ask told seen shelf out after left
-      → Gets run ask (known given seen) shelf out (known later after) left
+  pub gets_by_open : (root : List ℕ) (told : Result (Option (List RootEvent)) CrawlFault) (given later : Option CrawlerData)
+      → opening root ≡ need_of ask → Gives given (showing root) told later → AnswersAfter run ask told seen shelf out after left
+      → IsAnswered run ask (known given seen) shelf out (known later after) left
   gets_by_open root told given later need gives answers =
-      let it = heard_first root (Open root) told given later (λ heard at sees. subst (λ n. Sees run n heard at after) (sym need) sees) gives answers in
+      let it = heard_first root (showing root) told given later (λ heard at sees. subst (λ n. Sees run n heard at after) (sym need) sees) gives answers in
       (it.0, subst (λ n. Readies run n (known given seen) it.0 (known later after)) need it.1, it.2)
 
   -- what holds where a root is to be retired
@@ -66,11 +65,11 @@ module _ (run : Run) (ask : Ask) (seen after : List RootEvent) (shelf left : Opt
   if_retires P (retire root) by = by root refl
 
   -- an ask that needs the end of a root that is not shown
-  pub gets_no_end : (given : Option (List AnswerData)) → SeesNumber run (need_of ask) seen None after → AnswersAt shelf ask None out left
-      → IfRetires (need_of ask) (Gets run ask (known given seen) shelf out (known given after) left)
+  pub gets_no_end : (given : Option CrawlerData) → SeesNumber run (need_of ask) seen None after → AnswersAt shelf ask None out left
+      → IfRetires (need_of ask) (IsAnswered run ask (known given seen) shelf out (known given after) left)
   gets_no_end given (Some at, sees, is) answers = absurd cc
   gets_no_end given (None, sees, is) answers =
-      if_retires (Gets run ask (known given seen) shelf out (known given after) left) (need_of ask) (λ root need. (
+      if_retires (IsAnswered run ask (known given seen) shelf out (known given after) left) (need_of ask) (λ root need. (
         Ok None,
         subst (λ n. Readies run n (known given seen) (Ok None) (known given after)) (sym need)
             (None, known given after, (refl, subst (λ n. Sees run n seen None after) need sees), (refl, refl)),
@@ -78,8 +77,8 @@ module _ (run : Run) (ask : Ask) (seen after : List RootEvent) (shelf left : Opt
       ))
 
   -- the end of a root that was looked at
-  retires_it : (at : AtData) (looked : List RootEvent) (told : Result (List RootEvent) CrawlFault) (given later : Option (List AnswerData)) (root : List ℕ)
-      → Sees run (retire root) seen (Some at) looked → Gives given (answer_to (Retire (at.instance).root) (tells told)) later
+  retires_it : (at : AtData) (looked : List RootEvent) (told : Result (List RootEvent) CrawlFault) (given later : Option CrawlerData) (root : List ℕ)
+      → Sees run (retire root) seen (Some at) looked → Gives given (ending (at.instance).root) (tells told) later
       → AnswersEnd at.instance ask told looked shelf out after left
       → (ready : ReadyData) × Readies run (retire root) (known given seen) ready (known later after) × Replies ready ask shelf out left
   retires_it at looked (Ok told) given later root sees gives (learns, answers) =
@@ -88,15 +87,15 @@ module _ (run : Run) (ask : Ask) (seen after : List RootEvent) (shelf left : Opt
       (Err fault, (Some at, known given looked, (refl, sees), (Err fault, (gives, same), refl)), (refuses, kept))
 
   -- an ask that needs the end of a root that is shown
-  pub gets_by_end : (instance : InstanceData) (looked : List RootEvent) (told : Result (List RootEvent) CrawlFault) (given later : Option (List AnswerData))
-      → SeesNumber run (need_of ask) seen (Some instance) looked → Gives given (answer_to (Retire instance.root) (tells told)) later
+  pub gets_by_end : (instance : InstanceData) (looked : List RootEvent) (told : Result (List RootEvent) CrawlFault) (given later : Option CrawlerData)
+      → SeesNumber run (need_of ask) seen (Some instance) looked → Gives given (ending instance.root) (tells told) later
       → AnswersEnd instance ask told looked shelf out after left
-      → IfRetires (need_of ask) (Gets run ask (known given seen) shelf out (known later after) left)
+      → IfRetires (need_of ask) (IsAnswered run ask (known given seen) shelf out (known later after) left)
   gets_by_end instance looked told given later (None, sees, is) gives answers = absurd cc
   gets_by_end instance looked told given later (Some at, sees, is) gives answers =
       let same : instance ≡ at.instance = cc is in
-      if_retires (Gets run ask (known given seen) shelf out (known later after) left) (need_of ask) (λ root need.
+      if_retires (IsAnswered run ask (known given seen) shelf out (known later after) left) (need_of ask) (λ root need.
       let it = retires_it at looked told given later root (subst (λ n. Sees run n seen (Some at) looked) need sees)
-      (subst (λ (i : InstanceData). Gives given (answer_to (Retire i.root) (tells told)) later) same gives)
+      (subst (λ (i : InstanceData). Gives given (ending i.root) (tells told) later) same gives)
       (subst (λ i. AnswersEnd i ask told looked shelf out after left) same answers) in
       (it.0, subst (λ n. Readies run n (known given seen) it.0 (known later after)) (sym need) it.1, it.2))

@@ -3,3 +3,5 @@ mod Shown
 mod Held
 mod Getting
 mod Going
+mod Crawling
+mod Sharing

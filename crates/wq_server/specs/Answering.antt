@@ -13,13 +13,13 @@ use Rattle.wq_session.specs.declared.ask.Ask.{Ask}
 use Rattle.wq_session.specs.declared.crawl.CrawlFault.{CrawlFault}
 use Rattle.wq_server.specs.Desk.{AnswersAt}
 use Rattle.wq_server.specs.Ready.{KnownData, Learns, ended}
-use Rattle.wq_server.specs.Roots.{AnswerData}
+use Rattle.wq_server.specs.Crawl.{CrawlerData}
 use Rattle.wq_server.specs.Run.{ShowsAt}
 use Rattle.wq_server.specs.declared.run.Run.{Run}
 
 -- what is known of the roots, from its parts
-abbrev pub known : Option (List AnswerData) → List RootEvent → KnownData
-known given seen = record { given = given; seen = seen }
+abbrev pub known : Option CrawlerData → List RootEvent → KnownData
+known roots seen = record { roots = roots; seen = seen }
 
 -- the root that an ask needs, as a list shows it
 abbrev pub ShowsNeeded : Run → NeedData → List RootEvent → Option AtData → Type 0

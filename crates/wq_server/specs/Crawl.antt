@@ -1,25 +1,25 @@
 -- What crawling, opening and retiring a root make of the one list of events of all roots, and why
 -- they are refused.
 -- No public document is behind it.
-use Rattle.std.specs.Prelude.{◌≡◌, ◌≢◌, ◌⊎◌, ◌+◌, true, false, ℕ, List, [], ◌∷◌, ◌++◌, length}
+use Rattle.std.specs.Prelude.{◌≡◌, ◌≤◌, ◌⊎◌, ◌+◌, true, false, ℕ, ℤ, refl}
+use Rattle.std.specs.Prelude.{List, [], ◌∷◌, ◌++◌, length}
 use Rattle.std.specs.Prelude.{Option, Some, None, IsSome, Result, Ok, Err, option_map}
+use Rattle.std.specs.Coded.{Coded, code_by, coded×, coded_ℕ, coded_ℤ, coded_option}
 use Rattle.wq_base.specs.Limit.{max_number}
-use Rattle.wq_view.specs.Listing.{PassData}
+use Rattle.wq_view.specs.Limit.{max_tick}
+use Rattle.wq_view.specs.Listing.{PassData, listing_fault, listing_of}
+use Rattle.wq_view.specs.Seen.{SeenData}
 use Rattle.wq_view.specs.declared.listing.PassFault.{PassFault}
 use Rattle.wq_view.specs.declared.listing.PassFault.TheVariants.{BadName, NameTwice, TooManyRows}
 use Rattle.wq_view.specs.declared.listing.PassFault.TheVariants.{OutOfRange}
 use Rattle.wq_view.specs.declared.listing.PassFault.TheVariants.{NoMemory as NoPassMemory}
-use Rattle.wq_view.specs.declared.view.ViewFault.{ViewFault}
-use Rattle.wq_view.specs.declared.view.ViewFault.TheVariants.{TicksSpent as TicksAreSpent}
-use Rattle.wq_view.specs.declared.view.ViewFault.TheVariants.{NoMemory as NoViewMemory}
-use Rattle.wq_live.specs.Event.{is_shown, root_named, shown, start_events, started}
+use Rattle.wq_live.specs.Event.{is_shown, passes_over, root_named, shown, start_events, started}
+use Rattle.wq_live.specs.Front.{events_code}
 use Rattle.wq_live.specs.Limit.{max_roots}
 use Rattle.wq_live.specs.Table.{IsNews, IsNoNews}
+use Rattle.wq_live.specs.Tree.{IsCounted, ListedData, Lists, listed_code}
 use Rattle.wq_live.specs.declared.event.RootEvent.{RootEvent}
 use Rattle.wq_live.specs.declared.event.RootEvent.TheVariants.{Ended, Passed}
-use Rattle.wq_live.specs.declared.table.StartFault.{StartFault}
-use Rattle.wq_live.specs.declared.table.StartFault.TheVariants.{TooManyRoots as TooManyShown}
-use Rattle.wq_live.specs.declared.table.StartFault.TheVariants.{NoMemory as NoStartMemory}
 use Rattle.wq_live.specs.declared.tree.TreeFault.{TreeFault}
 use Rattle.wq_live.specs.declared.tree.TreeFault.TheVariants.{Unreadable as UnreadableTree}
 use Rattle.wq_live.specs.declared.tree.TreeFault.TheVariants.{TooManyRows as TooManyTreeRows}
@@ -28,6 +28,27 @@ use Rattle.wq_session.specs.declared.crawl.CrawlFault.{CrawlFault}
 use Rattle.wq_session.specs.declared.crawl.CrawlFault.TheVariants.{Unreadable, TooManyFiles}
 use Rattle.wq_session.specs.declared.crawl.CrawlFault.TheVariants.{TooManyRoots, TicksSpent}
 use Rattle.wq_session.specs.declared.crawl.CrawlFault.TheVariants.{NoMemory}
+
+-- what a crawler shows: the list of events that is published, the second that its clock told last,
+-- what its tree listed last, where that is shown, and how often its tree failed
+pub record CrawlerData : Type 0 where
+  pub events : List RootEvent
+  pub second : ℤ
+  pub listed : Option ListedData
+  pub failed : ℕ
+
+-- a crawler as the tuple of its parts
+abbrev pub crawler_code : Coded CrawlerData
+crawler_code =
+    code_by (List RootEvent × (ℤ × (Option ListedData × ℕ)))
+    (coded× events_code (coded× coded_ℤ (coded× (coded_option listed_code) coded_ℕ)))
+    (λ c. (c.events, (c.second, (c.listed, c.failed))))
+    (λ (events, (second, (listed, failed))). record {
+      events = events;
+      second = second;
+      listed = listed;
+      failed = failed;
+    }) (λ _. refl)
 
 -- why a root is not crawled that the tree does not list
 abbrev pub not_listed : TreeFault → CrawlFault
@@ -43,16 +64,6 @@ no_pass OutOfRange = Unreadable
 no_pass TooManyRows = TooManyFiles
 no_pass NoPassMemory = NoMemory
 
--- why a root is not crawled, the view of which takes in no pass
-abbrev pub not_taken_in : ViewFault → CrawlFault
-not_taken_in TicksAreSpent = TicksSpent
-not_taken_in NoViewMemory = NoMemory
-
--- why a root is not opened that is not started
-abbrev pub not_started : StartFault → CrawlFault
-not_started TooManyShown = TooManyRoots
-not_started NoStartMemory = NoMemory
-
 -- no more root can be started: as many are shown as may be, or the last number was given
 abbrev pub IsFull : List RootEvent → Type 0
 IsFull events = (length (shown events) ≡ max_roots) ⊎ (length (started events) ≡ max_number)
@@ -67,36 +78,108 @@ Passes before number pass after =
     (IsNoNews before number pass × (after ≡ before))
     ⊎ (IsNews before number pass × (after ≡ before ++ Passed number pass ∷ []))
 
--- a crawl of a root: of one that is not shown there is none; else a pass over it is added, unless
--- that tells nothing, and the list is told; a refused crawl adds nothing
-abbrev pub Crawls : List ℕ → List RootEvent → Result (Option (List RootEvent)) CrawlFault
-    → List RootEvent → Type 0
-Crawls text before (Ok None) after = (number_of text before ≡ None) × (after ≡ before)
-Crawls text before (Ok (Some told)) after =
-    (told ≡ after) × (number : ℕ) × (number_of text before ≡ Some number)
-    × (pass : PassData) × Passes before number pass after
-Crawls text before (Err fault) after =
-    IsSome (number_of text before) × (fault ≢ TooManyRoots) × (after ≡ before)
+-- a pass is of a root, as that was listed last: of the rows that the tree gave of it, where it
+-- shows them, and of the second that was told last
+abbrev pub IsPassOf : Option ListedData → List ℕ → ℤ → PassData → Type 0
+IsPassOf None text second pass = pass.second ≡ second
+IsPassOf (Some listed) text second pass =
+    (rows : List SeenData) × (listed ≡ record { root = text; rows = Ok rows })
+    × (listing_fault rows second ≡ None) × (pass ≡ listing_of rows second)
+
+-- why there is no pass of a root: the tree did not list it, or what it listed makes none
+abbrev pub IsNoPassOf : List ℕ → CrawlerData → CrawlFault → CrawlerData → Type 0
+IsNoPassOf text before fault after =
+    ((why : TreeFault) × Lists after.listed text (Err why)
+    × IsCounted before.failed after.failed why × (fault ≡ not_listed why))
+    ⊎ ((rows : List SeenData) × (why : PassFault) × Lists after.listed text (Ok rows)
+    × (listing_fault rows after.second ≡ Some why) × (fault ≡ no_pass why))
+
+-- why a pass over a root is not published: for want of memory; or the pass saw something else than
+-- the last one, and the ticks of the root are spent
+abbrev pub IsNotTakenIn : List RootEvent → ℕ → PassData → CrawlFault → Type 0
+IsNotTakenIn events number pass fault =
+    (fault ≡ NoMemory)
+    ⊎ ((fault ≡ TicksSpent) × IsNews events number pass
+    × (length (passes_over number events) ≡ max_tick))
+
+-- a root that is shown was crawled: it was listed, and a pass over it is added, unless that tells
+-- nothing, and the list is told; where it is refused, nothing is added
+abbrev pub CrawledAt : ℕ → List ℕ → CrawlerData → Result (List RootEvent) CrawlFault
+    → CrawlerData → Type 0
+CrawledAt number text before (Ok told) after =
+    (told ≡ after.events) × (pass : PassData) × IsPassOf after.listed text after.second pass
+    × Passes before.events number pass after.events
+CrawledAt number text before (Err fault) after =
+    (after.events ≡ before.events)
+    × (IsNoPassOf text before fault after
+    ⊎ ((pass : PassData) × IsPassOf after.listed text after.second pass
+    × IsNotTakenIn before.events number pass fault))
+
+-- a root was crawled: of one that is not shown there is no crawl
+abbrev pub Crawled : List ℕ → CrawlerData → Result (Option (List RootEvent)) CrawlFault
+    → CrawlerData → Type 0
+Crawled text before (Ok None) after = (number_of text before.events ≡ None) × (after ≡ before)
+Crawled text before (Ok (Some told)) after =
+    (number : ℕ) × (number_of text before.events ≡ Some number)
+    × CrawledAt number text before (Ok told) after
+Crawled text before (Err fault) after =
+    (number : ℕ) × (number_of text before.events ≡ Some number)
+    × CrawledAt number text before (Err fault) after
 
 -- the list with the start of a root, by this pass
 abbrev pub with_start : List ℕ → PassData → List RootEvent → List RootEvent
 with_start text pass events = events ++ start_events (length (started events) + 1) text pass
 
--- a root is opened: one that is shown is found, and any other is started with a pass over it, and
--- the list is told; where it is refused, nothing is added
-abbrev pub Opens : List ℕ → List RootEvent → Result (List RootEvent) CrawlFault
-    → List RootEvent → Type 0
-Opens text before (Ok told) after =
-    (told ≡ after) × ((IsSome (number_of text before) × (after ≡ before))
-    ⊎ ((number_of text before ≡ None) × (pass : PassData) × (after ≡ with_start text pass before)))
-Opens text before (Err fault) after = after ≡ before
+-- a root that is shown was found: the list is told as it is, unless memory is wanted for that
+abbrev pub Found : CrawlerData → Result (List RootEvent) CrawlFault → CrawlerData → Type 0
+Found before (Ok told) after = (told ≡ before.events) × (after ≡ before)
+Found before (Err fault) after = (fault ≡ NoMemory) × (after ≡ before)
 
--- a root is retired by its number: its end is added where it is shown, and the list is told; where
+-- a root that is not shown was listed and started with a pass over it, and the list is told; where
 -- it is refused, nothing is added
-abbrev pub Retires : ℕ → List RootEvent → Result (List RootEvent) CrawlFault
-    → List RootEvent → Type 0
-Retires number before (Ok told) after =
-    (told ≡ after)
-    × (((is_shown before number ≡ false) × (after ≡ before))
-    ⊎ ((is_shown before number ≡ true) × (after ≡ before ++ Ended number ∷ [])))
-Retires number before (Err fault) after = (fault ≡ NoMemory) × (after ≡ before)
+abbrev pub Began : List ℕ → CrawlerData → Result (List RootEvent) CrawlFault → CrawlerData → Type 0
+Began text before (Ok told) after =
+    (told ≡ after.events) × (pass : PassData) × IsPassOf after.listed text after.second pass
+    × (after.events ≡ with_start text pass before.events)
+Began text before (Err fault) after =
+    (after.events ≡ before.events) × (IsNoPassOf text before fault after ⊎ (fault ≡ NoMemory))
+
+-- a root that is not shown was started; or, where no more can be started, refused before it was
+-- listed
+abbrev pub BeganIfRoom : List ℕ → CrawlerData → Result (List RootEvent) CrawlFault → CrawlerData
+    → Type 0
+BeganIfRoom text before result after =
+    (IsFull before.events × (result ≡ Err TooManyRoots) × (after ≡ before))
+    ⊎ ((IsFull before.events → ⊥) × Began text before result after)
+
+-- a root was opened: one that is shown was found, and any other was started
+abbrev pub Opened : List ℕ → CrawlerData → Result (List RootEvent) CrawlFault → CrawlerData
+    → Type 0
+Opened text before result after =
+    (IsSome (number_of text before.events) × Found before result after)
+    ⊎ ((number_of text before.events ≡ None) × BeganIfRoom text before result after)
+
+-- a root was retired by its number: its end is added where it is shown, and the list is told; where
+-- it is refused, nothing is added
+abbrev pub Retired : ℕ → CrawlerData → Result (List RootEvent) CrawlFault → CrawlerData → Type 0
+Retired number before (Ok told) after =
+    (told ≡ after.events)
+    × (((is_shown before.events number ≡ false) × (after ≡ before))
+    ⊎ ((is_shown before.events number ≡ true)
+    × (after ≡ record before { events = before.events ++ Ended number ∷ [] })))
+Retired number before (Err fault) after = (fault ≡ NoMemory) × (after ≡ before)
+
+-- the list is told as it is, unless memory is wanted for that
+abbrev pub Shared : CrawlerData → Result (Option (List RootEvent)) CrawlFault → CrawlerData → Type 0
+Shared before (Ok None) after = ⊥
+Shared before (Ok (Some told)) after = (told ≡ before.events) × (after ≡ before)
+Shared before (Err fault) after = (fault ≡ NoMemory) × (after ≡ before)
+
+-- a root was crawled for those that asked when so many crawls had begun: by a crawl, or by the last
+-- one of a root that is shown, where that began then or later, of which the list is told as it is
+abbrev pub CrawledOnce : List ℕ → ℕ → (ℕ → Option ℕ) → CrawlerData
+    → Result (Option (List RootEvent)) CrawlFault → CrawlerData → Type 0
+CrawledOnce text asked last before result after =
+    Crawled text before result after
+    ⊎ ((number : ℕ) × (begun : ℕ) × (number_of text before.events ≡ Some number)
+    × (last number ≡ Some begun) × (asked ≤ begun) × Shared before result after)

@@ -8,16 +8,15 @@ use Rattle.wq_live.specs.declared.event.RootEvent.{RootEvent}
 use Rattle.wq_session.specs.Need.{NeedData, none, look, crawl, opening, retire}
 use Rattle.wq_session.specs.Query.{AtData}
 use Rattle.wq_session.specs.declared.crawl.CrawlFault.{CrawlFault}
-use Rattle.wq_server.specs.Roots.{AnswerData, Gives, answer_to, tells}
+use Rattle.wq_server.specs.Crawl.{CrawlerData}
+use Rattle.wq_server.specs.Roots.{WishData, Gives, passing, showing, ending, tells}
 use Rattle.wq_server.specs.Run.{ShowsAt}
-use Rattle.wq_server.specs.declared.roots.Wish.{Wish}
-use Rattle.wq_server.specs.declared.roots.Wish.TheVariants.{Crawl, Open, Retire}
 use Rattle.wq_server.specs.declared.run.Run.{Run}
 
--- what a session knows of the roots: the answers that they gave, where they are shown, and the list
+-- what a session knows of the roots: the crawler that they go by, where it is shown, and the list
 -- of events with which its next look begins
 pub record KnownData : Type 0 where
-  pub given : Option (List AnswerData)
+  pub roots : Option CrawlerData
   pub seen : List RootEvent
 
 -- what is looked at for an ask, if anything; or why its root could not be crawled, opened or
@@ -33,16 +32,16 @@ Learns before (Ok None) after = after ≡ before
 Learns before (Err fault) after = after ≡ before
 
 -- the roots are asked something, give this answer, and the list is learnt that was told
-abbrev pub Hears : KnownData → Wish → Result (Option (List RootEvent)) CrawlFault
+abbrev pub Hears : KnownData → WishData → Result (Option (List RootEvent)) CrawlFault
     → KnownData → Type 0
 Hears before wish told after =
-    Gives before.given (answer_to wish told) after.given × Learns before.seen told after.seen
+    Gives before.roots wish told after.roots × Learns before.seen told after.seen
 
 -- a root is looked at, in a list that begins with all that was known; or the look is refused, and
 -- nothing is looked at
 abbrev pub Looks : Run → List ℕ → KnownData → Option AtData → KnownData → Type 0
 Looks run root before at after =
-    (after.given ≡ before.given)
+    (after.roots ≡ before.roots)
     × ((IsPrefix before.seen after.seen × ShowsAt run root after.seen at)
     ⊎ ((after.seen ≡ before.seen) × (at ≡ None)))
 
@@ -54,7 +53,7 @@ LooksAfter run root (Ok told) before ready after =
 LooksAfter run root (Err fault) before ready after = (ready ≡ Err fault) × (after ≡ before)
 
 -- the roots are asked for a root first, and then it is looked at
-abbrev pub HearsFirst : Run → List ℕ → Wish → KnownData → ReadyData → KnownData → Type 0
+abbrev pub HearsFirst : Run → List ℕ → WishData → KnownData → ReadyData → KnownData → Type 0
 HearsFirst run root wish before ready after =
     (told : Result (Option (List RootEvent)) CrawlFault) × (heard : KnownData)
     × Hears before wish told heard × LooksAfter run root told heard ready after
@@ -73,15 +72,16 @@ abbrev pub Retires : Option AtData → KnownData → ReadyData → KnownData →
 Retires None before ready after = (ready ≡ Ok None) × (after ≡ before)
 Retires (Some at) before ready after =
     (told : Result (List RootEvent) CrawlFault)
-    × Hears before (Retire (at.instance).root) (tells told) after × (ready ≡ ended_by at told)
+    × Hears before (ending (at.instance).root) (tells told) after × (ready ≡ ended_by at told)
 
 -- what an ask needs is done
 abbrev pub Readies : Run → NeedData → KnownData → ReadyData → KnownData → Type 0
 Readies run none before ready after = (ready ≡ Ok None) × (after ≡ before)
 Readies run (look root) before ready after =
     (at : Option AtData) × Looks run root before at after × (ready ≡ Ok at)
-Readies run (crawl root) before ready after = HearsFirst run root (Crawl root) before ready after
-Readies run (opening root) before ready after = HearsFirst run root (Open root) before ready after
+Readies run (crawl root) before ready after = HearsFirst run root (passing root) before ready after
+Readies run (opening root) before ready after =
+    HearsFirst run root (showing root) before ready after
 Readies run (retire root) before ready after =
     (at : Option AtData) × (seen : KnownData) × Looks run root before at seen
     × Retires at seen ready after

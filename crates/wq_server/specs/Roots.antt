@@ -1,40 +1,41 @@
--- The answers of the roots to what a session asked of them.
+-- What the roots do for a session, and what they answer.
 -- No public document is behind it.
-use Rattle.std.specs.Prelude.{◌≡◌, List, [], ◌∷◌, ◌++◌, Option, Some, None, option_map, Result, Ok, Err, Vec}
-use Rattle.std.specs.declared.alloc.Global.{Global}
+use Rattle.std.specs.Prelude.{◌≡◌, ℕ, List, Option, Some, None, Result, Ok, Err}
 use Rattle.wq_live.specs.declared.event.RootEvent.{RootEvent}
 use Rattle.wq_session.specs.declared.crawl.CrawlFault.{CrawlFault}
-use Rattle.wq_server.specs.declared.roots.Answer.{Answer}
-use Rattle.wq_server.specs.declared.roots.Wish.{Wish}
+use Rattle.wq_server.specs.Crawl.{CrawlerData, Crawled, Opened, Retired}
 
--- what a session asked of the roots, and the list that it was told, if any; or why it was refused
-abbrev pub AnswerData : Type 0
-AnswerData = Answer (List RootEvent)
-
--- what was told for a wish
-abbrev pub answer_to : Wish → Result (Option (List RootEvent)) CrawlFault → AnswerData
-answer_to wish told = record { wish = wish; told = told }
+-- what a session asks of the roots
+pub data WishData : Type 0 where
+  -- a pass over the root of this text, if it is shown
+  passing : (root : List ℕ) → WishData
+  -- that the root of this text is shown
+  showing : (root : List ℕ) → WishData
+  -- the end of the root of this number
+  ending : (number : ℕ) → WishData
 
 -- what was told where a list is told unless the wish is refused
 abbrev pub tells : Result (List RootEvent) CrawlFault → Result (Option (List RootEvent)) CrawlFault
 tells (Ok told) = Ok (Some told)
 tells (Err fault) = Err fault
 
--- the roots give an answer: where they show theirs, it is the next one, or they show no more
-abbrev pub Gives : Option (List AnswerData) → AnswerData → Option (List AnswerData) → Type 0
-Gives None answer after = after ≡ None
-Gives (Some answers) answer None = Unit {0}
-Gives (Some answers) answer (Some after) = after ≡ answers ++ answer ∷ []
+-- a wish was done by a crawler, and this was answered: the list of events, if one is told; or why
+-- the wish was refused
+abbrev pub Fulfils : WishData → CrawlerData → Result (Option (List RootEvent)) CrawlFault
+    → CrawlerData → Type 0
+Fulfils (passing root) before told after = Crawled root before told after
+Fulfils (showing root) before told after =
+    (answer : Result (List RootEvent) CrawlFault) × (told ≡ tells answer)
+    × Opened root before answer after
+Fulfils (ending number) before told after =
+    (answer : Result (List RootEvent) CrawlFault) × (told ≡ tells answer)
+    × Retired number before answer after
 
--- the answers that are kept, if any are
-abbrev pub kept : Option (Vec AnswerData Global) → Option (List AnswerData)
-kept answers = option_map (λ vec. vec.items) answers
-
--- what was told is kept behind the answers before it; or, for want of memory, no answers are kept
--- any more
-abbrev pub Keeps : Option (List AnswerData) → Option Wish
-    → Option (Result (Option (List RootEvent)) CrawlFault) → Option (List AnswerData) → Type 0
-Keeps before wish told None = Unit {0}
-Keeps (Some answers) (Some wish) (Some told) (Some after) =
-    after ≡ answers ++ answer_to wish told ∷ []
-Keeps _ _ _ (Some after) = ⊥
+-- the roots do what a session asks, and answer this: by the crawler that is shown, and what it is
+-- then is shown; or by some crawler, where none is shown
+abbrev pub Gives : Option CrawlerData → WishData → Result (Option (List RootEvent)) CrawlFault
+    → Option CrawlerData → Type 0
+Gives (Some before) wish told after =
+    (left : CrawlerData) × Fulfils wish before told left × (after ≡ Some left)
+Gives None wish told after =
+    (before : CrawlerData) × (left : CrawlerData) × Fulfils wish before told left × (after ≡ None)

@@ -19,7 +19,7 @@ use Rattle.wq_server.specs.Desk.{AnswersAt}
 use Rattle.wq_server.specs.Inbox.{Hands}
 use Rattle.wq_server.specs.Limit.{max_events}
 use Rattle.wq_server.specs.Ready.{KnownData, ReadyData, Readies}
-use Rattle.wq_server.specs.Roots.{AnswerData}
+use Rattle.wq_server.specs.Crawl.{CrawlerData}
 use Rattle.wq_server.specs.declared.run.Run.{Run}
 
 -- what the ends of a session show: the events that are left, what is known of the roots, and the
@@ -36,9 +36,9 @@ Replies (Ok at) ask shelf out after = AnswersAt shelf ask at out after
 Replies (Err fault) ask shelf out after = MayRefuse (crawl_refusal fault) out × (after ≡ shelf)
 
 -- an ask is answered, when what it needs was done
-abbrev pub Gets : Run → Ask → KnownData → Option ShelfNow → OutData → KnownData → Option ShelfNow
-    → Type 0
-Gets run ask before shelf out after left =
+abbrev pub IsAnswered : Run → Ask → KnownData → Option ShelfNow → OutData → KnownData
+    → Option ShelfNow → Type 0
+IsAnswered run ask before shelf out after left =
     (ready : ReadyData) × Readies run (need_of ask) before ready after
     × Replies ready ask shelf out left
 
@@ -46,7 +46,7 @@ Gets run ask before shelf out after left =
 abbrev pub Serves : Run → PlaceData → Event → OutData → PlaceData → Type 0
 Serves run before event out after =
     (ask : Ask) × Hands before.left event after.left × Asks event ask
-    × Gets run ask before.known before.shelf out after.known after.shelf
+    × IsAnswered run ask before.known before.shelf out after.known after.shelf
 
 -- what is written of a reply, if there is one: its text and a newline
 abbrev pub line_for : Option (List ℕ) → List ℕ
@@ -68,9 +68,9 @@ WritesFront before after bytes =
     × Appends before after front
 
 -- the ends, from their parts
-abbrev pub place : Option (List Event) → Option (List AnswerData) → List RootEvent → Option ShelfNow
+abbrev pub place : Option (List Event) → Option CrawlerData → List RootEvent → Option ShelfNow
     → PlaceData
-place left given seen shelf = record { left = left; known = known given seen; shelf = shelf }
+place left roots seen shelf = record { left = left; known = known roots seen; shelf = shelf }
 
 -- how a session came to its end
 pub record EndData : Type 0 where

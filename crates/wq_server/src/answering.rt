@@ -3,9 +3,8 @@ ghost use Rattle.std.specs.Prelude.{◌≡◌, option_map};
 ghost use Rattle.wq_clock.specs.Instance.{instance_data};
 ghost use Rattle.wq_server.specs.Answering.{AnswersAfter, AnswersEnd, IfRetires, SeesFirst, known};
 ghost use Rattle.wq_server.specs.Desk.{AnswersAt};
-ghost use Rattle.wq_server.specs.Roots.{Gives, answer_to};
-ghost use Rattle.wq_server.specs.Serving.{Gets};
-ghost use Rattle.wq_server.specs.declared.roots.Wish.TheVariants.{Open};
+ghost use Rattle.wq_server.specs.Roots.{Gives, showing};
+ghost use Rattle.wq_server.specs.Serving.{IsAnswered};
 ghost use Rattle.wq_session.specs.Answer.{MayRefuse};
 ghost use Rattle.wq_session.specs.Crawl.{crawl_refusal};
 ghost use Rattle.wq_session.specs.Need.{need_of};
@@ -37,8 +36,8 @@ pub(crate) fn answer<N: Named, R: Roots<N>, D: Desk>(
     roots: &mut R,
     desk: &mut D,
 ) -> (Seat<N>, Out)
-    ensures gets { Gets client.old.run ask (known (R.given roots.old) seat) (D.shelf desk.old)
-        result.1 (known (R.given roots.new) result.0) (D.shelf desk.new) }
+    ensures gets { IsAnswered client.old.run ask (known (R.crawler roots.old) seat) (D.shelf desk.old)
+        result.1 (known (R.crawler roots.new) result.0) (D.shelf desk.new) }
     ensures run { client.new.run ≡ client.old.run }
 {
     match ask.need() {
@@ -58,7 +57,7 @@ pub(crate) fn answer<N: Named, R: Roots<N>, D: Desk>(
 
 /// Opens a root.
 fn open<N: Named, R: Roots<N>>(roots: &mut R, root: &str) -> Result<Option<Told<N>>, CrawlFault>
-    ensures { Gives (R.given roots.old) (answer_to (Open root.now) result) (R.given roots.new) }
+    ensures { Gives (R.crawler roots.old) (showing root.now) result (R.crawler roots.new) }
 {
     match roots.open(root) {
         Ok(told) => Ok(Some(told)),
@@ -128,8 +127,8 @@ fn retire_and_hold<N: Named, R: Roots<N>, D: Desk>(
     roots: &mut R,
     desk: &mut D,
 ) -> (Seat<N>, Out)
-    ensures gets { IfRetires (need_of ask) (Gets client.old.run ask (known (R.given roots.old) seat)
-        (D.shelf desk.old) result.1 (known (R.given roots.new) result.0) (D.shelf desk.new)) }
+    ensures gets { IfRetires (need_of ask) (IsAnswered client.old.run ask (known (R.crawler roots.old) seat)
+        (D.shelf desk.old) result.1 (known (R.crawler roots.new) result.0) (D.shelf desk.new)) }
     ensures run { client.new.run ≡ client.old.run }
 {
     let (seat, instance) = number_for(client.run, &ask, seat);

@@ -1,24 +1,32 @@
 //! What lists roots and publishes what is seen: a tree, a clock and a publisher, of which one crawl after the other
 //! takes hold.
-ghost use Rattle.std.specs.Prelude.{◌≡◌, ◌≢◌, ◌↔◌, Err, IfErr, IfOk, IsTrue, MatchResult, None};
-ghost use Rattle.wq_server.specs.Crawl.{Crawls, IsFull, Opens, Passes, Retires, number_of};
+ghost use Rattle.std.specs.Prelude.{◌≡◌, ◌≢◌, ◌⊎◌, ◌↔◌, Err, IfErr, IfOk, IsTrue, MatchResult, None};
+ghost use Rattle.wq_server.specs.Crawl.{Began, Crawled, CrawledAt, Found, IsFull, IsNoPassOf, IsNotTakenIn, IsPassOf};
+ghost use Rattle.wq_server.specs.Crawl.{Opened, Passes, Retired, number_of, with_start};
 
-use crate::faults::{no_pass, not_listed, not_started, not_taken_in};
+use crate::faults::{no_pass, not_listed};
 use std::alloc::AllocError;
 use std::marker::Model;
 use std::sync::Wait;
 use wq_base::MAX_NUMBER;
-use wq_live::{MAX_ROOTS, Named, Publisher, Seat, Told, Tree};
+use wq_live::{MAX_ROOTS, Named, Publisher, Seat, StartFault, Told, Tree};
 use wq_session::CrawlFault;
-use wq_view::Pass;
+use wq_view::{Pass, ViewFault};
 
 /// What tells the second of a pass.
 pub trait Seconds {
+    ghost use Rattle.std.specs.Prelude.{ℤ};
+
+    // The second that it told last.
+    ghost told: { Self → ℤ };
+
     /// The second of the Unix epoch, as it is now.
-    fn second(&mut self) -> i64;
+    fn second(&mut self) -> i64
+        ensures { result ≡ told self.new };
 }
 
-/// Lists roots, and publishes what is seen. Contracts see the list of events that is published.
+/// Lists roots, and publishes what is seen. Contracts see the list of events that is published, the second that was
+/// told last, and what the tree shows of itself.
 #[derive(Drop)]
 pub struct Crawler<N: Named, R: Wait + Drop, T: Tree + Drop, S: Seconds + Drop> {
     publisher: Publisher<N, R>,
@@ -27,21 +35,29 @@ pub struct Crawler<N: Named, R: Wait + Drop, T: Tree + Drop, S: Seconds + Drop> 
 }
 
 impl<N: Named, R: Wait + Drop, T: Tree + Drop, S: Seconds + Drop> Model for Crawler<N, R, T, S> {
-    ghost use Rattle.std.specs.Prelude.{List};
-    ghost use Rattle.wq_live.specs.declared.event.RootEvent.{RootEvent};
-    ghost use Rattle.wq_live.specs.Front.{events_code};
+    ghost use Rattle.wq_server.specs.Crawl.{CrawlerData, crawler_code};
 
-    ghost Value = { List RootEvent };
+    ghost Value = { CrawlerData };
 
-    ghost coded = { events_code };
+    ghost coded = { crawler_code };
 
-    ghost view = { λ c. c.publisher };
+    ghost view = { λ c. record {
+      events = c.publisher;
+      second = S.told c.seconds;
+      listed = T.listed c.tree;
+      failed = T.failed c.tree;
+    } };
 }
 
 impl<N: Named, R: Wait + Drop, T: Tree + Drop, S: Seconds + Drop> Crawler<N, R, T, S> {
     /// The crawler of these parts.
     pub fn new(publisher: Publisher<N, R>, tree: T, seconds: S) -> Crawler<N, R, T, S>
-        ensures { result ≡ publisher }
+        ensures { result ≡ record {
+          events = publisher;
+          second = S.told seconds;
+          listed = T.listed tree;
+          failed = T.failed tree;
+        } }
     {
         Crawler {
             publisher,
@@ -52,7 +68,7 @@ impl<N: Named, R: Wait + Drop, T: Tree + Drop, S: Seconds + Drop> Crawler<N, R, 
 
     /// A new seat, which has seen what is published. Refused where each place is in use too.
     pub fn seat(&mut self) -> Result<Seat<N>, AllocError>
-        ensures seat { IfOk result (λ seat. seat ≡ self.new) }
+        ensures seat { IfOk result (λ seat. seat ≡ (self.new).events) }
         ensures kept { self.new ≡ self.old }
     {
         self.publisher.seat()
@@ -60,7 +76,7 @@ impl<N: Named, R: Wait + Drop, T: Tree + Drop, S: Seconds + Drop> Crawler<N, R, 
 
     /// The number of the root of this text, if it is shown.
     pub fn number(&self, root: &str) -> Option<u64>
-        ensures { result ≡ number_of root.now self.now }
+        ensures { result ≡ number_of root.now (self.now).events }
     {
         self.publisher.find(root)
     }
@@ -69,24 +85,23 @@ impl<N: Named, R: Wait + Drop, T: Tree + Drop, S: Seconds + Drop> Crawler<N, R, 
     ///
     /// A refused crawl leaves the list. It waits for those that still look at what was published before the last pass.
     pub fn crawl(&mut self, root: &str) -> Result<Option<Told<N>>, CrawlFault>
-        ensures { Crawls root.now self.old result self.new }
+        ensures { Crawled root.now self.old result self.new }
     {
         let Some(number) = self.publisher.find(root) else {
             return Ok(None);
         };
-        let pass = self.list(root)?;
-        let told = self.publish(number, pass)?;
-        Ok(Some(told))
+        match self.crawl_at(number, root) {
+            Ok(told) => Ok(Some(told)),
+            Err(fault) => Err(fault),
+        }
     }
 
     /// Finds the root of this text, or lists it and starts it, and tells the list.
     ///
-    /// A root that is not shown is refused before it is listed where no more can be started. What is refused leaves
-    /// the list.
+    /// A root that is not shown is refused before it is listed where no more can be started. One that is shown is
+    /// refused for want of memory alone. What is refused leaves the list.
     pub fn open(&mut self, root: &str) -> Result<Told<N>, CrawlFault>
-        ensures opened { Opens root.now self.old result self.new }
-        ensures full { (result ≡ Err CrawlFault.TooManyRoots)
-            ↔ ((number_of root.now self.old ≡ None) × IsFull self.old) }
+        ensures { Opened root.now self.old result self.new }
     {
         if self.publisher.find(root).is_some() {
             return self.told();
@@ -94,15 +109,14 @@ impl<N: Named, R: Wait + Drop, T: Tree + Drop, S: Seconds + Drop> Crawler<N, R, 
         if self.is_full() {
             return Err(CrawlFault::TooManyRoots);
         }
-        let pass = self.list(root)?;
-        self.start(root, pass)
+        self.begin(root)
     }
 
     /// Publishes the end of the root of this number, if it is shown, and tells the list.
     ///
     /// What is refused leaves the list.
     pub fn retire(&mut self, number: u64) -> Result<Told<N>, CrawlFault>
-        ensures { Retires number self.old result self.new }
+        ensures { Retired number self.old result self.new }
     {
         match self.publisher.retire(number) {
             Ok(told) => Ok(told),
@@ -110,34 +124,9 @@ impl<N: Named, R: Wait + Drop, T: Tree + Drop, S: Seconds + Drop> Crawler<N, R, 
         }
     }
 
-    /// Publishes a pass over the root of this number.
-    fn publish(&mut self, number: u64, pass: Pass) -> Result<Told<N>, CrawlFault>
-        ensures { MatchResult result
-            (λ told. (told ≡ self.new) × Passes self.old number pass self.new)
-            (λ fault. (fault ≢ CrawlFault.TooManyRoots) × (self.new ≡ self.old)) }
-    {
-        match self.publisher.publish(number, pass) {
-            Ok(told) => Ok(told),
-            Err(fault) => Err(not_taken_in(fault)),
-        }
-    }
-
-    /// Publishes the start of a root that is not shown.
-    fn start(&mut self, root: &str, pass: Pass) -> Result<Told<N>, CrawlFault>
-        requires { number_of root.now self.old ≡ None }
-        ensures started { Opens root.now self.old result self.new }
-        ensures full { (result ≡ Err CrawlFault.TooManyRoots) ↔ IsFull self.old }
-    {
-        match self.publisher.start(root, pass) {
-            Ok((_number, told)) => Ok(told),
-            Err(fault) => return Err(not_started(fault)),
-        }
-    }
-
     /// The list as it is.
     pub(crate) fn told(&self) -> Result<Told<N>, CrawlFault>
-        ensures told { IfOk result (λ told. told ≡ self.now) }
-        ensures fault { IfErr result (λ fault. fault ≡ CrawlFault.NoMemory) }
+        ensures { Found self.now result self.now }
     {
         match self.publisher.told() {
             Ok(told) => Ok(told),
@@ -147,17 +136,78 @@ impl<N: Named, R: Wait + Drop, T: Tree + Drop, S: Seconds + Drop> Crawler<N, R, 
 
     /// Whether no more root can be started.
     fn is_full(&self) -> bool
-        ensures { IsTrue result ↔ IsFull self.now }
+        ensures { IsTrue result ↔ IsFull (self.now).events }
     {
         self.publisher.len() == MAX_ROOTS || self.publisher.table().given() == MAX_NUMBER
     }
 
-    /// What the tree shows of a root now.
-    fn list(&mut self, root: &str) -> Result<Pass, CrawlFault>
-        ensures kept { self.new ≡ self.old }
-        ensures fault { result ≢ Err CrawlFault.TooManyRoots }
+    /// Crawls the root of this number and text.
+    fn crawl_at(&mut self, number: u64, root: &str) -> Result<Told<N>, CrawlFault>
+        ensures { CrawledAt number root.now self.old result self.new }
     {
-        let rows = self.tree.list(root).map_err(not_listed)?;
-        Pass::new(rows, self.seconds.second()).map_err(no_pass)
+        let pass = self.list(root)?;
+        self.publish(number, pass)
+    }
+
+    /// Lists a root that is not shown, and starts it.
+    fn begin(&mut self, root: &str) -> Result<Told<N>, CrawlFault>
+        requires new { number_of root.now (self.old).events ≡ None }
+        requires room { IsFull (self.old).events → ⊥ }
+        ensures { Began root.now self.old result self.new }
+    {
+        let pass = self.list(root)?;
+        self.start(root, pass)
+    }
+
+    /// Publishes a pass over the root of this number.
+    fn publish(&mut self, number: u64, pass: Pass) -> Result<Told<N>, CrawlFault>
+        ensures published { MatchResult result
+            (λ told. (told ≡ (self.new).events) × Passes (self.old).events number pass (self.new).events)
+            (λ fault. ((self.new).events ≡ (self.old).events)
+            × IsNotTakenIn (self.old).events number pass fault) }
+        ensures listed { (self.new).listed ≡ (self.old).listed }
+        ensures second { (self.new).second ≡ (self.old).second }
+        ensures failed { (self.new).failed ≡ (self.old).failed }
+    {
+        match self.publisher.publish(number, pass) {
+            Ok(told) => Ok(told),
+            Err(ViewFault::TicksSpent) => Err(CrawlFault::TicksSpent),
+            Err(ViewFault::NoMemory) => Err(CrawlFault::NoMemory),
+        }
+    }
+
+    /// Publishes the start of a root that is not shown.
+    fn start(&mut self, root: &str, pass: Pass) -> Result<Told<N>, CrawlFault>
+        requires new { number_of root.now (self.old).events ≡ None }
+        requires room { IsFull (self.old).events → ⊥ }
+        ensures started { MatchResult result
+            (λ told. (told ≡ (self.new).events)
+            × ((self.new).events ≡ with_start root.now pass (self.old).events))
+            (λ fault. ((self.new).events ≡ (self.old).events) × (fault ≡ CrawlFault.NoMemory)) }
+        ensures listed { (self.new).listed ≡ (self.old).listed }
+        ensures second { (self.new).second ≡ (self.old).second }
+    {
+        match self.publisher.start(root, pass) {
+            Ok((_number, told)) => Ok(told),
+            Err(StartFault::TooManyRoots) => Err(CrawlFault::TooManyRoots),
+            Err(StartFault::NoMemory) => Err(CrawlFault::NoMemory),
+        }
+    }
+
+    /// The pass of a root, as the tree shows it now.
+    fn list(&mut self, root: &str) -> Result<Pass, CrawlFault>
+        ensures kept { (self.new).events ≡ (self.old).events }
+        ensures listed { MatchResult result
+            (λ pass. IsPassOf (self.new).listed root.now (self.new).second pass)
+            (λ fault. IsNoPassOf root.now self.old fault self.new) }
+    {
+        let rows = match self.tree.list(root) {
+            Ok(rows) => rows,
+            Err(fault) => return Err(not_listed(fault)),
+        };
+        match Pass::new(rows, self.seconds.second()) {
+            Ok(pass) => Ok(pass),
+            Err(fault) => Err(no_pass(fault)),
+        }
     }
 }

@@ -28,7 +28,7 @@ pub use lock_desk::LockDesk;
 pub use lock_roots::LockRoots;
 pub use memory_desk::MemoryDesk;
 pub use memory_roots::MemoryRoots;
-pub use roots::{Answer, Roots, Wish};
+pub use roots::Roots;
 pub use run::Run;
 pub use serving::{Ended, MAX_EVENTS, serve};
 pub use shared_crawler::SharedCrawler;

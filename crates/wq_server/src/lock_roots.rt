@@ -6,7 +6,7 @@ use std::sync::{Arc, Wait};
 use wq_live::{Named, Told, Tree};
 use wq_session::CrawlFault;
 
-/// Roots over a crawler that threads share. They show no answers.
+/// Roots over a crawler that threads share. They show no crawler.
 #[derive(Drop)]
 pub struct LockRoots<N: Named, R: Wait + Drop, T: Tree + Drop, S: Seconds + Drop> {
     crawler: Arc<SharedCrawler<N, R, T, S>>,
@@ -24,7 +24,7 @@ impl<N: Named, R: Wait + Drop, T: Tree + Drop, S: Seconds + Drop> Roots<N>
     for LockRoots<N, R, T, S> {
     ghost use Rattle.std.specs.Prelude.{None};
 
-    ghost given = { λ _. None };
+    ghost crawler = { λ _. None };
 
     fn open(&mut self, root: &str) -> Result<Told<N>, CrawlFault> {
         self.crawler.open(&self.rt, root)

@@ -44,9 +44,9 @@ pub fn serve<N: Named, I: Inbox, W: Write, R: Roots<N>, D: Desk>(
     roots: &mut R,
     desk: &mut D,
 ) -> Ended<N>
-    ensures { IsServed run (place (I.left inbox.old) (R.given roots.old) seat (D.shelf desk.old))
+    ensures { IsServed run (place (I.left inbox.old) (R.crawler roots.old) seat (D.shelf desk.old))
         (W.contents writer.old) (W.contents writer.new)
-        (place (I.left inbox.new) (R.given roots.new) result.seat (D.shelf desk.new))
+        (place (I.left inbox.new) (R.crawler roots.new) result.seat (D.shelf desk.new))
         (record { shut = result.shut; fault = result.fault }) }
 {
     let mut client = Client {
@@ -90,8 +90,8 @@ fn take_event<N: Named, I: Inbox, R: Roots<N>, D: Desk>(
     desk: &mut D,
 ) -> (Seat<N>, Out)
     ensures serves { (event : Event) × Serves client.old.run
-        (place (I.left inbox.old) (R.given roots.old) seat (D.shelf desk.old)) event result.1
-        (place (I.left inbox.new) (R.given roots.new) result.0 (D.shelf desk.new)) }
+        (place (I.left inbox.old) (R.crawler roots.old) seat (D.shelf desk.old)) event result.1
+        (place (I.left inbox.new) (R.crawler roots.new) result.0 (D.shelf desk.new)) }
     ensures run { client.new.run ≡ client.old.run }
 {
     let event = inbox.next();

@@ -1,4 +1,9 @@
 //! A crawler that threads share: one crawls at a time, and those that asked before it began go by what it told.
+ghost use Rattle.std.specs.Prelude.{◌≡◌, None, nat_eq, nat_le, false};
+ghost use Rattle.std.specs.Option.{option_map_or};
+ghost use Rattle.std.specs.Map.{lookup};
+ghost use Rattle.wq_server.specs.Crawl.{CrawledOnce, Shared};
+ghost use Rattle.wq_server.specs.Roots.{Gives, ending, passing, showing, tells};
 
 use crate::crawler::{Crawler, Seconds};
 use lru::LruCache;
@@ -14,12 +19,12 @@ use wq_session::CrawlFault;
 pub struct SharedCrawler<N: Named, R: Wait + Drop, T: Tree + Drop, S: Seconds + Drop> {
     /// How many crawls have begun.
     begun: AtomicU64,
-    crawls: Mutex<Crawls<N, R, T, S>>,
+    crawls: Mutex<LastCrawls<N, R, T, S>>,
 }
 
 /// A crawler and its last crawls.
 #[derive(Drop)]
-struct Crawls<N: Named, R: Wait + Drop, T: Tree + Drop, S: Seconds + Drop> {
+struct LastCrawls<N: Named, R: Wait + Drop, T: Tree + Drop, S: Seconds + Drop> {
     crawler: Crawler<N, R, T, S>,
     /// How many crawls had begun before the last one of a root that was published, by the number of the root.
     last: LruCache<u64, u64>,
@@ -33,7 +38,7 @@ impl<N: Named, R: Wait + Drop, T: Tree + Drop, S: Seconds + Drop> SharedCrawler<
     ) -> Result<SharedCrawler<N, R, T, S>, AllocError> {
         Ok(SharedCrawler {
             begun: AtomicU64::new(0),
-            crawls: Mutex::new(Crawls {
+            crawls: Mutex::new(LastCrawls {
                 crawler,
                 last: LruCache::new(alloc, most_roots())?,
             }),
@@ -43,43 +48,76 @@ impl<N: Named, R: Wait + Drop, T: Tree + Drop, S: Seconds + Drop> SharedCrawler<
     /// Crawls the root of this text and publishes the pass, and tells the list of events; none where it is not shown.
     ///
     /// Where another thread crawled the root meanwhile, and began after this was called, the list is told as it is.
-    pub fn crawl(&self, rt: &R, root: &str) -> Result<Option<Told<N>>, CrawlFault> {
+    pub fn crawl(&self, rt: &R, root: &str) -> Result<Option<Told<N>>, CrawlFault>
+        ensures { Gives None (passing root.now) result None }
+    {
         let asked = self.begun.load(Ordering::SeqCst);
-        let mut crawls = self.crawls.lock(rt);
-        let Some(number) = crawls.crawler.number(root) else {
-            return Ok(None);
-        };
-        if crawls.has_begun_since(asked, number) {
-            return crawls.crawler.told().map(Some);
-        }
-        let before = self.begun.fetch_add(1, Ordering::SeqCst);
-        let told = crawls.crawler.crawl(root)?;
-        crawls.keep(number, before);
-        Ok(told)
+        self.crawls.lock(rt).crawl(&self.begun, asked, root)
     }
 
     /// Finds the root of this text, or lists it and starts it, and tells the list of events.
-    pub fn open(&self, rt: &R, root: &str) -> Result<Told<N>, CrawlFault> {
+    pub fn open(&self, rt: &R, root: &str) -> Result<Told<N>, CrawlFault>
+        ensures { Gives None (showing root.now) (tells result) None }
+    {
         self.crawls.lock(rt).crawler.open(root)
     }
 
     /// Publishes the end of the root of this number, if it is shown, and tells the list of events.
-    pub fn retire(&self, rt: &R, number: u64) -> Result<Told<N>, CrawlFault> {
+    pub fn retire(&self, rt: &R, number: u64) -> Result<Told<N>, CrawlFault>
+        ensures { Gives None (ending number) (tells result) None }
+    {
         self.crawls.lock(rt).crawler.retire(number)
     }
 }
 
-impl<N: Named, R: Wait + Drop, T: Tree + Drop, S: Seconds + Drop> Crawls<N, R, T, S> {
+impl<N: Named, R: Wait + Drop, T: Tree + Drop, S: Seconds + Drop> LastCrawls<N, R, T, S> {
+    /// Crawls a root for those that asked when so many crawls had begun, unless the last crawl of it does for them.
+    fn crawl(
+        &mut self,
+        begun: &AtomicU64,
+        asked: u64,
+        root: &str,
+    ) -> Result<Option<Told<N>>, CrawlFault>
+        ensures { CrawledOnce root.now asked (λ number. lookup (nat_eq number) self.old.last.entries)
+            self.old.crawler result self.new.crawler }
+    {
+        let Some(number) = self.crawler.number(root) else {
+            return Ok(None);
+        };
+        if self.has_begun_since(asked, number) {
+            return self.share();
+        }
+        let before = begun.fetch_add(1, Ordering::SeqCst);
+        let told = self.crawler.crawl(root)?;
+        self.keep(number, before);
+        Ok(told)
+    }
+
+    /// The list as it is.
+    fn share(&self) -> Result<Option<Told<N>>, CrawlFault>
+        ensures { Shared self.now.crawler result self.now.crawler }
+    {
+        match self.crawler.told() {
+            Ok(told) => Ok(Some(told)),
+            Err(fault) => Err(fault),
+        }
+    }
+
     /// Whether the last crawl of the root of this number began when so many had begun, or later.
-    fn has_begun_since(&mut self, begun: u64, number: u64) -> bool {
-        match self.last.get(&number) {
-            Some(before) => *before >= begun,
+    fn has_begun_since(&self, asked: u64, number: u64) -> bool
+        ensures { result ≡ option_map_or (λ begun. nat_le asked begun)
+            (lookup (nat_eq number) self.now.last.entries) false }
+    {
+        match self.last.peek(&number) {
+            Some(begun) => asked <= *begun,
             None => false,
         }
     }
 
     /// Keeps that the root of this number was crawled. Where memory is wanted for that, each thread crawls for itself.
-    fn keep(&mut self, number: u64, before: u64) {
+    fn keep(&mut self, number: u64, before: u64)
+        ensures { self.new.crawler ≡ self.old.crawler }
+    {
         let _ = self.last.put(number, before);
     }
 }

@@ -9,13 +9,13 @@ pub returns-then-is_err : goal.returns-then-is_err
 returns-then-is_err g c =
     let inv = c.loop.invariant in
     let event = c.take_event-after.ensures.serves.0 in
-    ends_within c.args.run (place (g.I.Inbox.left c.args.inbox.now) (g.R.Roots.given c.args.roots.now) c.args.seat (g.D.Desk.shelf c.args.desk.now))
+    ends_within c.args.run (place (g.I.Inbox.left c.args.inbox.now) (g.R.Roots.crawler c.args.roots.now) c.args.seat (g.D.Desk.shelf c.args.desk.now))
     (g.W.Write.contents c.args.writer.now) (g.W.Write.contents c.loop.writer) (g.W.Write.contents c.write_reply.new.writer) inv.1 inv.2
-    (place (g.I.Inbox.left c.loop.inbox) (g.R.Roots.given c.loop.roots) c.loop.seat (g.D.Desk.shelf c.loop.desk)) event c.take_event-after.result.1
-    (place (g.I.Inbox.left c.take_event-after.new.inbox) (g.R.Roots.given c.take_event-after.new.roots) c.take_event-after.result.0
+    (place (g.I.Inbox.left c.loop.inbox) (g.R.Roots.crawler c.loop.roots) c.loop.seat (g.D.Desk.shelf c.loop.desk)) event c.take_event-after.result.1
+    (place (g.I.Inbox.left c.take_event-after.new.inbox) (g.R.Roots.crawler c.take_event-after.new.roots) c.take_event-after.result.0
     (g.D.Desk.shelf c.take_event-after.new.desk)) c.shuts-shut.result (search rules) inv.4
-    (subst (λ r. Serves r (place (g.I.Inbox.left c.loop.inbox) (g.R.Roots.given c.loop.roots) c.loop.seat (g.D.Desk.shelf c.loop.desk)) event
-    c.take_event-after.result.1 (place (g.I.Inbox.left c.take_event-after.new.inbox) (g.R.Roots.given c.take_event-after.new.roots)
+    (subst (λ r. Serves r (place (g.I.Inbox.left c.loop.inbox) (g.R.Roots.crawler c.loop.roots) c.loop.seat (g.D.Desk.shelf c.loop.desk)) event
+    c.take_event-after.result.1 (place (g.I.Inbox.left c.take_event-after.new.inbox) (g.R.Roots.crawler c.take_event-after.new.roots)
     c.take_event-after.result.0 (g.D.Desk.shelf c.take_event-after.new.desk))) inv.0 c.take_event-after.ensures.serves.1)
     (search rules) inv.5 (search rules)
 
@@ -23,13 +23,13 @@ pub returns-then-not-goes_on : goal.returns-then-not-goes_on
 returns-then-not-goes_on g c =
     let inv = c.loop.invariant in
     let event = c.take_event-after.ensures.serves.0 in
-    ends_well c.args.run (place (g.I.Inbox.left c.args.inbox.now) (g.R.Roots.given c.args.roots.now) c.args.seat (g.D.Desk.shelf c.args.desk.now))
+    ends_well c.args.run (place (g.I.Inbox.left c.args.inbox.now) (g.R.Roots.crawler c.args.roots.now) c.args.seat (g.D.Desk.shelf c.args.desk.now))
     (g.W.Write.contents c.args.writer.now) (g.W.Write.contents c.loop.writer) (g.W.Write.contents c.write_reply.new.writer) inv.1 inv.2
-    (place (g.I.Inbox.left c.loop.inbox) (g.R.Roots.given c.loop.roots) c.loop.seat (g.D.Desk.shelf c.loop.desk)) event c.take_event-after.result.1
-    (place (g.I.Inbox.left c.take_event-after.new.inbox) (g.R.Roots.given c.take_event-after.new.roots) c.take_event-after.result.0
+    (place (g.I.Inbox.left c.loop.inbox) (g.R.Roots.crawler c.loop.roots) c.loop.seat (g.D.Desk.shelf c.loop.desk)) event c.take_event-after.result.1
+    (place (g.I.Inbox.left c.take_event-after.new.inbox) (g.R.Roots.crawler c.take_event-after.new.roots) c.take_event-after.result.0
     (g.D.Desk.shelf c.take_event-after.new.desk)) c.shuts-shut.result (search rules) inv.4
-    (subst (λ r. Serves r (place (g.I.Inbox.left c.loop.inbox) (g.R.Roots.given c.loop.roots) c.loop.seat (g.D.Desk.shelf c.loop.desk)) event
-    c.take_event-after.result.1 (place (g.I.Inbox.left c.take_event-after.new.inbox) (g.R.Roots.given c.take_event-after.new.roots)
+    (subst (λ r. Serves r (place (g.I.Inbox.left c.loop.inbox) (g.R.Roots.crawler c.loop.roots) c.loop.seat (g.D.Desk.shelf c.loop.desk)) event
+    c.take_event-after.result.1 (place (g.I.Inbox.left c.take_event-after.new.inbox) (g.R.Roots.crawler c.take_event-after.new.roots)
     c.take_event-after.result.0 (g.D.Desk.shelf c.take_event-after.new.desk))) inv.0 c.take_event-after.ensures.serves.1)
     (search rules) (search rules) inv.5 (search rules)
 
@@ -42,8 +42,8 @@ loop-preserved g c =
       inv.2 ++ line_for c.take_event-after.result.1.reply,
       length-append inv.1 (event ∷ []) ∙ ap (λ n. n + 1) inv.3,
       goes_on_by c.args.run _ inv.1 inv.2 _ event c.take_event-after.result.1 _ inv.4
-          (subst (λ r. Serves r (place (g.I.Inbox.left c.loop.inbox) (g.R.Roots.given c.loop.roots) c.loop.seat (g.D.Desk.shelf c.loop.desk)) event
-          c.take_event-after.result.1 (place (g.I.Inbox.left c.take_event-after.new.inbox) (g.R.Roots.given c.take_event-after.new.roots)
+          (subst (λ r. Serves r (place (g.I.Inbox.left c.loop.inbox) (g.R.Roots.crawler c.loop.roots) c.loop.seat (g.D.Desk.shelf c.loop.desk)) event
+          c.take_event-after.result.1 (place (g.I.Inbox.left c.take_event-after.new.inbox) (g.R.Roots.crawler c.take_event-after.new.roots)
           c.take_event-after.result.0 (g.D.Desk.shelf c.take_event-after.new.desk))) inv.0 c.take_event-after.ensures.serves.1) (search rules),
       appends_then _ _ _ inv.2 (line_for c.take_event-after.result.1.reply) inv.5 (search rules),
     )

@@ -7,6 +7,6 @@ use Rattle.wq_server.proofs.serving.serve.Given as goal
 
 abbrev pub invariant-loop : goal.invariant-loop
 invariant-loop g l = (l.client.run ≡ l.fn.run) × (events : List Event) × (lines : List ℕ) × (length events ≡ l.counter)
-    × GoesOn l.fn.run (place (g.I.Inbox.left l.fn.inbox) (g.R.Roots.given l.fn.roots) l.fn.seat (g.D.Desk.shelf l.fn.desk)) events lines
-    (place (g.I.Inbox.left l.inbox) (g.R.Roots.given l.roots) l.seat (g.D.Desk.shelf l.desk))
+    × GoesOn l.fn.run (place (g.I.Inbox.left l.fn.inbox) (g.R.Roots.crawler l.fn.roots) l.fn.seat (g.D.Desk.shelf l.fn.desk)) events lines
+    (place (g.I.Inbox.left l.inbox) (g.R.Roots.crawler l.roots) l.seat (g.D.Desk.shelf l.desk))
     × Appends (g.W.Write.contents l.fn.writer) (g.W.Write.contents l.writer) lines
