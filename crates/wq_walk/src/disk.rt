@@ -1,15 +1,15 @@
 //! What a walk asks of a disk: the names in a folder, and what stands in its index of a file. Two threads may ask at once.
 
-use crate::names::{Block, fault_of, names_in};
+use crate::names::{Block, Names, fault_of, names_in};
 use crate::stat::{Stat, stat_of};
 use std::fs::Files;
 use wq_live::TreeFault;
 
 /// What tells of folders and files.
 pub(crate) trait Disk {
-    /// The names in the folder of this path, falling, each once. A path that ends in a slash may lead over a link; another
+    /// The names in the folder of this path, each once. A path that ends in a slash may lead over a link; another
     /// that ends in a link is not read.
-    fn names_in(&self, block: &mut Block, path: &str) -> Result<Vec<Vec<u8>>, TreeFault>;
+    fn names_in(&self, block: &mut Block, path: &str) -> Result<Names, TreeFault>;
 
     /// What is seen of the file of this path, and nothing where it cannot be looked at. A link is not followed.
     fn stat(&self, path: &str) -> Result<Option<Stat>, TreeFault>;
@@ -28,7 +28,7 @@ impl FileDisk {
 }
 
 impl Disk for FileDisk {
-    fn names_in(&self, block: &mut Block, path: &str) -> Result<Vec<Vec<u8>>, TreeFault> {
+    fn names_in(&self, block: &mut Block, path: &str) -> Result<Names, TreeFault> {
         names_in(&self.files, block, path)
     }
 

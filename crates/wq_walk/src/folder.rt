@@ -1,6 +1,7 @@
 //! A folder that is being walked: what comes next in it, so that whole names rise. Whole names rise as `a`, `a-b`, `a/x`,
 //! `a0`: between a folder and what lies below it there may be names beside it. Nothing is read here.
 
+use crate::names::{Names, Place};
 use std::alloc::{AllocError, Global};
 
 /// A folder with its names.
@@ -8,26 +9,26 @@ use std::alloc::{AllocError, Global};
 pub(crate) struct Folder {
     /// How many bytes its path has, with the slash behind it.
     path_len: usize,
-    /// The names that were not looked at yet, falling.
-    names: Vec<Vec<u8>>,
-    /// The names of folders that were looked at and not entered yet. The last one comes first.
-    waiting: Vec<Vec<u8>>,
+    /// The names that were not looked at yet.
+    names: Names,
+    /// The folders that were looked at and not entered yet. The last one comes first.
+    waiting: Vec<Place>,
 }
 
 /// What comes next in a folder.
-#[derive(Drop)]
+#[derive(Clone, Copy)]
 pub(crate) enum Step {
-    /// This name is looked at.
-    Look(Vec<u8>),
-    /// The folder of this name is entered.
-    Enter(Vec<u8>),
+    /// The name at this place is looked at.
+    Look(Place),
+    /// The folder of the name at this place is entered.
+    Enter(Place),
     /// Nothing is left.
     Leave,
 }
 
 impl Folder {
-    /// A folder of which nothing was looked at yet. Its names fall.
-    pub(crate) fn new(alloc: Global, path_len: usize, names: Vec<Vec<u8>>) -> Folder {
+    /// A folder of which nothing was looked at yet.
+    pub(crate) fn new(alloc: Global, path_len: usize, names: Names) -> Folder {
         Folder {
             path_len,
             names,
@@ -40,6 +41,11 @@ impl Folder {
         self.path_len
     }
 
+    /// The name at a place.
+    pub(crate) fn name(&self, place: Place) -> &[u8] {
+        self.names.at(place)
+    }
+
     /// What comes next.
     pub(crate) fn step(&mut self) -> Step {
         if self.enters()
@@ -47,22 +53,23 @@ impl Folder {
         {
             return Step::Enter(folder);
         }
-        match self.names.pop() {
+        match self.names.take() {
             Some(name) => Step::Look(name),
             None => Step::Leave,
         }
     }
 
-    /// Has the folder of this name entered as soon as all names are looked at that stand before those below it.
-    pub(crate) fn wait(&mut self, name: Vec<u8>) -> Result<(), AllocError> {
+    /// Has the folder of the name at this place entered as soon as all names are looked at that stand before those below
+    /// it.
+    pub(crate) fn wait(&mut self, name: Place) -> Result<(), AllocError> {
         self.waiting.push(name)?;
         Ok(())
     }
 
     /// Whether the last folder that waits is entered now.
     fn enters(&self) -> bool {
-        match (self.waiting.last(), self.names.last()) {
-            (Some(folder), Some(name)) => !comes_before_entries(name, folder),
+        match (self.waiting.last(), self.names.first()) {
+            (Some(folder), Some(name)) => !comes_before_entries(name, self.name(*folder)),
             _ => true,
         }
     }

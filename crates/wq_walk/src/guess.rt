@@ -1,7 +1,7 @@
 //! A cut for a root that was not listed yet: a name in the middle of what stands at the top of its tree.
 
 use crate::disk::Disk;
-use crate::names::Block;
+use crate::names::{Block, Names};
 use crate::path::{TreePath, with_slash};
 use std::alloc::{AllocError, Global};
 use wq_live::TreeFault;
@@ -18,10 +18,13 @@ pub(crate) fn guessed_cut<D: Disk>(
 ) -> Result<Option<Vec<u8>>, TreeFault> {
     let mut block = Block::new(alloc)?;
     let folder = with_slash(alloc, root)?;
-    let mut path = TreePath::new(alloc, &folder)?;
-    let mut names = disk.names_in(&mut block, &folder)?;
-    if names.len() < FEW {
-        add_names_below(disk, &mut block, &mut path, &mut names)?;
+    let path = TreePath::new(alloc, &folder)?;
+    let top = disk.names_in(&mut block, &folder)?;
+    let is_few = top.len() < FEW;
+    let mut names = Vec::new(alloc);
+    add_names(&mut names, &path, top)?;
+    if is_few {
+        add_names_below(disk, &mut block, path, &mut names)?;
         names.sort_unstable();
     }
     let middle = names.len() / 2;
@@ -35,7 +38,7 @@ pub(crate) fn guessed_cut<D: Disk>(
 fn add_names_below<D: Disk>(
     disk: &D,
     block: &mut Block,
-    path: &mut TreePath,
+    mut path: TreePath,
     names: &mut Vec<Vec<u8>>,
 ) -> Result<(), TreeFault> {
     for at in 0..names.len() {
@@ -44,30 +47,29 @@ fn add_names_below<D: Disk>(
         };
         path.cut(0);
         path.add(name)?;
-        add_entries(disk, block, path, names)?;
+        let entries = path.text().map(|text| disk.names_in(block, text));
+        if let Some(Ok(entries)) = entries {
+            path.add(b"/")?;
+            add_names(names, &path, entries)?;
+        }
     }
     Ok(())
 }
 
-/// Adds the whole names of the entries of the folder at the path, if it can be read.
-fn add_entries<D: Disk>(
-    disk: &D,
-    block: &mut Block,
-    path: &mut TreePath,
+/// Adds the whole names of the entries of the folder at the path.
+fn add_names(
     names: &mut Vec<Vec<u8>>,
-) -> Result<(), TreeFault> {
-    let Some(text) = path.text() else {
-        return Ok(());
-    };
-    let Ok(entries) = disk.names_in(block, text) else {
-        return Ok(());
-    };
-    path.add(b"/")?;
+    path: &TreePath,
+    mut entries: Names,
+) -> Result<(), AllocError> {
     let alloc = *names.allocator();
-    for entry in &entries {
+    for _ in 0..entries.len() {
+        let Some(entry) = entries.take() else {
+            break;
+        };
         let mut name = Vec::from_slice(alloc, path.name())?;
-        name.extend_from_slice(entry)?;
-        names.push(name).map_err(AllocError::from)?;
+        name.extend_from_slice(entries.at(entry))?;
+        names.push(name)?;
     }
     Ok(())
 }

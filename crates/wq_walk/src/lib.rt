@@ -2,10 +2,11 @@
 //! names as far as the tree holds still. What a view makes of the rows is not said here.
 #![tactic(auto)]
 
-mod cut;
 mod disk;
 mod folder;
 mod guess;
+mod known;
+mod last;
 mod listing;
 mod names;
 mod part;

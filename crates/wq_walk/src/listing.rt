@@ -5,50 +5,64 @@ ghost use Rattle.std.specs.Thread.{IsSync};
 ghost use Rattle.wq_view.specs.Seen.{is_lawful_row};
 ghost use Rattle.wq_walk.specs.Part.{IsListing};
 
-use crate::cut::Cut;
 use crate::disk::Disk;
 use crate::guess::guessed_cut;
+use crate::known::Known;
 use crate::part::Part;
 use crate::walk::rows_in;
 use std::alloc::{AllocError, Global};
+use std::sync::ArcSlice;
 use std::thread::{Threads, join};
 use wq_live::TreeFault;
 use wq_view::{MAX_ROWS, Seen};
 
-/// The rows of the files below a root whose tree is cut here.
-pub(crate) fn rows_cut<T: Threads, D: Disk + Sync>(
+/// A listing of fewer rows than this is made in one part.
+const FEW: usize = 2000;
+
+/// The rows of the files below a root, whose last listing had these names, if there was one.
+pub(crate) fn rows_below<T: Threads, D: Disk + Sync>(
     threads: &T,
     disk: &D,
     alloc: Global,
     root: &str,
-    cut: Cut,
+    last: Option<Vec<ArcSlice<u8>>>,
 ) -> Result<Vec<Seen>, TreeFault>
     ensures lawful { IfOk result (λ rows. IsTrue (list_all is_lawful_row rows.items)) }
     ensures few { IfOk result (λ rows. length rows.items ≤ 1000000) }
 {
-    let name = match cut {
-        Cut::Before(name) => Some(name),
-        Cut::Nowhere => None,
-        Cut::Unknown => guessed_cut(disk, alloc, root)?,
+    let (cut, names) = match last {
+        Some(names) => (middle_of(alloc, &names)?, names),
+        None => (guessed_cut(disk, alloc, root)?, Vec::new(alloc)),
     };
-    match name {
-        Some(name) => rows_by_two(threads, disk, alloc, root, name),
-        None => rows_in(disk, alloc, root, Part::Whole),
+    match cut {
+        Some(cut) => rows_by_two(threads, disk, alloc, root, cut, names),
+        None => rows_in(disk, alloc, root, Part::Whole, Known::new(names)),
     }
 }
 
-/// The rows of the files below a root, in two parts. The names below the cut are walked in a thread of their own, or last
-/// where none can be made.
+/// The name in the middle, and none where they are few.
+fn middle_of(alloc: Global, names: &[ArcSlice<u8>]) -> Result<Option<Vec<u8>>, AllocError> {
+    match names.get(names.len() / 2) {
+        Some(name) if names.len() >= FEW => Ok(Some(Vec::from_slice(alloc, name)?)),
+        _ => Ok(None),
+    }
+}
+
+/// The rows of the files below a root, in two parts: before and from this cut, which is in the middle of these names if there
+/// are any. The names below the cut are walked in a thread of their own, or last where none can be made.
 fn rows_by_two<T: Threads, D: Disk + Sync>(
     threads: &T,
     disk: &D,
     alloc: Global,
     root: &str,
     cut: Vec<u8>,
+    mut names: Vec<ArcSlice<u8>>,
 ) -> Result<Vec<Seen>, TreeFault>
     ensures lawful { IfOk result (λ rows. IsTrue (list_all is_lawful_row rows.items)) }
     ensures few { IfOk result (λ rows. length rows.items ≤ 1000000) }
 {
+    let later = Known::new(names.split_off(names.len() / 2)?);
+    let known = Known::new(names);
     let before = Part::Before(cut.clone()?);
     let from = Part::From(cut);
     let (first, rest) = join(
@@ -56,11 +70,11 @@ fn rows_by_two<T: Threads, D: Disk + Sync>(
         move || -> Result<Vec<Seen>, TreeFault>
             requires { IsSync D.row }
             ensures { IfOk result (λ rows. IsListing before rows.items) }
-        { rows_in(disk, alloc, root, before) },
+        { rows_in(disk, alloc, root, before, known) },
         move || -> Result<Vec<Seen>, TreeFault>
             requires { IsSync D.row }
             ensures { IfOk result (λ rows. IsListing from rows.items) }
-        { rows_in(disk, alloc, root, from) },
+        { rows_in(disk, alloc, root, from, later) },
     );
     joined(first?, rest?)
 }

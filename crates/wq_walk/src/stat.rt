@@ -1,6 +1,6 @@
 //! What the system says of one file, as a row of a listing holds it. Nothing is read here.
 ghost use Rattle.std.specs.Prelude.{◌≡◌, IsTrue};
-ghost use Rattle.std.specs.Fs.{file_type};
+ghost use Rattle.std.specs.Fs.{file_type, metadata_len};
 ghost use Rattle.wq_view.specs.Seen.{is_count, is_time};
 ghost use Rattle.wq_walk.specs.Stat.{kind_with, milliseconds_of, nearest_size};
 
@@ -30,7 +30,8 @@ pub(crate) struct Stat {
 /// What a listing says of a file, of which the system says this. A size or a time out of range is brought to the
 /// nearest bound.
 pub(crate) fn stat_of(metadata: &Metadata) -> Stat
-    ensures { result.kind ≡ kind_with (file_type metadata.now).bits }
+    ensures kind { result.kind ≡ kind_with (file_type metadata.now).bits }
+    ensures size { result.size ≡ nearest_size (metadata_len metadata.now) }
 {
     Stat {
         kind: kind_of(metadata),

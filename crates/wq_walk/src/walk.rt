@@ -1,5 +1,6 @@
 //! The walk over a tree: from folder to folder, a row for each file. What a walk is for is not said here.
 ghost use Rattle.std.specs.Prelude.{◌≡◌, IfOk, IfSome, IsTrue};
+ghost use Rattle.std.specs.Arc.{arc_slice_items};
 ghost use Rattle.wq_view.specs.Name.{is_valid_name};
 ghost use Rattle.wq_view.specs.Seen.{is_lawful_row};
 ghost use Rattle.wq_walk.specs.Part.{IsListing};
@@ -7,7 +8,8 @@ ghost use Rattle.wq_walk.specs.Path.{name_of};
 
 use crate::disk::Disk;
 use crate::folder::{Folder, Step};
-use crate::names::Block;
+use crate::known::Known;
+use crate::names::{Block, Names, Place};
 use crate::part::Part;
 use crate::path::{TreePath, with_slash};
 use crate::rows::Rows;
@@ -26,9 +28,11 @@ struct Walk {
     /// From the root down to the folder in which the walk is.
     folders: Vec<Folder>,
     rows: Rows,
+    known: Known,
 }
 
-/// The rows of the files below a root whose names are in a part, each of which a pass takes.
+/// The rows of the files below a root whose names are in a part, each of which a pass takes. They share the bytes of known
+/// names.
 ///
 /// The walk reads each folder whole, and then looks at its entries. It follows no links, but one that is the root. An entry
 /// that cannot be looked at is left out, as one that goes while the walk is on its way; so is one whose name no pass takes.
@@ -39,17 +43,24 @@ pub(crate) fn rows_in<D: Disk>(
     alloc: Global,
     root: &str,
     part: Part,
+    known: Known,
 ) -> Result<Vec<Seen>, TreeFault>
     ensures { IfOk result (λ rows. IsListing part rows.items) }
 {
-    let mut walk = Walk::new(disk, alloc, root, part)?;
+    let mut walk = Walk::new(disk, alloc, root, part, known)?;
     walk.run(disk)?;
     Ok(walk.rows.into_rows())
 }
 
 impl Walk {
     /// The walk that begins at a root.
-    fn new<D: Disk>(disk: &D, alloc: Global, root: &str, part: Part) -> Result<Walk, TreeFault>
+    fn new<D: Disk>(
+        disk: &D,
+        alloc: Global,
+        root: &str,
+        part: Part,
+        known: Known,
+    ) -> Result<Walk, TreeFault>
         ensures { IfOk result (λ walk. walk.rows.part ≡ part) }
     {
         let folder = with_slash(alloc, root)?;
@@ -66,6 +77,7 @@ impl Walk {
             path,
             folders,
             rows: Rows::new(alloc, part),
+            known,
         })
     }
 
@@ -96,7 +108,7 @@ impl Walk {
         self.path.cut(path_len);
         match step {
             Step::Look(name) => self.look(disk, name),
-            Step::Enter(name) => self.enter(disk, &name),
+            Step::Enter(name) => self.enter(disk, name),
             Step::Leave => {
                 self.folders.pop();
                 Ok(())
@@ -104,11 +116,11 @@ impl Walk {
         }
     }
 
-    /// Looks at a name in the folder in which the walk is, and adds its row.
-    fn look<D: Disk>(&mut self, disk: &D, name: Vec<u8>) -> Result<(), TreeFault>
+    /// Looks at the name at a place in the folder in which the walk is, and adds its row.
+    fn look<D: Disk>(&mut self, disk: &D, name: Place) -> Result<(), TreeFault>
         ensures { self.new.rows.part ≡ self.old.rows.part }
     {
-        self.path.add(&name)?;
+        self.add(name)?;
         let reaches = self.rows.part().reaches(self.path.name());
         if !reaches && !self.rows.part().has(self.path.name()) {
             return Ok(());
@@ -121,6 +133,16 @@ impl Walk {
             folder.wait(name)?;
         }
         Ok(())
+    }
+
+    /// Adds the name at a place in the folder in which the walk is to the path.
+    fn add(&mut self, name: Place) -> Result<(), AllocError>
+        ensures { self.new.rows ≡ self.old.rows }
+    {
+        match self.folders.last() {
+            Some(folder) => self.path.add(folder.name(name)),
+            None => Ok(()),
+        }
     }
 
     /// What is seen of the file at the path, if a pass takes its name and it can be looked at.
@@ -142,16 +164,17 @@ impl Walk {
         ensures part { self.new.rows.part ≡ self.old.rows.part }
     {
         if self.rows.part().has(self.path.name()) {
-            self.rows.add(row_of(self.alloc, self.path.name(), stat)?)?;
+            let name = self.known.shared(self.alloc, self.path.name())?;
+            self.rows.add(row_of(name, stat))?;
         }
         Ok(())
     }
 
-    /// Begins with the folder of this name in the one in which the walk is.
-    fn enter<D: Disk>(&mut self, disk: &D, name: &[u8]) -> Result<(), TreeFault>
+    /// Begins with the folder of the name at a place in the one in which the walk is.
+    fn enter<D: Disk>(&mut self, disk: &D, name: Place) -> Result<(), TreeFault>
         ensures { self.new.rows ≡ self.old.rows }
     {
-        self.path.add(name)?;
+        self.add(name)?;
         let names = self.names_here(disk)?;
         self.path.add(b"/")?;
         let folder = Folder::new(self.alloc, self.path.len(), names);
@@ -160,29 +183,29 @@ impl Walk {
     }
 
     /// The names in the folder at the path, and none where it cannot be read.
-    fn names_here<D: Disk>(&mut self, disk: &D) -> Result<Vec<Vec<u8>>, TreeFault>
+    fn names_here<D: Disk>(&mut self, disk: &D) -> Result<Names, TreeFault>
         ensures { self.new.rows ≡ self.old.rows }
     {
         let Some(path) = self.path.text() else {
-            return Ok(Vec::new(self.alloc));
+            return Ok(Names::new(self.alloc));
         };
         match disk.names_in(&mut self.block, path) {
-            Err(TreeFault::Unreadable) => Ok(Vec::new(self.alloc)),
+            Err(TreeFault::Unreadable) => Ok(Names::new(self.alloc)),
             names => names,
         }
     }
 }
 
 /// The row of a file.
-fn row_of(alloc: Global, name: &[u8], stat: &Stat) -> Result<Seen, AllocError>
-    requires { IsTrue (is_valid_name name.now) }
-    ensures lawful { IfOk result (λ row. IsTrue (is_lawful_row row)) }
-    ensures name { IfOk result (λ row. row.name ≡ name.now) }
+fn row_of(name: ArcSlice<u8>, stat: &Stat) -> Seen
+    requires { IsTrue (is_valid_name (arc_slice_items name)) }
+    ensures lawful { IsTrue (is_lawful_row result) }
+    ensures name { result.name ≡ arc_slice_items name }
 {
-    Ok(Seen {
-        name: ArcSlice::from_slice(alloc, name)?,
+    Seen {
+        name,
         kind: stat.kind,
         size: stat.size,
         mtime_ms: stat.mtime_ms,
-    })
+    }
 }

@@ -4,9 +4,9 @@ ghost use Rattle.std.specs.List.{list_all};
 ghost use Rattle.wq_live.specs.Tree.{IsCounted};
 ghost use Rattle.wq_view.specs.Seen.{is_lawful_row};
 
-use crate::cut::Cuts;
 use crate::disk::FileDisk;
-use crate::listing::rows_cut;
+use crate::last::LastNames;
+use crate::listing::rows_below;
 use std::alloc::Global;
 use std::thread::Threads;
 use wq_live::{Tree, TreeFault};
@@ -18,7 +18,7 @@ pub struct Walker<T: Threads + Drop> {
     disk: FileDisk,
     threads: T,
     alloc: Global,
-    cuts: Cuts,
+    last: LastNames,
     failures: u64,
 }
 
@@ -29,7 +29,7 @@ impl<T: Threads + Drop> Walker<T> {
             disk: FileDisk::new(files),
             threads,
             alloc,
-            cuts: Cuts::new(alloc),
+            last: LastNames::new(alloc),
             failures: 0,
         }
     }
@@ -44,12 +44,12 @@ impl<T: Threads + Drop> Tree for Walker<T> {
         ensures lawful { IfOk result (λ rows. IsTrue (list_all is_lawful_row rows.items)) }
         ensures few { IfOk result (λ rows. length rows.items ≤ 1000000) }
     {
-        let cut = self.cuts.take(root);
-        let listed = rows_cut(&self.threads, &self.disk, self.alloc, root, cut);
+        let last = self.last.take(root);
+        let listed = rows_below(&self.threads, &self.disk, self.alloc, root, last);
         match &listed {
             Ok(rows) => {
-                // A cut that is not kept is guessed again.
-                self.cuts.keep(root, rows).ok();
+                // What is not kept is guessed, and its names are made anew.
+                self.last.keep(root, rows).ok();
             }
             Err(TreeFault::Unreadable) => self.failures = self.failures.saturating_add(1),
             Err(_) => {}
