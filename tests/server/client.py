@@ -14,7 +14,16 @@ from typing import Callable, List, Tuple
 import built
 
 PATIENCE = 60.0
+VERSION = {"version": "wq-1"}
 Row = Tuple[str, str, int, int]
+
+
+def same(tally: built.Tally, name: str, found: object, expected: object) -> None:
+    tally.check(name, found == expected, [f"expected: {expected}", f"found:    {found}"])
+
+
+def query_of_names() -> dict:
+    return {"fields": ["name"]}
 
 
 class Client:
@@ -124,6 +133,11 @@ class Server:
                 return line in self.errors()
             time.sleep(0.01)
         return True
+
+    def most_memory(self) -> int:
+        """The most memory that the server had so far, in bytes."""
+        lines = Path(f"/proc/{self.process.pid}/status").read_text().splitlines()
+        return next(int(line.split()[1]) * 1024 for line in lines if line.startswith("VmHWM:"))
 
     def shut_down(self, client: Client) -> object:
         """Has a client end the server, and gives the exit status."""

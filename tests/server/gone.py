@@ -1,0 +1,59 @@
+"""Roots whose folder goes and comes back."""
+
+import shutil
+from pathlib import Path
+
+import built
+from client import VERSION, Client, Server, query_of_names, same
+
+UNREADABLE = {"error": "E11: root cannot be read", **VERSION}
+NOT_WATCHED = {"error": "E14: root is not watched", **VERSION}
+
+
+def check_roots_that_go(tally: built.Tally, room: Path) -> None:
+    """A root that can no longer be read is told of once, and its view stays. When it is back it is crawled again, and
+    when it goes again it is told of anew."""
+    root, away = room / "tree", room / "away"
+    root.mkdir()
+    (root / "a").touch()
+    with Server(room, interval=20) as server, server.client() as client:
+        client.ask("watch", str(root))
+        shutil.move(root, away)
+        check_its_view(tally, client, root)
+        line = f"{root}: the root cannot be read\n".encode()
+        said = f"listening on {server.sockname}\n".encode() + line
+        tally.check("it is told of", server.says(said))
+        shutil.move(away, root)
+        (root / "b").touch()
+        same(tally, "a root that is back", client.ask("query", str(root), query_of_names())["files"], ["a", "b"])
+        (root / "c").touch()
+        seen = client.ask_until("query", str(root), {"sync_timeout": 0}, lambda reply: len(reply["files"]) == 3)
+        same(tally, "a root that is back, seen by the crawler", len(seen["files"]), 3)
+        shutil.rmtree(root)
+        tally.check("it is told of anew", server.says(said + line))
+        check_its_end(tally, client, root)
+        same(tally, "the end of a server that told of a root", server.shut_down(client), 0)
+        same(tally, "what is told, once each time", server.errors(), said + line)
+
+
+def check_its_view(tally: built.Tally, client: Client, root: Path) -> None:
+    """A root that is shown and whose folder is gone: it is watched, and what does not crawl it is answered."""
+    clock = {"clock": "c:7:9:1:1", **VERSION}
+    reply = client.ask("watch", str(root))
+    same(tally, "a watch of a root that went", reply, {"watch": str(root), "watcher": "poll", **VERSION})
+    same(tally, "its place in the list", client.ask("watch-list"), {"roots": [str(root)], **VERSION})
+    same(tally, "a query of it", client.ask("query", str(root), {}), UNREADABLE)
+    same(tally, "a query with a time", client.ask("query", str(root), {"sync_timeout": 10}), UNREADABLE)
+    same(tally, "a query below zero", client.ask("query", str(root), {"sync_timeout": -1}), UNREADABLE)
+    reply = client.ask("query", str(root), {"sync_timeout": 0, **query_of_names()})
+    same(tally, "its view", reply, {"files": ["a"], "is_fresh_instance": True, **clock})
+    same(tally, "its clock", client.ask("clock", str(root)), clock)
+    same(tally, "its clock with a time", client.ask("clock", str(root), {"sync_timeout": 10}), UNREADABLE)
+
+
+def check_its_end(tally: built.Tally, client: Client, root: Path) -> None:
+    """A root that is gone can be deleted, and then not be watched."""
+    reply = client.ask("watch-del", str(root))
+    same(tally, "the end of a root that went", reply, {"root": str(root), "watch-del": True, **VERSION})
+    same(tally, "a watch of what is not there", client.ask("watch", str(root)), UNREADABLE)
+    same(tally, "a query of what is not watched", client.ask("query", str(root), {"sync_timeout": 0}), NOT_WATCHED)

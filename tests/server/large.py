@@ -1,0 +1,54 @@
+"""A root with as many files as a view takes, and one more."""
+
+import os
+import subprocess
+import tempfile
+from pathlib import Path
+
+import built
+from client import VERSION, Server, query_of_names, same
+
+MOST_FILES = 1_000_000
+FOLDERS = 20
+A_HOUR = 3_600_000
+# A folder in memory makes a million names in a fourth of the time that a disk takes.
+MEMORY = Path("/dev/shm")
+
+
+def check_a_million(tally: built.Tally, room: Path) -> None:
+    """A root of 1,000,000 rows is watched. With one more it cannot be crawled, and its view stays."""
+    with tempfile.TemporaryDirectory(dir=MEMORY if os.access(MEMORY, os.W_OK) else room) as shelf:
+        root = Path(shelf) / "tree"
+        try:
+            make_names(root)
+            check_most_files(tally, room, root)
+        finally:
+            subprocess.run(["rm", "-rf", str(root)], check=True)
+
+
+def make_names(root: Path) -> None:
+    """Folders with as many names each, all of which are links to one link: a row each, and no file."""
+    for number in range(FOLDERS):
+        folder = root / f"folder{number:02}"
+        folder.mkdir(parents=True)
+        opened = os.open(folder, os.O_RDONLY)
+        os.symlink("nothing", "0", dir_fd=opened)
+        for name in range(1, MOST_FILES // FOLDERS - 1):
+            os.link("0", str(name), src_dir_fd=opened, dst_dir_fd=opened, follow_symlinks=False)
+        os.close(opened)
+
+
+def check_most_files(tally: built.Tally, room: Path, root: Path) -> None:
+    named = {"path": [{"path": "", "depth": 0}], **query_of_names()}
+    folders = [f"folder{number:02}" for number in range(FOLDERS)]
+    too_many = {"error": "E12: too many files", **VERSION}
+    with Server(room, interval=A_HOUR) as server, server.client() as client:
+        client.ask("watch", str(root))
+        reply = client.ask("query", str(root), {"sync_timeout": 0, **named})
+        same(tally, "a root of 1,000,000 files", (reply.get("files"), reply.get("clock")), (folders, "c:7:9:1:1"))
+        (root / "more").touch()
+        same(tally, "a root of one more", client.ask("query", str(root), named), too_many)
+        again = client.ask("query", str(root), {"sync_timeout": 0, **named})
+        same(tally, "the view of a root of one more", again, reply)
+        client.ask("watch-del", str(root))
+        same(tally, "a watch of too many files", client.ask("watch", str(root)), too_many)

@@ -1,0 +1,56 @@
+"""What changed since a second, by the clock of the machine."""
+
+import time
+from pathlib import Path
+
+import built
+from client import Server, same
+
+A_HOUR = 3_600_000
+
+
+def second() -> int:
+    return int(time.time())
+
+
+def wait_until(moment: int) -> None:
+    while second() < moment:
+        time.sleep(0.01)
+
+
+def check_seconds(tally: built.Tally, room: Path) -> None:
+    """Two passes in different seconds: a file that stays, one that changes, one that comes and one that goes."""
+    root = room / "tree"
+    root.mkdir()
+    for name in ("stays", "changes", "goes"):
+        (root / name).touch()
+    with Server(room, interval=A_HOUR) as server, server.client() as client:
+        before = second()
+        client.ask("watch", str(root))
+        after = second()
+        wait_until(after + 1)
+        (root / "changes").write_text("longer")
+        (root / "comes").touch()
+        (root / "goes").unlink()
+        client.ask("query", str(root), {})
+        last = second()
+
+        def files(**query: object) -> list:
+            whole = {"fields": ["name", "new"], "sync_timeout": 0, **query}
+            reply = client.ask("query", str(root), whole)
+            return [(file["name"], file["new"]) for file in reply["files"]]
+
+        def names(**query: object) -> list:
+            return [name for name, _ in files(**query)]
+
+        moved = ["changes", "comes", "goes"]
+        all_new = [(name, True) for name in [*moved, "stays"]]
+        same(tally, "since second 0", files(since=0), all_new)
+        same(tally, "since a second before the first pass", files(since=before - 1), all_new)
+        same(tally, "since a second between the passes", names(since=after + 1), moved)
+        seen = dict(files(since=after, expression=["name", moved]))
+        same(tally, "what is new since the first pass", seen, {"changes": False, "comes": True, "goes": False})
+        same(tally, "since a second to come", files(since=last + 1), [])
+        same(tally, "after the first pass", names(since=0, expression=["since", after]), moved)
+        same(tally, "come after the first pass", names(since=0, expression=["since", after, "cclock"]), ["comes"])
+        same(tally, "after the last pass", names(since=0, expression=["since", last]), [])
