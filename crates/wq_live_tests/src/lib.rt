@@ -1,5 +1,6 @@
-//! Tests of the shared view and of sessions over it: what no contract of `wq_live` and `wq_server` says. Calls succeed
-//! while there is memory, a look finds what was published last, looks wait for nobody, and sessions share one shelf.
+//! Tests of the shared view, of sessions over it, and of a server: what no contract of `wq_live`, `wq_server` and
+//! `wq_daemon` says. Calls succeed while there is memory, a look finds what was published last, looks wait for nobody,
+//! sessions share one shelf, and a server answers on its socket and ends.
 #![tactic(auto)]
 
 #[cfg(test)]
@@ -8,6 +9,8 @@ mod at_once;
 mod fixture;
 #[cfg(test)]
 mod running;
+#[cfg(test)]
+mod server;
 #[cfg(test)]
 mod session;
 #[cfg(test)]

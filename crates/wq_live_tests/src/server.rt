@@ -1,0 +1,127 @@
+//! A server and a client of it in one process, over a socket in a folder of its own.
+ghost use Rattle.std.specs.Prelude.{◌≡◌};
+
+use crate::session::{SameFiles, Still};
+use std::alloc::{AllocError, Global};
+use std::fs::Files;
+use std::io::{self, Read, Write};
+use std::marker::Brand;
+use std::net::Net;
+use std::os::unix::net::UnixStream;
+use std::sync::atomic::{AtomicU64, Ordering};
+use std::sync::{Arc, Wait};
+use std::test::Fail;
+use std::thread::{self, Threads};
+use std::time::{Clock, Duration};
+use std::{env, fs, process};
+use wq_daemon::{Listening, Notices, Parts, SEATS, listen, remove, serve_clients};
+use wq_live::{Blank, Named};
+use wq_server::Run;
+
+/// What a client sends.
+const LINES: &[u8] = br#"["watch","/r"]
+["query","/r",{"fields":["name"]}]
+["get-sockname"]
+["shutdown-server"]
+"#;
+
+/// What it is written.
+const REPLIES: &[u8] = br#"{"version":"wq-1","watch":"/r","watcher":"poll"}
+{"clock":"c:7:9:1:1","files":["b.txt","src/a.c"],"is_fresh_instance":true,"version":"wq-1"}
+{"sockname":"the socket","version":"wq-1"}
+{"shutdown-server":true,"version":"wq-1"}
+"#;
+
+/// An operator who counts the lines that tell where the server listens, and a thousand for each other line.
+#[derive(Drop)]
+struct Operator {
+    told: Arc<AtomicU64>,
+}
+
+impl Notices for Operator {
+    fn tell(&self, line: &str) {
+        let count = if line == "listening on the socket" {
+            1
+        } else {
+            1000
+        };
+        self.told.fetch_add(count, Ordering::SeqCst);
+    }
+}
+
+/// A folder of this process alone.
+fn make_room(rt: &HostRuntime) -> io::Result<String> {
+    let above = env::temp_dir(rt)?;
+    let number = process::id(rt.process());
+    let room = format!(in rt.alloc(); "{}/wqd-{number}", above.as_str())?;
+    fs::create_dir(rt, room.as_str())?;
+    Ok(room)
+}
+
+/// What a server works with whose tree and clock stand still.
+fn make_parts(
+    alloc: Global,
+    told: Arc<AtomicU64>,
+) -> Result<Parts<SameFiles, Still, Operator>, AllocError> {
+    Ok(Parts {
+        run: Run::new(7, 9),
+        tree: SameFiles {
+            alloc,
+            names: &[b"b.txt", b"src/a.c"],
+        },
+        seconds: Still(100),
+        notices: Operator { told },
+        sockname: String::from_str(alloc, "the socket")?,
+        interval: Duration::from_millis(10),
+    })
+}
+
+/// Sends the lines, and gives what comes until the stream ends.
+fn talk(alloc: Global, mut stream: UnixStream) -> io::Result<Vec<u8>> {
+    let mut replies = Vec::new(alloc);
+    stream.write_all(LINES)?;
+    stream.read_to_end(&mut replies)?;
+    Ok(replies)
+}
+
+/// Serves a client to the end of the server, and gives what the client was written; none where the server or the client
+/// failed.
+fn serve_one<N, R>(
+    rt: R,
+    alloc: Global,
+    blank: Blank,
+    listening: &Listening,
+    parts: Parts<SameFiles, Still, Operator>,
+    stream: UnixStream,
+) -> Option<Vec<u8>>
+where
+    N: Named + Send + Sync + 'static,
+    R: Threads + Wait + Clock + Copy + Drop + Send + Sync + 'static,
+    requires { blank.book ≡ N.book }
+{
+    let talking = thread::spawn(&rt, move || talk(alloc, stream).ok());
+    let served = serve_clients::<N, R, SameFiles, Still, Operator>(
+        rt, alloc, listening, blank, parts,
+    );
+    let replies = talking.ok()?.join(&rt);
+    served.ok()?;
+    replies
+}
+
+#[test]
+fn a_server_answers_and_ends(rt: HostRuntime) -> Result<(), Fail> {
+    let room = make_room(&rt)?;
+    let path = format!(in rt.alloc(); "{room}/socket")?;
+    let listening = listen(&rt, rt.alloc(), &path)?;
+    let stream = UnixStream::connect(&rt, path.as_str())?;
+    let told = Arc::new(rt.alloc(), AtomicU64::new(0))?;
+    let parts = make_parts(rt.alloc(), told.clone()?)?;
+    let blank = Blank::new(rt.alloc(), &rt, SEATS)?;
+    let replies = serve_one::<Brand, HostRuntime>(rt, rt.alloc(), blank, &listening, parts, stream);
+    remove(&rt, &listening);
+    let is_empty = fs::remove_dir(&rt, room.as_str()).is_ok();
+    assert_eq!(rt; replies.as_deref(), Some(REPLIES));
+    assert_eq!(rt; told.load(Ordering::SeqCst), 1);
+    assert!(rt; is_empty);
+    Ok(())
+}
