@@ -14,7 +14,8 @@ use std::time::{Clock, Duration};
 /// How many clients may be connected at once.
 pub const MAX_SESSIONS: usize = 32;
 
-/// How many seconds a client may take nothing of what is written to it before it is cut off.
+/// How many seconds a write waits for a client that takes nothing. A write that wrote a part is followed by another, so a
+/// client is cut off after up to twice as long.
 const PATIENCE: u64 = 60;
 
 /// What a client is told that is one too many.
