@@ -1,7 +1,7 @@
 //! Sessions of two clients on threads of their own.
 ghost use Rattle.std.specs.Prelude.{◌≡◌};
 
-use crate::session::{SameFiles, Still, new_shelf};
+use crate::session::{SameFiles, Still, shared_shelf};
 use std::alloc::{AllocError, Global};
 use std::io::Write;
 use std::marker::Brand;
@@ -154,7 +154,7 @@ fn share<N: Named, R: Wait + Drop>(
 ) -> Option<Shared<N, R>> {
     Some(Shared {
         crawler: Arc::new(alloc, SharedCrawler::new(alloc, crawler).ok()?).ok()?,
-        shelf: new_shelf(alloc)?,
+        shelf: shared_shelf(alloc)?,
     })
 }
 

@@ -10,7 +10,9 @@ use std::test::Fail;
 use wq_live::{Blank, Named, Seat, Tree, TreeFault};
 use wq_registry::{Cache, Shelf};
 use wq_serve::Splitter;
-use wq_server::{Crawler, Desk, LockDesk, MemoryInbox, MemoryRoots, Roots, Run, Seconds, serve};
+use wq_server::{
+    Crawler, Desk, LockDesk, MemoryDesk, MemoryInbox, MemoryRoots, Roots, Run, Seconds, serve,
+};
 use wq_view::Seen;
 
 /// A tree each root of which has the same files.
@@ -54,10 +56,14 @@ impl Seconds for Still {
 }
 
 /// The shelf of a server at its start; none where memory ran out.
-pub(crate) fn new_shelf(alloc: Global) -> Option<Arc<Mutex<Shelf<()>>>> {
+fn new_shelf(alloc: Global) -> Option<Shelf<()>> {
     let cache = Cache::new(alloc, 7, 9).ok()?;
-    let shelf = Shelf::new(alloc, cache, String::from_str(alloc, "s").ok()?);
-    Arc::new(alloc, Mutex::new(shelf)).ok()
+    Some(Shelf::new(alloc, cache, String::from_str(alloc, "s").ok()?))
+}
+
+/// That shelf, for threads to share.
+pub(crate) fn shared_shelf(alloc: Global) -> Option<Arc<Mutex<Shelf<()>>>> {
+    Arc::new(alloc, Mutex::new(new_shelf(alloc)?)).ok()
 }
 
 /// What a session writes whose client sends these bytes, and its seat; none where the writer failed.
@@ -82,6 +88,39 @@ fn write_session<N: Named, R: Roots<N>, D: Desk>(
 /// What one client sends, and what is written to it.
 type Talk<'a> = (&'a [u8], &'static [u8]);
 
+/// What a session looks with and asks: its seat, and its roots.
+#[derive(Drop)]
+struct Ends<N: Named, R: Wait + Drop> {
+    seat: Seat<N>,
+    roots: MemoryRoots<N, R, SameFiles, Still>,
+}
+
+/// The ends of a session over a tree of two files.
+fn make_ends<N: Named, R: Wait + Drop>(rt: R, alloc: Global, blank: Blank) -> Option<Ends<N, R>>
+    requires { blank.book ≡ N.book }
+{
+    let tree = SameFiles {
+        alloc,
+        names: &[b"b.txt", b"src/a.c"],
+    };
+    let mut crawler = Crawler::new(blank.open::<N, R>(rt), tree, Still(100));
+    let seat = crawler.seat().ok()?;
+    let roots = MemoryRoots { crawler };
+    Some(Ends { seat, roots })
+}
+
+/// Serves a client at a desk, and says whether it was written what it should.
+fn talk_at<N: Named, R: Wait + Drop, D: Desk>(
+    alloc: Global,
+    ends: Ends<N, R>,
+    desk: &mut D,
+    talk: &Talk<'_>,
+) -> Option<(Ends<N, R>, bool)> {
+    let Ends { seat, mut roots } = ends;
+    let (seat, written) = write_session(alloc, talk.0, seat, &mut roots, desk)?;
+    Some((Ends { seat, roots }, written.as_slice() == talk.1))
+}
+
 /// Serves clients one after the other, each at a desk of its own over the same lock. Says how many were written what
 /// they should.
 fn play<N: Named, R: Wait + Copy + Drop>(
@@ -92,19 +131,13 @@ fn play<N: Named, R: Wait + Copy + Drop>(
 ) -> Option<usize>
     requires { blank.book ≡ N.book }
 {
-    let tree = SameFiles {
-        alloc,
-        names: &[b"b.txt", b"src/a.c"],
-    };
-    let mut crawler = Crawler::new(blank.open::<N, R>(rt), tree, Still(100));
-    let mut seat = crawler.seat().ok()?;
-    let mut roots = MemoryRoots { crawler };
-    let shelf = new_shelf(alloc)?;
-    for (place, (stream, want)) in talks.iter().enumerate() {
+    let mut ends = make_ends::<N, R>(rt, alloc, blank)?;
+    let shelf = shared_shelf(alloc)?;
+    for (place, talk) in talks.iter().enumerate() {
         let mut desk = LockDesk::new(Arc::try_clone(&shelf).ok()?, rt);
-        let (after, written) = write_session(alloc, stream, seat, &mut roots, &mut desk)?;
-        seat = after;
-        if written.as_slice() != *want {
+        let (after, is_right) = talk_at(alloc, ends, &mut desk, talk)?;
+        ends = after;
+        if !is_right {
             return Some(place);
         }
     }
@@ -115,6 +148,54 @@ fn play<N: Named, R: Wait + Copy + Drop>(
 fn well<R: Wait + Copy + Drop>(rt: R, alloc: Global, talks: &[Talk<'_>]) -> Option<usize> {
     let blank = Blank::new(alloc, &rt, 1).ok()?;
     play::<Brand, R>(rt, alloc, blank, talks)
+}
+
+/// Serves clients one after the other at the same desk, which nothing else has. Says how many were written what they
+/// should.
+fn play_alone<N: Named, R: Wait + Drop>(
+    rt: R,
+    alloc: Global,
+    blank: Blank,
+    talks: &[Talk<'_>],
+) -> Option<usize>
+    requires { blank.book ≡ N.book }
+{
+    let mut ends = make_ends::<N, R>(rt, alloc, blank)?;
+    let mut desk = MemoryDesk {
+        shelf: new_shelf(alloc)?,
+    };
+    for (place, talk) in talks.iter().enumerate() {
+        let (after, is_right) = talk_at(alloc, ends, &mut desk, talk)?;
+        ends = after;
+        if !is_right {
+            return Some(place);
+        }
+    }
+    Some(talks.len())
+}
+
+/// Whether roots answer as they should, of which `/r` alone is shown, as root 1.
+fn is_answered<N: Named, R: Roots<N>>(roots: &mut R) -> bool {
+    matches!(roots.crawl("/r"), Ok(Some(_)))
+        && matches!(roots.crawl("/q"), Ok(None))
+        && roots.retire(1).is_ok()
+        && matches!(roots.crawl("/r"), Ok(None))
+        && roots.open("/r").is_ok()
+        && matches!(roots.crawl("/r"), Ok(Some(_)))
+}
+
+/// Whether the roots of a session still answer when it has ended and no seat is left.
+fn outlive<N: Named, R: Wait + Drop>(rt: R, alloc: Global, blank: Blank) -> Option<bool>
+    requires { blank.book ≡ N.book }
+{
+    let ends = make_ends::<N, R>(rt, alloc, blank)?;
+    let mut desk = MemoryDesk {
+        shelf: new_shelf(alloc)?,
+    };
+    let (ends, is_right) = talk_at(alloc, ends, &mut desk, &WATCH)?;
+    let Ends { seat, mut roots } = ends;
+    drop(seat);
+    Some(is_right && is_answered(&mut roots))
 }
 
 #[test]
@@ -155,33 +236,59 @@ fn a_long_line_ends_a_session(rt: HostRuntime) -> Result<(), Fail> {
     Ok(())
 }
 
-#[test]
-fn sessions_share_programs(rt: HostRuntime) {
-    let talks: [Talk<'_>; 3] = [
-        (
-            br#"["watch","/r"]
+/// Clients who use a program that the first of them added.
+const SHARERS: [Talk<'static>; 3] = [
+    (
+        br#"["watch","/r"]
 ["program-add","yes","V1FQRgEAAAAAAAAAAAACAQEAACMAAAA="]
 "#,
-            br#"{"version":"wq-1","watch":"/r","watcher":"poll"}
+        br#"{"version":"wq-1","watch":"/r","watcher":"poll"}
 {"instructions":2,"program-add":"yes","replaced":false,"version":"wq-1"}
 "#,
-        ),
-        (
-            br#"["query","/r",{"program":"yes","fields":["name"]}]
+    ),
+    (
+        br#"["query","/r",{"program":"yes","fields":["name"]}]
 ["program-del","yes"]
 "#,
-            br#"{"clock":"c:7:9:1:1","files":["b.txt","src/a.c"],"is_fresh_instance":true,"version":"wq-1"}
+        br#"{"clock":"c:7:9:1:1","files":["b.txt","src/a.c"],"is_fresh_instance":true,"version":"wq-1"}
 {"deleted":true,"program-del":"yes","version":"wq-1"}
 "#,
-        ),
-        (
-            br#"["query","/r",{"program":"yes","fields":["name"]}]
+    ),
+    (
+        br#"["query","/r",{"program":"yes","fields":["name"]}]
 "#,
-            br#"{"error":"E34: no such program","version":"wq-1"}
+        br#"{"error":"E34: no such program","version":"wq-1"}
 "#,
-        ),
-    ];
-    assert_eq!(rt; well(rt, rt.alloc(), &talks), Some(3));
+    ),
+];
+
+/// A client who watches a root.
+const WATCH: Talk<'static> = (
+    b"[\"watch\",\"/r\"]\n",
+    b"{\"version\":\"wq-1\",\"watch\":\"/r\",\"watcher\":\"poll\"}\n",
+);
+
+#[test]
+fn sessions_share_programs(rt: HostRuntime) {
+    assert_eq!(rt; well(rt, rt.alloc(), &SHARERS), Some(3));
+}
+
+#[test]
+fn sessions_at_one_desk_share_programs(rt: HostRuntime) -> Result<(), Fail> {
+    let blank = Blank::new(rt.alloc(), &rt, 1)?;
+    let well = play_alone::<Brand, HostRuntime>(rt, rt.alloc(), blank, &SHARERS);
+    assert_eq!(rt; well, Some(3));
+    Ok(())
+}
+
+#[test]
+fn roots_answer_when_nobody_is_there(rt: HostRuntime) -> Result<(), Fail> {
+    let blank = Blank::new(rt.alloc(), &rt, 1)?;
+    assert_eq!(rt;
+        outlive::<Brand, HostRuntime>(rt, rt.alloc(), blank),
+        Some(true)
+    );
+    Ok(())
 }
 
 #[test]
