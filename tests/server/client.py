@@ -2,7 +2,6 @@
 
 import json
 import os
-import select
 import socket
 import stat
 import subprocess
@@ -14,6 +13,7 @@ from typing import Callable, List, Tuple
 import built
 
 PATIENCE = 60.0
+A_HOUR = 3_600_000
 VERSION = {"version": "wq-1"}
 Row = Tuple[str, str, int, int]
 
@@ -70,6 +70,13 @@ class Client:
         self.send(*command)
         return self.reply()
 
+    def has_session(self) -> bool:
+        """Whether a line is answered as in a session. One too many is told so, and its stream is closed."""
+        try:
+            return self.ask("version") == VERSION
+        except (ConnectionResetError, ValueError):
+            return False
+
     def ask_until(self, name: str, root: str, query: dict, is_right: Callable[[dict], object]) -> dict:
         """Asks until the reply is right, or the patience ends."""
         end = time.monotonic() + PATIENCE
@@ -118,9 +125,10 @@ class Server:
         end = time.monotonic() + PATIENCE
         while True:
             client = self.client()
-            if not select.select([client.socket], [], [], 0.2)[0] or time.monotonic() > end:
+            if client.has_session() or time.monotonic() > end:
                 return client
             client.close()
+            time.sleep(0.01)
 
     def errors(self) -> bytes:
         return os.pread(self.said.fileno(), 1_000_000, 0)

@@ -4,22 +4,21 @@ import shutil
 from pathlib import Path
 
 import built
-from client import VERSION, Client, Server, query_of_names, same
+from client import A_HOUR, VERSION, Client, Server, query_of_names, same
 
 UNREADABLE = {"error": "E11: root cannot be read", **VERSION}
 NOT_WATCHED = {"error": "E14: root is not watched", **VERSION}
 
 
 def check_roots_that_go(tally: built.Tally, room: Path) -> None:
-    """A root that can no longer be read is told of once, and its view stays. When it is back it is crawled again, and
-    when it goes again it is told of anew."""
+    """A root that can no longer be read is told of once. When it is back it is crawled again, and when it goes again it
+    is told of anew."""
     root, away = room / "tree", room / "away"
     root.mkdir()
     (root / "a").touch()
     with Server(room, interval=20) as server, server.client() as client:
         client.ask("watch", str(root))
         shutil.move(root, away)
-        check_its_view(tally, client, root)
         line = f"{root}: the root cannot be read\n".encode()
         said = f"listening on {server.sockname}\n".encode() + line
         tally.check("it is told of", server.says(said))
@@ -36,8 +35,19 @@ def check_roots_that_go(tally: built.Tally, room: Path) -> None:
         same(tally, "what is told, once each time", server.errors(), said + line)
 
 
+def check_a_root_that_went(tally: built.Tally, room: Path) -> None:
+    """A root that is shown and whose folder went between two crawls: its view stays."""
+    root = room / "tree"
+    root.mkdir()
+    (root / "a").touch()
+    with Server(room, interval=A_HOUR) as server, server.client() as client:
+        client.ask("watch", str(root))
+        shutil.move(root, room / "away")
+        check_its_view(tally, client, root)
+
+
 def check_its_view(tally: built.Tally, client: Client, root: Path) -> None:
-    """A root that is shown and whose folder is gone: it is watched, and what does not crawl it is answered."""
+    """A root whose folder is gone is watched, and what does not crawl it is answered."""
     clock = {"clock": "c:7:9:1:1", **VERSION}
     reply = client.ask("watch", str(root))
     same(tally, "a watch of a root that went", reply, {"watch": str(root), "watcher": "poll", **VERSION})

@@ -6,24 +6,28 @@ import tempfile
 from pathlib import Path
 
 import built
-from client import VERSION, Server, query_of_names, same
+from client import A_HOUR, VERSION, Server, query_of_names, same
 
 MOST_FILES = 1_000_000
 FOLDERS = 20
-A_HOUR = 3_600_000
 # A folder in memory makes a million names in a fourth of the time that a disk takes.
 MEMORY = Path("/dev/shm")
 
 
 def check_a_million(tally: built.Tally, room: Path) -> None:
     """A root of 1,000,000 rows is watched. With one more it cannot be crawled, and its view stays."""
-    with tempfile.TemporaryDirectory(dir=MEMORY if os.access(MEMORY, os.W_OK) else room) as shelf:
+    with tempfile.TemporaryDirectory(dir=MEMORY if has_room(MEMORY) else room) as shelf:
         root = Path(shelf) / "tree"
         try:
             make_names(root)
             check_most_files(tally, room, root)
         finally:
             subprocess.run(["rm", "-rf", str(root)], check=True)
+
+
+def has_room(folder: Path) -> bool:
+    """Whether names can be made in a folder, and so many that a fifth is left over. A link in memory takes an inode."""
+    return os.access(folder, os.W_OK) and os.statvfs(folder).f_favail > MOST_FILES * 6 // 5
 
 
 def make_names(root: Path) -> None:

@@ -4,9 +4,7 @@ import time
 from pathlib import Path
 
 import built
-from client import Server, same
-
-A_HOUR = 3_600_000
+from client import A_HOUR, Server, same
 
 
 def second() -> int:
