@@ -22,7 +22,7 @@ run_data run = record { start = run.start; pid = run.pid }
 abbrev pub refused_data : Refused → RefusedData
 refused_data refused = record { root = refused.root; fault = refused.fault }
 
--- the code stands where the world does, and memory never ran out over a list of what was sent
+-- the code stands where the world does, and no call of it failed
 pub record Stands (world : WorldData) (code : World) : Type 0 where
   pub run : world.run ≡ run_data code.run
   pub roots : IsTableOf world.events code.table

@@ -175,8 +175,8 @@ Shared before (Ok None) after = ⊥
 Shared before (Ok (Some told)) after = (told ≡ before.events) × (after ≡ before)
 Shared before (Err fault) after = (fault ≡ NoMemory) × (after ≡ before)
 
--- a root was crawled for those that asked when so many crawls had begun: by a crawl, or by the last
--- one of a root that is shown, where that began then or later, of which the list is told as it is
+-- a root was crawled for a thread that had read this count of crawls: by a crawl; or by none, where
+-- its last crawl began at this count or a later one: then the list is told as it is
 abbrev pub CrawledOnce : List ℕ → ℕ → (ℕ → Option ℕ) → CrawlerData
     → Result (Option (List RootEvent)) CrawlFault → CrawlerData → Type 0
 CrawledOnce text asked last before result after =
