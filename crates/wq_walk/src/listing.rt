@@ -9,6 +9,7 @@ use crate::disk::Disk;
 use crate::guess::guessed_cut;
 use crate::known::Known;
 use crate::part::Part;
+use crate::path::with_slash;
 use crate::walk::rows_in;
 use std::alloc::{AllocError, Global};
 use std::sync::ArcSlice;
@@ -20,6 +21,8 @@ use wq_view::{MAX_ROWS, Seen};
 const FEW: usize = 2000;
 
 /// The rows of the files below a root, whose last listing had these names, if there was one.
+///
+/// A root that went while it was walked cannot be read: of what was not looked at yet nothing is known.
 pub(crate) fn rows_below<T: Threads, D: Disk + Sync>(
     threads: &T,
     disk: &D,
@@ -34,9 +37,13 @@ pub(crate) fn rows_below<T: Threads, D: Disk + Sync>(
         Some(names) => (middle_of(alloc, &names)?, names),
         None => (guessed_cut(disk, alloc, root)?, Vec::new(alloc)),
     };
-    match cut {
-        Some(cut) => rows_by_two(threads, disk, alloc, root, cut, names),
-        None => rows_in(disk, alloc, root, Part::Whole, Known::new(names)),
+    let rows = match cut {
+        Some(cut) => rows_by_two(threads, disk, alloc, root, cut, names)?,
+        None => rows_in(disk, alloc, root, Part::Whole, Known::new(names))?,
+    };
+    match disk.stat(&with_slash(alloc, root)?)? {
+        Some(_) => Ok(rows),
+        None => Err(TreeFault::Unreadable),
     }
 }
 
