@@ -1,6 +1,7 @@
 """Roots whose folder goes and comes back."""
 
 import shutil
+import time
 from pathlib import Path
 
 import built
@@ -59,6 +60,29 @@ def check_its_view(tally: built.Tally, client: Client, root: Path) -> None:
     same(tally, "its view", reply, {"files": ["a"], "is_fresh_instance": True, **clock})
     same(tally, "its clock", client.ask("clock", str(root)), clock)
     same(tally, "its clock with a time", client.ask("clock", str(root), {"sync_timeout": 10}), UNREADABLE)
+
+
+def check_a_root_that_goes_during_walks(tally: built.Tally, room: Path) -> None:
+    """A root that goes while it is walked, and is away for longer than a walk: no file of it is told as gone."""
+    root, away = room / "tree", room / "away"
+    for number in range(40):
+        fill_folder(root / f"folder{number:02}")
+    with Server(room, interval=20) as server, server.client() as client:
+        client.ask("watch", str(root))
+        first = client.ask("clock", str(root))["clock"]
+        for _ in range(5):
+            shutil.move(root, away)
+            time.sleep(1)
+            shutil.move(away, root)
+            time.sleep(0.1)
+        reply = client.ask("query", str(root), {"since": first, **query_of_names()})
+        same(tally, "a root that went during walks", (reply["files"], reply["clock"]), ([], first))
+
+
+def fill_folder(folder: Path) -> None:
+    folder.mkdir(parents=True)
+    for number in range(500):
+        (folder / f"file{number:03}").touch()
 
 
 def check_its_end(tally: built.Tally, client: Client, root: Path) -> None:
