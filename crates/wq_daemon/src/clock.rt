@@ -26,8 +26,6 @@ impl<R: Clock + Drop> MachineClock<R> {
 }
 
 impl<R: Clock + Drop> Seconds for MachineClock<R> {
-    ghost told = { λ c. c.last };
-
     fn second(&mut self) -> i64 {
         if let Some(now) = self.now() {
             self.last = now;

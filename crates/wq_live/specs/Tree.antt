@@ -1,10 +1,11 @@
 -- When a tree may say that a root cannot be read, and what it shows of what it listed.
 -- No public document is behind it.
-use Rattle.std.specs.Prelude.{◌≡◌, ◌<◌, ◌⊎◌, ◌^◌, ◌-◌, ℕ, List, Option, Some, None, Result, Ok, Err}
+use Rattle.std.specs.Prelude.{◌≡◌, ◌<◌, ◌⊎◌, ◌^◌, ◌-◌, ℕ, List, Option, Result, Ok, Err}
 use Rattle.std.specs.Prelude.{Vec, refl}
 use Rattle.std.specs.Coded.{Coded, code_by, coded×, coded_ℕ, coded_list, coded_result}
 use Rattle.std.specs.declared.alloc.Global.{Global}
 use Rattle.wq_view.specs.Seen.{SeenData, Stat, entry_of, stat_code}
+use Rattle.wq_live.specs.Device.{Gave}
 use Rattle.wq_live.specs.contracts.tree.TreeFault.{the_row}
 use Rattle.wq_live.specs.declared.tree.TreeFault.{TreeFault}
 use Rattle.wq_live.specs.declared.tree.TreeFault.TheVariants.{Unreadable}
@@ -17,7 +18,7 @@ max_count = 2 ^ 64 - 1
 abbrev pub IsCounted : ℕ → ℕ → TreeFault → Type 0
 IsCounted before after fault = fault ≡ Unreadable → (before < after) ⊎ (after ≡ max_count)
 
--- what a tree listed last: of which root, and the rows that it gave, or why it gave none
+-- what a tree listed: of which root, and the rows that it gave, or why it gave none
 pub record ListedData : Type 0 where
   pub root : List ℕ
   pub rows : Result (List SeenData) TreeFault
@@ -46,7 +47,7 @@ abbrev pub rows_given : Result (Vec SeenData Global) TreeFault → Result (List 
 rows_given (Ok rows) = Ok rows.items
 rows_given (Err fault) = Err fault
 
--- a tree lists a root: where it shows what it listed last, that is this
-abbrev pub Lists : Option ListedData → List ℕ → Result (List SeenData) TreeFault → Type 0
-Lists None root rows = Unit {0}
-Lists (Some listed) root rows = listed ≡ record { root = root; rows = rows }
+-- a tree lists a root, and gives these rows
+abbrev pub Lists : Option (ℕ × ListedData) → List ℕ → Result (List SeenData) TreeFault
+    → Option (ℕ × ListedData) → Type 0
+Lists before root rows after = Gave before (record { root = root; rows = rows }) after

@@ -33,7 +33,7 @@ impl From<AllocError> for TreeFault {
 
 /// What lists roots.
 ///
-/// It may show what it listed last.
+/// It may show what it listed last, and how often it listed something.
 pub trait Tree {
     ghost use Rattle.std.specs.Prelude.{ℕ, Option, None};
     ghost use Rattle.wq_live.specs.Tree.{ListedData};
@@ -41,8 +41,8 @@ pub trait Tree {
     // How often its device failed so far.
     ghost failed: { Self → ℕ };
 
-    // What it listed last, where it shows that.
-    ghost listed: { Self → Option ListedData } = { λ _. None };
+    // How often it listed something so far, and what it listed last, where it shows that.
+    ghost listed: { Self → Option (ℕ × ListedData) } = { λ _. None };
 
     /// The rows of the files below a root, in any order.
     ///
@@ -50,7 +50,7 @@ pub trait Tree {
     /// it can tell.
     fn list(&mut self, root: &str) -> Result<Vec<Seen>, TreeFault>
         ensures counted { IfErr result (IsCounted (failed self.old) (failed self.new)) }
-        ensures listed { Lists (listed self.new) root.now (rows_given result) };
+        ensures listed { Lists (listed self.old) root.now (rows_given result) (listed self.new) };
 
     /// How often a device failed so far.
     fn failures(&self) -> u64

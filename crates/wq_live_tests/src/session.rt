@@ -48,8 +48,6 @@ fn rows_of(alloc: Global, names: &[&[u8]]) -> Result<Vec<Seen>, AllocError> {
 pub(crate) struct Still(pub(crate) i64);
 
 impl Seconds for Still {
-    ghost told = { λ s. s.0 };
-
     fn second(&mut self) -> i64 {
         self.0
     }

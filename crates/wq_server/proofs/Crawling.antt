@@ -1,31 +1,32 @@
 -- What comes of a root that was listed and then published.
 use Rattle.std.proofs.Common.{◌≡◌, ℕ, List, Result, Ok, Err, MatchResult, inr, sym, ap, subst, ◌∙◌}
+use Rattle.wq_live.specs.Device.{Gave}
 use Rattle.wq_live.specs.declared.event.RootEvent.{RootEvent}
 use Rattle.wq_view.specs.Listing.{PassData}
 use Rattle.wq_session.specs.declared.crawl.CrawlFault.{CrawlFault}
 use Rattle.wq_session.specs.declared.crawl.CrawlFault.TheVariants.{NoMemory}
-use Rattle.wq_server.specs.Crawl.{Began, CrawledAt, CrawlerData, IsNotTakenIn, IsPassOf, Passes, with_start}
+use Rattle.wq_server.specs.Crawl.{Began, CrawledAt, CrawlerData, IsNotTakenIn, IsOfRows, IsPassOver, Passes, with_start}
 
 module _ (text : List ℕ) (before mid after : CrawlerData) (pass : PassData) where
-  -- a pass of what was listed stays one where nothing more is listed
-  still : IsPassOf mid.listed text mid.second pass → after.listed ≡ mid.listed → after.second ≡ mid.second → IsPassOf after.listed text after.second pass
-  still of listed second =
-      subst (λ l. IsPassOf l text after.second pass) (sym listed) (subst (λ s. IsPassOf mid.listed text s pass) (sym second) of)
+  -- a pass over a root stays one where nothing more is listed, and the clock is not asked again
+  still : IsPassOver text before pass mid → after.listed ≡ mid.listed → after.told ≡ mid.told → IsPassOver text before pass after
+  still (rows, second) listed told =
+      (subst (IsOfRows before.listed text pass) (sym listed) rows, subst (Gave before.told pass.second) (sym told) second)
 
   -- a root that is shown
-  pub crawled_at : (number : ℕ) (result : Result (List RootEvent) CrawlFault) → mid.events ≡ before.events → IsPassOf mid.listed text mid.second pass
-      → after.listed ≡ mid.listed → after.second ≡ mid.second
+  pub crawled_at : (number : ℕ) (result : Result (List RootEvent) CrawlFault) → mid.events ≡ before.events → IsPassOver text before pass mid
+      → after.listed ≡ mid.listed → after.told ≡ mid.told
       → MatchResult result (λ told. (told ≡ after.events) × Passes mid.events number pass after.events)
       (λ fault. (after.events ≡ mid.events) × IsNotTakenIn mid.events number pass fault) → CrawledAt number text before result after
-  crawled_at number (Ok told) kept of listed second (same, passes) =
-      (same, pass, still of listed second, subst (λ l. Passes l number pass after.events) kept passes)
-  crawled_at number (Err fault) kept of listed second (is, why) =
-      (is ∙ kept, inr (pass, still of listed second, subst (λ l. IsNotTakenIn l number pass fault) kept why))
+  crawled_at number (Ok told) kept over listed second (same, passes) =
+      (same, pass, still over listed second, subst (λ l. Passes l number pass after.events) kept passes)
+  crawled_at number (Err fault) kept over listed second (is, why) =
+      (is ∙ kept, inr (pass, still over listed second, subst (λ l. IsNotTakenIn l number pass fault) kept why))
 
   -- a root that is not shown
-  pub began : (result : Result (List RootEvent) CrawlFault) → mid.events ≡ before.events → IsPassOf mid.listed text mid.second pass
-      → after.listed ≡ mid.listed → after.second ≡ mid.second
+  pub began : (result : Result (List RootEvent) CrawlFault) → mid.events ≡ before.events → IsPassOver text before pass mid
+      → after.listed ≡ mid.listed → after.told ≡ mid.told
       → MatchResult result (λ told. (told ≡ after.events) × (after.events ≡ with_start text pass mid.events))
       (λ fault. (after.events ≡ mid.events) × (fault ≡ NoMemory)) → Began text before result after
-  began (Ok told) kept of listed second (same, added) = (same, pass, still of listed second, added ∙ ap (with_start text pass) kept)
-  began (Err fault) kept of listed second (is, lacking) = (is ∙ kept, inr lacking)
+  began (Ok told) kept over listed second (same, added) = (same, pass, still over listed second, added ∙ ap (with_start text pass) kept)
+  began (Err fault) kept over listed second (is, lacking) = (is ∙ kept, inr lacking)

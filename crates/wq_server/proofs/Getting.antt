@@ -10,8 +10,8 @@ use Rattle.wq_session.specs.declared.crawl.CrawlFault.{CrawlFault}
 use Rattle.wq_server.specs.Answering.{AnswersAfter, AnswersEnd, IfRetires, Sees, SeesFirst, SeesNumber, known}
 use Rattle.wq_server.specs.Desk.{AnswersAt}
 use Rattle.wq_server.specs.Ready.{HearsFirst, KnownData, ReadyData, Readies, ended_by}
-use Rattle.wq_server.specs.Crawl.{CrawlerData}
-use Rattle.wq_server.specs.Roots.{WishData, Gives, passing, showing, ending, tells}
+use Rattle.wq_server.specs.Crawl.{CrawlerData, tells}
+use Rattle.wq_server.specs.Roots.{WishData, Gives, passing, showing, ending}
 use Rattle.wq_server.specs.Serving.{IsAnswered, Replies}
 use Rattle.wq_server.specs.declared.run.Run.{Run}
 

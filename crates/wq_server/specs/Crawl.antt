@@ -13,6 +13,7 @@ use Rattle.wq_view.specs.declared.listing.PassFault.{PassFault}
 use Rattle.wq_view.specs.declared.listing.PassFault.TheVariants.{BadName, NameTwice, TooManyRows}
 use Rattle.wq_view.specs.declared.listing.PassFault.TheVariants.{OutOfRange}
 use Rattle.wq_view.specs.declared.listing.PassFault.TheVariants.{NoMemory as NoPassMemory}
+use Rattle.wq_live.specs.Device.{Gave}
 use Rattle.wq_live.specs.Event.{is_shown, passes_over, root_named, shown, start_events, started}
 use Rattle.wq_live.specs.Front.{events_code}
 use Rattle.wq_live.specs.Limit.{max_roots}
@@ -29,23 +30,26 @@ use Rattle.wq_session.specs.declared.crawl.CrawlFault.TheVariants.{Unreadable, T
 use Rattle.wq_session.specs.declared.crawl.CrawlFault.TheVariants.{TooManyRoots, TicksSpent}
 use Rattle.wq_session.specs.declared.crawl.CrawlFault.TheVariants.{NoMemory}
 
--- what a crawler shows: the list of events that is published, the second that its clock told last,
--- what its tree listed last, where that is shown, and how often its tree failed
+-- what a crawler shows: the list of events that is published, what its clock told last and how often
+-- it told something, the same of what its tree listed, where they are shown, and how often its tree
+-- failed
 pub record CrawlerData : Type 0 where
   pub events : List RootEvent
-  pub second : ℤ
-  pub listed : Option ListedData
+  pub told : Option (ℕ × ℤ)
+  pub listed : Option (ℕ × ListedData)
   pub failed : ℕ
 
 -- a crawler as the tuple of its parts
 abbrev pub crawler_code : Coded CrawlerData
 crawler_code =
-    code_by (List RootEvent × (ℤ × (Option ListedData × ℕ)))
-    (coded× events_code (coded× coded_ℤ (coded× (coded_option listed_code) coded_ℕ)))
-    (λ c. (c.events, (c.second, (c.listed, c.failed))))
-    (λ (events, (second, (listed, failed))). record {
+    code_by (List RootEvent × (Option (ℕ × ℤ) × (Option (ℕ × ListedData) × ℕ)))
+    (coded× events_code
+    (coded× (coded_option (coded× coded_ℕ coded_ℤ))
+    (coded× (coded_option (coded× coded_ℕ listed_code)) coded_ℕ)))
+    (λ c. (c.events, (c.told, (c.listed, c.failed))))
+    (λ (events, (told, (listed, failed))). record {
       events = events;
-      second = second;
+      told = told;
       listed = listed;
       failed = failed;
     }) (λ _. refl)
@@ -78,21 +82,30 @@ Passes before number pass after =
     (IsNoNews before number pass × (after ≡ before))
     ⊎ (IsNews before number pass × (after ≡ before ++ Passed number pass ∷ []))
 
--- a pass is of a root, as that was listed last: of the rows that the tree gave of it, where it
--- shows them, and of the second that was told last
-abbrev pub IsPassOf : Option ListedData → List ℕ → ℤ → PassData → Type 0
-IsPassOf None text second pass = pass.second ≡ second
-IsPassOf (Some listed) text second pass =
-    (rows : List SeenData) × (listed ≡ record { root = text; rows = Ok rows })
-    × (listing_fault rows second ≡ None) × (pass ≡ listing_of rows second)
+-- a pass is of the rows that the tree gave of a root, where it shows what it gives
+abbrev pub IsOfRows : Option (ℕ × ListedData) → List ℕ → PassData → Option (ℕ × ListedData)
+    → Type 0
+IsOfRows before text pass None = Unit {0}
+IsOfRows before text pass (Some after) =
+    (rows : List SeenData) × Lists before text (Ok rows) (Some after)
+    × (listing_fault rows pass.second ≡ None) × (pass ≡ listing_of rows pass.second)
 
--- why there is no pass of a root: the tree did not list it, or what it listed makes none
-abbrev pub IsNoPassOf : List ℕ → CrawlerData → CrawlFault → CrawlerData → Type 0
-IsNoPassOf text before fault after =
-    ((why : TreeFault) × Lists after.listed text (Err why)
-    × IsCounted before.failed after.failed why × (fault ≡ not_listed why))
-    ⊎ ((rows : List SeenData) × (why : PassFault) × Lists after.listed text (Ok rows)
-    × (listing_fault rows after.second ≡ Some why) × (fault ≡ no_pass why))
+-- a root was listed, and this is the pass over it: of the rows that the tree gave, and of the second
+-- that the clock told then
+abbrev pub IsPassOver : List ℕ → CrawlerData → PassData → CrawlerData → Type 0
+IsPassOver text before pass after =
+    IsOfRows before.listed text pass after.listed × Gave before.told pass.second after.told
+
+-- a root was to be listed, and this is why there is no pass over it: the tree did not list it, and
+-- the clock was not asked; or what it listed makes none at the second that the clock told
+abbrev pub IsNoPassOver : List ℕ → CrawlerData → CrawlFault → CrawlerData → Type 0
+IsNoPassOver text before fault after =
+    ((why : TreeFault) × Lists before.listed text (Err why) after.listed
+    × (after.told ≡ before.told) × IsCounted before.failed after.failed why
+    × (fault ≡ not_listed why))
+    ⊎ ((rows : List SeenData) × (second : ℤ) × (why : PassFault)
+    × Lists before.listed text (Ok rows) after.listed × Gave before.told second after.told
+    × (listing_fault rows second ≡ Some why) × (fault ≡ no_pass why))
 
 -- why a pass over a root is not published: for want of memory; or the pass saw something else than
 -- the last one, and the ticks of the root are spent
@@ -107,42 +120,45 @@ IsNotTakenIn events number pass fault =
 abbrev pub CrawledAt : ℕ → List ℕ → CrawlerData → Result (List RootEvent) CrawlFault
     → CrawlerData → Type 0
 CrawledAt number text before (Ok told) after =
-    (told ≡ after.events) × (pass : PassData) × IsPassOf after.listed text after.second pass
+    (told ≡ after.events) × (pass : PassData) × IsPassOver text before pass after
     × Passes before.events number pass after.events
 CrawledAt number text before (Err fault) after =
     (after.events ≡ before.events)
-    × (IsNoPassOf text before fault after
-    ⊎ ((pass : PassData) × IsPassOf after.listed text after.second pass
+    × (IsNoPassOver text before fault after
+    ⊎ ((pass : PassData) × IsPassOver text before pass after
     × IsNotTakenIn before.events number pass fault))
 
--- a root was crawled: of one that is not shown there is no crawl
+-- what was told where a list is told unless that is refused
+abbrev pub tells : Result (List RootEvent) CrawlFault → Result (Option (List RootEvent)) CrawlFault
+tells (Ok told) = Ok (Some told)
+tells (Err fault) = Err fault
+
+-- a root was crawled; of one that is not shown there is no crawl, and nothing is told
 abbrev pub Crawled : List ℕ → CrawlerData → Result (Option (List RootEvent)) CrawlFault
     → CrawlerData → Type 0
-Crawled text before (Ok None) after = (number_of text before.events ≡ None) × (after ≡ before)
-Crawled text before (Ok (Some told)) after =
-    (number : ℕ) × (number_of text before.events ≡ Some number)
-    × CrawledAt number text before (Ok told) after
-Crawled text before (Err fault) after =
-    (number : ℕ) × (number_of text before.events ≡ Some number)
-    × CrawledAt number text before (Err fault) after
+Crawled text before result after =
+    ((number_of text before.events ≡ None) × (result ≡ Ok None) × (after ≡ before))
+    ⊎ ((number : ℕ) × (answer : Result (List RootEvent) CrawlFault)
+    × (number_of text before.events ≡ Some number) × (result ≡ tells answer)
+    × CrawledAt number text before answer after)
 
 -- the list with the start of a root, by this pass
 abbrev pub with_start : List ℕ → PassData → List RootEvent → List RootEvent
 with_start text pass events = events ++ start_events (length (started events) + 1) text pass
 
--- a root that is shown was found: the list is told as it is, unless memory is wanted for that
-abbrev pub Found : CrawlerData → Result (List RootEvent) CrawlFault → CrawlerData → Type 0
-Found before (Ok told) after = (told ≡ before.events) × (after ≡ before)
-Found before (Err fault) after = (fault ≡ NoMemory) × (after ≡ before)
+-- the list is told as it is, unless memory is wanted for that
+abbrev pub Shared : CrawlerData → Result (List RootEvent) CrawlFault → CrawlerData → Type 0
+Shared before (Ok told) after = (told ≡ before.events) × (after ≡ before)
+Shared before (Err fault) after = (fault ≡ NoMemory) × (after ≡ before)
 
 -- a root that is not shown was listed and started with a pass over it, and the list is told; where
 -- it is refused, nothing is added
 abbrev pub Began : List ℕ → CrawlerData → Result (List RootEvent) CrawlFault → CrawlerData → Type 0
 Began text before (Ok told) after =
-    (told ≡ after.events) × (pass : PassData) × IsPassOf after.listed text after.second pass
+    (told ≡ after.events) × (pass : PassData) × IsPassOver text before pass after
     × (after.events ≡ with_start text pass before.events)
 Began text before (Err fault) after =
-    (after.events ≡ before.events) × (IsNoPassOf text before fault after ⊎ (fault ≡ NoMemory))
+    (after.events ≡ before.events) × (IsNoPassOver text before fault after ⊎ (fault ≡ NoMemory))
 
 -- a root that is not shown was started; or, where no more can be started, refused before it was
 -- listed
@@ -152,11 +168,11 @@ BeganIfRoom text before result after =
     (IsFull before.events × (result ≡ Err TooManyRoots) × (after ≡ before))
     ⊎ ((IsFull before.events → ⊥) × Began text before result after)
 
--- a root was opened: one that is shown was found, and any other was started
+-- a root was opened: of one that is shown the list is told, and any other was started
 abbrev pub Opened : List ℕ → CrawlerData → Result (List RootEvent) CrawlFault → CrawlerData
     → Type 0
 Opened text before result after =
-    (IsSome (number_of text before.events) × Found before result after)
+    (IsSome (number_of text before.events) × Shared before result after)
     ⊎ ((number_of text before.events ≡ None) × BeganIfRoom text before result after)
 
 -- a root was retired by its number: its end is added where it is shown, and the list is told; where
@@ -169,17 +185,12 @@ Retired number before (Ok told) after =
     × (after ≡ record before { events = before.events ++ Ended number ∷ [] })))
 Retired number before (Err fault) after = (fault ≡ NoMemory) × (after ≡ before)
 
--- the list is told as it is, unless memory is wanted for that
-abbrev pub Shared : CrawlerData → Result (Option (List RootEvent)) CrawlFault → CrawlerData → Type 0
-Shared before (Ok None) after = ⊥
-Shared before (Ok (Some told)) after = (told ≡ before.events) × (after ≡ before)
-Shared before (Err fault) after = (fault ≡ NoMemory) × (after ≡ before)
-
 -- a root was crawled for a thread that had read this count of crawls: by a crawl; or by none, where
 -- its last crawl began at this count or a later one: then the list is told as it is
 abbrev pub CrawledOnce : List ℕ → ℕ → (ℕ → Option ℕ) → CrawlerData
     → Result (Option (List RootEvent)) CrawlFault → CrawlerData → Type 0
 CrawledOnce text asked last before result after =
     Crawled text before result after
-    ⊎ ((number : ℕ) × (begun : ℕ) × (number_of text before.events ≡ Some number)
-    × (last number ≡ Some begun) × (asked ≤ begun) × Shared before result after)
+    ⊎ ((number : ℕ) × (begun : ℕ) × (answer : Result (List RootEvent) CrawlFault)
+    × (number_of text before.events ≡ Some number) × (last number ≡ Some begun)
+    × (asked ≤ begun) × (result ≡ tells answer) × Shared before answer after)

@@ -8,8 +8,8 @@ use Rattle.wq_live.specs.declared.event.RootEvent.{RootEvent}
 use Rattle.wq_session.specs.Need.{NeedData, none, look, crawl, opening, retire}
 use Rattle.wq_session.specs.Query.{AtData}
 use Rattle.wq_session.specs.declared.crawl.CrawlFault.{CrawlFault}
-use Rattle.wq_server.specs.Crawl.{CrawlerData}
-use Rattle.wq_server.specs.Roots.{WishData, Gives, passing, showing, ending, tells}
+use Rattle.wq_server.specs.Crawl.{CrawlerData, tells}
+use Rattle.wq_server.specs.Roots.{WishData, Gives, passing, showing, ending}
 use Rattle.wq_server.specs.Run.{ShowsAt}
 use Rattle.wq_server.specs.declared.run.Run.{Run}
 

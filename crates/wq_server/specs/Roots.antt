@@ -3,7 +3,7 @@
 use Rattle.std.specs.Prelude.{◌≡◌, ℕ, List, Option, Some, None, Result, Ok, Err}
 use Rattle.wq_live.specs.declared.event.RootEvent.{RootEvent}
 use Rattle.wq_session.specs.declared.crawl.CrawlFault.{CrawlFault}
-use Rattle.wq_server.specs.Crawl.{CrawlerData, Crawled, Opened, Retired}
+use Rattle.wq_server.specs.Crawl.{CrawlerData, Crawled, Opened, Retired, tells}
 
 -- what a session asks of the roots
 pub data WishData : Type 0 where
@@ -13,11 +13,6 @@ pub data WishData : Type 0 where
   showing : (root : List ℕ) → WishData
   -- the end of the root of this number
   ending : (number : ℕ) → WishData
-
--- what was told where a list is told unless the wish is refused
-abbrev pub tells : Result (List RootEvent) CrawlFault → Result (Option (List RootEvent)) CrawlFault
-tells (Ok told) = Ok (Some told)
-tells (Err fault) = Err fault
 
 -- a wish was done by a crawler, and this was answered: the list of events, if one is told; or why
 -- the wish was refused

@@ -1,8 +1,8 @@
 //! What lists roots and publishes what is seen: a tree, a clock and a publisher, of which one crawl after the other
 //! takes hold.
 ghost use Rattle.std.specs.Prelude.{◌≡◌, ◌≢◌, ◌⊎◌, ◌↔◌, Err, IfErr, IfOk, IsTrue, MatchResult, None};
-ghost use Rattle.wq_server.specs.Crawl.{Began, Crawled, CrawledAt, Found, IsFull, IsNoPassOf, IsNotTakenIn, IsPassOf};
-ghost use Rattle.wq_server.specs.Crawl.{Opened, Passes, Retired, number_of, with_start};
+ghost use Rattle.wq_server.specs.Crawl.{Began, Crawled, CrawledAt, IsFull, IsNoPassOver, IsNotTakenIn, IsPassOver};
+ghost use Rattle.wq_server.specs.Crawl.{Opened, Passes, Retired, Shared, number_of, with_start};
 
 use crate::faults::{no_pass, not_listed};
 use std::alloc::AllocError;
@@ -14,19 +14,22 @@ use wq_session::CrawlFault;
 use wq_view::{Pass, ViewFault};
 
 /// What tells the second of a pass.
+///
+/// It may show what it told last, and how often it told something.
 pub trait Seconds {
-    ghost use Rattle.std.specs.Prelude.{ℤ};
+    ghost use Rattle.std.specs.Prelude.{ℕ, ℤ, Option, None};
+    ghost use Rattle.wq_live.specs.Device.{Gave};
 
-    // The second that it told last.
-    ghost told: { Self → ℤ };
+    // How often it told something so far, and the second that it told last, where it shows that.
+    ghost told: { Self → Option (ℕ × ℤ) } = { λ _. None };
 
     /// The second of the Unix epoch, as it is now.
     fn second(&mut self) -> i64
-        ensures { result ≡ told self.new };
+        ensures { Gave (told self.old) result (told self.new) };
 }
 
-/// Lists roots, and publishes what is seen. Contracts see the list of events that is published, the second that was
-/// told last, and what the tree shows of itself.
+/// Lists roots, and publishes what is seen. Contracts see the list of events that is published, and what the tree and the
+/// clock show of themselves.
 #[derive(Drop)]
 pub struct Crawler<N: Named, R: Wait + Drop, T: Tree + Drop, S: Seconds + Drop> {
     publisher: Publisher<N, R>,
@@ -43,7 +46,7 @@ impl<N: Named, R: Wait + Drop, T: Tree + Drop, S: Seconds + Drop> Model for Craw
 
     ghost view = { λ c. record {
       events = c.publisher;
-      second = S.told c.seconds;
+      told = S.told c.seconds;
       listed = T.listed c.tree;
       failed = T.failed c.tree;
     } };
@@ -54,7 +57,7 @@ impl<N: Named, R: Wait + Drop, T: Tree + Drop, S: Seconds + Drop> Crawler<N, R, 
     pub fn new(publisher: Publisher<N, R>, tree: T, seconds: S) -> Crawler<N, R, T, S>
         ensures { result ≡ record {
           events = publisher;
-          second = S.told seconds;
+          told = S.told seconds;
           listed = T.listed tree;
           failed = T.failed tree;
         } }
@@ -126,7 +129,7 @@ impl<N: Named, R: Wait + Drop, T: Tree + Drop, S: Seconds + Drop> Crawler<N, R, 
 
     /// The list as it is.
     pub(crate) fn told(&self) -> Result<Told<N>, CrawlFault>
-        ensures { Found self.now result self.now }
+        ensures { Shared self.now result self.now }
     {
         match self.publisher.told() {
             Ok(told) => Ok(told),
@@ -141,8 +144,8 @@ impl<N: Named, R: Wait + Drop, T: Tree + Drop, S: Seconds + Drop> Crawler<N, R, 
         self.publisher.len() == MAX_ROOTS || self.publisher.table().given() == MAX_NUMBER
     }
 
-    /// Crawls the root of this number and text.
-    fn crawl_at(&mut self, number: u64, root: &str) -> Result<Told<N>, CrawlFault>
+    /// Crawls the root of this number and text, which is shown.
+    pub(crate) fn crawl_at(&mut self, number: u64, root: &str) -> Result<Told<N>, CrawlFault>
         ensures { CrawledAt number root.now self.old result self.new }
     {
         let pass = self.list(root)?;
@@ -166,7 +169,7 @@ impl<N: Named, R: Wait + Drop, T: Tree + Drop, S: Seconds + Drop> Crawler<N, R, 
             (λ fault. ((self.new).events ≡ (self.old).events)
             × IsNotTakenIn (self.old).events number pass fault) }
         ensures listed { (self.new).listed ≡ (self.old).listed }
-        ensures second { (self.new).second ≡ (self.old).second }
+        ensures told { (self.new).told ≡ (self.old).told }
         ensures failed { (self.new).failed ≡ (self.old).failed }
     {
         match self.publisher.publish(number, pass) {
@@ -185,7 +188,7 @@ impl<N: Named, R: Wait + Drop, T: Tree + Drop, S: Seconds + Drop> Crawler<N, R, 
             × ((self.new).events ≡ with_start root.now pass (self.old).events))
             (λ fault. ((self.new).events ≡ (self.old).events) × (fault ≡ CrawlFault.NoMemory)) }
         ensures listed { (self.new).listed ≡ (self.old).listed }
-        ensures second { (self.new).second ≡ (self.old).second }
+        ensures told { (self.new).told ≡ (self.old).told }
     {
         match self.publisher.start(root, pass) {
             Ok((_number, told)) => Ok(told),
@@ -198,8 +201,8 @@ impl<N: Named, R: Wait + Drop, T: Tree + Drop, S: Seconds + Drop> Crawler<N, R, 
     fn list(&mut self, root: &str) -> Result<Pass, CrawlFault>
         ensures kept { (self.new).events ≡ (self.old).events }
         ensures listed { MatchResult result
-            (λ pass. IsPassOf (self.new).listed root.now (self.new).second pass)
-            (λ fault. IsNoPassOf root.now self.old fault self.new) }
+            (λ pass. IsPassOver root.now self.old pass self.new)
+            (λ fault. IsNoPassOver root.now self.old fault self.new) }
     {
         let rows = match self.tree.list(root) {
             Ok(rows) => rows,

@@ -1,5 +1,6 @@
 //! What crawls, opens and retires roots for a session.
-ghost use Rattle.wq_server.specs.Roots.{Gives, ending, passing, showing, tells};
+ghost use Rattle.wq_server.specs.Crawl.{tells};
+ghost use Rattle.wq_server.specs.Roots.{Gives, ending, passing, showing};
 
 use wq_live::{Named, Told};
 use wq_session::CrawlFault;

@@ -2,8 +2,8 @@
 ghost use Rattle.std.specs.Prelude.{◌≡◌, None, nat_eq, nat_le, false};
 ghost use Rattle.std.specs.Option.{option_map_or};
 ghost use Rattle.std.specs.Map.{lookup};
-ghost use Rattle.wq_server.specs.Crawl.{CrawledOnce, Shared};
-ghost use Rattle.wq_server.specs.Roots.{Gives, ending, passing, showing, tells};
+ghost use Rattle.wq_server.specs.Crawl.{CrawledOnce, tells};
+ghost use Rattle.wq_server.specs.Roots.{Gives, ending, passing, showing};
 
 use crate::crawler::{Crawler, Seconds};
 use lru::LruCache;
@@ -85,22 +85,12 @@ impl<N: Named, R: Wait + Drop, T: Tree + Drop, S: Seconds + Drop> LastCrawls<N, 
             return Ok(None);
         };
         if self.has_begun_since(asked, number) {
-            return self.share();
+            return Ok(Some(self.crawler.told()?));
         }
         let before = begun.fetch_add(1, Ordering::SeqCst);
-        let told = self.crawler.crawl(root)?;
+        let told = self.crawler.crawl_at(number, root)?;
         self.keep(number, before);
-        Ok(told)
-    }
-
-    /// The list as it is.
-    fn share(&self) -> Result<Option<Told<N>>, CrawlFault>
-        ensures { Shared self.now.crawler result self.now.crawler }
-    {
-        match self.crawler.told() {
-            Ok(told) => Ok(Some(told)),
-            Err(fault) => Err(fault),
-        }
+        Ok(Some(told))
     }
 
     /// Whether the last crawl of the root of this number began when so many had begun, or later.

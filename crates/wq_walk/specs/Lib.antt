@@ -1,3 +1,4 @@
 pub mod Stat
 pub mod Path
 pub mod Part
+pub mod Unseen

@@ -19,7 +19,9 @@ pub(crate) fn guessed_cut<D: Disk>(
     let mut block = Block::new(alloc)?;
     let folder = with_slash(alloc, root)?;
     let path = TreePath::new(alloc, &folder)?;
-    let top = disk.names_in(&mut block, &folder)?;
+    let Some(top) = disk.names_in(&mut block, &folder)? else {
+        return Err(TreeFault::Unreadable);
+    };
     let is_few = top.len() < FEW;
     let mut names = Vec::new(alloc);
     add_names(&mut names, &path, top)?;
@@ -48,7 +50,7 @@ fn add_names_below<D: Disk>(
         path.cut(0);
         path.add(name)?;
         let entries = path.text().map(|text| disk.names_in(block, text));
-        if let Some(Ok(entries)) = entries {
+        if let Some(Ok(Some(entries))) = entries {
             path.add(b"/")?;
             add_names(names, &path, entries)?;
         }

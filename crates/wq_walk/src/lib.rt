@@ -13,6 +13,7 @@ mod part;
 mod path;
 mod rows;
 mod stat;
+mod unseen;
 mod walk;
 mod walker;
 

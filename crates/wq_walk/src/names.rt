@@ -1,5 +1,6 @@
 //! The names in one folder on disk. What they name is not looked at here.
 
+use crate::unseen::walk_fault;
 use std::alloc::{AllocError, Global};
 use std::cmp::Ordering;
 use std::fs::Files;
@@ -96,16 +97,16 @@ impl Names {
     }
 }
 
-/// The names in the folder of this path. A path that ends in a slash may lead over a link; another that ends in a link is
-/// not read.
+/// The names in the folder of this path, and nothing where it cannot be read. A path that ends in a slash may lead over a
+/// link; another that ends in a link is not read.
 pub(crate) fn names_in<R: Files>(
     files: &R,
     block: &mut Block,
     path: &str,
-) -> Result<Names, TreeFault> {
+) -> Result<Option<Names>, TreeFault> {
     let mut folder = match files.open_dir(path) {
         Ok(folder) => folder,
-        Err(error) => return Err(fault_of(&error)),
+        Err(error) => return nothing(&error),
     };
     let mut names = Names::new(*block.bytes.allocator());
     for _ in 0..u64::MAX {
@@ -113,11 +114,11 @@ pub(crate) fn names_in<R: Files>(
             Ok(0) => break,
             Ok(count) => names.add(&block.bytes[..count])?,
             Err(error) if error.kind() == ErrorKind::Interrupted => {}
-            Err(error) => return Err(fault_of(&error)),
+            Err(error) => return nothing(&error),
         }
     }
     names.sort();
-    Ok(names)
+    Ok(Some(names))
 }
 
 /// The first bytes of a name as a number, of which numbers rise as names do.
@@ -140,10 +141,10 @@ fn text_at(bytes: &[u8], place: Place) -> &[u8] {
     bytes.get(place.start..place.end).unwrap_or(b"")
 }
 
-/// Memory that ran out is told apart from what cannot be read.
-pub(crate) fn fault_of(error: &Error) -> TreeFault {
-    match error.kind() {
-        ErrorKind::OutOfMemory => TreeFault::NoMemory,
-        _ => TreeFault::Unreadable,
+/// No names, where an error speaks of their folder alone.
+fn nothing(error: &Error) -> Result<Option<Names>, TreeFault> {
+    match walk_fault(error) {
+        Some(fault) => Err(fault),
+        None => Ok(None),
     }
 }

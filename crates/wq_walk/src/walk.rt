@@ -36,8 +36,8 @@ struct Walk {
 ///
 /// The walk reads each folder whole, and then looks at its entries. It follows no links, but one that is the root. An entry
 /// that cannot be looked at is left out, as one that goes while the walk is on its way; so is one whose name no pass takes.
-/// Of a folder below the root that cannot be read only its own row is listed. Folders below which no name is in the part
-/// are not read.
+/// Of a folder below the root that cannot be read only its own row is listed; but where no more files can be opened, which
+/// says nothing of the folder, the walk fails. Folders below which no name is in the part are not read.
 pub(crate) fn rows_in<D: Disk>(
     disk: &D,
     alloc: Global,
@@ -65,7 +65,9 @@ impl Walk {
     {
         let folder = with_slash(alloc, root)?;
         let mut block = Block::new(alloc)?;
-        let names = disk.names_in(&mut block, &folder)?;
+        let Some(names) = disk.names_in(&mut block, &folder)? else {
+            return Err(TreeFault::Unreadable);
+        };
         let path = TreePath::new(alloc, &folder)?;
         let mut folders = Vec::new(alloc);
         folders
@@ -189,9 +191,9 @@ impl Walk {
         let Some(path) = self.path.text() else {
             return Ok(Names::new(self.alloc));
         };
-        match disk.names_in(&mut self.block, path) {
-            Err(TreeFault::Unreadable) => Ok(Names::new(self.alloc)),
-            names => names,
+        match disk.names_in(&mut self.block, path)? {
+            Some(names) => Ok(names),
+            None => Ok(Names::new(self.alloc)),
         }
     }
 }

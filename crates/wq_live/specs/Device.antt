@@ -1,0 +1,13 @@
+-- What a device shows of itself: how often it gave something so far, and what it gave last.
+-- No public document is behind it.
+use Rattle.std.specs.Prelude.{◌≡◌, ℕ, suc, Option, Some, None}
+
+-- how often a device gave something so far: never, where it gave nothing yet
+abbrev pub count_of : {A : Type 0} → Option (ℕ × A) → ℕ
+count_of None = 0
+count_of (Some (count, last)) = count
+
+-- a device gave this: where it shows what it gave last, that is this, and it gave once more
+abbrev pub Gave : {A : Type 0} → Option (ℕ × A) → A → Option (ℕ × A) → Type 0
+Gave before given None = Unit {0}
+Gave before given (Some after) = after ≡ (suc (count_of before), given)

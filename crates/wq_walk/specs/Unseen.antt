@@ -1,0 +1,22 @@
+-- What an error of the system at one path means for a walk.
+-- The numbers are those of errno(3) on Linux; that such an error ends the walk is this server's own.
+use Rattle.std.specs.Prelude.{ℤ, pos, negsuc, Bool, false, ◌==◌, ◌||◌, if◌then◌else◌, Option, Some, None}
+use Rattle.std.specs.declared.io.ErrorKind.{ErrorKind}
+use Rattle.std.specs.declared.io.ErrorKind.TheVariants.{OutOfMemory}
+use Rattle.wq_live.specs.declared.tree.TreeFault.{TreeFault}
+use Rattle.wq_live.specs.declared.tree.TreeFault.TheVariants.{NoMemory, Unreadable}
+
+-- whether an error with this number says that no more files can be opened: in the machine, or in this process
+abbrev pub is_of_handles : Option ℤ → Bool
+is_of_handles (Some (pos number)) = (number == 23) || (number == 24)
+is_of_handles (Some (negsuc below)) = false
+is_of_handles None = false
+
+-- the fault of a whole walk that an error of this kind is: memory ran out, and else none
+abbrev pub memory_fault : ErrorKind → Option TreeFault
+memory_fault OutOfMemory = Some NoMemory
+memory_fault kind = None
+
+-- the fault of a whole walk that an error with this number and of this kind is; none where it speaks of its path alone
+abbrev pub walk_fault : Option ℤ → ErrorKind → Option TreeFault
+walk_fault number kind = if is_of_handles number then Some Unreadable else memory_fault kind
