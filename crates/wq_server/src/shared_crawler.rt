@@ -1,8 +1,9 @@
 //! A crawler that threads share: one crawls at a time, and those that asked before it began go by what it told.
-ghost use Rattle.std.specs.Prelude.{◌≡◌, None, nat_eq, nat_le, false};
+ghost use Rattle.std.specs.Prelude.{◌≡◌, ◌⊎◌, None, nat_eq, nat_le, false};
 ghost use Rattle.std.specs.Option.{option_map_or};
+ghost use Rattle.lru.specs.LruCache.{lru_cache, put_entries};
 ghost use Rattle.std.specs.Map.{lookup};
-ghost use Rattle.wq_server.specs.Crawl.{CrawledOnce, tells};
+ghost use Rattle.wq_server.specs.Crawl.{CrawledAt, CrawledOnce, tells};
 ghost use Rattle.wq_server.specs.Roots.{Gives, ending, passing, showing};
 
 use crate::crawler::{Crawler, Seconds};
@@ -87,10 +88,22 @@ impl<N: Named, R: Wait + Drop, T: Tree + Drop, S: Seconds + Drop> LastCrawls<N, 
         if self.has_begun_since(asked, number) {
             return Ok(Some(self.crawler.told()?));
         }
+        Ok(Some(self.crawl_at(begun, number, root)?))
+    }
+
+    /// Crawls the root of this number and text, which is shown, and keeps how many crawls had begun before.
+    fn crawl_at(
+        &mut self,
+        begun: &AtomicU64,
+        number: u64,
+        root: &str,
+    ) -> Result<Told<N>, CrawlFault>
+        ensures { CrawledAt number root.now self.old.crawler result self.new.crawler }
+    {
         let before = begun.fetch_add(1, Ordering::SeqCst);
         let told = self.crawler.crawl_at(number, root)?;
         self.keep(number, before);
-        Ok(Some(told))
+        Ok(told)
     }
 
     /// Whether the last crawl of the root of this number began when so many had begun, or later.
@@ -104,11 +117,17 @@ impl<N: Named, R: Wait + Drop, T: Tree + Drop, S: Seconds + Drop> LastCrawls<N, 
         }
     }
 
-    /// Keeps that the root of this number was crawled. Where memory is wanted for that, each thread crawls for itself.
+    /// Keeps that so many crawls had begun before the last one of the root of this number. Where memory is wanted for that,
+    /// each thread crawls for itself.
     fn keep(&mut self, number: u64, before: u64)
-        ensures { self.new.crawler ≡ self.old.crawler }
+        ensures crawler { self.new.crawler ≡ self.old.crawler }
+        ensures last { (self.new.last ≡ self.old.last)
+            ⊎ (self.new.last ≡ lru_cache (put_entries nat_eq self.old.last number before) self.old.last.cap) }
     {
-        let _ = self.last.put(number, before);
+        match self.last.put(number, before) {
+            Ok(_) => {}
+            Err(_) => {}
+        }
     }
 }
 
