@@ -2,6 +2,8 @@
 
 import os
 import resource
+import threading
+import time
 from pathlib import Path
 
 import built
@@ -10,7 +12,36 @@ from gone import UNREADABLE
 
 FOLDERS = 100
 FILES = 40
-ROUNDS = 30
+ROUNDS = 60
+
+
+class Scarcity:
+    """Time and again a process can open no more files, and then it can."""
+
+    def __init__(self, process: int) -> None:
+        self.process = process
+        self.least = next_handle(process)
+        self.most = resource.prlimit(process, resource.RLIMIT_NOFILE)[1]
+        self.ended = threading.Event()
+        self.thread = threading.Thread(target=self.go_on)
+
+    def __enter__(self) -> None:
+        self.thread.start()
+
+    def __exit__(self, *_: object) -> None:
+        self.ended.set()
+        self.thread.join()
+        self.allow(self.most)
+
+    def allow(self, limit: int) -> None:
+        resource.prlimit(self.process, resource.RLIMIT_NOFILE, (limit, self.most))
+
+    def go_on(self) -> None:
+        while not self.ended.is_set():
+            self.allow(self.least)
+            time.sleep(0.0005)
+            self.allow(self.most)
+            time.sleep(0.002)
 
 
 def check_no_handles(tally: built.Tally, room: Path) -> None:
@@ -21,16 +52,12 @@ def check_no_handles(tally: built.Tally, room: Path) -> None:
     with Server(room, interval=A_HOUR) as server, server.client() as client:
         client.ask("watch", str(root))
         first = client.ask("clock", str(root))["clock"]
-        hard = resource.prlimit(server.process.pid, resource.RLIMIT_NOFILE)[1]
-        for spare in (0, 1):
-            limit = next_handle(server.process.pid) + spare
-            resource.prlimit(server.process.pid, resource.RLIMIT_NOFILE, (limit, hard))
+        with Scarcity(server.process.pid):
             replies = [crawl(client, root, first) for _ in range(ROUNDS)]
-            told = [reply for reply in replies if reply != UNREADABLE and reply["files"] != []]
-            same(tally, f"files told as changed with {spare} handles left", told, [])
-            if spare == 0:
-                same(tally, "crawls with no handle left", replies, [UNREADABLE] * ROUNDS)
-        resource.prlimit(server.process.pid, resource.RLIMIT_NOFILE, (hard, hard))
+        refused = replies.count(UNREADABLE)
+        told = [reply["files"] for reply in replies if reply != UNREADABLE]
+        tally.check(f"a crawl that wants for handles is refused, of {ROUNDS}: {refused}", refused > 0)
+        same(tally, "files told as changed for want of handles", told, [[]] * len(told))
         reply = crawl(client, root, first)
         same(tally, "a crawl with handles again", (reply["files"], reply["clock"]), ([], first))
 
