@@ -1,9 +1,10 @@
 //! Passes over a made-up tree, what a publisher does, and what a seat sees.
+ghost use Rattle.std.specs.Prelude.{◌≡◌};
 
 use itoa::Buffer;
 use std::alloc::{AllocError, Global};
 use std::sync::{ArcSlice, Wait};
-use wq_live::{Look, Named, Publisher, Seat, Told};
+use wq_live::{Blank, Look, Named, Publisher, Seat, Told};
 use wq_view::{Kind, Pass, Seen};
 
 /// What is seen of a root: its number, the tick of its view, and how many files that has.
@@ -40,12 +41,25 @@ pub(crate) fn start<N: Named, R: Wait + Drop>(
     publisher: &mut Publisher<N, R>,
     text: &str,
     files: u64,
-) -> Option<(u64, Told<N>)> {
+) -> Option<Told<N>> {
     if publisher.find(text).is_some() {
         return None;
     }
-    let pass = pass(alloc, files)?;
-    publisher.start(text, pass).ok()
+    let (_number, told) = publisher.start(text, pass(alloc, files)?).ok()?;
+    Some(told)
+}
+
+/// A publisher that shows the root `/a` with one file, unless memory ran out.
+pub(crate) fn open_with_root<N: Named, R: Wait + Drop>(
+    rt: R,
+    alloc: Global,
+    blank: Blank,
+) -> Publisher<N, R>
+    requires { blank.book ≡ N.book }
+{
+    let mut publisher = blank.open::<N, R>(rt);
+    start(alloc, &mut publisher, "/a", 1);
+    publisher
 }
 
 /// Publishes a pass over the root of this number that sees so many files; none where that fails.

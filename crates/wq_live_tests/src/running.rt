@@ -1,7 +1,7 @@
 //! A publisher and seats on threads of their own.
 ghost use Rattle.std.specs.Prelude.{◌≡◌};
 
-use crate::fixture::{look_at, publish, sight_of, start};
+use crate::fixture::{look_at, open_with_root, publish, sight_of};
 use std::alloc::Global;
 use std::marker::Brand;
 use std::sync::{Mutex, Wait};
@@ -67,13 +67,10 @@ fn watch_all<N: Named + Send + Sync, R: Threads + Wait + Copy + Drop + Send + Sy
 ) -> bool
     requires { blank.book ≡ N.book }
 {
-    let mut publisher = blank.open::<N, R>(rt);
+    let mut publisher = open_with_root::<N, R>(rt, alloc, blank);
     let Ok(seat) = publisher.seat() else {
         return false;
     };
-    if start(alloc, &mut publisher, "/a", 1).is_none() {
-        return false;
-    }
     let shared = Mutex::new(publisher);
     let (is_published, is_right) = thread::join(
         &rt,
@@ -97,13 +94,10 @@ fn look_beside_a_lock<
 >(rt: R, alloc: Global, blank: Blank) -> bool
     requires { blank.book ≡ N.book }
 {
-    let mut publisher = blank.open::<N, R>(rt);
+    let mut publisher = open_with_root::<N, R>(rt, alloc, blank);
     let Ok(seat) = publisher.seat() else {
         return false;
     };
-    if start(alloc, &mut publisher, "/a", 1).is_none() {
-        return false;
-    }
     let shared = Mutex::new(publisher);
     let locked = shared.lock(&rt);
     let looking = thread::spawn(&rt, move || look_often(seat, 1000, 1));
@@ -141,6 +135,19 @@ fn look_beside<
     ))
 }
 
+/// Looks beside a publisher that waits for the look of the slow seat to end, and says whether all was right.
+fn look_beside_slow<
+    N: Named + Send + Sync + 'static,
+    R: Threads + Wait + Copy + Drop + Send + Sync + 'static,
+>(rt: R, alloc: Global, publisher: Publisher<N, R>, seat: Seat<N>, slow: Seat<N>) -> bool {
+    let Ok(look) = slow.look() else {
+        return false;
+    };
+    let begun = look_beside(rt, alloc, publisher, &look, seat);
+    look.leave();
+    begun.is_some_and(|(publishing, is_right)| publishing.join(&rt) && is_right)
+}
+
 /// Looks beside a publisher that waits for another look to end, and says whether all was right.
 fn look_beside_a_look<
     N: Named + Send + Sync + 'static,
@@ -148,22 +155,11 @@ fn look_beside_a_look<
 >(rt: R, alloc: Global, blank: Blank) -> bool
     requires { blank.book ≡ N.book }
 {
-    let mut publisher = blank.open::<N, R>(rt);
-    if start(alloc, &mut publisher, "/a", 1).is_none() {
-        return false;
+    let mut publisher = open_with_root::<N, R>(rt, alloc, blank);
+    match (publisher.seat(), publisher.seat()) {
+        (Ok(seat), Ok(slow)) => look_beside_slow(rt, alloc, publisher, seat, slow),
+        _ => false,
     }
-    let Ok(seat) = publisher.seat() else {
-        return false;
-    };
-    let Ok(slow) = publisher.seat() else {
-        return false;
-    };
-    let Ok(look) = slow.look() else {
-        return false;
-    };
-    let begun = look_beside(rt, alloc, publisher, &look, seat);
-    look.leave();
-    begun.is_some_and(|(publishing, is_right)| publishing.join(&rt) && is_right)
 }
 
 #[test]

@@ -4,7 +4,7 @@ ghost use Rattle.std.specs.Prelude.{◌≡◌};
 use crate::session::{SameFiles, Still};
 use std::alloc::{AllocError, Global};
 use std::fs::Files;
-use std::io::{self, Read, Write};
+use std::io::{self, Error, ErrorKind, Read, Write};
 use std::marker::Brand;
 use std::net::Net;
 use std::os::unix::net::UnixStream;
@@ -17,6 +17,9 @@ use std::{env, fs, process};
 use wq_daemon::{Listening, Notices, Parts, SEATS, listen, remove, serve_clients};
 use wq_live::{Blank, Named};
 use wq_server::Run;
+
+/// How many folders are tried that may stand already.
+const TRIES: u32 = 100;
 
 /// What a client sends.
 const LINES: &[u8] = br#"["watch","/r"]
@@ -49,13 +52,19 @@ impl Notices for Operator {
     }
 }
 
-/// A folder of this process alone.
+/// Makes a folder that stood nowhere before, and gives its path.
 fn make_room(rt: &HostRuntime) -> io::Result<String> {
     let above = env::temp_dir(rt)?;
-    let number = process::id(rt.process());
-    let room = format!(in rt.alloc(); "{}/wqd-{number}", above.as_str())?;
-    fs::create_dir(rt, room.as_str())?;
-    Ok(room)
+    let process = process::id(rt.process());
+    for number in 0..TRIES {
+        let room = format!(in rt.alloc(); "{}/wqd-{process}-{number}", above.as_str())?;
+        match fs::create_dir(rt, room.as_str()) {
+            Ok(()) => return Ok(room),
+            Err(error) if error.kind() == ErrorKind::AlreadyExists => {}
+            Err(error) => return Err(error),
+        }
+    }
+    Err(Error::from(ErrorKind::AlreadyExists))
 }
 
 /// What a server works with whose tree and clock stand still.

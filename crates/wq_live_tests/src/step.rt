@@ -1,7 +1,7 @@
 //! Steps of a publisher, and what seats see after each.
 ghost use Rattle.std.specs.Prelude.{◌≡◌};
 
-use crate::fixture::{Sight, look_at, pass, publish, start};
+use crate::fixture::{Sight, look_at, open_with_root, pass, publish, start};
 use itoa::Buffer;
 use std::alloc::Global;
 use std::marker::Brand;
@@ -30,10 +30,7 @@ fn take<N: Named, R: Wait + Drop>(
     step: &Step,
 ) -> Option<Told<N>> {
     match step {
-        Step::Start(text, files) => {
-            let (_number, told) = start(alloc, publisher, text, *files)?;
-            Some(told)
-        }
+        Step::Start(text, files) => start(alloc, publisher, text, *files),
         Step::Pass(number, files) => publish(alloc, publisher, *number, *files),
         Step::End(number) => publisher.retire(*number).ok(),
     }
@@ -165,7 +162,8 @@ fn fill_up<N: Named, R: Wait + Drop>(rt: R, alloc: Global, blank: Blank) -> Opti
     if !is_right || publisher.retire(3).is_err() {
         return None;
     }
-    start(alloc, &mut publisher, "17", 1).map(|it| it.0)
+    start(alloc, &mut publisher, "17", 1);
+    publisher.find("17")
 }
 
 #[test]
@@ -204,9 +202,9 @@ fn outlive<N: Named, R: Wait + Drop>(
 ) -> Option<(Option<Sight>, Option<Sight>)>
     requires { blank.book ≡ N.book }
 {
-    let mut publisher = blank.open::<N, R>(rt);
-    start(alloc, &mut publisher, "/a", 1)?;
-    let (seat, before) = look_at(publisher.seat().ok()?, "/a");
+    let mut publisher = open_with_root::<N, R>(rt, alloc, blank);
+    let seat = publisher.seat().ok()?;
+    let (seat, before) = look_at(seat, "/a");
     drop(publisher);
     let (_seat, after) = look_at(seat, "/a");
     Some((before, after))
