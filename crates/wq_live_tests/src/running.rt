@@ -7,7 +7,7 @@ use std::marker::Brand;
 use std::sync::{Mutex, Wait};
 use std::test::Fail;
 use std::thread;
-use std::thread::{JoinHandle, Threads};
+use std::thread::Threads;
 use wq_live::{Blank, Look, Named, Publisher, Seat};
 
 /// How many files the last pass sees. The first sees one, and each other one file more.
@@ -113,39 +113,41 @@ fn looks_do_not_wait_for_the_lock(rt: HostRuntime) -> Result<(), Fail> {
     Ok(())
 }
 
-/// Begins to publish while a look goes on, and looks beside it at the first pass. The publisher then waits for the look,
-/// which shows what it showed, and no other look does. Says whether all was right.
-fn look_beside<
+/// A look that goes on.
+fn begin_look<N: Named, R: Wait + Drop>(publisher: &mut Publisher<N, R>) -> Option<Look<N>> {
+    publisher.seat().ok()?.look().ok()
+}
+
+/// Looks while another look at the first pass goes on and a second pass is published, and then ends the other one. Says
+/// whether the other look showed what it showed.
+fn look_beside<N: Named>(look: Look<N>, seat: Seat<N>) -> bool {
+    let (seat, is_seen) = watch(seat, 2);
+    let is_right = is_seen && look_often(seat, 1000, 2);
+    let sight = sight_of(&look, "/a");
+    look.leave();
+    is_right && sight == Some((1, 1, 1))
+}
+
+/// Publishes while a look goes on, and looks beside it: the publisher waits for that look, and no other look does. Says
+/// whether all was right.
+fn publish_beside<
     N: Named + Send + Sync + 'static,
     R: Threads + Wait + Copy + Drop + Send + Sync + 'static,
 >(
     rt: R,
     alloc: Global,
     publisher: Publisher<N, R>,
-    look: &Look<N>,
+    look: Look<N>,
     seat: Seat<N>,
-) -> Option<(JoinHandle<bool>, bool)> {
+) -> bool {
     let shared = Mutex::new(publisher);
-    let publishing = thread::spawn(&rt, move || publish_all(&rt, alloc, &shared)).ok()?;
-    let (seat, is_seen) = watch(seat, 2);
-    let is_right = is_seen && look_often(seat, 1000, 2);
-    Some((
-        publishing,
-        is_right && sight_of(look, "/a") == Some((1, 1, 1)),
-    ))
-}
-
-/// Looks beside a publisher that waits for the look of the slow seat to end, and says whether all was right.
-fn look_beside_slow<
-    N: Named + Send + Sync + 'static,
-    R: Threads + Wait + Copy + Drop + Send + Sync + 'static,
->(rt: R, alloc: Global, publisher: Publisher<N, R>, seat: Seat<N>, slow: Seat<N>) -> bool {
-    let Ok(look) = slow.look() else {
-        return false;
-    };
-    let begun = look_beside(rt, alloc, publisher, &look, seat);
-    look.leave();
-    begun.is_some_and(|(publishing, is_right)| publishing.join(&rt) && is_right)
+    match thread::spawn(&rt, move || publish_all(&rt, alloc, &shared)) {
+        Ok(publishing) => {
+            let is_right = look_beside(look, seat);
+            publishing.join(&rt) && is_right
+        }
+        Err(_) => false,
+    }
 }
 
 /// Looks beside a publisher that waits for another look to end, and says whether all was right.
@@ -156,8 +158,8 @@ fn look_beside_a_look<
     requires { blank.book ≡ N.book }
 {
     let mut publisher = open_with_root::<N, R>(rt, alloc, blank);
-    match (publisher.seat(), publisher.seat()) {
-        (Ok(seat), Ok(slow)) => look_beside_slow(rt, alloc, publisher, seat, slow),
+    match (publisher.seat(), begin_look(&mut publisher)) {
+        (Ok(seat), Some(look)) => publish_beside(rt, alloc, publisher, look, seat),
         _ => false,
     }
 }

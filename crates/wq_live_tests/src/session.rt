@@ -55,8 +55,11 @@ impl Seconds for Still {
 
 /// The shelf of a server at its start; none where memory ran out.
 fn new_shelf(alloc: Global) -> Option<Shelf<()>> {
-    let cache = Cache::new(alloc, 7, 9).ok()?;
-    Some(Shelf::new(alloc, cache, String::from_str(alloc, "s").ok()?))
+    let sockname = String::from_str(alloc, "s").ok()?;
+    match Cache::new(alloc, 7, 9) {
+        Ok(cache) => Some(Shelf::new(alloc, cache, sockname)),
+        Err(_) => None,
+    }
 }
 
 /// That shelf, for threads to share.
