@@ -93,13 +93,10 @@ fn program_for(
 fn named(name: &str, shelf: &Shelf<()>) -> Result<Arc<Program>, Refusal>
     ensures { FindsNamed name.now shelf.now result }
 {
-    match shelf.get(name) {
-        Some(program) => match Arc::try_clone(program) {
-            Ok(program) => Ok(program),
-            Err(_) => Err(Refusal::NoMemory),
-        },
-        None => Err(Refusal::NoSuchProgram),
-    }
+    let Some(program) = shelf.get(name) else {
+        return Err(Refusal::NoSuchProgram);
+    };
+    Ok(Arc::try_clone(program)?)
 }
 
 /// The program of the expression of a query that was read from this object.

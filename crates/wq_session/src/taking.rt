@@ -131,7 +131,8 @@ fn try_add(
     match shelf.add(name, program) {
         Ok(_) => Ok(Work::Says(Out::of_text(text))),
         Err(ShelfFault::NoMemory) => Err(Refusal::NoMemory),
-        Err(_) => Err(Refusal::ShelfFull),
+        Err(ShelfFault::Full) => Err(Refusal::ShelfFull),
+        Err(ShelfFault::NoRoot) => unreachable!(),
     }
 }
 

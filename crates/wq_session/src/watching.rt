@@ -1,9 +1,11 @@
 //! The commands that watch roots: the part for which the shelf is held.
-ghost use Rattle.std.specs.Prelude.{Ok, option_map};
+ghost use Rattle.std.specs.Prelude.{◌≡◌, ◌⊎◌, Ok, false, option_map, true, IfErr, OnErr, OnOk};
+ghost use Rattle.wq_registry.specs.Shelf.{root_added, root_has_no_place};
 ghost use Rattle.wq_session.specs.Begun.{saying, try_delete_root, try_watch};
 ghost use Rattle.wq_session.specs.Out.{replies};
 ghost use Rattle.wq_session.specs.Reply.{roots_data, texts_of};
 ghost use Rattle.wq_session.specs.Work.{Begins, at_data};
+ghost use Rattle.wq_session.specs.declared.refusal.Refusal.TheVariants.{NoMemory, TooManyRoots};
 
 use crate::at::At;
 use crate::outcome::Out;
@@ -32,8 +34,20 @@ pub(crate) fn try_watch(
     };
     let root = root_named(root.as_str());
     let text = replies::watch(alloc, root)?;
-    match shelf.add_root(root, at.instance.root) {
-        Ok(()) => Ok(Work::Says(Out::of_text(text))),
+    put_root(root, at.instance.root, shelf)?;
+    Ok(Work::Says(Out::of_text(text)))
+}
+
+/// Puts a root on the shelf, under this number.
+fn put_root(root: &str, number: u64, shelf: &mut Shelf<()>) -> Result<(), Refusal>
+    ensures put { OnOk result ((root_has_no_place root.now number shelf.old ≡ false)
+        × (shelf.new ≡ root_added root.now number shelf.old)) }
+    ensures kept { OnErr result (shelf.new ≡ shelf.old) }
+    ensures refused { IfErr result (λ refusal. (refusal ≡ NoMemory)
+        ⊎ ((refusal ≡ TooManyRoots) × (root_has_no_place root.now number shelf.old ≡ true))) }
+{
+    match shelf.add_root(root, number) {
+        Ok(()) => Ok(()),
         Err(ShelfFault::NoMemory) => Err(Refusal::NoMemory),
         Err(_) => Err(Refusal::TooManyRoots),
     }
