@@ -113,41 +113,27 @@ fn looks_do_not_wait_for_the_lock(rt: HostRuntime) -> Result<(), Fail> {
     Ok(())
 }
 
-/// A look that goes on.
-fn begin_look<N: Named, R: Wait + Drop>(publisher: &mut Publisher<N, R>) -> Option<Look<N>> {
-    publisher.seat().ok()?.look().ok()
-}
-
-/// Looks while another look at the first pass goes on and a second pass is published, and then ends the other one. Says
-/// whether the other look showed what it showed.
-fn look_beside<N: Named>(look: Look<N>, seat: Seat<N>) -> bool {
+/// Looks beside another look at the first pass, until a second pass is seen. Says whether all was right, and the other look
+/// shows what it showed.
+fn look_beside<N: Named>(look: &Look<N>, seat: Seat<N>) -> bool {
     let (seat, is_seen) = watch(seat, 2);
-    let is_right = is_seen && look_often(seat, 1000, 2);
-    let sight = sight_of(&look, "/a");
-    look.leave();
-    is_right && sight == Some((1, 1, 1))
+    is_seen && look_often(seat, 1000, 2) && sight_of(look, "/a") == Some((1, 1, 1))
 }
 
-/// Publishes while a look goes on, and looks beside it: the publisher waits for that look, and no other look does. Says
+/// Publishes while the slow seat looks, and looks beside it: the publisher waits for that look, and no other look does. Says
 /// whether all was right.
 fn publish_beside<
     N: Named + Send + Sync + 'static,
     R: Threads + Wait + Copy + Drop + Send + Sync + 'static,
->(
-    rt: R,
-    alloc: Global,
-    publisher: Publisher<N, R>,
-    look: Look<N>,
-    seat: Seat<N>,
-) -> bool {
+>(rt: R, alloc: Global, publisher: Publisher<N, R>, slow: Seat<N>, seat: Seat<N>) -> bool {
+    let Ok(look) = slow.look() else {
+        return false;
+    };
     let shared = Mutex::new(publisher);
-    match thread::spawn(&rt, move || publish_all(&rt, alloc, &shared)) {
-        Ok(publishing) => {
-            let is_right = look_beside(look, seat);
-            publishing.join(&rt) && is_right
-        }
-        Err(_) => false,
-    }
+    let publishing = thread::spawn(&rt, move || publish_all(&rt, alloc, &shared));
+    let is_right = publishing.is_ok() && look_beside(&look, seat);
+    look.leave();
+    publishing.is_ok_and(|it| it.join(&rt)) && is_right
 }
 
 /// Looks beside a publisher that waits for another look to end, and says whether all was right.
@@ -158,8 +144,8 @@ fn look_beside_a_look<
     requires { blank.book ≡ N.book }
 {
     let mut publisher = open_with_root::<N, R>(rt, alloc, blank);
-    match (publisher.seat(), begin_look(&mut publisher)) {
-        (Ok(seat), Some(look)) => publish_beside(rt, alloc, publisher, look, seat),
+    match (publisher.seat(), publisher.seat()) {
+        (Ok(seat), Ok(slow)) => publish_beside(rt, alloc, publisher, slow, seat),
         _ => false,
     }
 }
