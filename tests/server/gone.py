@@ -66,7 +66,7 @@ def check_a_root_that_goes_during_walks(tally: built.Tally, room: Path) -> None:
     """A root that goes while it is walked, and is away for longer than a walk: no file of it is told as gone."""
     root, away = room / "tree", room / "away"
     for number in range(40):
-        fill_folder(root / f"folder{number:02}")
+        fill_folder(root / f"folder{number:02}", 500)
     with Server(room, interval=20) as server, server.client() as client:
         client.ask("watch", str(root))
         first = client.ask("clock", str(root))["clock"]
@@ -79,9 +79,9 @@ def check_a_root_that_goes_during_walks(tally: built.Tally, room: Path) -> None:
         same(tally, "a root that went during walks", (reply["files"], reply["clock"]), ([], first))
 
 
-def fill_folder(folder: Path) -> None:
+def fill_folder(folder: Path, count: int) -> None:
     folder.mkdir(parents=True)
-    for number in range(500):
+    for number in range(count):
         (folder / f"file{number:03}").touch()
 
 

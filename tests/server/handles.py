@@ -8,7 +8,7 @@ from pathlib import Path
 
 import built
 from client import A_HOUR, Client, Server, query_of_names, same
-from gone import UNREADABLE
+from gone import UNREADABLE, fill_folder
 
 FOLDERS = 100
 FILES = 40
@@ -48,7 +48,7 @@ def check_no_handles(tally: built.Tally, room: Path) -> None:
     """Folders of a tree that cannot be opened for want of handles: no file of it is told as gone."""
     root = room / "tree"
     for folder in range(FOLDERS):
-        fill_folder(root / f"folder{folder:03}")
+        fill_folder(root / f"folder{folder:03}", FILES)
     with Server(room, interval=A_HOUR) as server, server.client() as client:
         client.ask("watch", str(root))
         first = client.ask("clock", str(root))["clock"]
@@ -60,12 +60,6 @@ def check_no_handles(tally: built.Tally, room: Path) -> None:
         same(tally, "files told as changed for want of handles", told, [[]] * len(told))
         reply = crawl(client, root, first)
         same(tally, "a crawl with handles again", (reply["files"], reply["clock"]), ([], first))
-
-
-def fill_folder(folder: Path) -> None:
-    folder.mkdir(parents=True)
-    for number in range(FILES):
-        (folder / f"file{number:02}").touch()
 
 
 def crawl(client: Client, root: Path, since: str) -> dict:
