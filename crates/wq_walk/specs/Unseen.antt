@@ -6,7 +6,8 @@ use Rattle.std.specs.declared.io.ErrorKind.TheVariants.{OutOfMemory}
 use Rattle.wq_live.specs.declared.tree.TreeFault.{TreeFault}
 use Rattle.wq_live.specs.declared.tree.TreeFault.TheVariants.{NoMemory, Unreadable}
 
--- whether an error with this number says that no more files can be opened: in the machine, or in this process
+-- whether an error with this number says that no more files can be opened: in the machine, or in
+-- this process
 abbrev pub is_of_handles : Option ℤ → Bool
 is_of_handles (Some (pos number)) = (number == 23) || (number == 24)
 is_of_handles (Some (negsuc below)) = false
@@ -17,6 +18,7 @@ abbrev pub memory_fault : ErrorKind → Option TreeFault
 memory_fault OutOfMemory = Some NoMemory
 memory_fault kind = None
 
--- the fault of a whole walk that an error with this number and of this kind is; none where it speaks of its path alone
+-- the fault of a whole walk that an error with this number and of this kind is; none where it
+-- speaks of its path alone
 abbrev pub walk_fault : Option ℤ → ErrorKind → Option TreeFault
 walk_fault number kind = if is_of_handles number then Some Unreadable else memory_fault kind
