@@ -119,6 +119,15 @@ impl RootTable {
         Some(root.number)
     }
 
+    /// The text of the root of this number, if it is shown.
+    pub fn text(&self, number: u64) -> Option<&str>
+        ensures { option_map (λ text. text.now) result
+            ≡ option_map (λ root. root.text) (find (has_number number) self.now.roots) }
+    {
+        let root = self.root_of_number(number)?;
+        Some(root.text.as_str())
+    }
+
     /// The view of the root of this number, if it is shown.
     pub fn view(&self, number: u64) -> Option<&View>
         ensures { option_map (λ view. view.now) result

@@ -52,6 +52,11 @@ pub trait Tree {
         ensures counted { IfErr result (IsCounted (failed self.old) (failed self.new)) }
         ensures listed { Lists (listed self.old) root.now (rows_given result) (listed self.new) };
 
+    /// Lets go of what it keeps of a root for its next listing, if anything. No listing depends on it.
+    fn forget(&mut self, root: &str)
+        ensures failed { failed self.new ≡ failed self.old }
+        ensures listed { listed self.new ≡ listed self.old };
+
     /// How often a device failed so far.
     fn failures(&self) -> u64
         ensures { result ≡ failed self.now };

@@ -115,12 +115,15 @@ impl<N: Named, R: Wait + Drop, T: Tree + Drop, S: Seconds + Drop> Crawler<N, R, 
         self.begin(root)
     }
 
-    /// Publishes the end of the root of this number, if it is shown, and tells the list.
+    /// Publishes the end of the root of this number, if it is shown, and tells the list. The tree forgets the root.
     ///
     /// What is refused leaves the list.
     pub fn retire(&mut self, number: u64) -> Result<Told<N>, CrawlFault>
         ensures { Retired number self.old result self.new }
     {
+        if let Some(root) = self.publisher.table().text(number) {
+            self.tree.forget(root);
+        }
         match self.publisher.retire(number) {
             Ok(told) => Ok(told),
             Err(_) => Err(CrawlFault::NoMemory),

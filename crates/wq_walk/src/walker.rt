@@ -57,6 +57,11 @@ impl<T: Threads + Drop> Tree for Walker<T> {
         listed
     }
 
+    /// Lets go of the names of the last listing of a root.
+    fn forget(&mut self, root: &str) {
+        self.last.take(root);
+    }
+
     fn failures(&self) -> u64 {
         self.failures
     }
