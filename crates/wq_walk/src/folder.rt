@@ -61,7 +61,7 @@ impl Folder {
 
     /// Has the folder of the name at this place entered as soon as all names are looked at that stand before those below
     /// it.
-    pub(crate) fn wait(&mut self, name: Place) -> Result<(), AllocError> {
+    pub(crate) fn enter_later(&mut self, name: Place) -> Result<(), AllocError> {
         self.waiting.push(name)?;
         Ok(())
     }

@@ -50,7 +50,7 @@ impl LastNames {
     /// that was long ago.
     pub(crate) fn keep(&mut self, root: &str, rows: &[Seen]) -> Result<(), AllocError> {
         self.number = self.number.saturating_add(1);
-        if self.is_full() && !self.listed.is_empty() {
+        if self.forgets_first() && !self.listed.is_empty() {
             self.listed.remove(0);
         }
         let listed = Listed {
@@ -63,7 +63,7 @@ impl LastNames {
     }
 
     /// Whether the root that was listed first is to be forgotten.
-    fn is_full(&self) -> bool {
+    fn forgets_first(&self) -> bool {
         match self.listed.first() {
             Some(first) => {
                 self.listed.len() >= MAX_ROOTS || first.number.saturating_add(MAX_AGE) < self.number

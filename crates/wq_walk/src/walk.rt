@@ -132,7 +132,7 @@ impl Walk {
         };
         self.list(&stat)?;
         if let (true, Kind::Dir, Some(folder)) = (reaches, stat.kind, self.folders.last_mut()) {
-            folder.wait(name)?;
+            folder.enter_later(name)?;
         }
         Ok(())
     }
