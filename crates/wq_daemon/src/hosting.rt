@@ -45,21 +45,19 @@ where
         rt: R,
         alloc: Global,
         run: Run,
-        mut crawler: Crawler<N, R, T, S>,
+        crawler: Crawler<N, R, T, S>,
         shelf: Shelf<()>,
         notices: O,
     ) -> Result<LockHost<N, R, T, S, O>, AllocError> {
-        let mut seats = Vec::with_capacity(alloc, MAX_SESSIONS)?;
-        for _ in 0..MAX_SESSIONS {
-            seats.push(crawler.seat()?).map_err(AllocError::from)?;
-        }
+        let shelf = Arc::new(alloc, Mutex::new(shelf))?;
+        let (seats, crawler) = shared(alloc, crawler)?;
         Ok(LockHost {
             rt,
             alloc,
             run,
             seats: Mutex::new(seats),
-            crawler: Arc::new(alloc, SharedCrawler::new(alloc, crawler)?)?,
-            shelf: Arc::new(alloc, Mutex::new(shelf))?,
+            crawler,
+            shelf,
             failing: Mutex::new(Failing::new(alloc)),
             notices,
         })
@@ -121,6 +119,40 @@ where
             self.notices.tell(&line);
         }
     }
+}
+
+/// A seat for each session that may be, and the crawler, as threads share it.
+fn shared<N, R, T, S>(
+    alloc: Global,
+    mut crawler: Crawler<N, R, T, S>,
+) -> Result<(Vec<Seat<N>>, Arc<SharedCrawler<N, R, T, S>>), AllocError>
+where
+    N: Named,
+    R: Wait + Copy + Drop,
+    T: Tree + Drop,
+    S: Seconds + Drop,
+{
+    let seats = seats(alloc, &mut crawler)?;
+    let crawler = SharedCrawler::new(alloc, crawler)?;
+    Ok((seats, Arc::new(alloc, crawler)?))
+}
+
+/// A seat for each session that may be.
+fn seats<N, R, T, S>(
+    alloc: Global,
+    crawler: &mut Crawler<N, R, T, S>,
+) -> Result<Vec<Seat<N>>, AllocError>
+where
+    N: Named,
+    R: Wait + Copy + Drop,
+    T: Tree + Drop,
+    S: Seconds + Drop,
+{
+    let mut seats = Vec::with_capacity(alloc, MAX_SESSIONS)?;
+    for _ in 0..MAX_SESSIONS {
+        seats.push(crawler.seat()?).map_err(AllocError::from)?;
+    }
+    Ok(seats)
 }
 
 impl<N, R, T, S, O> Host for LockHost<N, R, T, S, O>
