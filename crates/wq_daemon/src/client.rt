@@ -4,6 +4,7 @@ use crate::host::Host;
 use crate::inbox::LinkInbox;
 use crate::link::Link;
 use crate::reading::read_all;
+use crate::refusal::{NO_MEMORY, refuse};
 use crate::stop::Stop;
 use std::alloc::Global;
 use std::sync::{Arc, Wait};
@@ -12,7 +13,7 @@ use std::time::Clock;
 
 /// Runs a client's session to its end, with a thread that reads for it. Where the session asked for that, the server ends.
 ///
-/// Where no thread can be made, the session ends at once.
+/// Where no thread can be made, the client is told so and the session ends at once.
 pub(crate) fn run_client<R, H>(rt: R, alloc: Global, link: Arc<Link>, host: &H, stop: &Stop)
 where
     R: Threads + Wait + Clock + Copy + Drop + Send + Sync + 'static,
@@ -26,6 +27,7 @@ where
             has_asked
         }
         None => {
+            refuse(&mut &link.stream, NO_MEMORY);
             link.end(&rt);
             false
         }
@@ -55,6 +57,7 @@ where
     H: Host,
 {
     let Ok(theirs) = link.clone() else {
+        refuse(&mut &link.stream, NO_MEMORY);
         return false;
     };
     let mut inbox = LinkInbox::new(theirs, rt);

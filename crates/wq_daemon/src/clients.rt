@@ -3,9 +3,10 @@
 use crate::client::run_client;
 use crate::host::Host;
 use crate::link::Link;
+use crate::refusal::{NO_MEMORY, TOO_MANY, refuse};
 use crate::stop::Stop;
 use std::alloc::{AllocError, Global};
-use std::io::{self, Write};
+use std::io;
 use std::os::unix::net::UnixStream;
 use std::sync::{Arc, Wait};
 use std::thread::{self, JoinHandle, Threads};
@@ -17,12 +18,6 @@ pub const MAX_SESSIONS: usize = 32;
 /// How many seconds a write waits for a client that takes nothing. A write that wrote a part is followed by another, so a
 /// client is cut off after up to twice as long.
 const PATIENCE: u64 = 60;
-
-/// What a client is told that is one too many.
-const TOO_MANY: &[u8] = b"{\"error\":\"E17: too many sessions\",\"version\":\"wq-1\"}\n";
-
-/// What a client is told for whom no memory or no thread is left.
-const NO_MEMORY: &[u8] = b"{\"error\":\"E60: no memory\",\"version\":\"wq-1\"}\n";
 
 /// A client, and the thread of its session.
 #[derive(Drop)]
@@ -60,7 +55,7 @@ impl Clients {
     {
         self.forget_ended(&rt);
         if self.clients.len() >= MAX_SESSIONS {
-            refuse(&stream, TOO_MANY);
+            refuse(&mut &stream, TOO_MANY);
             return;
         }
         if let Some(client) = begin(rt, alloc, stream, host, stop)
@@ -108,20 +103,23 @@ where
     R: Threads + Wait + Clock + Copy + Drop + Send + Sync + 'static,
     H: Host + Drop + Send + Sync + 'static,
 {
-    if stream
-        .set_write_timeout(Some(Duration::from_secs(PATIENCE)))
-        .is_err()
-    {
+    let Ok(spare) = with_patience(&stream) else {
+        refuse(&mut &stream, NO_MEMORY);
         return None;
-    }
-    let spare = stream.try_clone().ok()?;
+    };
     match run(rt, alloc, stream, host, stop) {
         Ok(client) => Some(client),
         Err(_) => {
-            refuse(&spare, NO_MEMORY);
+            refuse(&mut &spare, NO_MEMORY);
             None
         }
     }
+}
+
+/// Has writes to a client wait no longer than they should, and gives a second handle of its stream.
+fn with_patience(stream: &UnixStream) -> io::Result<UnixStream> {
+    stream.set_write_timeout(Some(Duration::from_secs(PATIENCE)))?;
+    stream.try_clone()
 }
 
 /// Starts the thread of a client's session.
@@ -140,10 +138,4 @@ where
     let (theirs, host, stop) = (link.clone()?, host.clone()?, stop.clone()?);
     let session = thread::spawn(&rt, move || run_client(rt, alloc, theirs, &*host, &stop))?;
     Ok(Client { link, session })
-}
-
-/// Tells a client why there is no session for it.
-fn refuse(mut stream: &UnixStream, line: &[u8]) {
-    // A client that has gone is told nothing.
-    let _ = stream.write_all(line);
 }

@@ -1,11 +1,19 @@
-//! The roots that could not be crawled when they were last crawled, so that each is told of once.
+//! The roots that could not be crawled when they were last crawled, and why, so that each fault is told of once.
 
 use std::alloc::Global;
+use wq_session::CrawlFault;
 
-/// The texts of roots.
+/// A root that could not be crawled.
+#[derive(Drop)]
+struct Failed {
+    root: String,
+    fault: CrawlFault,
+}
+
+/// Roots that could not be crawled.
 #[derive(Drop)]
 pub(crate) struct Failing {
-    roots: Vec<String>,
+    roots: Vec<Failed>,
 }
 
 impl Failing {
@@ -16,13 +24,15 @@ impl Failing {
         }
     }
 
-    /// Adds a root. Where memory is wanted for it, the root is told of again after the next crawl.
-    pub(crate) fn add(&mut self, root: String) {
-        let _ = self.roots.push(root);
+    /// Adds a root and its fault. Where memory is wanted for it, the root is told of again after the next crawl.
+    pub(crate) fn add(&mut self, root: String, fault: CrawlFault) {
+        let _ = self.roots.push(Failed { root, fault });
     }
 
-    /// Whether a root is one of these.
-    pub(crate) fn has(&self, root: &str) -> bool {
-        self.roots.iter().any(|it| it.as_str() == root)
+    /// Whether a root is one of these, with this fault.
+    pub(crate) fn has(&self, root: &str, fault: CrawlFault) -> bool {
+        self.roots
+            .iter()
+            .any(|it| it.root.as_str() == root && it.fault == fault)
     }
 }

@@ -4,6 +4,7 @@
 use crate::clients::MAX_SESSIONS;
 use crate::failing::Failing;
 use crate::host::{Host, Notices};
+use crate::refusal::{NO_MEMORY, refuse};
 use std::alloc::{AllocError, Global};
 use std::io::Write;
 use std::sync::{Arc, Mutex, Wait};
@@ -104,10 +105,10 @@ where
         for root in roots {
             let crawled = self.crawler.crawl(&self.rt, &root);
             if let Err(fault) = crawled {
-                if !self.failing.lock(&self.rt).has(&root) {
+                if !self.failing.lock(&self.rt).has(&root, fault) {
                     self.tell(&root, fault);
                 }
-                failing.add(root);
+                failing.add(root, fault);
             }
         }
         *self.failing.lock(&self.rt) = failing;
@@ -165,6 +166,7 @@ where
 {
     fn serve<I: Inbox, W: Write>(&self, inbox: &mut I, writer: &mut W) -> bool {
         let (Ok(mut roots), Ok(mut desk)) = (self.lock_roots(), self.lock_desk()) else {
+            refuse(writer, NO_MEMORY);
             return false;
         };
         let Some(seat) = self.take_seat() else {

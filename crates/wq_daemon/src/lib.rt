@@ -12,6 +12,7 @@ mod inbox;
 mod link;
 mod queue;
 mod reading;
+mod refusal;
 mod running;
 mod serving;
 mod socket;

@@ -28,12 +28,11 @@ pub struct Listening {
 /// Listens on a socket at a path, which only the owner can connect to.
 ///
 /// The folder has to be there. A socket at the path that nobody listens on is replaced; one that somebody listens on, and any
-/// other file, is an error. The socket is made in a folder beside it that nobody else can enter, gets its mode there, and is
-/// then given its name.
+/// other file, is an error and stays. The socket is made in a folder beside it that nobody else can enter, gets its mode
+/// there, and is then given its name.
 pub fn listen<R: Files + Net>(rt: &R, alloc: Global, path: &str) -> io::Result<Listening> {
     // A path that is too long for clients is refused.
     SocketAddr::from_pathname(path)?;
-    clear(rt, path)?;
     let folder = make_folder(rt, alloc, path)?;
     let listener = listen_in(rt, alloc, &folder, path);
     let _ = fs::remove_dir(rt, folder.as_str());
@@ -61,7 +60,7 @@ fn identity(metadata: &Metadata) -> (u64, u64) {
 }
 
 /// Removes a socket on which nobody listens, if there is one.
-fn clear<R: Files + Net>(rt: &R, path: &str) -> io::Result<()> {
+fn clear<R: Files + Net>(rt: &R, path: &str, aside: &str) -> io::Result<()> {
     let metadata = match fs::symlink_metadata(rt, path) {
         Ok(metadata) => metadata,
         Err(error) if error.kind() == ErrorKind::NotFound => return Ok(()),
@@ -70,10 +69,34 @@ fn clear<R: Files + Net>(rt: &R, path: &str) -> io::Result<()> {
     if !metadata.file_type().is_socket() {
         return Err(Error::from(ErrorKind::AlreadyExists));
     }
+    match in_use(rt, path) {
+        Some(error) => Err(error),
+        None => take_away(rt, path, aside),
+    }
+}
+
+/// Why a socket is not to be removed, if it is not: somebody listens on it, or that cannot be told.
+fn in_use<R: Net>(rt: &R, path: &str) -> Option<Error> {
     match UnixStream::connect(rt, path) {
-        Ok(_) => Err(Error::from(ErrorKind::AddrInUse)),
-        Err(error) if error.kind() == ErrorKind::ConnectionRefused => fs::remove_file(rt, path),
-        Err(error) => Err(error),
+        Ok(_) => Some(Error::from(ErrorKind::AddrInUse)),
+        Err(error) if error.kind() == ErrorKind::ConnectionRefused => None,
+        Err(error) => Some(error),
+    }
+}
+
+/// Removes a socket on which nobody listened. It is moved aside and tried once more there: another server may have replaced
+/// it meanwhile, and that one's gets its name back.
+fn take_away<R: Files + Net>(rt: &R, path: &str, aside: &str) -> io::Result<()> {
+    fs::rename(rt, path, aside)?;
+    let in_use = in_use(rt, aside);
+    if in_use.is_some() {
+        // Where a third server has taken the name in that moment, it keeps it.
+        let _ = fs::hard_link(rt, aside, path);
+    }
+    fs::remove_file(rt, aside)?;
+    match in_use {
+        Some(error) => Err(error),
+        None => Ok(()),
     }
 }
 
@@ -97,7 +120,8 @@ fn make_folder<R: Files>(rt: &R, alloc: Global, path: &str) -> io::Result<String
     Err(Error::from(ErrorKind::AlreadyExists))
 }
 
-/// Listens on a socket that is made in a folder of its own, and then named by a path at which nothing may stand.
+/// Listens on a socket that is made in a folder of its own, and then named by a path at which no more than a stale socket may
+/// stand.
 fn listen_in<R: Files + Net>(
     rt: &R,
     alloc: Global,
@@ -105,6 +129,7 @@ fn listen_in<R: Files + Net>(
     path: &str,
 ) -> io::Result<UnixListener> {
     let made = format!(in alloc; "{folder}/s")?;
+    clear(rt, path, &made)?;
     let listener = UnixListener::bind(rt, made.as_str())?;
     let named = name(rt, &made, path);
     let _ = fs::remove_file(rt, made.as_str());
