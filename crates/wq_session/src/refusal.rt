@@ -9,7 +9,8 @@ use wq_term::TermFault;
 use wq_verify::ProgramFault;
 
 /// Why a line of a client is not carried out. The variants stand in the order in which they are looked for, so that of
-/// several reasons the first is told; a growth may be refused before any of them but the first two.
+/// several reasons the first is told; but a line that begins with byte 0 is [`Bser`](Refusal::Bser), however long it is. A
+/// growth may be refused before any of them but the first two.
 #[derive(Clone, Copy, Debug, Drop)]
 pub enum Refusal {
     /// A line of over [`MAX_LINE`](wq_serve::MAX_LINE) bytes.
