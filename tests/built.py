@@ -62,6 +62,11 @@ class Tally:
         for line in details:
             print(f"  {line}")
 
+    def add(self, other: "Tally") -> None:
+        """Counts what another counted too."""
+        self.passed += other.passed
+        self.failed += other.failed
+
     def end(self) -> None:
         """Prints the last line, and ends the script with the status that it says."""
         print(f"{self.passed} passed, {self.failed} failed")

@@ -144,8 +144,24 @@ class Server:
 
     def most_memory(self) -> int:
         """The most memory that the server had so far, in bytes."""
+        return self.status("VmHWM") * 1024
+
+    def threads(self) -> int:
+        return self.status("Threads")
+
+    def has_threads(self, count: int, seconds: float) -> bool:
+        """Whether the server comes to have so many threads within so many seconds."""
+        end = time.monotonic() + seconds
+        while self.threads() != count:
+            if time.monotonic() > end:
+                return False
+            time.sleep(0.02)
+        return True
+
+    def status(self, name: str) -> int:
+        """A number that the system tells of the server's process."""
         lines = Path(f"/proc/{self.process.pid}/status").read_text().splitlines()
-        return next(int(line.split()[1]) * 1024 for line in lines if line.startswith("VmHWM:"))
+        return next(int(line.split()[1]) for line in lines if line.startswith(f"{name}:"))
 
     def shut_down(self, client: Client) -> object:
         """Has a client end the server, and gives the exit status."""

@@ -30,6 +30,8 @@ where
     crawler: Arc<SharedCrawler<N, R, T, S>>,
     shelf: Arc<Mutex<Shelf<()>>>,
     failing: Mutex<Failing>,
+    /// What the operator is told once clients are served.
+    greeting: String,
     notices: O,
 }
 
@@ -50,6 +52,7 @@ where
         shelf: Shelf<()>,
         notices: O,
     ) -> Result<LockHost<N, R, T, S, O>, AllocError> {
+        let greeting = format!(in alloc; "listening on {}", shelf.sockname())?;
         let shelf = Arc::new(alloc, Mutex::new(shelf))?;
         let (seats, crawler) = shared(alloc, crawler)?;
         Ok(LockHost {
@@ -60,13 +63,9 @@ where
             crawler,
             shelf,
             failing: Mutex::new(Failing::new(alloc)),
+            greeting,
             notices,
         })
-    }
-
-    /// Where the operator is told of what went wrong.
-    pub(crate) fn notices(&self) -> &O {
-        &self.notices
     }
 
     /// The roots, as a session reaches them.
@@ -164,6 +163,10 @@ where
     S: Seconds + Drop,
     O: Notices + Drop,
 {
+    fn greet(&self) {
+        self.notices.tell(&self.greeting);
+    }
+
     fn serve<I: Inbox, W: Write>(&self, inbox: &mut I, writer: &mut W) -> bool {
         let (Ok(mut roots), Ok(mut desk)) = (self.lock_roots(), self.lock_desk()) else {
             refuse(writer, NO_MEMORY);

@@ -33,6 +33,7 @@ where
     let host = Arc::new(alloc, host)?;
     let mut clients = Clients::new(alloc)?;
     let crawling = begin_crawling(rt, &host, &stop, interval)?;
+    host.greet();
     for stream in &listening.listener {
         if stop.is_asked(&rt) {
             break;

@@ -55,9 +55,7 @@ where
 {
     let crawler = Crawler::new(blank.open::<N, R>(rt), parts.tree, parts.seconds);
     let cache = Cache::new(alloc, parts.run.start, parts.run.pid)?;
-    let greeting = format!(in alloc; "listening on {}", parts.sockname)?;
     let shelf = Shelf::new(alloc, cache, parts.sockname);
     let host = LockHost::new(rt, alloc, parts.run, crawler, shelf, parts.notices)?;
-    host.notices().tell(&greeting);
     run(rt, alloc, listening, host, parts.interval)
 }
