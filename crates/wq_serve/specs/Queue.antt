@@ -18,14 +18,14 @@ abbrev pub with_event : Event → QueueData → QueueData
 with_event event queue =
     record { events = queue.events ++ event ∷ []; is_closed = queue.is_closed }
 
--- the queue with no more taken in
-abbrev pub closed : QueueData → QueueData
-closed queue = record { events = queue.events; is_closed = true }
+-- the queue in which nothing waits and no more is taken in
+abbrev pub closed : QueueData
+closed = record { events = []; is_closed = true }
 
 -- an event was put behind the others of a queue that is open, or it was not and the queue is closed
 abbrev pub Puts : Event → QueueData → Bool → QueueData → Type 0
 Puts event old true new = (old.is_closed ≡ false) × (new ≡ with_event event old)
-Puts event old false new = new.is_closed ≡ true
+Puts event old false new = new ≡ closed
 
 -- what was taken: of a closed queue the end; of an open one the first event, where one waits
 abbrev pub Takes : QueueData → Option Event → QueueData → Type 0

@@ -18,14 +18,14 @@ pub struct Waiting {
 }
 
 impl Model for Waiting {
-    ghost use Rattle.std.specs.Prelude.{◌≤◌, length as count_of};
+    ghost use Rattle.std.specs.Prelude.{◌≤◌, ◌≡◌, [], length as count_of, true};
     ghost use Rattle.wq_serve.specs.Queue.{QueueData, most_waiting};
 
     ghost Value = { QueueData };
 
     ghost view = { λ w. record { events = w.events.items; is_closed = w.is_closed } };
 
-    ghost invariant = { λ w. count_of w.events.items ≤ most_waiting };
+    ghost invariant = { λ w. (count_of w.events.items ≤ most_waiting) × (w.is_closed ≡ true → w.events.items ≡ []) };
 }
 
 impl Waiting {
@@ -70,7 +70,7 @@ impl Waiting {
         if self.events.len() < MAX_WAITING && self.events.push_back(event).is_ok() {
             return true;
         }
-        self.is_closed = true;
+        self.close();
         false
     }
 
@@ -84,10 +84,11 @@ impl Waiting {
         self.events.pop_front()
     }
 
-    /// Takes in no more events, and gives none of those that wait.
+    /// Takes in no more events, and gives back the memory of those that wait.
     pub fn close(&mut self)
-        ensures { self.new ≡ closed self.old }
+        ensures { self.new ≡ closed }
     {
+        self.events.clear();
         self.is_closed = true;
     }
 }
