@@ -17,6 +17,8 @@ mod term;
 #[cfg(test)]
 mod tree;
 #[cfg(test)]
+mod trigger;
+#[cfg(test)]
 mod view;
 #[cfg(test)]
 mod world;
