@@ -1,0 +1,64 @@
+"""Wrong bodies: edits of a crate's files, each with the functions that the prover has to refuse for it."""
+
+import re
+from pathlib import Path
+from typing import Dict, List, NamedTuple, Tuple
+
+
+class Edit(NamedTuple):
+    """A wrong body: what it puts in place of what, and the functions that have to be refused."""
+
+    path: Path
+    pairs: List[Tuple[str, str, str]]
+    refused: List[str]
+
+    @property
+    def name(self) -> str:
+        return self.path.stem
+
+
+class BadEdit(Exception):
+    """An edit that cannot be tried, and why."""
+
+
+def read(path: Path) -> Edit:
+    """An edit from its file: lines `refused: FUNCTION`, `file: FILE`, and pairs of lines `old: TEXT` and `new: TEXT`."""
+    file, old = "", ""
+    pairs, refused = [], []
+    for line in path.read_text(encoding="utf-8").splitlines():
+        word, _, text = line.partition(": " if not line.startswith("new:") else ":")
+        if word == "refused":
+            refused.append(text.strip())
+        elif word == "file":
+            file = text.strip()
+        elif word == "old":
+            old = text
+        elif word == "new":
+            pairs.append((file, old, text[1:] if text.startswith(" ") else text))
+        elif line:
+            raise BadEdit(f"a line begins with no word that an edit has: {line}")
+    if not refused or not pairs or not all(file and old for file, old, _ in pairs):
+        raise BadEdit("it names no function that is refused, or has no pair of texts behind a file")
+    return Edit(path, pairs, refused)
+
+
+def apply(edit: Edit, folder: Path, texts: Dict[str, str]) -> None:
+    """Puts the edit into the texts of the files of the crate, by their paths. Those that are not there are read."""
+    for file, old, new in edit.pairs:
+        if not re.fullmatch(r"src/[\w/]+\.rt", file):
+            raise BadEdit(f"it changes {file}, which is no body")
+        if file not in texts:
+            texts[file] = (folder / file).read_text(encoding="utf-8")
+        found = texts[file].count(old)
+        if found != 1:
+            raise BadEdit(f"its old text stands in {file} {found} times, and not once")
+        texts[file] = texts[file].replace(old, new)
+
+
+def together(edits: List[Edit]) -> List[Edit]:
+    """The first edits of which no two are refused by the same function."""
+    chosen: List[Edit] = []
+    for edit in edits:
+        if not any(set(edit.refused) & set(it.refused) for it in chosen):
+            chosen.append(edit)
+    return chosen
