@@ -1,6 +1,6 @@
 -- A beginning of the one list of events of all roots, as a thread knows it.
 -- No public document is behind it.
-use Rattle.std.specs.Prelude.{◌≡◌, ◌==◌, MatchBool, ℕ, true, nat_lt, if◌then◌else◌, List, [], ◌∷◌, ◌++◌, length, refl}
+use Rattle.std.specs.Prelude.{◌≡◌, ◌==◌, MatchBool, ℕ, Bool, true, nat_lt, if◌then◌else◌, List, [], ◌∷◌, ◌++◌, length, refl}
 use Rattle.std.specs.Prelude.{Option, Some, None}
 use Rattle.std.specs.Coded.{Coded, code_by, coded×, coded_list}
 use mathlib.Core.List.{IsPrefix}
@@ -31,6 +31,10 @@ Begins a b = (a.book ≡ b.book) × IsPrefix a.log b.log
 -- how two fronts of one list stand to each other: the shorter begins the other
 abbrev pub Compared : FrontData → FrontData → Type 0
 Compared a b = MatchBool (nat_lt (length a.log) (length b.log)) (Begins a b) (Begins b a)
+
+-- the one list begins the other where it is the shorter one, and else the other begins it
+abbrev pub AgreeAs : Bool → List RootEvent → List RootEvent → Type 0
+AgreeAs is_shorter a b = MatchBool is_shorter (IsPrefix a b) (IsPrefix b a)
 
 -- the longer of two fronts
 abbrev pub longer_front : FrontData → FrontData → FrontData

@@ -1,11 +1,11 @@
 //! Seats, which look at what is shown. A look waits for nobody and takes no memory.
-ghost use Rattle.std.specs.Prelude.{◌≡◌, ◌≤◌, IfSome, MatchResult, Some, is_some, option_map};
+ghost use Rattle.std.specs.Prelude.{◌≡◌, ◌≤◌, IfSome, MatchResult, Some, is_some, length, nat_lt, option_map};
 ghost use mathlib.Core.List.{IsPrefix};
 ghost use Rattle.left_right.specs.Sides.{view};
 ghost use Rattle.wq_base.specs.Limit.{max_number};
 ghost use Rattle.wq_view.specs.View.{IsViewOf};
 ghost use Rattle.wq_live.specs.Event.{is_shown, passes_over, root_named};
-ghost use Rattle.wq_live.specs.Front.{Begins, IsAhead, begun_with};
+ghost use Rattle.wq_live.specs.Front.{AgreeAs, Begins, IsAhead, begun_with};
 ghost use Rattle.wq_live.specs.Table.{IsTableOf};
 
 use crate::front::Front;
@@ -182,6 +182,25 @@ impl<N: Named> Look<N> {
         match &self.told {
             Some(told) => told.table(),
             None => self.reading.get().table(),
+        }
+    }
+
+    /// Whether this look's list is shorter than that of another look at the same publisher. It then begins the other's,
+    /// and else the other's begins it: whatever looks there are, all are of one order of events.
+    pub fn is_shorter(&self, other: &Look<N>) -> bool
+        ensures shorter { result ≡ nat_lt (length self.now) (length other.now) }
+        ensures begins { AgreeAs result self.now other.now }
+    {
+        self.front().is_shorter(other.front())
+    }
+
+    /// The look's list.
+    fn front(&self) -> &Front
+        ensures { result.now ≡ record { book = N.book; log = self.now } }
+    {
+        match &self.told {
+            Some(told) => told.front(),
+            None => self.reading.get().front(),
         }
     }
 

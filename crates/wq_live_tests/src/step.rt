@@ -217,3 +217,35 @@ fn a_look_is_refused_where_the_publisher_is_gone(rt: HostRuntime) -> Result<(), 
     assert_eq!(rt; seen, Some((Some((1, 1, 1)), None)));
     Ok(())
 }
+
+/// Whether of two looks at the same list neither is shorter.
+fn are_equal<N: Named>(first: Seat<N>, second: Seat<N>) -> bool {
+    let Ok(first) = first.look() else {
+        return false;
+    };
+    let Ok(second) = second.look() else {
+        let _ = first.leave();
+        return false;
+    };
+    let is_shorter = first.is_shorter(&second) || second.is_shorter(&first);
+    let _ = (first.leave(), second.leave());
+    !is_shorter
+}
+
+/// Whether two seats look at the same list.
+fn look_at_one<N: Named, R: Wait + Drop>(rt: R, alloc: Global, blank: Blank) -> bool
+    requires { blank.book ≡ N.book }
+{
+    let mut publisher = open_with_root::<N, R>(rt, alloc, blank);
+    match (publisher.seat(), publisher.seat()) {
+        (Ok(first), Ok(second)) => are_equal(first, second),
+        _ => false,
+    }
+}
+
+#[test]
+fn two_seats_look_at_one_list(rt: HostRuntime) -> Result<(), Fail> {
+    let blank = Blank::new(rt.alloc(), &rt, 2)?;
+    assert!(rt; look_at_one::<Brand, HostRuntime>(rt, rt.alloc(), blank));
+    Ok(())
+}
