@@ -55,10 +55,19 @@ def apply(edit: Edit, folder: Path, texts: Dict[str, str]) -> None:
         texts[file] = texts[file].replace(old, new)
 
 
-def together(edits: List[Edit]) -> List[Edit]:
-    """The first edits of which no two are refused by the same function."""
+def together(edits: List[Edit], folder: Path) -> Tuple[List[Edit], Dict[str, str]]:
+    """The first of these edits with each behind it that another function is refused for and that can stand beside them, and
+    the texts of the crate's files with all of them."""
     chosen: List[Edit] = []
+    texts: Dict[str, str] = {}
     for edit in edits:
-        if not any(set(edit.refused) & set(it.refused) for it in chosen):
-            chosen.append(edit)
-    return chosen
+        if any(set(edit.refused) & set(it.refused) for it in chosen):
+            continue
+        with_it = dict(texts)
+        try:
+            apply(edit, folder, with_it)
+        except BadEdit:
+            continue
+        chosen.append(edit)
+        texts = with_it
+    return chosen, texts
