@@ -1,6 +1,6 @@
 //! The table of all roots that are shown. Each change makes a new table and leaves the old one, with which it shares
 //! the texts, and the views of the roots that did not change.
-ghost use Rattle.std.specs.Prelude.{◌≡◌, ◌≢◌, ◌≤◌, ◌+◌, ◌++◌, ◌∷◌, ◌↔◌, ◌⊎◌, [], Err, IfErr, IfNone, IfOk, IfSome, IsTrue, List, MatchOption, MatchResult, None, Some, false, find, length, map, option_map, true};
+ghost use Rattle.std.specs.Prelude.{◌≡◌, ◌≢◌, ◌≤◌, ◌<◌, ◌+◌, ◌++◌, ◌∷◌, ◌↔◌, ◌⊎◌, [], Err, IfErr, IfNone, IfOk, IfSome, IsTrue, List, MatchOption, MatchResult, None, Some, false, find, length, map, option_map, true};
 ghost use Rattle.wq_base.specs.Limit.{max_number};
 ghost use Rattle.wq_live.specs.declared.event.RootEvent.{RootEvent};
 ghost use Rattle.wq_live.specs.declared.event.RootEvent.TheVariants.{Ended, Passed};
@@ -211,6 +211,8 @@ impl RootTable {
             (IsNoNews events number pass.now)
             (λ table. IsNews events number pass.now
             × IsTableOf (events ++ Passed number pass.now ∷ []) table)) }
+        ensures room { (events : List RootEvent) → IsTableOf events self.now
+            → IfOk result (λ next. IfSome next (λ _. length (passes_over number events) < max_tick)) }
         ensures spent { (events : List RootEvent) → IsTableOf events self.now
             → result ≡ Err ViewFault.TicksSpent → IsNews events number pass.now
             × (length (passes_over number events) ≡ max_tick) }
@@ -289,6 +291,8 @@ fn first_view(alloc: Global, pass: &Pass) -> Result<View, AllocError>
 fn after_pass(view: &View, pass: &Pass) -> Result<View, ViewFault>
     ensures ok { (history : History) → IsViewOf history view.now → last_stats history ≢ pass.now.stats
         → IfOk result (IsViewOf (history ++ pass.now ∷ [])) }
+    ensures room { (history : History) → IsViewOf history view.now → last_stats history ≢ pass.now.stats
+        → IfOk result (λ _. view.now.tick < max_tick) }
     ensures spent { (history : History) → IsViewOf history view.now
         → result ≡ Err ViewFault.TicksSpent → view.now.tick ≡ max_tick }
 {

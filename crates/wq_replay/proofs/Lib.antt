@@ -10,3 +10,4 @@ mod Played
 mod Ending
 mod Sendings
 mod Scripts
+mod Shelves

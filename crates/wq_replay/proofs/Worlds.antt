@@ -1,5 +1,5 @@
 -- How worlds go on.
-use Rattle.std.proofs.Common.{◌≡◌, ◌+◌, ℕ, true, false, List, [], ◌∷◌, ◌++◌, length, arith, inr, Option, Some, None, Result, Ok, Err, IfOk, OnOk, MatchOption, Vec, map, option_map, refl, sym, ap, subst, ◌∙◌}
+use Rattle.std.proofs.Common.{◌≡◌, ◌+◌, ℕ, true, false, List, [], ◌∷◌, ◌++◌, length, arith, inr, Option, Some, None, Result, Ok, Err, IfOk, IfSome, OnOk, MatchOption, Vec, map, option_map, refl, sym, ap, subst, ◌∙◌}
 use Rattle.std.proofs.lemmas.List.{append-nil, append_assoc}
 use Rattle.wq_clock.specs.Instance.{InstanceData}
 use Rattle.wq_live.specs.Table.{TableData, IsTableOf}
@@ -165,6 +165,11 @@ pub given_some : {X E : Type 0} (A : Type 0) (B : X → Type 0) (result : Result
     → field ≡ Some x → IfOk result (λ next. MatchOption next A B) → B x
 given_some A B result field x is some holds =
     subst (λ f. MatchOption f A B) some (subst (λ r. IfOk r (λ next. MatchOption next A B)) is holds)
+
+pub some_holds : {X E : Type 0} (B : X → Type 0) (result : Result (Option X) E) (field : Option X) (x : X) → result ≡ Ok field
+    → field ≡ Some x → IfOk result (λ next. IfSome next B) → B x
+some_holds B result field x is some holds =
+    subst (λ f. IfSome f B) some (subst (λ r. IfOk r (λ next. IfSome next B)) is holds)
 
 -- what was played so far, whatever is played behind it
 abbrev pub PlaysOn : WorldData → List HappeningData → List SentData → WorldData → List HappeningData → Type 0

@@ -1,5 +1,6 @@
 pub mod Limit
 pub mod World
+pub mod Accepted
 pub mod Stands
 pub mod Fault
 pub mod Script

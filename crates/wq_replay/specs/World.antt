@@ -1,7 +1,7 @@
 -- The world that sessions play in: what happened to its roots, and what all clients share; what may happen there, and what is sent then.
 -- Crawls and openings before answers are from Watchman's documentation of synchronisation
 -- (`sync_timeout`), of `watch` and of `watch-del`; the rest is this server's own.
-use Rattle.std.specs.Prelude.{◌≡◌, ◌⊎◌, ◌+◌, ℕ, ℤ, Bool, true, false, List, [], ◌∷◌, ◌++◌, find}
+use Rattle.std.specs.Prelude.{◌≡◌, ◌⊎◌, ◌<◌, ◌+◌, ℕ, ℤ, Bool, true, false, List, [], ◌∷◌, ◌++◌, find}
 use Rattle.std.specs.Prelude.{length, codes, bytes_eq, is_some, if◌then◌else◌, Option, Some, None, option_map, Result, Ok, Err}
 use Rattle.wq_base.specs.Limit.{max_number}
 use Rattle.wq_clock.specs.Instance.{InstanceData}
@@ -97,12 +97,13 @@ abbrev pub shows : List ℕ → TableData → Bool
 shows root table = is_some (number_in root table)
 
 -- a crawl of a root that listed this. A root that is not shown stays so; what tells nothing adds
--- nothing; else the pass is added, unless the root's ticks are spent
+-- nothing; else the pass is added where the root has a tick left for it, and refused where it has
+-- none
 abbrev pub CrawlsAt : Option ℕ → WorldData → List ℕ → PassData → WorldData → Type 0
 CrawlsAt None world root pass after = after ≡ unrefused world
 CrawlsAt (Some number) world root pass after =
     (IsNoNews world.events number pass × (after ≡ unrefused world))
-    ⊎ (IsNews world.events number pass
+    ⊎ (IsNews world.events number pass × (length (passes_over number world.events) < max_tick)
     × (after ≡ unrefused (adding (Passed number pass ∷ []) world)))
     ⊎ (IsNews world.events number pass × (length (passes_over number world.events) ≡ max_tick)
     × (after ≡ refusing root TicksSpent world))

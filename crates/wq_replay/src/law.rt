@@ -1,7 +1,10 @@
 //! Laws about worlds and scripts, each a function without a body whose contract is the law.
 //! A proof of another crate gets a law by a call, which costs nothing.
+ghost use Rattle.wq_replay.specs.Accepted.{ShelvesAreCalls};
 ghost use Rattle.wq_replay.specs.Replay.{ScriptsAreRuns};
 ghost use Rattle.wq_replay.specs.World.{RunsGoOn};
+
+use wq_session::answers_are_calls;
 
 /// What happens first, and what happens then, are one run.
 pub fn runs_go_on()
@@ -12,3 +15,11 @@ pub fn runs_go_on()
 pub fn scripts_are_runs()
     ensures { ScriptsAreRuns }
 {}
+
+/// What all clients of a world share is what the calls come to that were accepted of all that happened. So the laws of
+/// lists of accepted calls are laws of worlds.
+pub fn shelves_are_calls()
+    ensures { ShelvesAreCalls }
+{
+    answers_are_calls();
+}

@@ -22,7 +22,7 @@ mod world;
 
 pub use fault::ReplayFault;
 pub use happening::Happening;
-pub use law::{runs_go_on, scripts_are_runs};
+pub use law::{runs_go_on, scripts_are_runs, shelves_are_calls};
 pub use player::{MAX_SCRIPT, replay};
 pub use run::Run;
 pub use sent::Sent;

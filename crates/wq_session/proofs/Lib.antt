@@ -5,3 +5,4 @@ mod Rooted
 mod Strings
 pub mod Ending
 mod Again
+mod Accepting

@@ -17,3 +17,4 @@ pub mod Answer
 pub mod Work
 pub mod Taking
 pub mod Law
+pub mod Accepted

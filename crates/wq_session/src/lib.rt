@@ -29,7 +29,7 @@ pub use ask::Ask;
 pub use at::At;
 pub use crawl::CrawlFault;
 pub use cursor::Cursor;
-pub use law::watching_again_changes_nothing;
+pub use law::{answers_are_calls, watching_again_changes_nothing};
 pub use needs::Need;
 pub use outcome::Out;
 pub use refusal::Refusal;

@@ -1,8 +1,9 @@
 -- by the root that is found, and whether the pass shows what its view shows
-use Rattle.std.proofs.Common.{◌≡◌, ◌≢◌, Err, option_map, inl, inr, ap, sym, subst, ◌∙◌, refl}
+use Rattle.std.proofs.Common.{◌≡◌, ◌≢◌, ◌<◌, Err, option_map, inl, inr, ap, sym, subst, ◌∙◌, refl}
 use Rattle.std.proofs.lemmas.Result.{err_from_is_err_and}
 use Rattle.wq_view.specs.declared.view.ViewFault.TheVariants.{TicksSpent}
 use Rattle.wq_view.specs.History.{last_stats}
+use Rattle.wq_view.specs.Limit.{max_tick}
 use Rattle.wq_view.specs.View.{IsViewOf}
 use Rattle.wq_live.specs.Event.{passes_over}
 use Rattle.wq_live.proofs.Finding.{same_fault}
@@ -42,3 +43,11 @@ returns-clause-passed c events is =
       (is_there events c.args.self.now is c.args.number c.in-Some.root.now found, new),
       rw c.in_ok-with_view.ensures (after_pass events c.args.self.now is c.args.number c.args.pass.now c.in_ok-view.view (found_known events c.args.self.now is c.args.number c.in-Some.root.now found) new after),
     )
+
+pub returns-clause-room : goal.returns-clause-room
+returns-clause-room c events is =
+    let found = sym c.root_of_number.ensures ∙ ap (option_map (λ root. root.now)) c.in-Some.is in
+    let of = found_view events c.args.self.now is c.args.number c.in-Some.root.now found in
+    let lent = subst (IsViewOf (passes_over c.args.number events)) (sym (c.deref-2.ensures ∙ ap (λ r. r.view) c.root.view_is)) of in
+    let new : last_stats (passes_over c.args.number events) ≢ c.args.pass.now.stats = λ same. absurd (cc ((c.if-shows.ensures (passes_over c.args.number events) (subst (IsViewOf (passes_over c.args.number events)) (sym (c.deref.ensures ∙ ap (λ r. r.view) c.root.view_is)) of)).1 same)) in
+    subst (λ t. t < max_tick) lent.tick (c.in_ok-view.ensures.room (passes_over c.args.number events) lent new)

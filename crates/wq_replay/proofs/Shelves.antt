@@ -1,0 +1,92 @@
+-- The shelf of a world, as the calls that were accepted.
+use Rattle.std.proofs.Common.{◌≡◌, ◌+◌, ℕ, Bool, true, false, List, [], ◌∷◌, ◌++◌, Option, Some, None, Result, Ok, Err, inl, inr, refl, sym, ap, ◌∙◌}
+use Rattle.wq_live.specs.Table.{TableData}
+use Rattle.wq_registry.specs.History.{after_all}
+use Rattle.wq_session.specs.Accepted.{CallNow, AnswersAreCalls}
+use Rattle.wq_session.specs.Crawl.{crawl_refusal}
+use Rattle.wq_session.specs.Need.{need_of}
+use Rattle.wq_session.specs.Out.{OutData}
+use Rattle.wq_session.specs.Query.{AtData, ShelfNow}
+use Rattle.wq_session.specs.declared.ask.Ask.{Ask}
+use Rattle.wq_session.specs.declared.crawl.CrawlFault.{CrawlFault}
+use Rattle.wq_session.specs.declared.refusal.Refusal.TheVariants.{NoMemory}
+use Rattle.wq_view.specs.Listing.{PassData}
+use Rattle.wq_replay.specs.Accepted.{AcceptsFor, AcceptsOf, RunsWith, ShelvesAreCalls}
+use Rattle.wq_replay.specs.World.{AnswersAt, Crawls, CrawlsAt, Does, GetsAt, GetsFor, HappeningData, crawl, opening, asked, OpensAt, Runs, SentData, Starts, WorldData, ending, fault_for, looked, new_world, number_in, shows}
+
+-- a crawl leaves the shelf
+at_number : (number : Option ℕ) (world : WorldData) (root : List ℕ) (pass : PassData) (after : WorldData)
+    → CrawlsAt number world root pass after → after.shelf ≡ world.shelf
+at_number None world root pass after is = ap (λ w. w.shelf) is
+at_number (Some number) world root pass after (inl (same, is)) = ap (λ w. w.shelf) is
+at_number (Some number) world root pass after (inr (inl (new, room, is))) = ap (λ w. w.shelf) is
+at_number (Some number) world root pass after (inr (inr (new, spent, is))) = ap (λ w. w.shelf) is
+
+crawls : (world : WorldData) (root : List ℕ) (seen : Result PassData CrawlFault) (after : WorldData)
+    → Crawls world root seen after → after.shelf ≡ world.shelf
+crawls world root (Ok pass) after (table, is, goes) = at_number (number_in root table) world root pass after goes
+crawls world root (Err fault) after is = ap (λ w. w.shelf) is
+
+-- and so does an opening
+starts : (number : ℕ) (world : WorldData) (root : List ℕ) (seen : Result PassData CrawlFault) (after : WorldData)
+    → Starts number world root seen after → after.shelf ≡ world.shelf
+starts number world root (Ok pass) after is = ap (λ w. w.shelf) is
+starts number world root (Err fault) after is = ap (λ w. w.shelf) is
+
+opens : (shown : Bool) (table : TableData) (world : WorldData) (root : List ℕ) (seen : Result PassData CrawlFault) (after : WorldData)
+    → OpensAt shown table world root seen after → after.shelf ≡ world.shelf
+opens true table world root seen after is = ap (λ w. w.shelf) is
+opens false table world root seen after (inl (full, is)) = ap (λ w. w.shelf) is
+opens false table world root seen after (inr (room, goes)) = starts (table.given + 1) world root seen after goes
+
+module _ (answers_are_calls : AnswersAreCalls) where
+  -- what an ask gets
+  answers : (at : Option AtData) (world : WorldData) (ask : Ask) (out : OutData) (after : WorldData) → AnswersAt at world ask out after
+      → (calls : List CallNow) × AcceptsFor world ask out calls × (after.shelf ≡ after_all calls world.shelf)
+  answers at world ask out after (shelf, gets, is) =
+      let it = answers_are_calls ask at world.shelf out shelf gets in
+      (it.0, inl (at, it.1), ap (λ w. w.shelf) is ∙ it.2)
+
+  ends : (number : Option ℕ) (table : TableData) (world : WorldData) (ask : Ask) (out : OutData) (after : WorldData)
+      → GetsAt number table world ask out after
+      → (calls : List CallNow) × AcceptsFor world ask out calls × (after.shelf ≡ after_all calls world.shelf)
+  ends None table world ask out after gets = answers (looked (need_of ask) world.run table) world ask out after gets
+  ends (Some number) table world ask out after (inl (shelf, gets, is)) =
+      let it = answers_are_calls ask _ world.shelf out shelf gets in
+      (it.0, inl (_, it.1), ap (λ w. w.shelf) is ∙ it.2)
+  ends (Some number) table world ask out after (inr (may, is)) = ([], inr (NoMemory, may, refl), ap (λ w. w.shelf) is)
+
+  gets_for : (fault : Option CrawlFault) (table : TableData) (world : WorldData) (ask : Ask) (out : OutData) (after : WorldData)
+      → GetsFor fault table world ask out after
+      → (calls : List CallNow) × AcceptsFor world ask out calls × (after.shelf ≡ after_all calls world.shelf)
+  gets_for None table world ask out after gets = ends (ending (need_of ask) table) table world ask out after gets
+  gets_for (Some fault) table world ask out after (may, is) = ([], inr (crawl_refusal fault, may, refl), ap (λ w. w.shelf) is)
+
+  -- what happens
+  does : (world : WorldData) (happening : HappeningData) (sent : List SentData) (after : WorldData) → Does world happening sent after
+      → (calls : List CallNow) × AcceptsOf world happening sent calls × (after.shelf ≡ after_all calls world.shelf)
+  does world (crawl root seen) sent after (none, goes) = ([], refl, crawls world root seen after goes)
+  does world (opening root seen) sent after (none, (table, is, goes)) = ([], refl, opens (shows root table) table world root seen after goes)
+  does world (asked client ask) sent after (out, (table, is, gets), same) =
+      let it = gets_for (fault_for (need_of ask) table world.refused) table world ask out after gets in
+      (it.0, (out, it.1, same), it.2)
+
+  after_both : (first later : List CallNow) (shelf : ShelfNow) → after_all (first ++ later) shelf ≡ after_all later (after_all first shelf)
+  after_both [] later shelf = refl
+  after_both (c ∷ cs) later shelf = after_both cs later _
+
+  -- what happens one after the other
+  runs : (world : WorldData) (happenings : List HappeningData) (sent : List SentData) (after : WorldData) → Runs world happenings sent after
+      → (calls : List CallNow) × RunsWith world happenings sent after calls × (after.shelf ≡ after_all calls world.shelf)
+  runs world [] sent after (none, is) = ([], (none, is, refl), ap (λ w. w.shelf) is)
+  runs world (happening ∷ later) sent after (next, first, rest, now, is, goes) =
+      let one = does world happening first next now in
+      let more = runs next later rest after goes in (
+        one.0 ++ more.0,
+        (next, first, rest, one.0, more.0, now, one.1, is, refl, more.1),
+        more.2 ∙ ap (after_all more.0) one.2 ∙ sym (after_both one.0 more.0 world.shelf),
+      )
+
+  -- the law
+  pub shelves_are_calls : ShelvesAreCalls
+  shelves_are_calls run sockname happenings sent after goes = runs (new_world run sockname) happenings sent after goes

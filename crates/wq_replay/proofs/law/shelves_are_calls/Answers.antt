@@ -1,0 +1,6 @@
+-- The law by its lemma, which takes that of answers.
+use Rattle.wq_replay.proofs.Shelves.{shelves_are_calls}
+use Rattle.wq_replay.proofs.law.shelves_are_calls.Goals as goal
+
+pub returns : goal.returns
+returns c = shelves_are_calls c.answers_are_calls.ensures

@@ -1,0 +1,138 @@
+-- What an ask leaves of the shelf, as the calls that are accepted of it.
+use Rattle.std.proofs.Common.{◌≡◌, ℕ, Bool, true, false, not, if◌then◌else◌, List, [], ◌∷◌, ◌++◌, Option, Some, None, Result, Ok, Err, inl, inr, refl, sym, ap, subst, ◌∙◌}
+use Rattle.serde_json.specs.View.{view as data_of}
+use Rattle.wq_base.specs.Fault.{or_fault, or_its_fault, or_own_fault, unless_fault}
+use Rattle.wq_code.specs.declared.raw.Raw.{Raw}
+use Rattle.wq_query.specs.Query.{QueryData, PlanData, SinceData, at_bound, at_cursor}
+use Rattle.wq_query.specs.Reading.{asks as queries}
+use Rattle.wq_query.specs.declared.fault.QueryFault.{QueryFault}
+use Rattle.wq_registry.specs.Limit.{max_programs}
+use Rattle.wq_registry.specs.Named.{has_no_place}
+use Rattle.wq_registry.specs.Shelf.{root_has_no_place}
+use Rattle.wq_registry.specs.History.{after_all}
+use Rattle.wq_session.specs.Accepted.{CallNow, Accepts, AnswersAreCalls, calls_of, cursor_calls, query_calls, unset_calls}
+use Rattle.wq_session.specs.Answer.{AnswerData, finished, without}
+use Rattle.wq_session.specs.Begun.{BegunData, evaluates, begun_query, or_refused, tried}
+use Rattle.wq_session.specs.Out.{runs_out}
+use Rattle.wq_session.specs.Query.{AtData, ShelfNow, is_watched, has_place, moved_cursor, plan_at, program_for, used_at}
+use Rattle.wq_session.specs.Root.{root_named}
+use Rattle.wq_session.specs.declared.ask.Ask.{Ask}
+use Rattle.wq_session.specs.declared.ask.Ask.TheVariants.{Refused, Watch, ListRoots, DeleteRoot}
+use Rattle.wq_session.specs.declared.ask.Ask.TheVariants.{Query as AsksQuery, Clock, Version}
+use Rattle.wq_session.specs.declared.ask.Ask.TheVariants.{SocketName, ShutDown, AddProgram, ListPrograms}
+use Rattle.wq_session.specs.declared.ask.Ask.TheVariants.{DeleteProgram, Leave, Nothing}
+use Rattle.wq_session.specs.declared.cursor.Cursor.{Cursor}
+use Rattle.wq_session.specs.declared.refusal.Refusal.{Refusal}
+use Rattle.wq_session.specs.declared.refusal.Refusal.TheVariants.{NotWatched, Query as BadQuery, ShelfFull, TooManyRoots}
+
+-- what is begun leaves the shelf to which these calls lead
+abbrev Leads : List CallNow → ShelfNow → Result BegunData Refusal → Type 0
+Leads calls shelf (Ok b) = b.shelf ≡ after_all calls shelf
+Leads calls shelf (Err refusal) = Unit {0}
+
+unless : (refusal : Refusal) (test : Bool) (calls : List CallNow) (shelf : ShelfNow) (b : BegunData)
+    → b.shelf ≡ after_all calls shelf → Leads calls shelf (unless_fault refusal test (Ok b))
+unless refusal false calls shelf b so = tt
+unless refusal true calls shelf b so = so
+
+used : (root : ℕ) (since : SinceData) (tick : ℕ) (shelf : ShelfNow)
+    → used_at root since tick shelf ≡ after_all (cursor_calls root since tick) shelf
+used root (at_bound bound) tick shelf = refl
+used root (at_cursor name) tick shelf = refl
+
+module _ (at : AtData) (shelf : ShelfNow) where
+  with_program : (q : QueryData) (program : Result (Option Raw) Refusal)
+      → Leads (query_calls at (Ok q)) shelf (or_own_fault program (λ program.
+      unless_fault ShelfFull (has_place (at.instance).root q.since shelf) (
+      Ok (record {
+        work = evaluates (plan_at (at.instance).root q program shelf) (moved_cursor (at.instance).root q.since);
+        shelf = used_at (at.instance).root q.since (at.view).tick shelf;
+      }))))
+  with_program q (Err refusal) = tt
+  with_program q (Ok program) =
+      unless ShelfFull (has_place (at.instance).root q.since shelf) (cursor_calls (at.instance).root q.since (at.view).tick) shelf _ (used (at.instance).root q.since (at.view).tick shelf)
+
+  with_query : (q : Result QueryData QueryFault)
+      → Leads (query_calls at q) shelf (or_its_fault BadQuery q (λ q. begun_query at q shelf))
+  with_query (Err fault) = tt
+  with_query (Ok q) = with_program q (program_for q shelf)
+
+  -- what follows where the root is watched
+  where_watched : (test : Bool) (calls : List CallNow) (next : AtData → Result BegunData Refusal)
+      → Leads calls shelf (next at) → Leads calls shelf (or_fault NotWatched (if test then Some at else None) next)
+  where_watched false calls next so = tt
+  where_watched true calls next so = so
+
+-- what an ask leaves is what its calls lead to, where it is not refused
+leads : (ask : Ask) (at : Option AtData) (shelf : ShelfNow) → Leads (calls_of ask at) shelf (tried ask at shelf)
+leads (Refused refusal) at shelf = tt
+leads (Watch root) None shelf = tt
+leads (Watch root) (Some at) shelf =
+    unless TooManyRoots (not (root_has_no_place (root_named root) (at.instance).root shelf))
+    (calls_of (Watch root) (Some at)) shelf _ refl
+leads ListRoots None shelf = refl
+leads ListRoots (Some at) shelf = refl
+leads (DeleteRoot root) None shelf = tt
+leads (DeleteRoot root) (Some at) shelf =
+    where_watched at shelf (is_watched root at shelf) (calls_of (DeleteRoot root) (Some at)) _ refl
+leads (AsksQuery root q) None shelf = tt
+leads (AsksQuery root q) (Some at) shelf =
+    where_watched at shelf (is_watched root at shelf) (query_calls at (queries at.instance (data_of q))) _
+    (with_query at shelf (queries at.instance (data_of q)))
+leads (Clock root crawl) None shelf = tt
+leads (Clock root crawl) (Some at) shelf =
+    where_watched at shelf (is_watched root at shelf) (calls_of (Clock root crawl) (Some at)) _ refl
+leads Version None shelf = refl
+leads Version (Some at) shelf = refl
+leads SocketName None shelf = refl
+leads SocketName (Some at) shelf = refl
+leads ShutDown None shelf = refl
+leads ShutDown (Some at) shelf = refl
+leads (AddProgram name program) at shelf =
+    unless ShelfFull (not (has_no_place max_programs name shelf.programs))
+    (calls_of (AddProgram name program) at) shelf _ refl
+leads ListPrograms None shelf = refl
+leads ListPrograms (Some at) shelf = refl
+leads (DeleteProgram name) at shelf = refl
+leads Leave None shelf = refl
+leads Leave (Some at) shelf = refl
+leads Nothing None shelf = refl
+leads Nothing (Some at) shelf = refl
+
+-- calls one after the other
+one_more : (calls : List CallNow) (cursor : Option Cursor) (shelf : ShelfNow)
+    → after_all (calls ++ unset_calls cursor) shelf ≡ without cursor (after_all calls shelf)
+one_more [] None shelf = refl
+one_more [] (Some cursor) shelf = refl
+one_more (c ∷ cs) cursor shelf = one_more cs cursor _
+
+module _ (ask : Ask) (at : Option AtData) (shelf : ShelfNow) where
+  -- the answer, by what came of the ask
+  whole : (r : Result BegunData Refusal) → tried ask at shelf ≡ r → Leads (calls_of ask at) shelf r
+      → (calls : List CallNow) × Accepts ask at shelf (finished (or_refused r shelf).work at) calls
+      × ((or_refused r shelf).shelf ≡ after_all calls shelf)
+  whole (Ok b) is so = (calls_of ask at, inl (b, is, refl, refl), so)
+  whole (Err refusal) is so = ([], inr (inl (refusal, is, refl, refl)), refl)
+
+  -- memory that ran out over the files
+  unfinished : (r : Result BegunData Refusal) → tried ask at shelf ≡ r → Leads (calls_of ask at) shelf r
+      → (plan : PlanData) (cursor : Option Cursor) → (or_refused r shelf).work ≡ evaluates plan cursor
+      → (calls : List CallNow) × Accepts ask at shelf (runs_out None) calls
+      × (without cursor (or_refused r shelf).shelf ≡ after_all calls shelf)
+  unfinished (Ok b) is so plan cursor work = (
+    calls_of ask at ++ unset_calls cursor,
+    inr (inr (inr (b, plan, cursor, is, work, refl, refl))),
+    ap (without cursor) so ∙ sym (one_more (calls_of ask at) cursor shelf),
+  )
+  unfinished (Err refusal) is so plan cursor work = absurd (cc work)
+
+-- the law
+pub answers_are_calls : AnswersAreCalls
+answers_are_calls ask at shelf out after (inl is) =
+    let it = whole ask at shelf (tried ask at shelf) refl (leads ask at shelf) in
+    subst (λ (a : AnswerData). (calls : List CallNow) × Accepts ask at shelf a.out calls × (a.shelf ≡ after_all calls shelf)) is it
+answers_are_calls ask at shelf out after (inr (inl (takes, short, same))) =
+    ([], inr (inr (inl (takes, short, refl))), same)
+answers_are_calls ask at shelf out after (inr (inr (plan, cursor, work, short, same))) =
+    let it = unfinished ask at shelf (tried ask at shelf) refl (leads ask at shelf) plan cursor work in
+    (it.0, subst (λ o. Accepts ask at shelf o it.0) (sym short) it.1, same ∙ it.2)

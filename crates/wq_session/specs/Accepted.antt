@@ -1,0 +1,76 @@
+-- The calls of the shelf that are accepted of an ask, and that they are all that its answer does there.
+-- No public document is behind it.
+use Rattle.std.specs.Prelude.{◌≡◌, ◌⊎◌, ℕ, true, List, [], ◌∷◌, ◌++◌, Option, Some, None, Result, Ok, Err}
+use Rattle.serde_json.specs.View.{view as data_of}
+use Rattle.wq_query.specs.Query.{QueryData, PlanData, SinceData, at_bound, at_cursor}
+use Rattle.wq_query.specs.Reading.{asks as queries}
+use Rattle.wq_query.specs.declared.fault.QueryFault.{QueryFault}
+use Rattle.wq_registry.specs.History.{Call, adds_program, removes_program, adds_root, removes_root}
+use Rattle.wq_registry.specs.History.{uses_cursor, unsets_cursor, after_all}
+use Rattle.wq_session.specs.Answer.{Answers, finished}
+use Rattle.wq_session.specs.Begun.{BegunData, evaluates, takes_memory, tried}
+use Rattle.wq_session.specs.Out.{OutData, refuses, runs_out}
+use Rattle.wq_session.specs.Query.{AtData, ShelfNow}
+use Rattle.wq_session.specs.Root.{root_named}
+use Rattle.wq_session.specs.declared.ask.Ask.{Ask}
+use Rattle.wq_session.specs.declared.ask.Ask.TheVariants.{Watch, DeleteRoot, AddProgram, DeleteProgram}
+use Rattle.wq_session.specs.declared.ask.Ask.TheVariants.{Query as AsksQuery}
+use Rattle.wq_session.specs.declared.cursor.Cursor.{Cursor}
+use Rattle.wq_session.specs.declared.refusal.Refusal.{Refusal}
+
+-- a call of a shelf, on which nothing is kept of triggers yet
+abbrev pub CallNow : Type 0
+CallNow = Call (Unit {0})
+
+-- the use of a cursor of a root at a tick, if the bound is that of a cursor
+abbrev pub cursor_calls : ℕ → SinceData → ℕ → List CallNow
+cursor_calls root (at_bound bound) tick = []
+cursor_calls root (at_cursor name) tick = uses_cursor root name tick ∷ []
+
+-- the calls of a query at a root that is looked at: that its cursor is used at the tick of the view
+abbrev pub query_calls : AtData → Result QueryData QueryFault → List CallNow
+query_calls at (Ok q) = cursor_calls (at.instance).root q.since (at.view).tick
+query_calls at (Err fault) = []
+
+-- the calls of an ask at a root that is looked at
+abbrev pub root_calls : Ask → AtData → List CallNow
+root_calls (Watch root) at = adds_root (root_named root) (at.instance).root ∷ []
+root_calls (DeleteRoot root) at = removes_root (at.instance).root ∷ []
+root_calls (AsksQuery root q) at = query_calls at (queries at.instance (data_of q))
+root_calls _ at = []
+
+-- the calls of an ask that needs a root
+abbrev pub looked_calls : Ask → Option AtData → List CallNow
+looked_calls ask None = []
+looked_calls ask (Some at) = root_calls ask at
+
+-- the calls of an ask, each of which is accepted if the ask is
+abbrev pub calls_of : Ask → Option AtData → List CallNow
+calls_of (AddProgram name program) at = adds_program name program ∷ []
+calls_of (DeleteProgram name) at = removes_program name ∷ []
+calls_of ask at = looked_calls ask at
+
+-- that a cursor is unset, if there is one
+abbrev pub unset_calls : Option Cursor → List CallNow
+unset_calls None = []
+unset_calls (Some cursor) = unsets_cursor cursor.root cursor.name ∷ []
+
+-- these calls were accepted of an ask that was answered so: its own; or none, where the line was
+-- refused or memory ran out first; or, where it ran out over the files, its own and then that the
+-- cursor is unset
+abbrev pub Accepts : Ask → Option AtData → ShelfNow → OutData → List CallNow → Type 0
+Accepts ask at shelf out calls =
+    ((begun : BegunData) × (tried ask at shelf ≡ Ok begun) × (out ≡ finished begun.work at)
+    × (calls ≡ calls_of ask at))
+    ⊎ ((refusal : Refusal) × (tried ask at shelf ≡ Err refusal) × (out ≡ refuses refusal)
+    × (calls ≡ []))
+    ⊎ ((takes_memory ask ≡ true) × (out ≡ runs_out None) × (calls ≡ []))
+    ⊎ ((begun : BegunData) × (plan : PlanData) × (cursor : Option Cursor)
+    × (tried ask at shelf ≡ Ok begun) × (begun.work ≡ evaluates plan cursor)
+    × (out ≡ runs_out None) × (calls ≡ calls_of ask at ++ unset_calls cursor))
+
+-- what an answer leaves of the shelf is what the calls come to that were accepted of the ask
+abbrev pub AnswersAreCalls : Type 0
+AnswersAreCalls = (ask : Ask) (at : Option AtData) (shelf : ShelfNow) (out : OutData)
+    (after : ShelfNow) → Answers ask at shelf out after
+    → (calls : List CallNow) × Accepts ask at shelf out calls × (after ≡ after_all calls shelf)
