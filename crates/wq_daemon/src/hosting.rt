@@ -9,8 +9,9 @@ use std::alloc::{AllocError, Global};
 use std::io::Write;
 use std::sync::{Arc, Mutex, Wait};
 use wq_live::{Named, Seat, Tree};
-use wq_registry::Shelf;
-use wq_server::{Crawler, Inbox, LockDesk, LockRoots, Run, Seconds, SharedCrawler, serve};
+use wq_server::{
+    Crawler, Inbox, LockDesk, LockRoots, Run, Seconds, SharedCrawler, SharedShelf, serve,
+};
 use wq_session::CrawlFault;
 
 /// A server's parts. It serves a client for each seat that is free.
@@ -28,7 +29,7 @@ where
     run: Run,
     seats: Mutex<Vec<Seat<N>>>,
     crawler: Arc<SharedCrawler<N, R, T, S>>,
-    shelf: Arc<Mutex<Shelf<()>>>,
+    shelf: Arc<Mutex<SharedShelf>>,
     failing: Mutex<Failing>,
     /// What the operator is told once clients are served.
     greeting: String,
@@ -49,7 +50,7 @@ where
         alloc: Global,
         run: Run,
         crawler: Crawler<N, R, T, S>,
-        shelf: Shelf<()>,
+        shelf: SharedShelf,
         notices: O,
     ) -> Result<LockHost<N, R, T, S, O>, AllocError> {
         let greeting = format!(in alloc; "listening on {}", shelf.sockname())?;

@@ -11,8 +11,8 @@ use std::sync::Wait;
 use std::thread::Threads;
 use std::time::{Clock, Duration};
 use wq_live::{Blank, Named, Tree};
-use wq_registry::{Cache, Shelf};
-use wq_server::{Crawler, Run, Seconds};
+use wq_registry::Cache;
+use wq_server::{Crawler, Run, Seconds, SharedShelf};
 
 /// How many seats a server has: one for each session, and some to spare.
 pub const SEATS: usize = 48;
@@ -55,7 +55,7 @@ where
 {
     let crawler = Crawler::new(blank.open::<N, R>(rt), parts.tree, parts.seconds);
     let cache = Cache::new(alloc, parts.run.start, parts.run.pid)?;
-    let shelf = Shelf::new(alloc, cache, parts.sockname);
+    let shelf = SharedShelf::new(alloc, cache, parts.sockname);
     let host = LockHost::new(rt, alloc, parts.run, crawler, shelf, parts.notices)?;
     run(rt, alloc, listening, host, parts.interval)
 }

@@ -11,9 +11,8 @@ use std::thread::Threads;
 use std::{io, thread};
 use wq_base::Table;
 use wq_live::{Blank, Named, Seat};
-use wq_registry::Shelf;
 use wq_serve::Event;
-use wq_server::{Crawler, Inbox, LockDesk, LockRoots, Run, SharedCrawler, serve};
+use wq_server::{Crawler, Inbox, LockDesk, LockRoots, Run, SharedCrawler, SharedShelf, serve};
 
 /// How often it is looked whether the other client got its reply.
 const TURNS: u64 = 1_000_000_000;
@@ -112,14 +111,14 @@ struct Talker<N: Named, R: Wait + Drop> {
     writer: Telling,
     seat: Seat<N>,
     crawler: Arc<SharedCrawler<N, R, SameFiles, Still>>,
-    shelf: Arc<Mutex<Shelf<()>>>,
+    shelf: Arc<Mutex<SharedShelf>>,
 }
 
 /// What all clients share.
 #[derive(Drop)]
 struct Shared<N: Named, R: Wait + Drop> {
     crawler: Arc<SharedCrawler<N, R, SameFiles, Still>>,
-    shelf: Arc<Mutex<Shelf<()>>>,
+    shelf: Arc<Mutex<SharedShelf>>,
 }
 
 /// The inbox of a client that says this first.

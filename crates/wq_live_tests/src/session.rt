@@ -11,7 +11,8 @@ use wq_live::{Blank, Named, Seat, Tree, TreeFault};
 use wq_registry::{Cache, Shelf};
 use wq_serve::Splitter;
 use wq_server::{
-    Crawler, Desk, LockDesk, MemoryDesk, MemoryInbox, MemoryRoots, Roots, Run, Seconds, serve,
+    Crawler, Desk, LockDesk, MemoryDesk, MemoryInbox, MemoryRoots, Roots, Run, Seconds,
+    SharedShelf, serve,
 };
 use wq_view::Seen;
 
@@ -37,7 +38,7 @@ impl Tree for SameFiles {
 }
 
 /// The rows of files of these names.
-fn rows_of(alloc: Global, names: &[&[u8]]) -> Result<Vec<Seen>, AllocError> {
+pub(crate) fn rows_of(alloc: Global, names: &[&[u8]]) -> Result<Vec<Seen>, AllocError> {
     let mut rows = Vec::with_capacity(alloc, names.len())?;
     for name in names {
         rows.push(named_row(alloc, name)?)?;
@@ -58,15 +59,14 @@ impl Seconds for Still {
 /// The shelf of a server at its start; none where memory ran out.
 fn new_shelf(alloc: Global) -> Option<Shelf<()>> {
     let sockname = String::from_str(alloc, "s").ok()?;
-    match Cache::new(alloc, 7, 9) {
-        Ok(cache) => Some(Shelf::new(alloc, cache, sockname)),
-        Err(_) => None,
-    }
+    Some(Shelf::new(alloc, Cache::new(alloc, 7, 9).ok()?, sockname))
 }
 
 /// That shelf, for threads to share.
-pub(crate) fn shared_shelf(alloc: Global) -> Option<Arc<Mutex<Shelf<()>>>> {
-    Arc::new(alloc, Mutex::new(new_shelf(alloc)?)).ok()
+pub(crate) fn shared_shelf(alloc: Global) -> Option<Arc<Mutex<SharedShelf>>> {
+    let sockname = String::from_str(alloc, "s").ok()?;
+    let shelf = SharedShelf::new(alloc, Cache::new(alloc, 7, 9).ok()?, sockname);
+    Arc::new(alloc, Mutex::new(shelf)).ok()
 }
 
 /// What a session writes whose client sends these bytes, and its seat; none where the writer failed.

@@ -11,7 +11,7 @@ use Rattle.wq_session.proofs.Ending.{answered, answered_with}
 use Rattle.wq_server.specs.Desk.{AnswersAt, Holds, Unsets}
 
 -- where no cursor is named, nothing more is done
-none_unset : (ask : Ask) (at : Option AtData) (shelf left : ShelfNow) (work : WorkData) (out given : OutData) → Takes ask at shelf work left
+pub none_unset : (ask : Ask) (at : Option AtData) (shelf left : ShelfNow) (work : WorkData) (out given : OutData) → Takes ask at shelf work left
     → Finishes work at out → given ≡ settled out → out.unset ≡ None → Answers ask at shelf given left
 none_unset ask at shelf left work out given takes done is none =
     subst (λ (o : OutData). Answers ask at shelf o left) (sym is)
@@ -21,8 +21,8 @@ pub kept_answer : (old mid : Option ShelfNow) (ask : Ask) (at : Option AtData) (
     → Finishes work at out → given ≡ settled out → out.unset ≡ None → AnswersAt old ask at given mid
 kept_answer (Some shelf) mid ask at work out given (left, takes, shown) done is none =
     (left, none_unset ask at shelf left work out given takes done is none, shown)
-kept_answer None mid ask at work out given (shelf, left, takes, shown) done is none =
-    (shelf, left, none_unset ask at shelf left work out given takes done is none, shown)
+kept_answer None mid ask at work out given (shelf, left, reached, takes, shown) done is none =
+    (shelf, left, reached, none_unset ask at shelf left work out given takes done is none, shown)
 
 -- where one is named, it is unset
 pub unset_answer : (old mid after : Option ShelfNow) (ask : Ask) (at : Option AtData) (work : WorkData) (out given : OutData) (cursor : Cursor)
@@ -33,9 +33,10 @@ unset_answer (Some shelf) mid after ask at work out given cursor (left, takes, s
   answered_with ask at shelf work left out given cursor (cursor_unset cursor.root cursor.name left) takes done is named refl,
   unsets ∙ ap (option_map (cursor_unset cursor.root cursor.name)) shown,
 )
-unset_answer None mid after ask at work out given cursor (shelf, left, takes, shown) done is named unsets = (
+unset_answer None mid after ask at work out given cursor (shelf, left, reached, takes, shown) done is named unsets = (
   shelf,
   cursor_unset cursor.root cursor.name left,
+  reached,
   answered_with ask at shelf work left out given cursor (cursor_unset cursor.root cursor.name left) takes done is named refl,
   unsets ∙ ap (option_map (cursor_unset cursor.root cursor.name)) shown,
 )

@@ -1,6 +1,7 @@
 mod Fronts
 mod Shown
 mod Held
+mod Reaching
 mod Getting
 mod Going
 mod Crawling

@@ -1,5 +1,5 @@
 -- A crawl that was told to all that asked for it.
-use Rattle.std.proofs.Common.{ℕ, pos, List, Option, Some, None, Result, Ok, Err, inl, inr, refl}
+use Rattle.std.proofs.Common.{ℕ, pos, List, Option, None, Result, Ok, Err, inl, inr, refl}
 use Rattle.wq_live.specs.Event.{passes_over}
 use Rattle.wq_live.specs.declared.event.RootEvent.{RootEvent}
 use Rattle.wq_view.specs.History.{last_stats}

@@ -1,6 +1,7 @@
 pub mod Crawl
 pub mod Roots
 pub mod Inbox
+pub mod Reached
 pub mod Desk
 pub mod Run
 pub mod Ready

@@ -19,6 +19,7 @@ mod roots;
 mod run;
 mod serving;
 mod shared_crawler;
+mod shared_shelf;
 mod writing;
 
 pub use crawler::{Crawler, Seconds};
@@ -32,3 +33,4 @@ pub use roots::Roots;
 pub use run::Run;
 pub use serving::{Ended, MAX_EVENTS, serve};
 pub use shared_crawler::SharedCrawler;
+pub use shared_shelf::SharedShelf;

@@ -1,21 +1,21 @@
 //! A shelf that many sessions share.
 
 use crate::desk::Desk;
+use crate::shared_shelf::SharedShelf;
 use std::alloc::Global;
 use std::sync::{Arc, Mutex, Wait};
-use wq_registry::Shelf;
 use wq_session::{Ask, At, Cursor, Session, Work};
 
 /// A desk over a shelf that threads share. It shows no shelf, and keeps none.
 #[derive(Drop)]
 pub struct LockDesk<R: Wait + Drop> {
-    shelf: Arc<Mutex<Shelf<()>>>,
+    shelf: Arc<Mutex<SharedShelf>>,
     rt: R,
 }
 
 impl<R: Wait + Drop> LockDesk<R> {
     /// A desk over this shelf, for which it waits by this handle.
-    pub fn new(shelf: Arc<Mutex<Shelf<()>>>, rt: R) -> LockDesk<R> {
+    pub fn new(shelf: Arc<Mutex<SharedShelf>>, rt: R) -> LockDesk<R> {
         LockDesk { shelf, rt }
     }
 }
@@ -26,12 +26,10 @@ impl<R: Wait + Drop> Desk for LockDesk<R> {
     ghost shelf = { λ _. None };
 
     fn hold(&mut self, alloc: Global, session: &mut Session, ask: Ask, at: Option<At<'_>>) -> Work {
-        session.take(alloc, ask, at, &mut self.shelf.lock(&self.rt))
+        self.shelf.lock(&self.rt).take(alloc, session, ask, at)
     }
 
     fn unset(&mut self, cursor: &Cursor) {
-        self.shelf
-            .lock(&self.rt)
-            .unset_cursor(cursor.root, cursor.name.as_str());
+        self.shelf.lock(&self.rt).unset(cursor);
     }
 }
