@@ -8,6 +8,8 @@ mod at_once;
 #[cfg(test)]
 mod fixture;
 #[cfg(test)]
+mod publishing;
+#[cfg(test)]
 mod running;
 #[cfg(test)]
 mod server;

@@ -1,0 +1,153 @@
+//! A session whose roots and whose writer publish while it calls them. A publish waits for those that look at the value
+//! before the last one: of two, the second would wait for ever for a look that the session has open.
+ghost use Rattle.std.specs.Prelude.{◌≡◌};
+
+use crate::session::{Still, rows_of, shared_shelf};
+use std::alloc::Global;
+use std::collections::VecDeque;
+use std::io;
+use std::io::Write;
+use std::marker::Brand;
+use std::sync::{Arc, Wait};
+use std::test::Fail;
+use wq_live::{Blank, Named, Told, Tree, TreeFault};
+use wq_serve::Splitter;
+use wq_server::{Crawler, LockDesk, LockRoots, MemoryInbox, Roots, Run, SharedCrawler, serve};
+use wq_session::CrawlFault;
+use wq_view::Seen;
+
+/// A tree that has two files, and one at every other listing.
+#[derive(Drop)]
+struct Blinking {
+    alloc: Global,
+    has_both: bool,
+}
+
+impl Tree for Blinking {
+    ghost failed = { λ _. 0 };
+
+    fn list(&mut self, _root: &str) -> Result<Vec<Seen>, TreeFault> {
+        self.has_both = !self.has_both;
+        let names: &[&[u8]] = if self.has_both {
+            &[b"a", b"b"]
+        } else {
+            &[b"a"]
+        };
+        Ok(rows_of(self.alloc, names)?)
+    }
+
+    fn forget(&mut self, _root: &str) {}
+
+    fn failures(&self) -> u64 {
+        0
+    }
+}
+
+/// Roots that publish twice whenever they are called.
+#[derive(Drop)]
+struct Publishing<N: Named, R: Wait + Drop> {
+    roots: LockRoots<N, R, Blinking, Still>,
+}
+
+/// Publishes two passes.
+fn publish_twice<N: Named, R: Roots<N>>(roots: &mut R) {
+    let _ = roots.crawl("/r");
+    let _ = roots.crawl("/r");
+}
+
+impl<N: Named, R: Wait + Drop> Roots<N> for Publishing<N, R> {
+    ghost use Rattle.std.specs.Prelude.{None};
+
+    ghost crawler = { λ _. None };
+
+    fn open(&mut self, root: &str) -> Result<Told<N>, CrawlFault> {
+        let told = self.roots.open(root);
+        publish_twice(&mut self.roots);
+        told
+    }
+
+    fn crawl(&mut self, root: &str) -> Result<Option<Told<N>>, CrawlFault> {
+        let _ = self.roots.crawl(root);
+        self.roots.crawl(root)
+    }
+
+    fn retire(&mut self, number: u64) -> Result<Told<N>, CrawlFault> {
+        publish_twice(&mut self.roots);
+        self.roots.retire(number)
+    }
+}
+
+/// A writer that publishes twice before it takes anything.
+#[derive(Drop)]
+struct Telling<N: Named, R: Wait + Drop> {
+    bytes: Vec<u8>,
+    roots: LockRoots<N, R, Blinking, Still>,
+}
+
+impl<N: Named, R: Wait + Drop> Write for Telling<N, R> {
+    fn write(&mut self, bytes: &[u8]) -> io::Result<usize> {
+        publish_twice(&mut self.roots);
+        self.bytes.write(bytes)
+    }
+
+    fn flush(&mut self) -> io::Result<()> {
+        Ok(())
+    }
+}
+
+/// What a session writes whose client sends these lines; none where it failed.
+fn talk<N: Named, R: Wait + Copy + Drop>(
+    rt: R,
+    alloc: Global,
+    blank: Blank,
+    lines: &[u8],
+) -> Option<Vec<u8>>
+    requires { blank.book ≡ N.book }
+{
+    let tree = Blinking {
+        alloc,
+        has_both: false,
+    };
+    let mut crawler = Crawler::new(blank.open::<N, R>(rt), tree, Still(100));
+    let seat = crawler.seat().ok()?;
+    let crawler = Arc::new(alloc, SharedCrawler::new(alloc, crawler).ok()?).ok()?;
+    let mut inbox = MemoryInbox::new(VecDeque::from(Splitter::new(alloc).feed(lines).ok()?));
+    let mut writer = Telling {
+        bytes: Vec::new(alloc),
+        roots: LockRoots::new(Arc::try_clone(&crawler).ok()?, rt),
+    };
+    let mut roots = Publishing {
+        roots: LockRoots::new(crawler, rt),
+    };
+    let mut desk = LockDesk::new(shared_shelf(alloc)?, rt);
+    let run = Run::new(7, 9);
+    let ended = serve(
+        alloc,
+        run,
+        &mut inbox,
+        &mut writer,
+        seat,
+        &mut roots,
+        &mut desk,
+    );
+    if ended.fault {
+        return None;
+    }
+    Some(writer.bytes)
+}
+
+#[test]
+fn no_look_is_open_while_roots_and_writer_are_called(rt: HostRuntime) -> Result<(), Fail> {
+    let lines = br#"["watch","/r"]
+["query","/r",{"fields":["name"]}]
+["watch-del","/r"]
+"#;
+    let written = br#"{"version":"wq-1","watch":"/r","watcher":"poll"}
+{"clock":"c:7:9:1:9","files":["a","b"],"is_fresh_instance":true,"version":"wq-1"}
+{"root":"/r","version":"wq-1","watch-del":true}
+"#;
+    let blank = Blank::new(rt.alloc(), &rt, 1)?;
+    let heard = talk::<Brand, HostRuntime>(rt, rt.alloc(), blank, lines);
+    assert_eq!(rt; heard.as_deref(), Some(written.as_slice()));
+    Ok(())
+}
