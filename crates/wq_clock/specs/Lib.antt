@@ -1,5 +1,6 @@
 pub mod Limit
 pub mod Instance
+pub mod Run
 pub mod ClockText
 pub mod ClockSpec
 pub mod Spelling

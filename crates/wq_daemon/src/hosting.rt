@@ -8,10 +8,9 @@ use crate::refusal::{NO_MEMORY, refuse};
 use std::alloc::{AllocError, Global};
 use std::io::Write;
 use std::sync::{Arc, Mutex, Wait};
+use wq_clock::Run;
 use wq_live::{Named, Seat, Tree};
-use wq_server::{
-    Crawler, Inbox, LockDesk, LockRoots, Run, Seconds, SharedCrawler, SharedShelf, serve,
-};
+use wq_server::{Crawler, Inbox, LockDesk, LockRoots, Seconds, SharedCrawler, SharedShelf, serve};
 use wq_session::CrawlFault;
 
 /// A server's parts. It serves a client for each seat that is free.

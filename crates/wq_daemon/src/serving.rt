@@ -10,9 +10,10 @@ use std::io;
 use std::sync::Wait;
 use std::thread::Threads;
 use std::time::{Clock, Duration};
+use wq_clock::Run;
 use wq_live::{Blank, Named, Tree};
 use wq_registry::Cache;
-use wq_server::{Crawler, Run, Seconds, SharedShelf};
+use wq_server::{Crawler, Seconds, SharedShelf};
 
 /// How many seats a server has: one for each session, and some to spare.
 pub const SEATS: usize = 48;

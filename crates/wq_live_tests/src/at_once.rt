@@ -10,9 +10,10 @@ use std::sync::{Arc, Mutex, Wait};
 use std::thread::Threads;
 use std::{io, thread};
 use wq_base::Table;
+use wq_clock::Run;
 use wq_live::{Blank, Named, Seat};
 use wq_serve::Event;
-use wq_server::{Crawler, Inbox, LockDesk, LockRoots, Run, SharedCrawler, SharedShelf, serve};
+use wq_server::{Crawler, Inbox, LockDesk, LockRoots, SharedCrawler, SharedShelf, serve};
 
 /// How often it is looked whether the other client got its reply.
 const TURNS: u64 = 1_000_000_000;

@@ -10,9 +10,10 @@ use std::io::Write;
 use std::marker::Brand;
 use std::sync::{Arc, Wait};
 use std::test::Fail;
+use wq_clock::Run;
 use wq_live::{Blank, Named, Told, Tree, TreeFault};
 use wq_serve::Splitter;
-use wq_server::{Crawler, LockDesk, LockRoots, MemoryInbox, Roots, Run, SharedCrawler, serve};
+use wq_server::{Crawler, LockDesk, LockRoots, MemoryInbox, Roots, SharedCrawler, serve};
 use wq_session::CrawlFault;
 use wq_view::Seen;
 

@@ -14,9 +14,9 @@ use std::test::Fail;
 use std::thread::{self, Threads};
 use std::time::{Clock, Duration};
 use std::{env, fs, process};
+use wq_clock::Run;
 use wq_daemon::{Listening, Notices, Parts, SEATS, listen, remove, serve_clients};
 use wq_live::{Blank, Named};
-use wq_server::Run;
 
 /// How many folders are tried that may stand already.
 const TRIES: u32 = 100;

@@ -7,12 +7,13 @@ use std::collections::VecDeque;
 use std::marker::Brand;
 use std::sync::{Arc, Mutex, Wait};
 use std::test::Fail;
+use wq_clock::Run;
 use wq_live::{Blank, Named, Seat, Tree, TreeFault};
 use wq_registry::{Cache, Shelf};
 use wq_serve::Splitter;
 use wq_server::{
-    Crawler, Desk, LockDesk, MemoryDesk, MemoryInbox, MemoryRoots, Roots, Run, Seconds,
-    SharedShelf, serve,
+    Crawler, Desk, LockDesk, MemoryDesk, MemoryInbox, MemoryRoots, Roots, Seconds, SharedShelf,
+    serve,
 };
 use wq_view::Seen;
 

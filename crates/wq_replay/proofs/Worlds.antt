@@ -20,7 +20,8 @@ use Rattle.wq_replay.proofs.Tables.{at_data_of}
 use Rattle.wq_replay.specs.declared.happening.Happening.{Happening}
 use Rattle.wq_replay.specs.declared.sent.Sent.{Sent}
 use Rattle.wq_replay.specs.declared.world.World.{World}
-use Rattle.wq_replay.specs.World.{AnswersAt, Crawls, CrawlsAt, Does, EndsAt, Gets, GetsAt, GetsFor, HappeningData, IsFull, Opens, OpensAt, OpensNew, RefusedData, RunData, Runs, SentData, Starts, WorldData, at_end, ending, fault_for, instance_of, looked, number_in, shows, unrefused}
+use Rattle.wq_clock.specs.Run.{RunData, instance_of}
+use Rattle.wq_replay.specs.World.{AnswersAt, Crawls, CrawlsAt, Does, EndsAt, Gets, GetsAt, GetsFor, HappeningData, IsFull, Opens, OpensAt, OpensNew, RefusedData, Runs, SentData, Starts, WorldData, at_end, ending, fault_for, looked, number_in, shows, unrefused}
 
 some_same : {X : Type 0} {x y : X} → Some x ≡ Some y → x ≡ y
 some_same h = cc h

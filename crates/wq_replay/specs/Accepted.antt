@@ -10,7 +10,8 @@ use Rattle.wq_session.specs.Out.{OutData}
 use Rattle.wq_session.specs.Query.{AtData}
 use Rattle.wq_session.specs.declared.ask.Ask.{Ask}
 use Rattle.wq_session.specs.declared.refusal.Refusal.{Refusal}
-use Rattle.wq_replay.specs.World.{RunData, WorldData, HappeningData, crawl, opening, asked, SentData}
+use Rattle.wq_clock.specs.Run.{RunData}
+use Rattle.wq_replay.specs.World.{WorldData, HappeningData, crawl, opening, asked, SentData}
 use Rattle.wq_replay.specs.World.{Does, Runs, new_world, root_text, sent_to}
 
 -- these calls were accepted of an ask that got this: those of its answer at what was looked at; or

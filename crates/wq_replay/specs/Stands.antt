@@ -5,18 +5,15 @@ use Rattle.std.specs.Borrow.{Bor}
 use Rattle.wq_live.specs.Table.{IsTableOf}
 use Rattle.wq_session.specs.declared.crawl.CrawlFault.{CrawlFault}
 use Rattle.wq_view.specs.Listing.{PassData}
-use Rattle.wq_replay.specs.World.{RunData, RefusedData, WorldData, Runs}
+use Rattle.wq_clock.specs.Run.{RunData}
+use Rattle.wq_replay.specs.World.{RefusedData, WorldData, Runs}
 use Rattle.wq_replay.specs.World.{HappeningData, crawl, opening, asked, SentData}
 use Rattle.wq_replay.specs.declared.happening.Happening.{Happening}
 use Rattle.wq_replay.specs.declared.happening.Happening.TheVariants.{Crawl, Open, Asked}
 use Rattle.wq_replay.specs.declared.refused.Refused.{Refused}
-use Rattle.wq_replay.specs.declared.run.Run.{Run}
+use Rattle.wq_clock.specs.declared.run.Run.{Run}
 use Rattle.wq_replay.specs.declared.sent.Sent.{Sent}
 use Rattle.wq_replay.specs.declared.world.World.{World}
-
--- the numbers of a run of the server
-abbrev pub run_data : Run → RunData
-run_data run = record { start = run.start; pid = run.pid }
 
 -- a crawl or an opening that was refused
 abbrev pub refused_data : Refused → RefusedData

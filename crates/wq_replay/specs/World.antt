@@ -4,7 +4,7 @@
 use Rattle.std.specs.Prelude.{◌≡◌, ◌⊎◌, ◌<◌, ◌+◌, ℕ, ℤ, Bool, true, false, List, [], ◌∷◌, ◌++◌, find}
 use Rattle.std.specs.Prelude.{length, codes, bytes_eq, is_some, if◌then◌else◌, Option, Some, None, option_map, Result, Ok, Err}
 use Rattle.wq_base.specs.Limit.{max_number}
-use Rattle.wq_clock.specs.Instance.{InstanceData}
+use Rattle.wq_clock.specs.Run.{RunData, instance_of}
 use Rattle.wq_live.specs.Event.{passes_over, start_events}
 use Rattle.wq_live.specs.Limit.{max_roots}
 use Rattle.wq_live.specs.Table.{RootView, TableData, IsTableOf, IsNews, IsNoNews, has_text}
@@ -22,11 +22,6 @@ use Rattle.wq_session.specs.declared.crawl.CrawlFault.TheVariants.{TicksSpent, T
 use Rattle.wq_session.specs.declared.refusal.Refusal.TheVariants.{NoMemory}
 use Rattle.wq_view.specs.Limit.{max_tick}
 use Rattle.wq_view.specs.Listing.{PassData}
-
--- one run of the server: the second at which it started, and its process
-pub record RunData : Type 0 where
-  pub start : ℕ
-  pub pid : ℕ
 
 -- a crawl or an opening of a root that was refused
 pub record RefusedData : Type 0 where
@@ -156,10 +151,6 @@ fault_for _ table refused = None
 abbrev pub ending : NeedData → TableData → Option ℕ
 ending (retire root) table = number_in root table
 ending _ table = None
-
--- a root of a number in a run of the server
-abbrev pub instance_of : RunData → ℕ → InstanceData
-instance_of run number = record { start = run.start; pid = run.pid; root = number }
 
 -- a root as it is looked at
 abbrev pub at_root : RunData → RootView → AtData

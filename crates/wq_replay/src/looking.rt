@@ -5,13 +5,13 @@ ghost use Rattle.wq_live.specs.Table.{IsTableOf};
 ghost use Rattle.wq_live.specs.declared.event.RootEvent.{RootEvent};
 ghost use Rattle.wq_session.specs.Needed.{need_data};
 ghost use Rattle.wq_session.specs.Work.{at_data};
-ghost use Rattle.wq_replay.specs.Stands.{refused_data, run_data};
-ghost use Rattle.wq_replay.specs.World.{IsFull, at_root, ending, fault_for, fault_of, instance_of, looked, number_in, root_in, shows};
+ghost use Rattle.wq_clock.specs.Run.{instance_of, run_data};
+ghost use Rattle.wq_replay.specs.Stands.{refused_data};
+ghost use Rattle.wq_replay.specs.World.{IsFull, at_root, ending, fault_for, fault_of, looked, number_in, root_in, shows};
 
 use crate::refused::Refused;
-use crate::run::Run;
 use wq_base::MAX_NUMBER;
-use wq_clock::Instance;
+use wq_clock::{Instance, Run};
 use wq_live::{MAX_ROOTS, RootTable};
 use wq_session::{At, CrawlFault, Need};
 

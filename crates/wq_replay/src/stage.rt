@@ -1,9 +1,9 @@
 //! Where a script stands: the world, what a crawl of `/r` would list, and the listing that is open.
 
 use crate::playing::no_files;
-use crate::run::Run;
 use crate::world::World;
 use std::alloc::{AllocError, Global};
+use wq_clock::Run;
 use wq_view::{Pass, Seen};
 
 /// The run of the server that a script plays.

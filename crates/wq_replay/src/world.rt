@@ -2,7 +2,7 @@
 //! happens there is left to `playing`.
 
 use crate::refused::Refused;
-use crate::run::Run;
+use wq_clock::Run;
 use wq_live::RootTable;
 use wq_registry::Shelf;
 

@@ -11,9 +11,9 @@ use Rattle.wq_server.specs.Answering.{AnswersAfter, AnswersEnd, IfRetires, Sees,
 use Rattle.wq_server.specs.Desk.{AnswersAt}
 use Rattle.wq_server.specs.Ready.{HearsFirst, KnownData, ReadyData, Readies, ended_by}
 use Rattle.wq_server.specs.Crawl.{CrawlerData, tells}
-use Rattle.wq_server.specs.Roots.{WishData, Gives, passing, showing, ending}
+use Rattle.wq_server.specs.Roots.{RootRequestData, Gives, passing, showing, ending}
 use Rattle.wq_server.specs.Serving.{IsAnswered, Replies}
-use Rattle.wq_server.specs.declared.run.Run.{Run}
+use Rattle.wq_clock.specs.declared.run.Run.{Run}
 
 module _ (run : Run) (ask : Ask) (seen after : List RootEvent) (shelf left : Option ShelfNow) (out : OutData) where
   -- an ask that needs nothing
@@ -31,13 +31,13 @@ module _ (run : Run) (ask : Ask) (seen after : List RootEvent) (shelf left : Opt
   )
 
   -- an ask for which the roots are asked first
-  heard_first : (root : List ℕ) (wish : WishData) (told : Result (Option (List RootEvent)) CrawlFault) (given later : Option CrawlerData)
+  heard_first : (root : List ℕ) (request : RootRequestData) (told : Result (Option (List RootEvent)) CrawlFault) (given later : Option CrawlerData)
       → ((heard : List RootEvent) (at : Option AtData) → Sees run (need_of ask) heard at after → Sees run (look root) heard at after)
-      → Gives given wish told later → AnswersAfter run ask told seen shelf out after left
-      → (ready : ReadyData) × HearsFirst run root wish (known given seen) ready (known later after) × Replies ready ask shelf out left
-  heard_first root wish (Ok told) given later shown gives (heard, learns, (at, sees, answers)) =
+      → Gives given request told later → AnswersAfter run ask told seen shelf out after left
+      → (ready : ReadyData) × HearsFirst run root request (known given seen) ready (known later after) × Replies ready ask shelf out left
+  heard_first root request (Ok told) given later shown gives (heard, learns, (at, sees, answers)) =
       (Ok at, (Ok told, known later heard, (gives, learns), (at, (refl, shown heard at sees), refl)), answers)
-  heard_first root wish (Err fault) given later shown gives (refuses, same, kept) =
+  heard_first root request (Err fault) given later shown gives (refuses, same, kept) =
       (Err fault, (Err fault, known later seen, (gives, refl), (refl, ap (known later) same)), (refuses, kept))
 
   -- an ask that needs a crawl

@@ -7,7 +7,7 @@ use Rattle.wq_session.specs.Out.{OutData}
 use Rattle.wq_server.specs.Limit.{max_events}
 use Rattle.wq_server.specs.Serving.{GoesOn, IsServed, PlaceData, Serves, WritesFront, line_for}
 use Rattle.wq_server.proofs.Fronts.{appends_then}
-use Rattle.wq_server.specs.declared.run.Run.{Run}
+use Rattle.wq_clock.specs.declared.run.Run.{Run}
 
 pub goes_on_by : (run : Run) (before : PlaceData) (events : List Event) (lines : List ℕ) (now : PlaceData) (event : Event) (out : OutData) (after : PlaceData)
     → GoesOn run before events lines now → Serves run now event out after → out.goes_on ≡ true

@@ -15,7 +15,7 @@ use Rattle.wq_server.specs.Desk.{AnswersAt}
 use Rattle.wq_server.specs.Ready.{KnownData, Learns, ended}
 use Rattle.wq_server.specs.Crawl.{CrawlerData}
 use Rattle.wq_server.specs.Run.{ShowsAt}
-use Rattle.wq_server.specs.declared.run.Run.{Run}
+use Rattle.wq_clock.specs.declared.run.Run.{Run}
 
 -- what is known of the roots, from its parts
 abbrev pub known : Option CrawlerData → List RootEvent → KnownData

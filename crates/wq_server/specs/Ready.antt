@@ -9,9 +9,9 @@ use Rattle.wq_session.specs.Need.{NeedData, none, look, crawl, opening, retire}
 use Rattle.wq_session.specs.Query.{AtData}
 use Rattle.wq_session.specs.declared.crawl.CrawlFault.{CrawlFault}
 use Rattle.wq_server.specs.Crawl.{CrawlerData, tells}
-use Rattle.wq_server.specs.Roots.{WishData, Gives, passing, showing, ending}
+use Rattle.wq_server.specs.Roots.{RootRequestData, Gives, passing, showing, ending}
 use Rattle.wq_server.specs.Run.{ShowsAt}
-use Rattle.wq_server.specs.declared.run.Run.{Run}
+use Rattle.wq_clock.specs.declared.run.Run.{Run}
 
 -- what a session knows of the roots: the crawler that they go by, where it is shown, and the list
 -- of events with which its next look begins
@@ -32,10 +32,10 @@ Learns before (Ok None) after = after ≡ before
 Learns before (Err fault) after = after ≡ before
 
 -- the roots are asked something, give this answer, and the list is learnt that was told
-abbrev pub Hears : KnownData → WishData → Result (Option (List RootEvent)) CrawlFault
+abbrev pub Hears : KnownData → RootRequestData → Result (Option (List RootEvent)) CrawlFault
     → KnownData → Type 0
-Hears before wish told after =
-    Gives before.roots wish told after.roots × Learns before.seen told after.seen
+Hears before request told after =
+    Gives before.roots request told after.roots × Learns before.seen told after.seen
 
 -- a root is looked at, in a list that begins with all that was known; or the look is refused, and
 -- nothing is looked at
@@ -53,10 +53,10 @@ LooksAfter run root (Ok told) before ready after =
 LooksAfter run root (Err fault) before ready after = (ready ≡ Err fault) × (after ≡ before)
 
 -- the roots are asked for a root first, and then it is looked at
-abbrev pub HearsFirst : Run → List ℕ → WishData → KnownData → ReadyData → KnownData → Type 0
-HearsFirst run root wish before ready after =
+abbrev pub HearsFirst : Run → List ℕ → RootRequestData → KnownData → ReadyData → KnownData → Type 0
+HearsFirst run root request before ready after =
     (told : Result (Option (List RootEvent)) CrawlFault) × (heard : KnownData)
-    × Hears before wish told heard × LooksAfter run root told heard ready after
+    × Hears before request told heard × LooksAfter run root told heard ready after
 
 -- what is looked at of a root that has ended: its number, and nothing to see
 abbrev pub ended : InstanceData → AtData

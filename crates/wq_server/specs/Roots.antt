@@ -6,17 +6,17 @@ use Rattle.wq_session.specs.declared.crawl.CrawlFault.{CrawlFault}
 use Rattle.wq_server.specs.Crawl.{CrawlerData, Crawled, Opened, Retired, tells}
 
 -- what a session asks of the roots
-pub data WishData : Type 0 where
+pub data RootRequestData : Type 0 where
   -- a pass over the root of this text, if it is shown
-  passing : (root : List ℕ) → WishData
+  passing : (root : List ℕ) → RootRequestData
   -- that the root of this text is shown
-  showing : (root : List ℕ) → WishData
+  showing : (root : List ℕ) → RootRequestData
   -- the end of the root of this number
-  ending : (number : ℕ) → WishData
+  ending : (number : ℕ) → RootRequestData
 
--- a wish was done by a crawler, and this was answered: the list of events, if one is told; or why
--- the wish was refused
-abbrev pub Fulfils : WishData → CrawlerData → Result (Option (List RootEvent)) CrawlFault
+-- a request was done by a crawler, and this was answered: the list of events, if one is told; or
+-- why the request was refused
+abbrev pub Fulfils : RootRequestData → CrawlerData → Result (Option (List RootEvent)) CrawlFault
     → CrawlerData → Type 0
 Fulfils (passing root) before told after = Crawled root before told after
 Fulfils (showing root) before told after =
@@ -28,9 +28,10 @@ Fulfils (ending number) before told after =
 
 -- the roots do what a session asks, and answer this: by the crawler that is shown, and what it is
 -- then is shown; or by some crawler, where none is shown
-abbrev pub Gives : Option CrawlerData → WishData → Result (Option (List RootEvent)) CrawlFault
-    → Option CrawlerData → Type 0
-Gives (Some before) wish told after =
-    (left : CrawlerData) × Fulfils wish before told left × (after ≡ Some left)
-Gives None wish told after =
-    (before : CrawlerData) × (left : CrawlerData) × Fulfils wish before told left × (after ≡ None)
+abbrev pub Gives : Option CrawlerData → RootRequestData
+    → Result (Option (List RootEvent)) CrawlFault → Option CrawlerData → Type 0
+Gives (Some before) request told after =
+    (left : CrawlerData) × Fulfils request before told left × (after ≡ Some left)
+Gives None request told after =
+    (before : CrawlerData) × (left : CrawlerData) × Fulfils request before told left
+    × (after ≡ None)

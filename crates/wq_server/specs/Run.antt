@@ -1,16 +1,12 @@
--- A run of the server, and what is looked at of a root in it.
+-- What is looked at of a root in a run of the server.
 -- No public document is behind it.
-use Rattle.std.specs.Prelude.{◌≡◌, ℕ, List, Option, Some, None}
-use Rattle.wq_clock.specs.Instance.{InstanceData}
+use Rattle.std.specs.Prelude.{◌≡◌, List, Option, Some, None}
+use Rattle.wq_clock.specs.Run.{instance_of, run_data}
+use Rattle.wq_clock.specs.declared.run.Run.{Run}
 use Rattle.wq_view.specs.View.{IsViewOf}
 use Rattle.wq_live.specs.Event.{Root, root_named, passes_over}
 use Rattle.wq_live.specs.declared.event.RootEvent.{RootEvent}
-use Rattle.wq_server.specs.declared.run.Run.{Run}
 use Rattle.wq_session.specs.Query.{AtData}
-
--- a root of a run, by its number
-abbrev pub instance_in : Run → ℕ → InstanceData
-instance_in run root = record { start = run.start; pid = run.pid; root = root }
 
 -- what is looked at of a list of events: the root of this text with the view of the passes over it,
 -- if it is shown there
@@ -18,5 +14,5 @@ abbrev pub ShowsAt : Run → List ℕ → List RootEvent → Option AtData → T
 ShowsAt run text events None = root_named text events ≡ None
 ShowsAt run text events (Some at) =
     (root : Root) × (root_named text events ≡ Some root)
-    × (at.instance ≡ instance_in run root.number)
+    × (at.instance ≡ instance_of (run_data run) root.number)
     × IsViewOf (passes_over root.number events) at.view

@@ -20,7 +20,7 @@ use Rattle.wq_server.specs.Inbox.{Hands}
 use Rattle.wq_server.specs.Limit.{max_events}
 use Rattle.wq_server.specs.Ready.{KnownData, ReadyData, Readies}
 use Rattle.wq_server.specs.Crawl.{CrawlerData}
-use Rattle.wq_server.specs.declared.run.Run.{Run}
+use Rattle.wq_clock.specs.declared.run.Run.{Run}
 
 -- what the ends of a session show: the events that are left, what is known of the roots, and the
 -- shelf

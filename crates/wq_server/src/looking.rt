@@ -7,8 +7,7 @@ ghost use Rattle.wq_session.specs.Need.{need_of};
 ghost use Rattle.wq_session.specs.Query.{AtData};
 ghost use Rattle.wq_session.specs.Work.{at_data};
 
-use crate::run::Run;
-use wq_clock::Instance;
+use wq_clock::{Instance, Run};
 use wq_live::{Look, Named, Seat};
 use wq_session::{Ask, At, Need};
 

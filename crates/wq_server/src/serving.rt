@@ -7,10 +7,10 @@ use crate::answering::{Client, answer};
 use crate::desk::Desk;
 use crate::inbox::Inbox;
 use crate::roots::Roots;
-use crate::run::Run;
 use crate::writing::write_reply;
 use std::alloc::Global;
 use std::io::Write;
+use wq_clock::Run;
 use wq_live::{Named, Seat};
 use wq_session::{Ask, Out, Session};
 

@@ -45,14 +45,14 @@ use Rattle.wq_session.specs.declared.refusal.Refusal.TheVariants.{RootNotAbsolut
 use Rattle.wq_session.specs.declared.refusal.Refusal.TheVariants.{NotBase64, WrongFile, WrongProgram}
 use Rattle.wq_session.specs.declared.refusal.Refusal.TheVariants.{BadName, NoMemory}
 
--- what a line wishes before the program that it adds, if it adds one, is looked at
-pub data WishData : Type 0 where
+-- what a line requests before the program that it adds, if it adds one, is looked at
+pub data RequestData : Type 0 where
   -- this ask, of which nothing is left to be looked at
-  complete : Ask → WishData
+  complete : Ask → RequestData
   -- which files of a root there are, as an object says
-  queries : (root : List ℕ) → Data → WishData
+  queries : (root : List ℕ) → Data → RequestData
   -- that the program of a file is kept under a name
-  adds : (name : List ℕ) → (file : List ℕ) → WishData
+  adds : (name : List ℕ) → (file : List ℕ) → RequestData
 
 -- a command's name with its arguments
 pub record WordsData : Type 0 where
@@ -70,52 +70,52 @@ words_of (array (item (string name) arguments)) =
 words_of _ = None
 
 -- that the program of a base64 text is kept under a name
-abbrev pub adding : List ℕ × List ℕ → Result WishData Refusal
+abbrev pub adding : List ℕ × List ℕ → Result RequestData Refusal
 adding (name, text) =
     unless_fault BadName (is_name name) (
     or_its_fault (λ _. NotBase64) (decode_of standard text) (λ file.
     Ok (adds name file)))
 
 -- that a root is watched
-abbrev pub watching : List ℕ → Result WishData Refusal
+abbrev pub watching : List ℕ → Result RequestData Refusal
 watching root = unless_fault RootNotAbsolute (is_absolute root) (Ok (complete (AsksWatch root)))
 
--- what a command with these arguments wishes
-abbrev pub wish_of : Command → Items → Result WishData Refusal
-wish_of Watch arguments = or_fault WrongArguments (one_text arguments) watching
-wish_of WatchProject arguments = or_fault WrongArguments (one_text arguments) watching
-wish_of ListRoots arguments =
+-- what a command with these arguments requests
+abbrev pub request_of : Command → Items → Result RequestData Refusal
+request_of Watch arguments = or_fault WrongArguments (one_text arguments) watching
+request_of WatchProject arguments = or_fault WrongArguments (one_text arguments) watching
+request_of ListRoots arguments =
     unless_fault WrongArguments (are_none arguments) (Ok (complete AsksListRoots))
-wish_of DeleteRoot arguments =
+request_of DeleteRoot arguments =
     or_fault WrongArguments (one_text arguments) (λ root. Ok (complete (AsksDeleteRoot root)))
-wish_of Query arguments =
+request_of Query arguments =
     or_fault WrongArguments (query_arguments arguments) (λ (root, d). Ok (queries root d))
-wish_of Clock arguments =
+request_of Clock arguments =
     or_fault WrongArguments (clock_arguments arguments) (λ (root, crawl).
     Ok (complete (AsksClock root crawl)))
-wish_of Version arguments =
+request_of Version arguments =
     unless_fault WrongArguments (are_options arguments) (Ok (complete AsksVersion))
-wish_of SocketName arguments =
+request_of SocketName arguments =
     unless_fault WrongArguments (are_none arguments) (Ok (complete AsksSocketName))
-wish_of ShutDown arguments =
+request_of ShutDown arguments =
     unless_fault WrongArguments (are_none arguments) (Ok (complete AsksShutDown))
-wish_of AddProgram arguments = or_fault WrongArguments (two_texts arguments) adding
-wish_of ListPrograms arguments =
+request_of AddProgram arguments = or_fault WrongArguments (two_texts arguments) adding
+request_of ListPrograms arguments =
     unless_fault WrongArguments (are_none arguments) (Ok (complete AsksListPrograms))
-wish_of DeleteProgram arguments =
+request_of DeleteProgram arguments =
     or_fault WrongArguments (one_text arguments) (λ name.
     unless_fault BadName (is_name name) (Ok (complete (AsksDeleteProgram name))))
 
--- what the value of a line wishes
-abbrev pub wish_of_value : Data → Result WishData Refusal
-wish_of_value value =
+-- what the value of a line requests
+abbrev pub request_of_value : Data → Result RequestData Refusal
+request_of_value value =
     or_fault NotACommand (words_of value) (λ words.
     or_fault UnknownCommand (command_named words.name) (λ command.
-    wish_of command words.arguments))
+    request_of command words.arguments))
 
--- what a line wishes
-abbrev pub wished : List ℕ → Result WishData Refusal
-wished line = or_fault NotJson (value_of line) wish_of_value
+-- what a line requests
+abbrev pub requested : List ℕ → Result RequestData Refusal
+requested line = or_fault NotJson (value_of line) request_of_value
 
 -- what is asked where the program of a file is to be kept: a program that may run, or the first
 -- fault of the file or of its program
@@ -130,16 +130,16 @@ abbrev pub IsQuerying : List ℕ → Data → Ask → Type 0
 IsQuerying root d (AsksQuery r q) = (r ≡ root) × (data_of q ≡ d)
 IsQuerying root d _ = ⊥
 
--- what is asked by a wish
-abbrev pub IsWished : Result WishData Refusal → Ask → Type 0
-IsWished (Err refusal) ask = ask ≡ Refused refusal
-IsWished (Ok (complete asked)) ask = ask ≡ asked
-IsWished (Ok (queries root d)) ask = IsQuerying root d ask
-IsWished (Ok (adds name file)) ask = IsAdding name (file_at file) ask
+-- what is asked by a request
+abbrev pub IsRequested : Result RequestData Refusal → Ask → Type 0
+IsRequested (Err refusal) ask = ask ≡ Refused refusal
+IsRequested (Ok (complete asked)) ask = ask ≡ asked
+IsRequested (Ok (queries root d)) ask = IsQuerying root d ask
+IsRequested (Ok (adds name file)) ask = IsAdding name (file_at file) ask
 
 -- what an event asks; of a line it may be that memory ran out
 abbrev pub Asks : Event → Ask → Type 0
-Asks (Line line) ask = IsWished (wished line) ask ⊎ (ask ≡ Refused NoMemory)
+Asks (Line line) ask = IsRequested (requested line) ask ⊎ (ask ≡ Refused NoMemory)
 Asks Long ask = ask ≡ Refused LineTooLong
 Asks Binary ask = ask ≡ Refused Bser
 Asks (Idle root) ask = ask ≡ Nothing

@@ -11,7 +11,7 @@ use Rattle.wq_clock.specs.Instance.{instance_data}
 use Rattle.wq_query.specs.Query.{planned}
 use Rattle.wq_session.specs.Begun.{WorkData, says, evaluates, BegunData}
 use Rattle.wq_session.specs.Query.{AtData, ShelfNow}
-use Rattle.wq_session.specs.Reading.{WishData, IsWished}
+use Rattle.wq_session.specs.Reading.{RequestData, IsRequested}
 use Rattle.wq_session.specs.declared.ask.Ask.{Ask}
 use Rattle.wq_session.specs.declared.ask.Ask.TheVariants.{Refused}
 use Rattle.wq_session.specs.declared.at.At.{At}
@@ -29,11 +29,11 @@ work_data (Evaluates plan cursor) = evaluates (planned plan) cursor
 abbrev pub at_data : At → AtData
 at_data at = record { instance = instance_data at.instance; view = at.view.now }
 
--- the result is what is asked by a wish, or memory ran out
-abbrev pub Wishes : Result WishData Refusal → Result Ask Refusal → Type 0
-Wishes wish (Ok ask) = IsWished wish ask
-Wishes wish (Err NoMemory) = Unit {0}
-Wishes wish (Err refusal) = IsWished wish (Refused refusal)
+-- the result is what is asked by a request, or memory ran out
+abbrev pub Requests : Result RequestData Refusal → Result Ask Refusal → Type 0
+Requests request (Ok ask) = IsRequested request ask
+Requests request (Err NoMemory) = Unit {0}
+Requests request (Err refusal) = IsRequested request (Refused refusal)
 
 -- the result is the bytes of a base64 text, or that it is none, or memory ran out
 abbrev pub DecodesTo : Result (List ℕ) DecodeError → Result (Vec ℕ Global) Refusal → Type 0

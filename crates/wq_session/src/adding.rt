@@ -4,8 +4,8 @@ ghost use Rattle.base64.specs.GeneralPurpose.{decode_of};
 ghost use Rattle.base64.specs.Engines.{standard};
 ghost use Rattle.wq_code.specs.File.{file_at};
 ghost use Rattle.wq_session.specs.Argument.{is_name};
-ghost use Rattle.wq_session.specs.Reading.{WishData, adding, adds};
-ghost use Rattle.wq_session.specs.Work.{Wishes, DecodesTo};
+ghost use Rattle.wq_session.specs.Reading.{RequestData, adding, adds};
+ghost use Rattle.wq_session.specs.Work.{Requests, DecodesTo};
 
 use crate::ask::Ask;
 use crate::refusal::Refusal;
@@ -21,7 +21,7 @@ const MAX_NAME: usize = 255;
 
 /// That the program of a base64 text is kept under a name.
 pub(crate) fn adding(alloc: Global, name: Text, text: &Text) -> Result<Ask, Refusal>
-    ensures { Wishes (adding (name, text.now)) result }
+    ensures { Requests (adding (name, text.now)) result }
 {
     if !is_name(&name) {
         return Err(Refusal::BadName);
@@ -51,7 +51,7 @@ fn bytes_of(alloc: Global, text: &Text) -> Result<Vec<u8>, Refusal>
 
 /// That the program of a file is kept under a name.
 fn added(alloc: Global, name: Text, file: &[u8]) -> Result<Ask, Refusal>
-    ensures { Wishes (Ok (adds name file.now)) result }
+    ensures { Requests (Ok (adds name file.now)) result }
 {
     let raw = match decode(alloc, file) {
         Ok(raw) => raw,

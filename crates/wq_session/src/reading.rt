@@ -4,9 +4,9 @@ ghost use Rattle.serde_json.specs.View.{view as data_of, items_view};
 ghost use Rattle.wq_base.specs.Fault.{unless_fault};
 ghost use Rattle.wq_session.specs.Command.{command_named};
 ghost use Rattle.wq_session.specs.Argument.{behind};
-ghost use Rattle.wq_session.specs.Reading.{Asks, complete, value_of, watching, wish_of, wish_of_value, wished};
+ghost use Rattle.wq_session.specs.Reading.{Asks, complete, value_of, watching, request_of, request_of_value, requested};
 ghost use Rattle.wq_session.specs.declared.refusal.Refusal.TheVariants.{WrongArguments};
-ghost use Rattle.wq_session.specs.Work.{GivesValue, Wishes};
+ghost use Rattle.wq_session.specs.Work.{GivesValue, Requests};
 
 use crate::adding::{adding, is_name};
 use crate::arguments::{
@@ -44,7 +44,7 @@ impl Ask {
 
 /// What a line asks.
 fn asked(alloc: Global, line: &[u8]) -> Result<Ask, Refusal>
-    ensures { Wishes (wished line.now) result }
+    ensures { Requests (requested line.now) result }
 {
     let value = read_value(alloc, line)?;
     asked_by(alloc, value)
@@ -63,7 +63,7 @@ fn read_value(alloc: Global, line: &[u8]) -> Result<Value, Refusal>
 
 /// What the value of a line asks.
 fn asked_by(alloc: Global, value: Value) -> Result<Ask, Refusal>
-    ensures { Wishes (wish_of_value (data_of value)) result }
+    ensures { Requests (request_of_value (data_of value)) result }
 {
     let Value::Array(words) = value else {
         return Err(Refusal::NotACommand);
@@ -80,7 +80,7 @@ fn asked_by(alloc: Global, value: Value) -> Result<Ask, Refusal>
 impl Command {
     /// What the command asks with these words, of which the first is its name.
     fn asked(self, alloc: Global, words: Vec<Value>) -> Result<Ask, Refusal>
-        ensures { Wishes (wish_of self (behind (items_view words.items))) result }
+        ensures { Requests (request_of self (behind (items_view words.items))) result }
     {
         match self {
             Command::Watch | Command::WatchProject => match one_text(words) {
@@ -119,7 +119,7 @@ impl Command {
 
 /// That a root is watched.
 fn watching(root: Text) -> Result<Ask, Refusal>
-    ensures { Wishes (watching root) result }
+    ensures { Requests (watching root) result }
 {
     if is_absolute(&root) {
         Ok(Ask::Watch { root })
@@ -130,7 +130,7 @@ fn watching(root: Text) -> Result<Ask, Refusal>
 
 /// What is asked, where the arguments are right.
 fn unless_wrong(right: bool, ask: Ask) -> Result<Ask, Refusal>
-    ensures { Wishes (unless_fault WrongArguments right (Ok (complete ask))) result }
+    ensures { Requests (unless_fault WrongArguments right (Ok (complete ask))) result }
 {
     if right {
         Ok(ask)

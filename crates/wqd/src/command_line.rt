@@ -6,7 +6,7 @@ use clap::error::ErrorKind;
 use clap::{Arg, ArgMatches, Command, Error};
 use std::alloc::{AllocError, AllocFailed, Global};
 use wq_base::{MAX_NUMBER, unsigned_number};
-use wq_server::Run;
+use wq_clock::Run;
 
 /// How many milliseconds lie between two rounds of crawls, where the command line does not say it.
 const INTERVAL: u64 = 1_000;

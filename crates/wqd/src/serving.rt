@@ -7,9 +7,10 @@ use std::process::ExitCode;
 use std::sync::Wait;
 use std::thread::Threads;
 use std::time::{Clock, Duration};
+use wq_clock::Run;
 use wq_daemon::{Listening, Notices, Parts, SEATS, listen, remove, serve_clients};
 use wq_live::{Blank, Tree};
-use wq_server::{Run, Seconds};
+use wq_server::Seconds;
 
 /// What the command line says of the server.
 #[derive(Debug, Drop)]

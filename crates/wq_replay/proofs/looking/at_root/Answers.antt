@@ -1,7 +1,7 @@
 -- The number and the view that are found.
 use Rattle.std.proofs.Common.{sym}
 use Rattle.wq_clock.specs.Instance.{instance_data}
-use Rattle.wq_replay.specs.Stands.{run_data}
+use Rattle.wq_clock.specs.Run.{run_data}
 use Rattle.wq_replay.specs.World.{root_in}
 use Rattle.wq_replay.proofs.Tables.{at_found}
 use Rattle.wq_replay.proofs.looking.at_root.Goals as goal

@@ -1,7 +1,6 @@
 -- The number that is found.
 use Rattle.std.proofs.Common.{Some, option_map, sym, ap, ◌∙◌}
-use Rattle.wq_replay.specs.Stands.{run_data}
-use Rattle.wq_replay.specs.World.{instance_of}
+use Rattle.wq_clock.specs.Run.{instance_of, run_data}
 use Rattle.wq_replay.proofs.looking.shown.Goals as goal
 
 pub returns : goal.returns

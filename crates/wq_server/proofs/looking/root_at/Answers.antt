@@ -2,7 +2,7 @@
 use Rattle.std.proofs.Common.{ap, subst, ◌∙◌}
 use Rattle.wq_live.specs.Event.{root_named, passes_over}
 use Rattle.wq_view.specs.View.{IsViewOf}
-use Rattle.wq_server.specs.Run.{instance_in}
+use Rattle.wq_clock.specs.Run.{instance_of, run_data}
 use Rattle.wq_server.proofs.Shown.{root_found}
 use Rattle.wq_server.proofs.looking.root_at.Goals as goal
 
@@ -11,6 +11,6 @@ returns g c =
     let it = root_found (root_named c.args.root.now c.args.look.now) c.in_ok-number.number c.in_ok-number.ensures.number in (
       it.0,
       it.1,
-      c.instance.ensures ∙ ap (instance_in c.args.run) it.2,
+      c.instance.ensures ∙ ap (instance_of (run_data c.args.run)) it.2,
       subst (λ n. IsViewOf (passes_over n c.args.look.now) c.in_ok-number.view.now) it.2 c.in_ok-number.ensures.view,
     )

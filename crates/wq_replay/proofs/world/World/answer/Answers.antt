@@ -3,8 +3,9 @@ use Rattle.std.proofs.Common.{option_map, sym, ap, ◌∙◌}
 use Rattle.wq_clock.specs.Instance.{instance_data}
 use Rattle.wq_session.specs.Need.{need_of}
 use Rattle.wq_session.specs.Needed.{need_data}
-use Rattle.wq_replay.specs.Stands.{Stands, refused_data, run_data}
-use Rattle.wq_replay.specs.World.{instance_of, unrefused}
+use Rattle.wq_clock.specs.Run.{instance_of, run_data}
+use Rattle.wq_replay.specs.Stands.{Stands, refused_data}
+use Rattle.wq_replay.specs.World.{unrefused}
 use Rattle.wq_replay.proofs.Worlds.{ends_none, ends_some, fault_is, gets_ended, gets_looked, gets_refused}
 use Rattle.wq_replay.proofs.world.World.answer.Goals as goal
 

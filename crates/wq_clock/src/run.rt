@@ -1,12 +1,12 @@
-//! A run of the server.
+//! Runs of the server.
 ghost use Rattle.std.specs.Prelude.{◌≡◌, ◌≤◌};
 ghost use Rattle.wq_base.specs.Limit.{max_number};
 
+use crate::instance::Instance;
 use wq_base::MAX_NUMBER;
-use wq_clock::Instance;
 
 /// One run of the server. Each number is at most [`MAX_NUMBER`].
-#[derive(Clone, Copy, Debug)]
+#[derive(Clone, Copy, Debug, PartialEq, Eq)]
 pub struct Run {
     /// The second of the Unix epoch at which the server started.
     pub start: u64,
@@ -18,14 +18,13 @@ pub struct Run {
 
 impl Run {
     ghost use Rattle.wq_clock.specs.Instance.{instance_data};
-    ghost use Rattle.wq_server.specs.Run.{instance_in};
+    ghost use Rattle.wq_clock.specs.Run.{instance_of, run_data};
 
     /// The run of these numbers.
     pub const fn new(start: u64, pid: u64) -> Run
         requires start { start ≤ MAX_NUMBER }
         requires pid { pid ≤ MAX_NUMBER }
-        ensures start { result.start ≡ start }
-        ensures pid { result.pid ≡ pid }
+        ensures { run_data result ≡ record { start = start; pid = pid } }
     {
         Run { start, pid }
     }
@@ -33,7 +32,7 @@ impl Run {
     /// The root of this number in this run.
     pub fn instance(self, root: u64) -> Instance
         requires { root ≤ MAX_NUMBER }
-        ensures { instance_data result ≡ instance_in self root }
+        ensures { instance_data result ≡ instance_of (run_data self) root }
     {
         Instance::new(self.start, self.pid, root)
     }
