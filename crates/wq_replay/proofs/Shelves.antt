@@ -11,7 +11,7 @@ use Rattle.wq_session.specs.declared.ask.Ask.{Ask}
 use Rattle.wq_session.specs.declared.crawl.CrawlFault.{CrawlFault}
 use Rattle.wq_session.specs.declared.refusal.Refusal.TheVariants.{NoMemory}
 use Rattle.wq_view.specs.Listing.{PassData}
-use Rattle.wq_replay.specs.Accepted.{AcceptsFor, AcceptsOf, RunsWith, ShelvesAreCalls}
+use Rattle.wq_replay.specs.Accepted.{AcceptsAt, AcceptsOf, AcceptsUnless, RunsWith, ShelvesAreCalls}
 use Rattle.wq_replay.specs.World.{AnswersAt, Crawls, CrawlsAt, Does, GetsAt, GetsFor, HappeningData, crawl, opening, asked, OpensAt, Runs, SentData, Starts, WorldData, ending, fault_for, looked, new_world, number_in, shows}
 
 -- a crawl leaves the shelf
@@ -41,26 +41,22 @@ opens false table world root seen after (inr (room, goes)) = starts (table.given
 
 module _ (answers_are_calls : AnswersAreCalls) where
   -- what an ask gets
-  answers : (at : Option AtData) (world : WorldData) (ask : Ask) (out : OutData) (after : WorldData) → AnswersAt at world ask out after
-      → (calls : List CallNow) × AcceptsFor world ask out calls × (after.shelf ≡ after_all calls world.shelf)
-  answers at world ask out after (shelf, gets, is) =
-      let it = answers_are_calls ask at world.shelf out shelf gets in
-      (it.0, inl (at, it.1), ap (λ w. w.shelf) is ∙ it.2)
-
   ends : (number : Option ℕ) (table : TableData) (world : WorldData) (ask : Ask) (out : OutData) (after : WorldData)
       → GetsAt number table world ask out after
-      → (calls : List CallNow) × AcceptsFor world ask out calls × (after.shelf ≡ after_all calls world.shelf)
-  ends None table world ask out after gets = answers (looked (need_of ask) world.run table) world ask out after gets
+      → (calls : List CallNow) × AcceptsAt number table world ask out calls × (after.shelf ≡ after_all calls world.shelf)
+  ends None table world ask out after (shelf, gets, is) =
+      let it = answers_are_calls ask _ world.shelf out shelf gets in
+      (it.0, it.1, ap (λ w. w.shelf) is ∙ it.2)
   ends (Some number) table world ask out after (inl (shelf, gets, is)) =
       let it = answers_are_calls ask _ world.shelf out shelf gets in
-      (it.0, inl (_, it.1), ap (λ w. w.shelf) is ∙ it.2)
-  ends (Some number) table world ask out after (inr (may, is)) = ([], inr (NoMemory, may, refl), ap (λ w. w.shelf) is)
+      (it.0, inl it.1, ap (λ w. w.shelf) is ∙ it.2)
+  ends (Some number) table world ask out after (inr (may, is)) = ([], inr (may, refl), ap (λ w. w.shelf) is)
 
   gets_for : (fault : Option CrawlFault) (table : TableData) (world : WorldData) (ask : Ask) (out : OutData) (after : WorldData)
       → GetsFor fault table world ask out after
-      → (calls : List CallNow) × AcceptsFor world ask out calls × (after.shelf ≡ after_all calls world.shelf)
+      → (calls : List CallNow) × AcceptsUnless fault table world ask out calls × (after.shelf ≡ after_all calls world.shelf)
   gets_for None table world ask out after gets = ends (ending (need_of ask) table) table world ask out after gets
-  gets_for (Some fault) table world ask out after (may, is) = ([], inr (crawl_refusal fault, may, refl), ap (λ w. w.shelf) is)
+  gets_for (Some fault) table world ask out after (may, is) = ([], (may, refl), ap (λ w. w.shelf) is)
 
   -- what happens
   does : (world : WorldData) (happening : HappeningData) (sent : List SentData) (after : WorldData) → Does world happening sent after
@@ -69,7 +65,7 @@ module _ (answers_are_calls : AnswersAreCalls) where
   does world (opening root seen) sent after (none, (table, is, goes)) = ([], refl, opens (shows root table) table world root seen after goes)
   does world (asked client ask) sent after (out, (table, is, gets), same) =
       let it = gets_for (fault_for (need_of ask) table world.refused) table world ask out after gets in
-      (it.0, (out, it.1, same), it.2)
+      (it.0, (out, (table, is, it.1), same), it.2)
 
   after_both : (first later : List CallNow) (shelf : ShelfNow) → after_all (first ++ later) shelf ≡ after_all later (after_all first shelf)
   after_both [] later shelf = refl
@@ -83,7 +79,7 @@ module _ (answers_are_calls : AnswersAreCalls) where
       let one = does world happening first next now in
       let more = runs next later rest after goes in (
         one.0 ++ more.0,
-        (next, first, rest, one.0, more.0, now, one.1, is, refl, more.1),
+        (next, first, rest, one.0, more.0, now, one.1, one.2, is, refl, more.1),
         more.2 ∙ ap (after_all more.0) one.2 ∙ sym (after_both one.0 more.0 world.shelf),
       )
 

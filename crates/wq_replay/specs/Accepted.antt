@@ -1,25 +1,45 @@
 -- The calls of the shelf that were accepted of what happened in a world, and that its shelf is what
 -- they come to.
 -- No public document is behind it.
-use Rattle.std.specs.Prelude.{◌≡◌, ◌⊎◌, List, [], ◌∷◌, ◌++◌, Option, ℕ}
+use Rattle.std.specs.Prelude.{◌≡◌, ◌⊎◌, List, [], ◌∷◌, ◌++◌, Option, Some, None, ℕ}
+use Rattle.wq_clock.specs.Run.{RunData}
+use Rattle.wq_live.specs.Table.{TableData, IsTableOf}
 use Rattle.wq_registry.specs.History.{adds_root, after_all}
 use Rattle.wq_registry.specs.Shelf.{blank}
 use Rattle.wq_session.specs.Accepted.{CallNow, Accepts}
 use Rattle.wq_session.specs.Answer.{MayRefuse}
+use Rattle.wq_session.specs.Crawl.{crawl_refusal}
+use Rattle.wq_session.specs.Need.{need_of}
 use Rattle.wq_session.specs.Out.{OutData}
-use Rattle.wq_session.specs.Query.{AtData}
 use Rattle.wq_session.specs.declared.ask.Ask.{Ask}
-use Rattle.wq_session.specs.declared.refusal.Refusal.{Refusal}
-use Rattle.wq_clock.specs.Run.{RunData}
+use Rattle.wq_session.specs.declared.crawl.CrawlFault.{CrawlFault}
+use Rattle.wq_session.specs.declared.refusal.Refusal.TheVariants.{NoMemory}
 use Rattle.wq_replay.specs.World.{WorldData, HappeningData, crawl, opening, asked, SentData}
-use Rattle.wq_replay.specs.World.{Does, Runs, new_world, root_text, sent_to}
+use Rattle.wq_replay.specs.World.{Does, Runs, at_end, ending, fault_for, looked, new_world, root_text}
+use Rattle.wq_replay.specs.World.{sent_to}
 
--- these calls were accepted of an ask that got this: those of its answer at what was looked at; or
--- none, where its crawl, its opening or its end was refused
+-- these calls were accepted of an ask that ends the root of this number, or none: those of its
+-- answer, at the root that it names, or at the end of the one that it ends; or none, where memory ran
+-- out over that end
+abbrev pub AcceptsAt : Option ℕ → TableData → WorldData → Ask → OutData → List CallNow → Type 0
+AcceptsAt None table world ask out calls =
+    Accepts ask (looked (need_of ask) world.run table) world.shelf out calls
+AcceptsAt (Some number) table world ask out calls =
+    Accepts ask (Some (at_end world.run number)) world.shelf out calls
+    ⊎ (MayRefuse NoMemory out × (calls ≡ []))
+
+-- these calls were accepted of an ask: none, where its crawl or opening was refused
+abbrev pub AcceptsUnless : Option CrawlFault → TableData → WorldData → Ask → OutData → List CallNow
+    → Type 0
+AcceptsUnless (Some fault) table world ask out calls =
+    MayRefuse (crawl_refusal fault) out × (calls ≡ [])
+AcceptsUnless None table world ask out calls =
+    AcceptsAt (ending (need_of ask) table) table world ask out calls
+
+-- these calls were accepted of an ask that got this in a world
 abbrev pub AcceptsFor : WorldData → Ask → OutData → List CallNow → Type 0
-AcceptsFor world ask out calls =
-    ((at : Option AtData) × Accepts ask at world.shelf out calls)
-    ⊎ ((refusal : Refusal) × MayRefuse refusal out × (calls ≡ []))
+AcceptsFor world ask out calls = (table : TableData) × IsTableOf world.events table
+    × AcceptsUnless (fault_for (need_of ask) table world.refused) table world ask out calls
 
 -- these calls were accepted of what happened
 abbrev pub AcceptsOf : WorldData → HappeningData → List SentData → List CallNow → Type 0
@@ -28,13 +48,14 @@ AcceptsOf world (opening root seen) sent calls = calls ≡ []
 AcceptsOf world (asked client ask) sent calls =
     (out : OutData) × AcceptsFor world ask out calls × (sent ≡ sent_to client out)
 
--- one after the other happens, and of all together these calls were accepted
+-- one after the other happens, and of all together these calls were accepted: those of each lead from
+-- the shelf before it to the one after it
 abbrev pub RunsWith : WorldData → List HappeningData → List SentData → WorldData → List CallNow → Type 0
 RunsWith world [] sent after calls = (sent ≡ []) × (after ≡ world) × (calls ≡ [])
 RunsWith world (happening ∷ later) sent after calls =
     (next : WorldData) × (first rest : List SentData) × (now : List CallNow) × (behind : List CallNow)
     × Does world happening first next × AcceptsOf world happening first now
-    × (sent ≡ first ++ rest) × (calls ≡ now ++ behind) × RunsWith next later rest after behind
+    × (next.shelf ≡ after_all now world.shelf) × (sent ≡ first ++ rest) × (calls ≡ now ++ behind) × RunsWith next later rest after behind
 
 -- the shelf of a world is what the calls come to that were accepted of all that happened, behind
 -- that of the root that a new world has

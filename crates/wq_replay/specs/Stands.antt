@@ -5,7 +5,7 @@ use Rattle.std.specs.Borrow.{Bor}
 use Rattle.wq_live.specs.Table.{IsTableOf}
 use Rattle.wq_session.specs.declared.crawl.CrawlFault.{CrawlFault}
 use Rattle.wq_view.specs.Listing.{PassData}
-use Rattle.wq_clock.specs.Run.{RunData}
+use Rattle.wq_clock.specs.Run.{run_data}
 use Rattle.wq_replay.specs.World.{RefusedData, WorldData, Runs}
 use Rattle.wq_replay.specs.World.{HappeningData, crawl, opening, asked, SentData}
 use Rattle.wq_replay.specs.declared.happening.Happening.{Happening}

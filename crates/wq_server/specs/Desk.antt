@@ -11,7 +11,7 @@ use Rattle.wq_session.specs.declared.cursor.Cursor.{Cursor}
 use Rattle.wq_server.specs.Reached.{IsReached}
 
 -- an ask is taken at a shelf: at the one that is shown, and what it leaves is then shown; or, where
--- none is shown, at some shelf to which accepted calls lead
+-- none is shown, at some shelf to which leads what sessions did
 abbrev pub Holds : Option ShelfNow → Ask → Option AtData → WorkData → Option ShelfNow → Type 0
 Holds (Some shelf) ask at work after =
     (left : ShelfNow) × Takes ask at shelf work left × (after ≡ Some left)
@@ -23,7 +23,7 @@ abbrev pub Unsets : Option ShelfNow → Cursor → Option ShelfNow → Type 0
 Unsets shelf cursor after = after ≡ option_map (cursor_unset cursor.root cursor.name) shelf
 
 -- an ask is answered at a shelf: at the one that is shown, and what it leaves is then shown; or,
--- where none is shown, at some shelf to which accepted calls lead
+-- where none is shown, at some shelf to which leads what sessions did
 abbrev pub AnswersAt : Option ShelfNow → Ask → Option AtData → OutData → Option ShelfNow → Type 0
 AnswersAt (Some shelf) ask at out after =
     (left : ShelfNow) × Answers ask at shelf out left × (after ≡ Some left)

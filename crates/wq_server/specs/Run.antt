@@ -1,6 +1,6 @@
 -- What is looked at of a root in a run of the server.
 -- No public document is behind it.
-use Rattle.std.specs.Prelude.{◌≡◌, List, Option, Some, None}
+use Rattle.std.specs.Prelude.{◌≡◌, ℕ, List, Option, Some, None}
 use Rattle.wq_clock.specs.Run.{instance_of, run_data}
 use Rattle.wq_clock.specs.declared.run.Run.{Run}
 use Rattle.wq_view.specs.View.{IsViewOf}

@@ -31,4 +31,4 @@ pub use memory_roots::MemoryRoots;
 pub use roots::Roots;
 pub use serving::{Ended, MAX_EVENTS, serve};
 pub use shared_crawler::SharedCrawler;
-pub use shared_shelf::SharedShelf;
+pub use shared_shelf::{SharedShelf, reached_by_calls};

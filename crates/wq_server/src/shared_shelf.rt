@@ -1,7 +1,7 @@
 //! A shelf that many sessions share, one at a time.
 ghost use Rattle.std.specs.Prelude.{◌≡◌, option_map, string_bytes};
 ghost use Rattle.wq_registry.specs.Shelf.{blank, cursor_unset};
-ghost use Rattle.wq_server.specs.Reached.{IsReached};
+ghost use Rattle.wq_server.specs.Reached.{IsReached, ReachedByCalls};
 ghost use Rattle.wq_session.specs.Answer.{Takes};
 ghost use Rattle.wq_session.specs.Work.{at_data, work_data};
 
@@ -10,7 +10,8 @@ use std::marker::Model;
 use wq_registry::{Cache, Root, Shelf};
 use wq_session::{Ask, At, Cursor, Session, Work, answers_are_calls};
 
-/// A shelf that is changed by what sessions take and unset there, and by nothing else. So accepted calls lead to it.
+/// A shelf that is changed by what sessions take and unset there, and by nothing else: so that leads to it, from one on which
+/// nothing stands.
 #[derive(Drop)]
 pub struct SharedShelf {
     shelf: Shelf<()>,
@@ -62,7 +63,6 @@ impl SharedShelf {
         ensures reached { IsReached self.old }
         ensures taken { Takes ask (option_map at_data at.entry) self.old (work_data result) self.new }
     {
-        answers_are_calls();
         session.take(alloc, ask, at, &mut self.shelf)
     }
 
@@ -72,4 +72,11 @@ impl SharedShelf {
     {
         self.shelf.unset_cursor(cursor.root, cursor.name.as_str());
     }
+}
+
+/// To a shelf to which leads what sessions did, accepted calls lead. So the laws of lists of accepted calls hold there.
+pub fn reached_by_calls()
+    ensures { ReachedByCalls }
+{
+    answers_are_calls();
 }

@@ -23,8 +23,10 @@ pub struct Walker<T: Threads + Drop> {
 }
 
 impl<T: Threads + Drop> Walker<T> {
-    /// A walker that has listed nothing yet. It takes no memory.
-    pub fn new(files: &HostRuntime, threads: T, alloc: Global) -> Walker<T> {
+    /// A walker that has listed nothing yet, and counted no failure. It takes no memory.
+    pub fn new(files: &HostRuntime, threads: T, alloc: Global) -> Walker<T>
+        ensures { result.failures ≡ 0 }
+    {
         Walker {
             disk: FileDisk::new(files),
             threads,

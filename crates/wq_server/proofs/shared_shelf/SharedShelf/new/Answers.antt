@@ -1,4 +1,4 @@
--- No call leads to a shelf on which nothing stands.
+-- Nothing has to be done for a shelf on which nothing stands.
 use Rattle.std.proofs.Common.{sym, subst}
 use Rattle.wq_server.specs.Reached.{IsReached}
 use Rattle.wq_server.proofs.Reaching.{blank_reached}

@@ -1,4 +1,4 @@
--- Accepted calls lead to the shelf without a cursor.
+-- What sessions do leads to the shelf without a cursor.
 use Rattle.std.proofs.Common.{sym, subst}
 use Rattle.wq_server.specs.Reached.{IsReached}
 use Rattle.wq_server.proofs.Reaching.{unset_reached}
