@@ -1,0 +1,86 @@
+"""What a walk leaves out: paths that are too long for the system, and files that go while it walks."""
+
+import os
+import threading
+from pathlib import Path
+from typing import List
+
+import built
+from client import Server, query_of_names, same
+
+# The longest path that the system takes, in bytes.
+LONGEST_PATH = 4095
+# Names of folders in folders, which lead far beyond it.
+FOLDER = "f" * 200
+DEPTH = 25
+WALKS = 200
+FLEETING = 50
+
+
+def make_deep_folders(root: Path) -> List[str]:
+    """Folders in folders, each with a file, and their names below the root. Each is made from its folder, since the paths of
+    some are too long."""
+    names, below = [], ""
+    folder = os.open(root, os.O_RDONLY)
+    for _ in range(DEPTH):
+        os.close(os.open("file", os.O_WRONLY | os.O_CREAT, dir_fd=folder))
+        os.mkdir(FOLDER, dir_fd=folder)
+        names += [below + "file", below + FOLDER]
+        below += FOLDER + "/"
+        folder, upper = os.open(FOLDER, os.O_RDONLY, dir_fd=folder), folder
+        os.close(upper)
+    os.close(folder)
+    return names
+
+
+def check_paths_that_are_too_long(tally: built.Tally, room: Path) -> None:
+    """Files whose path with that of the root the system takes are listed, and no others."""
+    root = room / "tree"
+    root.mkdir()
+    names = make_deep_folders(root)
+    short = sorted(name for name in names if len(str(root)) + 1 + len(name) <= LONGEST_PATH)
+    with Server(room) as server, server.client() as client:
+        client.ask("watch", str(root))
+        files = client.ask("query", str(root), query_of_names())["files"]
+        tally.check("there are paths that are too long", 0 < len(short) < len(names))
+        same(tally, "paths that are not too long", [len(name) for name in files], [len(name) for name in short])
+        tally.check("their names", files == short)
+
+
+class Blinking(threading.Thread):
+    """Makes files in a folder and takes them away again, until it is told to end."""
+
+    def __init__(self, folder: Path) -> None:
+        super().__init__()
+        self.files = [folder / f"fleeting{number:02}" for number in range(FLEETING)]
+        self.ends = threading.Event()
+
+    def run(self) -> None:
+        while not self.ends.is_set():
+            for file in self.files:
+                file.touch()
+            for file in self.files:
+                file.unlink()
+
+
+def check_files_that_go_during_walks(tally: built.Tally, room: Path) -> None:
+    """While files come and go, each walk goes on: a reply has all files that stay, and besides none but those."""
+    root = room / "tree"
+    folder = root / "folder"
+    folder.mkdir(parents=True)
+    for number in range(FLEETING):
+        (folder / f"stays{number:02}").touch()
+    stays = sorted(["folder"] + [f"folder/stays{number:02}" for number in range(FLEETING)])
+    with Server(room) as server, server.client() as client:
+        client.ask("watch", str(root))
+        blinking = Blinking(folder)
+        fleeting = {f"folder/{file.name}" for file in blinking.files}
+        blinking.start()
+        replies = [client.ask("query", str(root), query_of_names()) for _ in range(WALKS)]
+        blinking.ends.set()
+        blinking.join()
+        wrong = [reply for reply in replies if sorted(set(reply.get("files", [])) - fleeting) != stays]
+        same(tally, "walks while files come and go", wrong[:1], [])
+        seen = {name for reply in replies for name in reply.get("files", [])} & fleeting
+        tally.check("files that come and go were seen", len(seen) > 0, [f"{len(seen)} files"])
+        same(tally, "when they are gone", client.ask("query", str(root), query_of_names())["files"], stays)
