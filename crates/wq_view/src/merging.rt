@@ -1,6 +1,6 @@
 //! Records and rows side by side, both in the byte order of their names: what a pass changes in a view.
 //! Each function goes over both lists once.
-ghost use Rattle.std.specs.Prelude.{◌≡◌, ◌+◌, ◌≤◌, ◌^◌, ◌<◌, ◌++◌, map, length, vec_len, IfOk, OnOk, OnErr, IsTrue};
+ghost use Rattle.std.specs.Prelude.{◌≡◌, ◌+◌, ◌≤◌, ◌^◌, ◌<◌, ◌++◌, map, length, vec_len, IfOk, OnOk, IsTrue};
 ghost use Rattle.std.specs.List.{list_all};
 ghost use Rattle.wq_view.specs.Seen.{is_lawful_row, is_count};
 ghost use Rattle.wq_view.specs.RecordData.{blank_record};
@@ -56,31 +56,26 @@ fn new_names(records: &[Record], rows: &[Seen]) -> usize
     count + rows_left.len()
 }
 
-/// Adds an unseen record for each row whose name has none.
-///
-/// It takes memory only where a name is new, and leaves the records as they were where that is refused
-/// or there would be too many.
-pub(crate) fn add_names(records: &mut Vec<Record>, rows: &[Seen]) -> Result<(), AllocError>
+/// The records, with an unseen one for each row whose name has none. Refused where there would be too many, too.
+pub(crate) fn with_names(
+    alloc: Global,
+    records: &[Record],
+    rows: &[Seen],
+) -> Result<Vec<Record>, AllocError>
     requires lawful { IsTrue (list_all is_lawful_row rows.now) }
-    requires bound { vec_len records.old ≤ MAX_RECORDS }
-    ensures ok { OnOk result (records.new.items ≡ with_names records.old.items rows.now) }
-    ensures bound { vec_len records.new ≤ MAX_RECORDS }
-    ensures err { OnErr result (records.new ≡ records.old) }
+    requires bound { length records.now ≤ MAX_RECORDS }
+    ensures names { IfOk result (λ merged. merged.items ≡ with_names records.now rows.now) }
+    ensures bound { IfOk result (λ merged. vec_len merged ≤ MAX_RECORDS) }
 {
     let new = new_names(records, rows);
-    if new == 0 {
-        return Ok(());
-    }
     if new > MAX_RECORDS - records.len() {
         return Err(AllocError);
     }
-    let alloc = *records.allocator();
-    *records = with_names(alloc, records, rows, new)?;
-    Ok(())
+    merged(alloc, records, rows, new)
 }
 
 /// The records, with an unseen one for each row whose name has none. This many rows are new.
-fn with_names(
+fn merged(
     alloc: Global,
     records: &[Record],
     rows: &[Seen],

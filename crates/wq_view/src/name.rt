@@ -52,6 +52,14 @@ impl Name {
         Name::share(&self.bytes)
     }
 
+    /// The bytes of the name, for another owner.
+    pub fn shared(&self) -> Result<ArcSlice<u8>, AllocError>
+        ensures value { IfOk result (λ bytes. arc_slice_items bytes ≡ self.now) }
+        ensures valid { IfOk result (λ bytes. IsTrue (is_valid_name (arc_slice_items bytes))) }
+    {
+        self.bytes.clone()
+    }
+
     /// The name as text, which a valid name is.
     pub fn as_str(&self) -> &str
         ensures { result.now ≡ self.now }

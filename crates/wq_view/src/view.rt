@@ -1,6 +1,6 @@
 //! The view of a root: the records of all files that its passes saw, in the byte order of their names.
-//! Lookups take no memory; only a pass that sees new names, and a copy, do.
-ghost use Rattle.std.specs.Prelude.{MatchOption, ℕ, nat_le, nat_lt, ◌==◌, ◌&&◌, ◌≡◌, ◌≢◌, ◌+◌, ◌≤◌, ◌<◌, ◌↔◌, List, [], ◌∷◌, ◌++◌, Ok, Err, Some, None, true, false, length, IfOk, OnOk, OnErr, IfErr, IfNone, IfSome, IsTrue, slice_get};
+//! Lookups take no memory; only a pass that moves the view, and a copy, do.
+ghost use Rattle.std.specs.Prelude.{MatchOption, ℕ, nat_le, nat_lt, ◌==◌, ◌&&◌, ◌≡◌, ◌≢◌, ◌+◌, ◌≤◌, ◌<◌, ◌↔◌, List, [], ◌∷◌, ◌++◌, Ok, Err, Some, None, true, false, length, IfOk, IfErr, IfNone, IfSome, IsTrue, slice_get};
 ghost use Rattle.wq_view.specs.RecordData.{record_named};
 ghost use Rattle.wq_view.specs.History.{History, last_stats};
 ghost use Rattle.wq_view.specs.Below.{is_below};
@@ -11,7 +11,7 @@ ghost use Rattle.wq_view.specs.View.{IsViewOf, NamesRise};
 use crate::file_record::Record;
 use crate::limit::{MAX_RECORDS, MAX_TICK};
 use crate::listing::Pass;
-use crate::merging::{add_names, observe_all, push_copies, shows};
+use crate::merging::{observe_all, push_copies, shows, with_names};
 use std::alloc::{AllocError, Global};
 use std::marker::Model;
 use thiserror::Error;
@@ -74,7 +74,7 @@ impl View {
 
     /// Takes in a pass, and says whether the tick moved: a pass that saw just what the one before it saw moves nothing.
     ///
-    /// In O(n + m) for n records and m rows. Only a pass that sees new names takes memory.
+    /// In O(n + m) for n records and m rows. Only a pass that moves it takes memory.
     pub fn absorb(&mut self, pass: &Pass) -> Result<bool, ViewFault>
         // For every history of which this is the view:
         ensures moved { (history : History) → IsViewOf history self.old
@@ -88,14 +88,38 @@ impl View {
         ensures room { result ≡ Ok true → self.old.tick < max_tick }
         ensures kept { result ≢ Ok true → self.new ≡ self.old }
     {
+        match self.after(pass) {
+            Ok(Some(next)) => {
+                *self = next;
+                Ok(true)
+            }
+            Ok(None) => Ok(false),
+            Err(fault) => Err(fault),
+        }
+    }
+
+    /// The view after a pass; none where that saw just what the pass before it saw. The records of the two share their names.
+    ///
+    /// In O(n + m) for n records and m rows. Only a pass that saw something else takes memory.
+    pub fn after(&self, pass: &Pass) -> Result<Option<View>, ViewFault>
+        // For every history of which this is the view:
+        ensures moved { (history : History) → IsViewOf history self.now
+            → IfOk result (λ next. IfSome next (IsViewOf (history ++ pass.now ∷ []))) }
+        ensures still { (history : History) → IsViewOf history self.now
+            → ((result ≡ Ok None) ↔ (last_stats history ≡ pass.now.stats)) }
+        ensures spent { (history : History) → IsViewOf history self.now
+            → ((result ≡ Err ViewFault.TicksSpent)
+            ↔ ((self.now.tick ≡ max_tick) × (last_stats history ≢ pass.now.stats))) }
+        // And for any:
+        ensures room { IfOk result (λ next. IfSome next (λ _. self.now.tick < max_tick)) }
+    {
         if self.shows(pass) {
-            return Ok(false);
+            return Ok(None);
         }
         if self.tick == MAX_TICK {
             return Err(ViewFault::TicksSpent);
         }
-        self.take_in(pass)?;
-        Ok(true)
+        Ok(Some(self.moved_by(pass)?))
     }
 
     /// Whether the pass saw just what the last one saw, so that taking it in would move nothing. It takes no memory.
@@ -106,18 +130,17 @@ impl View {
         shows(&self.records, pass.rows())
     }
 
-    /// Takes in a pass that saw something else than the one before it.
-    fn take_in(&mut self, pass: &Pass) -> Result<(), AllocError>
-        requires { self.old.tick < max_tick }
-        ensures ok { (history : History) → IsViewOf history self.old
-            → OnOk result (IsViewOf (history ++ pass.now ∷ []) self.new) }
-        ensures err { OnErr result (self.new ≡ self.old) }
+    /// The view after a pass that saw something else than the one before it.
+    fn moved_by(&self, pass: &Pass) -> Result<View, AllocError>
+        requires { self.now.tick < max_tick }
+        ensures { (history : History) → IsViewOf history self.now
+            → IfOk result (IsViewOf (history ++ pass.now ∷ [])) }
     {
         let rows = pass.rows();
-        add_names(&mut self.records, rows)?;
-        self.tick += 1;
-        observe_all(&mut self.records, rows, self.tick, pass.second());
-        Ok(())
+        let mut records = with_names(*self.records.allocator(), &self.records, rows)?;
+        let tick = self.tick + 1;
+        observe_all(&mut records, rows, tick, pass.second());
+        Ok(View { tick, records })
     }
 
     /// The number of the last pass that moved it, at most 2^62; 0 before any.

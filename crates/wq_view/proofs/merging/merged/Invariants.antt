@@ -3,7 +3,7 @@ use Rattle.std.proofs.Common.{◌≡◌, ◌+◌, ◌++◌, length, IsTrue}
 use Rattle.std.specs.List.{list_all}
 use Rattle.wq_view.specs.Seen.{is_lawful_row}
 use Rattle.wq_view.specs.Merge.{with_names}
-use Rattle.wq_view.proofs.merging.with_names.Given as goal
+use Rattle.wq_view.proofs.merging.merged.Given as goal
 
 abbrev pub invariant-loop-record : goal.invariant-loop-record
 invariant-loop-record l = record {

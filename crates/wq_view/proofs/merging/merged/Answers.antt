@@ -2,8 +2,8 @@
 use Rattle.std.proofs.Common.{◌≡◌, ◌++◌, map, length, ◌⊎◌, inl, inr, ap, sym, ◌∙◌, append_assoc}
 use Rattle.wq_view.specs.RecordData.{blank_record}
 use Rattle.wq_view.proofs.LeftOver.{left_over}
-use Rattle.wq_view.proofs.merging.with_names.Goals as goal
-use Rattle.wq_view.proofs.merging.with_names.Goals.{in_default, in_default-2}
+use Rattle.wq_view.proofs.merging.merged.Goals as goal
+use Rattle.wq_view.proofs.merging.merged.Goals.{in_default, in_default-2}
 
 pub returns : goal.returns
 returns c =
