@@ -1,7 +1,7 @@
 //! The publisher: the one that changes the list of events, and shows what follows from it.
 ghost use Rattle.std.specs.Prelude.{if◌then◌else◌, ◌+◌, ◌↔◌, None, option_map, ◌≡◌, ◌⊎◌, ◌++◌, ◌∷◌, [], Err, IfErr, IfOk, MatchResult, Some, drop, false, length, true};
 ghost use Rattle.left_right.specs.Sides.{view};
-ghost use Rattle.wq_live.specs.Front.{head_of};
+ghost use Rattle.wq_live.specs.Front.{Begins, head_of};
 ghost use Rattle.wq_base.specs.Limit.{max_number};
 ghost use Rattle.wq_view.specs.Limit.{max_tick};
 ghost use Rattle.wq_live.specs.Limit.{max_roots};
@@ -30,6 +30,8 @@ pub struct Publisher<N: Named, R: Wait + Drop> {
     head: Head,
     alloc: Global,
     rt: R,
+    /// Whether the table before the last one is kept too, for those that still look at it.
+    keeps_older: bool,
     of: PhantomData<N>,
 }
 
@@ -58,6 +60,7 @@ impl<N: Named, R: Wait + Drop> Drop for Publisher<N, R> {
             head: _,
             alloc: _,
             rt,
+            keeps_older: _,
             of: _,
         } = self;
         writer.take(&rt);
@@ -78,6 +81,7 @@ impl<N: Named, R: Wait + Drop> Publisher<N, R> {
             head,
             alloc,
             rt,
+            keeps_older: false,
             of: PhantomData,
         }
     }
@@ -180,6 +184,20 @@ impl<N: Named, R: Wait + Drop> Publisher<N, R> {
         self.add(next, slice::from_ref(&event))
     }
 
+    /// Lets go of the table before the last one, with the views that no other has. It changes nothing, and waits for those
+    /// that still look at that table.
+    pub fn let_go(&mut self)
+        ensures { self.new ≡ self.old }
+    {
+        if !self.keeps_older {
+            return;
+        }
+        if let Ok(again) = self.writer.published().again() {
+            self.show(again);
+            self.keeps_older = false;
+        }
+    }
+
     /// Adds events, and shows the table after them.
     fn add(&mut self, table: RootTable, events: &[RootEvent]) -> Result<Told<N>, AllocError>
         requires { IsTableOf (self.old ++ events.now) table }
@@ -194,11 +212,19 @@ impl<N: Named, R: Wait + Drop> Publisher<N, R> {
             return Err(AllocError);
         }
         let told = Shown::new(told, front.again());
-        let next = Shown::new(table, front);
+        self.show(Shown::new(table, front));
+        self.keeps_older = true;
+        Ok(Told::new(told))
+    }
+
+    /// Shows the next value, the list of which goes on from what is shown.
+    fn show(&mut self, next: Shown)
+        requires { Begins (record { book = N.book; log = self.old }) next }
+        ensures { self.new ≡ next.log }
+    {
         mem::replace_with(&mut self.writer, (&self.rt, next), |writer, (rt, next)| {
             (show(rt, writer, next), ())
         });
-        Ok(Told::new(told))
     }
 }
 

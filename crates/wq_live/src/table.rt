@@ -137,6 +137,17 @@ impl RootTable {
         Some(&root.view)
     }
 
+    /// The numbers of the roots that are shown, in the order of their starts.
+    pub fn numbers(&self) -> Result<Vec<u64>, AllocError>
+        ensures { IfOk result (λ numbers. numbers.items ≡ map (λ root. root.number) self.now.roots) }
+    {
+        let mut numbers = Vec::with_capacity(*self.roots.allocator(), self.roots.len())?;
+        for root in &self.roots {
+            numbers.push(root.number)?;
+        }
+        Ok(numbers)
+    }
+
     /// The root of this text.
     fn root_of_text(&self, text: &str) -> Option<&ShownRoot>
         ensures found { option_map (λ root. root.now) result ≡ find (has_text text.now) self.now.roots }
@@ -220,10 +231,9 @@ impl RootTable {
         let Some(root) = self.root_of_number(number) else {
             return Ok(None);
         };
-        if root.view.shows(pass) {
+        let Some(view) = root.view.after(pass)? else {
             return Ok(None);
-        }
-        let view = after_pass(&root.view, pass)?;
+        };
         Ok(Some(self.with_view(number, view)?))
     }
 
@@ -246,7 +256,6 @@ impl RootTable {
     }
 
     /// The table after the end of the root of this number; none where it is not shown, and nothing is added.
-
     pub fn with_end(&self, number: u64) -> Result<Option<RootTable>, AllocError>
         ensures { (events : List RootEvent) → IsTableOf events self.now
             → IfOk result (λ next. MatchOption next
@@ -285,18 +294,4 @@ fn first_view(alloc: Global, pass: &Pass) -> Result<View, AllocError>
         Ok(_moved) => Ok(view),
         Err(_) => Err(AllocError),
     }
-}
-
-/// The view after a pass that saw something else than the last one.
-fn after_pass(view: &View, pass: &Pass) -> Result<View, ViewFault>
-    ensures ok { (history : History) → IsViewOf history view.now → last_stats history ≢ pass.now.stats
-        → IfOk result (IsViewOf (history ++ pass.now ∷ [])) }
-    ensures room { (history : History) → IsViewOf history view.now → last_stats history ≢ pass.now.stats
-        → IfOk result (λ _. view.now.tick < max_tick) }
-    ensures spent { (history : History) → IsViewOf history view.now
-        → result ≡ Err ViewFault.TicksSpent → view.now.tick ≡ max_tick }
-{
-    let mut after = view.copy()?;
-    after.absorb(pass)?;
-    Ok(after)
 }

@@ -4,7 +4,7 @@ ghost use Rattle.wq_live.specs.Tree.{IsCounted, Lists, rows_given};
 
 use std::alloc::AllocError;
 use thiserror::Error;
-use wq_view::Seen;
+use wq_view::{Seen, View};
 
 /// Why a tree gives no listing.
 #[derive(Clone, Copy, Debug, PartialEq, Eq, Drop, Error)]
@@ -52,10 +52,14 @@ pub trait Tree {
         ensures counted { IfErr result (IsCounted (failed self.old) (failed self.new)) }
         ensures listed { Lists (listed self.old) root.now (rows_given result) (listed self.new) };
 
-    /// Lets go of what it keeps of a root for its next listing, if anything. No listing depends on it.
-    fn forget(&mut self, root: &str)
-        ensures failed { failed self.new ≡ failed self.old }
-        ensures listed { listed self.new ≡ listed self.old };
+    /// The rows of the files below a root, as [`Tree::list`] gives them. What was last known of the root is handed in: rows
+    /// may share its names.
+    fn list_again(&mut self, root: &str, _last: &View) -> Result<Vec<Seen>, TreeFault>
+        ensures counted { IfErr result (IsCounted (failed self.old) (failed self.new)) }
+        ensures listed { Lists (listed self.old) root.now (rows_given result) (listed self.new) }
+    {
+        self.list(root)
+    }
 
     /// How often a device failed so far.
     fn failures(&self) -> u64

@@ -36,8 +36,6 @@ impl Tree for Blinking {
         Ok(rows_of(self.alloc, names)?)
     }
 
-    fn forget(&mut self, _root: &str) {}
-
     fn failures(&self) -> u64 {
         0
     }

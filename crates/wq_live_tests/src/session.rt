@@ -31,8 +31,6 @@ impl Tree for SameFiles {
         Ok(rows_of(self.alloc, self.names)?)
     }
 
-    fn forget(&mut self, _root: &str) {}
-
     fn failures(&self) -> u64 {
         0
     }

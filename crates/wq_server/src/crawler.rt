@@ -1,6 +1,7 @@
 //! What lists roots and publishes what is seen: a tree, a clock and a publisher, of which one crawl after the other
 //! takes hold.
 ghost use Rattle.std.specs.Prelude.{◌≡◌, ◌≢◌, ◌⊎◌, ◌↔◌, Err, IfErr, IfOk, IsTrue, MatchResult, None};
+ghost use Rattle.wq_live.specs.Tree.{IsCounted, Lists, rows_given};
 ghost use Rattle.wq_server.specs.Crawl.{Began, Crawled, CrawledAt, IsFull, IsNoPassOver, IsNotTakenIn, IsPassOver};
 ghost use Rattle.wq_server.specs.Crawl.{Opened, Passes, Retired, Shared, number_of, with_start};
 
@@ -9,9 +10,9 @@ use std::alloc::AllocError;
 use std::marker::Model;
 use std::sync::Wait;
 use wq_base::MAX_NUMBER;
-use wq_live::{MAX_ROOTS, Named, Publisher, Seat, StartFault, Told, Tree};
+use wq_live::{MAX_ROOTS, Named, Publisher, Seat, StartFault, Told, Tree, TreeFault};
 use wq_session::CrawlFault;
-use wq_view::{Pass, ViewFault};
+use wq_view::{Pass, Seen, ViewFault};
 
 /// What tells the second of a pass.
 ///
@@ -115,19 +116,24 @@ impl<N: Named, R: Wait + Drop, T: Tree + Drop, S: Seconds + Drop> Crawler<N, R, 
         self.begin(root)
     }
 
-    /// Publishes the end of the root of this number, if it is shown, and tells the list. The tree forgets the root.
+    /// Publishes the end of the root of this number, if it is shown, and tells the list.
     ///
     /// What is refused leaves the list.
     pub fn retire(&mut self, number: u64) -> Result<Told<N>, CrawlFault>
         ensures { Retired number self.old result self.new }
     {
-        if let Some(root) = self.publisher.table().text(number) {
-            self.tree.forget(root);
-        }
         match self.publisher.retire(number) {
             Ok(told) => Ok(told),
             Err(_) => Err(CrawlFault::NoMemory),
         }
+    }
+
+    /// Lets go of the views that only what was published before the last time has. It changes nothing, and waits for those
+    /// that still look at that.
+    pub fn let_go(&mut self)
+        ensures { self.new ≡ self.old }
+    {
+        self.publisher.let_go();
     }
 
     /// The list as it is.
@@ -207,13 +213,28 @@ impl<N: Named, R: Wait + Drop, T: Tree + Drop, S: Seconds + Drop> Crawler<N, R, 
             (λ pass. IsPassOver root.now self.old pass self.new)
             (λ fault. IsNoPassOver root.now self.old fault self.new) }
     {
-        let rows = match self.tree.list(root) {
+        // Else the views before the last ones would stand in memory beside the rows and the views that follow from them.
+        self.let_go();
+        let rows = match self.rows(root) {
             Ok(rows) => rows,
             Err(fault) => return Err(not_listed(fault)),
         };
         match Pass::new(rows, self.seconds.second()) {
             Ok(pass) => Ok(pass),
             Err(fault) => Err(no_pass(fault)),
+        }
+    }
+
+    /// The rows of a root, as the tree shows it now. They may share the names of its view.
+    fn rows(&mut self, root: &str) -> Result<Vec<Seen>, TreeFault>
+        ensures events { (self.new).events ≡ (self.old).events }
+        ensures told { (self.new).told ≡ (self.old).told }
+        ensures counted { IfErr result (IsCounted (self.old).failed (self.new).failed) }
+        ensures listed { Lists (self.old).listed root.now (rows_given result) (self.new).listed }
+    {
+        match self.publisher.table().root(root) {
+            Some((_number, last)) => self.tree.list_again(root, last),
+            None => self.tree.list(root),
         }
     }
 }

@@ -1,4 +1,5 @@
 //! A shelf that many sessions share.
+ghost use Rattle.std.specs.Prelude.{◌≡◌};
 
 use crate::desk::Desk;
 use crate::shared_shelf::SharedShelf;
@@ -15,7 +16,9 @@ pub struct LockDesk<R: Wait + Drop> {
 
 impl<R: Wait + Drop> LockDesk<R> {
     /// A desk over this shelf, for which it waits by this handle.
-    pub fn new(shelf: Arc<Mutex<SharedShelf>>, rt: R) -> LockDesk<R> {
+    pub fn new(shelf: Arc<Mutex<SharedShelf>>, rt: R) -> LockDesk<R>
+        ensures { (result.shelf ≡ shelf) × (result.rt ≡ rt) }
+    {
         LockDesk { shelf, rt }
     }
 }

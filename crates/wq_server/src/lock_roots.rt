@@ -1,4 +1,6 @@
 //! Roots that many sessions share.
+ghost use Rattle.std.specs.Prelude.{◌≡◌};
+
 use crate::crawler::Seconds;
 use crate::roots::Roots;
 use crate::shared_crawler::SharedCrawler;
@@ -15,7 +17,9 @@ pub struct LockRoots<N: Named, R: Wait + Drop, T: Tree + Drop, S: Seconds + Drop
 
 impl<N: Named, R: Wait + Drop, T: Tree + Drop, S: Seconds + Drop> LockRoots<N, R, T, S> {
     /// Roots over this crawler, for which they wait by this handle.
-    pub fn new(crawler: Arc<SharedCrawler<N, R, T, S>>, rt: R) -> LockRoots<N, R, T, S> {
+    pub fn new(crawler: Arc<SharedCrawler<N, R, T, S>>, rt: R) -> LockRoots<N, R, T, S>
+        ensures { (result.crawler ≡ crawler) × (result.rt ≡ rt) }
+    {
         LockRoots { crawler, rt }
     }
 }

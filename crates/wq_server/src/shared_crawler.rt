@@ -69,6 +69,11 @@ impl<N: Named, R: Wait + Drop, T: Tree + Drop, S: Seconds + Drop> SharedCrawler<
     {
         self.crawls.lock(rt).crawler.retire(number)
     }
+
+    /// Lets go of the views that only what was published before the last time has ([`Crawler::let_go`]).
+    pub fn let_go(&self, rt: &R) {
+        self.crawls.lock(rt).crawler.let_go();
+    }
 }
 
 impl<N: Named, R: Wait + Drop, T: Tree + Drop, S: Seconds + Drop> LastCrawls<N, R, T, S> {

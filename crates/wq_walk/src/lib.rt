@@ -6,7 +6,6 @@ mod disk;
 mod folder;
 mod guess;
 mod known;
-mod last;
 mod listing;
 mod names;
 mod part;

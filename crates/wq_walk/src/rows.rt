@@ -1,5 +1,5 @@
 //! The rows of a listing that is being made. Where they come from is not looked at here.
-ghost use Rattle.std.specs.Prelude.{◌≡◌, ◌≤◌, length, IsTrue};
+ghost use Rattle.std.specs.Prelude.{◌≡◌, ◌≤◌, length, IfOk, IsTrue};
 ghost use Rattle.std.specs.List.{list_all};
 ghost use Rattle.wq_view.specs.Seen.{is_lawful_row};
 ghost use Rattle.wq_walk.specs.Part.{IsListing, is_row_in};
@@ -20,14 +20,14 @@ pub(crate) struct Rows {
 }
 
 impl Rows {
-    /// No row of a part. It takes no memory.
-    pub(crate) fn new(alloc: Global, part: Part) -> Rows
-        ensures { result.part ≡ part }
+    /// No row of a part, with room for so many.
+    pub(crate) fn with_room(alloc: Global, part: Part, room: usize) -> Result<Rows, AllocError>
+        ensures { IfOk result (λ rows. rows.part ≡ part) }
     {
-        Rows {
+        Ok(Rows {
             part,
-            rows: Vec::new(alloc),
-        }
+            rows: Vec::with_capacity(alloc, room)?,
+        })
     }
 
     /// The part whose rows they are.

@@ -17,22 +17,22 @@ use crate::stat::Stat;
 use std::alloc::{AllocError, Global};
 use std::sync::ArcSlice;
 use wq_live::TreeFault;
-use wq_view::{Kind, Seen, is_valid_name};
+use wq_view::{Kind, Record, Seen, is_valid_name};
 
 /// A walk on its way.
 #[derive(Drop)]
-struct Walk {
+struct Walk<'a> {
     alloc: Global,
     block: Block,
     path: TreePath,
     /// From the root down to the folder in which the walk is.
     folders: Vec<Folder>,
     rows: Rows,
-    known: Known,
+    known: Known<'a>,
 }
 
-/// The rows of the files below a root whose names are in a part, each of which a pass takes. They share the bytes of known
-/// names.
+/// The rows of the files below a root whose names are in a part, each of which a pass takes. They share the names of known
+/// records. There is room for so many from the start.
 ///
 /// The walk reads each folder whole, and then looks at its entries. It follows no links, but one that is the root. An entry
 /// that cannot be looked at is left out, as one that goes while the walk is on its way; so is one whose name no pass takes.
@@ -43,25 +43,27 @@ pub(crate) fn rows_in<D: Disk>(
     alloc: Global,
     root: &str,
     part: Part,
-    known: Known,
+    known: &[Record],
+    room: usize,
 ) -> Result<Vec<Seen>, TreeFault>
     ensures { IfOk result (λ rows. IsListing part rows.items) }
 {
-    let mut walk = Walk::new(disk, alloc, root, part, known)?;
+    let rows = Rows::with_room(alloc, part, room)?;
+    let mut walk = Walk::new(disk, alloc, root, rows, Known::new(known))?;
     walk.run(disk)?;
     Ok(walk.rows.into_rows())
 }
 
-impl Walk {
-    /// The walk that begins at a root.
+impl<'a> Walk<'a> {
+    /// The walk that begins at a root, before these rows are found.
     fn new<D: Disk>(
         disk: &D,
         alloc: Global,
         root: &str,
-        part: Part,
-        known: Known,
-    ) -> Result<Walk, TreeFault>
-        ensures { IfOk result (λ walk. walk.rows.part ≡ part) }
+        rows: Rows,
+        known: Known<'a>,
+    ) -> Result<Walk<'a>, TreeFault>
+        ensures { IfOk result (λ walk. walk.rows ≡ rows) }
     {
         let folder = with_slash(alloc, root)?;
         let mut block = Block::new(alloc)?;
@@ -78,7 +80,7 @@ impl Walk {
             block,
             path,
             folders,
-            rows: Rows::new(alloc, part),
+            rows,
             known,
         })
     }

@@ -1,16 +1,15 @@
-//! The tree on disk, for a server that lists roots again and again.
+//! The tree on disk, for a server that lists roots again and again. It keeps nothing of them.
 ghost use Rattle.std.specs.Prelude.{◌≡◌, ◌≤◌, length, IfErr, IfOk, IsTrue};
 ghost use Rattle.std.specs.List.{list_all};
 ghost use Rattle.wq_live.specs.Tree.{IsCounted};
 ghost use Rattle.wq_view.specs.Seen.{is_lawful_row};
 
 use crate::disk::FileDisk;
-use crate::last::LastNames;
-use crate::listing::rows_below;
+use crate::listing::{first_rows, rows_again};
 use std::alloc::Global;
 use std::thread::Threads;
 use wq_live::{Tree, TreeFault};
-use wq_view::Seen;
+use wq_view::{Seen, View};
 
 /// Walks the trees of a disk, a large one on two threads, and counts how often a root could not be read.
 #[derive(Drop)]
@@ -18,7 +17,6 @@ pub struct Walker<T: Threads + Drop> {
     disk: FileDisk,
     threads: T,
     alloc: Global,
-    last: LastNames,
     failures: u64,
 }
 
@@ -31,8 +29,16 @@ impl<T: Threads + Drop> Walker<T> {
             disk: FileDisk::new(files),
             threads,
             alloc,
-            last: LastNames::new(alloc),
             failures: 0,
+        }
+    }
+
+    /// Counts a listing that failed since its root cannot be read.
+    fn count(&mut self, listed: &Result<Vec<Seen>, TreeFault>)
+        ensures { IfErr listed.now (IsCounted self.old.failures self.new.failures) }
+    {
+        if let Err(TreeFault::Unreadable) = listed {
+            self.failures = self.failures.saturating_add(1);
         }
     }
 }
@@ -46,22 +52,21 @@ impl<T: Threads + Drop> Tree for Walker<T> {
         ensures lawful { IfOk result (λ rows. IsTrue (list_all is_lawful_row rows.items)) }
         ensures few { IfOk result (λ rows. length rows.items ≤ 1000000) }
     {
-        let last = self.last.take(root);
-        let listed = rows_below(&self.threads, &self.disk, self.alloc, root, last);
-        match &listed {
-            Ok(rows) => {
-                // What is not kept is guessed, and its names are made anew.
-                self.last.keep(root, rows).ok();
-            }
-            Err(TreeFault::Unreadable) => self.failures = self.failures.saturating_add(1),
-            Err(_) => {}
-        }
+        let listed = first_rows(&self.threads, &self.disk, self.alloc, root);
+        self.count(&listed);
         listed
     }
 
-    /// Lets go of the names of the last listing of a root.
-    fn forget(&mut self, root: &str) {
-        self.last.take(root);
+    /// The rows of the files below a root, as above, which share the names of the records of its last view.
+    fn list_again(&mut self, root: &str, last: &View) -> Result<Vec<Seen>, TreeFault>
+        ensures counted { IfErr result (IsCounted self.old.failures self.new.failures) }
+        ensures lawful { IfOk result (λ rows. IsTrue (list_all is_lawful_row rows.items)) }
+        ensures few { IfOk result (λ rows. length rows.items ≤ 1000000) }
+    {
+        let last = last.records();
+        let listed = rows_again(&self.threads, &self.disk, self.alloc, root, last);
+        self.count(&listed);
+        listed
     }
 
     fn failures(&self) -> u64 {
