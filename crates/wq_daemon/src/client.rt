@@ -1,29 +1,39 @@
-//! The threads of one client: one reads its stream, and one runs its session.
+//! The threads of one client: one reads its stream, one brings its idle moments, and one runs its session.
 
 use crate::host::Host;
 use crate::inbox::LinkInbox;
 use crate::link::Link;
+use crate::moments::bring_moments;
 use crate::reading::read_all;
 use crate::refusal::{NO_MEMORY, refuse};
-use crate::stop::Stop;
+use crate::server::Server;
 use std::alloc::Global;
 use std::sync::{Arc, Wait};
 use std::thread::{self, JoinHandle, Threads};
 use std::time::Clock;
 
-/// Runs a client's session to its end, with a thread that reads for it. Where the session asked for that, the server ends.
+/// The threads that bring the events of a client's session.
+#[derive(Drop)]
+struct Bringers {
+    reader: JoinHandle<()>,
+    idler: JoinHandle<()>,
+}
+
+/// Runs a client's session to its end, with threads that bring its events. Where the session asked for that, the server
+/// ends.
 ///
 /// Where no thread can be made, the client is told so and the session ends at once.
-pub(crate) fn run_client<R, H>(rt: R, alloc: Global, link: Arc<Link>, host: &H, stop: &Stop)
+pub(crate) fn run_client<R, H>(rt: R, alloc: Global, link: Arc<Link>, server: &Arc<Server<H>>)
 where
     R: Threads + Wait + Clock + Copy + Drop + Send + Sync + 'static,
-    H: Host,
+    H: Host + Drop + Send + Sync + 'static,
 {
-    let has_asked = match begin_reading(rt, alloc, &link) {
-        Some(reader) => {
-            let has_asked = run_session(rt, &link, host);
+    let has_asked = match begin_bringing(rt, alloc, &link, server) {
+        Some(bringers) => {
+            let has_asked = run_session(rt, &link, &server.host);
             link.end(&rt);
-            reader.join(&rt);
+            bringers.reader.join(&rt);
+            bringers.idler.join(&rt);
             has_asked
         }
         None => {
@@ -33,9 +43,31 @@ where
         }
     };
     if has_asked {
-        stop.ask(&rt);
+        server.stop.ask(&rt);
     }
     link.set_over();
+}
+
+/// Starts the threads that bring a client's events; none where one of them cannot be started.
+fn begin_bringing<R, H>(
+    rt: R,
+    alloc: Global,
+    link: &Arc<Link>,
+    server: &Arc<Server<H>>,
+) -> Option<Bringers>
+where
+    R: Threads + Wait + Clock + Copy + Drop + Send + Sync + 'static,
+    H: Host + Drop + Send + Sync + 'static,
+{
+    let idler = begin_idling(rt, link, server)?;
+    match begin_reading(rt, alloc, link) {
+        Some(reader) => Some(Bringers { reader, idler }),
+        None => {
+            link.queue.close(&rt);
+            idler.join(&rt);
+            None
+        }
+    }
 }
 
 /// Starts the thread that reads a client's stream.
@@ -46,6 +78,20 @@ where
     let theirs = link.clone().ok()?;
     thread::spawn(&rt, move || {
         read_all(&rt, alloc, &mut &theirs.stream, &theirs.queue)
+    })
+    .ok()
+}
+
+/// Starts the thread that brings a client's idle moments. Their first interval begins now.
+fn begin_idling<R, H>(rt: R, link: &Arc<Link>, server: &Arc<Server<H>>) -> Option<JoinHandle<()>>
+where
+    R: Threads + Wait + Clock + Copy + Drop + Send + Sync + 'static,
+    H: Host + Drop + Send + Sync + 'static,
+{
+    let (theirs, server) = (link.clone().ok()?, server.clone().ok()?);
+    let numbers = server.host.numbers()?;
+    thread::spawn(&rt, move || {
+        bring_moments(&rt, &*server, numbers, &theirs.queue)
     })
     .ok()
 }

@@ -4,7 +4,7 @@ use crate::client::run_client;
 use crate::host::Host;
 use crate::link::Link;
 use crate::refusal::{NO_MEMORY, TOO_MANY, refuse};
-use crate::stop::Stop;
+use crate::server::Server;
 use std::alloc::{AllocError, Global};
 use std::io;
 use std::os::unix::net::UnixStream;
@@ -46,8 +46,7 @@ impl Clients {
         rt: R,
         alloc: Global,
         stream: UnixStream,
-        host: &Arc<H>,
-        stop: &Arc<Stop>,
+        server: &Arc<Server<H>>,
     )
     where
         R: Threads + Wait + Clock + Copy + Drop + Send + Sync + 'static,
@@ -58,7 +57,7 @@ impl Clients {
             refuse(&mut &stream, TOO_MANY);
             return;
         }
-        if let Some(client) = begin(rt, alloc, stream, host, stop)
+        if let Some(client) = begin(rt, alloc, stream, server)
             && let Err(refused) = self.clients.push(client)
         {
             end(&rt, refused.value);
@@ -92,13 +91,7 @@ fn end<R: Threads + Wait>(rt: &R, client: Client) {
 }
 
 /// Begins the session of a client; where no memory or no thread is left for it, the client is told so.
-fn begin<R, H>(
-    rt: R,
-    alloc: Global,
-    stream: UnixStream,
-    host: &Arc<H>,
-    stop: &Arc<Stop>,
-) -> Option<Client>
+fn begin<R, H>(rt: R, alloc: Global, stream: UnixStream, server: &Arc<Server<H>>) -> Option<Client>
 where
     R: Threads + Wait + Clock + Copy + Drop + Send + Sync + 'static,
     H: Host + Drop + Send + Sync + 'static,
@@ -107,7 +100,7 @@ where
         refuse(&mut &stream, NO_MEMORY);
         return None;
     };
-    match run(rt, alloc, stream, host, stop) {
+    match run(rt, alloc, stream, server) {
         Ok(client) => Some(client),
         Err(_) => {
             refuse(&mut &spare, NO_MEMORY);
@@ -127,15 +120,14 @@ fn run<R, H>(
     rt: R,
     alloc: Global,
     stream: UnixStream,
-    host: &Arc<H>,
-    stop: &Arc<Stop>,
+    server: &Arc<Server<H>>,
 ) -> Result<Client, AllocError>
 where
     R: Threads + Wait + Clock + Copy + Drop + Send + Sync + 'static,
     H: Host + Drop + Send + Sync + 'static,
 {
     let link = Arc::new(alloc, Link::new(alloc, stream)?)?;
-    let (theirs, host, stop) = (link.clone()?, host.clone()?, stop.clone()?);
-    let session = thread::spawn(&rt, move || run_client(rt, alloc, theirs, &*host, &stop))?;
+    let (theirs, server) = (link.clone()?, server.clone()?);
+    let session = thread::spawn(&rt, move || run_client(rt, alloc, theirs, &server))?;
     Ok(Client { link, session })
 }

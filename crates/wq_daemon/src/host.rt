@@ -1,5 +1,6 @@
 //! What the server runs: sessions and crawls, from its threads, and what its operator is told.
 
+use crate::moments::RootNumbers;
 use std::io::Write;
 use wq_server::Inbox;
 
@@ -13,6 +14,9 @@ pub trait Host {
 
     /// Crawls each root that is watched, once.
     fn crawl(&self);
+
+    /// The roots as they are shown now; none where memory is refused for them.
+    fn numbers(&self) -> Option<RootNumbers>;
 }
 
 /// Where the server tells its operator of what went wrong.

@@ -4,12 +4,13 @@
 use crate::clients::MAX_SESSIONS;
 use crate::failing::Failing;
 use crate::host::{Host, Notices};
+use crate::moments::RootNumbers;
 use crate::refusal::{NO_MEMORY, refuse};
 use std::alloc::{AllocError, Global};
 use std::io::Write;
 use std::sync::{Arc, Mutex, Wait};
 use wq_clock::Run;
-use wq_live::{Named, Seat, Tree};
+use wq_live::{Named, RootTable, Seat, Tree};
 use wq_server::{Crawler, Inbox, LockDesk, LockRoots, Seconds, SharedCrawler, SharedShelf, serve};
 use wq_session::CrawlFault;
 
@@ -27,6 +28,8 @@ where
     alloc: Global,
     run: Run,
     seats: Mutex<Vec<Seat<N>>>,
+    /// What idle moments are looked at from. It is there whenever it is not locked.
+    idle_seat: Mutex<Option<Seat<N>>>,
     crawler: Arc<SharedCrawler<N, R, T, S>>,
     shelf: Arc<Mutex<SharedShelf>>,
     failing: Mutex<Failing>,
@@ -43,7 +46,7 @@ where
     S: Seconds + Drop,
     O: Notices + Drop,
 {
-    /// A server over this crawler and this shelf, with a seat for each session that may be.
+    /// A server over this crawler and this shelf, with a seat for each session that may be and one for idle moments.
     pub fn new(
         rt: R,
         alloc: Global,
@@ -54,12 +57,13 @@ where
     ) -> Result<LockHost<N, R, T, S, O>, AllocError> {
         let greeting = format!(in alloc; "listening on {}", shelf.sockname())?;
         let shelf = Arc::new(alloc, Mutex::new(shelf))?;
-        let (seats, crawler) = shared(alloc, crawler)?;
+        let (seats, idle_seat, crawler) = shared(alloc, crawler)?;
         Ok(LockHost {
             rt,
             alloc,
             run,
             seats: Mutex::new(seats),
+            idle_seat: Mutex::new(Some(idle_seat)),
             crawler,
             shelf,
             failing: Mutex::new(Failing::new(alloc)),
@@ -121,11 +125,11 @@ where
     }
 }
 
-/// A seat for each session that may be, and the crawler, as threads share it.
+/// A seat for each session that may be, one for idle moments, and the crawler, as threads share it.
 fn shared<N, R, T, S>(
     alloc: Global,
     mut crawler: Crawler<N, R, T, S>,
-) -> Result<(Vec<Seat<N>>, Arc<SharedCrawler<N, R, T, S>>), AllocError>
+) -> Result<(Vec<Seat<N>>, Seat<N>, Arc<SharedCrawler<N, R, T, S>>), AllocError>
 where
     N: Named,
     R: Wait + Copy + Drop,
@@ -133,8 +137,9 @@ where
     S: Seconds + Drop,
 {
     let seats = seats(alloc, &mut crawler)?;
+    let idle_seat = crawler.seat()?;
     let crawler = SharedCrawler::new(alloc, crawler)?;
-    Ok((seats, Arc::new(alloc, crawler)?))
+    Ok((seats, idle_seat, Arc::new(alloc, crawler)?))
 }
 
 /// A seat for each session that may be.
@@ -153,6 +158,25 @@ where
         seats.push(crawler.seat()?).map_err(AllocError::from)?;
     }
     Ok(seats)
+}
+
+/// The roots as a seat sees them, and the seat; none where memory is refused for them, or the look.
+fn look_at_numbers<N: Named>(seat: Seat<N>) -> (Seat<N>, Option<RootNumbers>) {
+    match seat.look() {
+        Ok(look) => {
+            let numbers = numbers_in(look.table());
+            (look.leave(), numbers)
+        }
+        Err(seat) => (seat, None),
+    }
+}
+
+/// The roots of a table.
+fn numbers_in(table: &RootTable) -> Option<RootNumbers> {
+    Some(RootNumbers {
+        shown: table.numbers().ok()?,
+        given: table.given(),
+    })
 }
 
 impl<N, R, T, S, O> Host for LockHost<N, R, T, S, O>
@@ -183,9 +207,18 @@ where
     }
 
     fn crawl(&self) {
+        // A root that is watched no more leaves its view in memory until then.
+        self.crawler.let_go(&self.rt);
         // Where memory is wanted for the texts of the roots, they are crawled in the next round.
         if let Ok(roots) = self.roots() {
             self.crawl_all(roots);
         }
+    }
+
+    fn numbers(&self) -> Option<RootNumbers> {
+        let mut place = self.idle_seat.lock(&self.rt);
+        let (seat, numbers) = look_at_numbers(place.take()?);
+        *place = Some(seat);
+        numbers
     }
 }

@@ -6,14 +6,13 @@ use std::sync::{Condvar, Mutex, Wait};
 use std::time::{Clock, Duration};
 use wq_serve::{Event, Waiting};
 
-/// How many milliseconds are waited before what was refused memory is tried again.
-const PAUSE: u64 = 50;
-
 /// A queue that threads share.
 #[derive(Drop)]
 pub(crate) struct Queue {
     waiting: Mutex<Waiting>,
     changed: Condvar,
+    /// Wakes those who wait for the end alone, whom no event is to wake.
+    closed: Condvar,
 }
 
 impl Queue {
@@ -22,6 +21,7 @@ impl Queue {
         Ok(Queue {
             waiting: Mutex::new(Waiting::new(alloc)?),
             changed: Condvar::new(),
+            closed: Condvar::new(),
         })
     }
 
@@ -50,17 +50,15 @@ impl Queue {
     pub(crate) fn close<R: Wait>(&self, rt: &R) {
         self.waiting.lock(rt).close();
         self.changed.notify_all();
+        self.closed.notify_all();
     }
 
-    /// Waits a moment, in which memory may come back. Says whether the queue is closed.
-    pub(crate) fn pause<R: Wait + Clock>(&self, rt: &R) -> bool {
+    /// Waits so long, but no longer than the queue is open. Says whether it is closed.
+    pub(crate) fn pause<R: Wait + Clock>(&self, rt: &R, time: Duration) -> bool {
         let lock = self.waiting.lock(rt);
-        let (waiting, _) = self.changed.wait_timeout_while(
-            rt,
-            lock,
-            Duration::from_millis(PAUSE),
-            |it| !it.is_closed(),
-        );
+        let (waiting, _) = self
+            .closed
+            .wait_timeout_while(rt, lock, time, |it| !it.is_closed());
         waiting.is_closed()
     }
 }

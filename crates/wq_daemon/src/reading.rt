@@ -4,11 +4,14 @@ use crate::queue::Queue;
 use std::alloc::{AllocError, Global};
 use std::io::{ErrorKind, Read};
 use std::sync::Wait;
-use std::time::Clock;
+use std::time::{Clock, Duration};
 use wq_serve::{Event, Splitter};
 
 /// How many bytes of a stream are asked for at once.
 const PIECE: usize = 65_536;
+
+/// How many milliseconds are waited before what was refused memory is tried again.
+const PAUSE: u64 = 50;
 
 /// Reads a stream to its end, as long as the queue is open. The last event that it puts is the stream's end or its fault.
 ///
@@ -76,7 +79,7 @@ fn split<R: Wait + Clock>(
         if let Ok(events) = splitter.feed(piece) {
             return Some(events);
         }
-        if queue.pause(rt) {
+        if queue.pause(rt, Duration::from_millis(PAUSE)) {
             return None;
         }
     }

@@ -2,6 +2,7 @@
 
 use crate::clients::Clients;
 use crate::host::Host;
+use crate::server::Server;
 use crate::socket::Listening;
 use crate::stop::Stop;
 use std::alloc::Global;
@@ -13,8 +14,9 @@ use std::time::{Clock, Duration};
 /// How many milliseconds are waited after a connection that could not be accepted.
 const PAUSE: u64 = 100;
 
-/// Serves clients, and crawls the roots that are watched with a pause of the interval between two rounds. It returns when a
-/// client asked that the server ends: all sessions have ended then, and all threads.
+/// Serves clients, and crawls the roots that are watched with a pause of the interval between two rounds. A session gets idle
+/// moments at such intervals. It returns when a client asked that the server ends: all sessions have ended then, and all
+/// threads.
 ///
 /// # Errors
 /// What the server needs could not be made, and nothing was served.
@@ -29,52 +31,54 @@ where
     R: Threads + Wait + Clock + Copy + Drop + Send + Sync + 'static,
     H: Host + Drop + Send + Sync + 'static,
 {
-    let stop = Arc::new(alloc, Stop::new(&listening.listener)?)?;
-    let host = Arc::new(alloc, host)?;
+    let stop = Stop::new(&listening.listener)?;
+    let server = Arc::new(
+        alloc,
+        Server {
+            host,
+            stop,
+            interval,
+        },
+    )?;
     let mut clients = Clients::new(alloc)?;
-    let crawling = begin_crawling(rt, &host, &stop, interval)?;
-    host.greet();
+    let crawling = begin_crawling(rt, &server)?;
+    server.host.greet();
     for stream in &listening.listener {
-        if stop.is_asked(&rt) {
+        if server.stop.is_asked(&rt) {
             break;
         }
         match stream {
-            Ok(stream) => clients.admit(rt, alloc, stream, &host, &stop),
+            Ok(stream) => clients.admit(rt, alloc, stream, &server),
             Err(_) => {
-                stop.wait(&rt, Duration::from_millis(PAUSE));
+                server.stop.wait(&rt, Duration::from_millis(PAUSE));
             }
         }
     }
-    stop.ask(&rt);
+    server.stop.ask(&rt);
     clients.end_all(&rt);
     crawling.join(&rt);
     Ok(())
 }
 
 /// Starts the thread that crawls.
-fn begin_crawling<R, H>(
-    rt: R,
-    host: &Arc<H>,
-    stop: &Arc<Stop>,
-    interval: Duration,
-) -> io::Result<JoinHandle<()>>
+fn begin_crawling<R, H>(rt: R, server: &Arc<Server<H>>) -> io::Result<JoinHandle<()>>
 where
     R: Threads + Wait + Clock + Copy + Drop + Send + Sync + 'static,
     H: Host + Drop + Send + Sync + 'static,
 {
-    let (host, stop) = (host.clone()?, stop.clone()?);
-    Ok(thread::spawn(&rt, move || crawl_always(rt, &*host, &stop, interval))?)
+    let server = server.clone()?;
+    Ok(thread::spawn(&rt, move || crawl_always(rt, &*server))?)
 }
 
 /// Crawls until the server ends.
-fn crawl_always<R, H>(rt: R, host: &H, stop: &Stop, interval: Duration)
+fn crawl_always<R, H>(rt: R, server: &Server<H>)
 where
     R: Wait + Clock + Drop,
-    H: Host,
+    H: Host + Drop,
 {
     for _ in rt.forever() {
-        host.crawl();
-        if stop.wait(&rt, interval) {
+        server.host.crawl();
+        if server.stop.wait(&rt, server.interval) {
             return;
         }
     }

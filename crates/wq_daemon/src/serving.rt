@@ -15,7 +15,7 @@ use wq_live::{Blank, Named, Tree};
 use wq_registry::Cache;
 use wq_server::{Crawler, Seconds, SharedShelf};
 
-/// How many seats a server has: one for each session, and some to spare.
+/// How many seats a server has: one for each session, one for idle moments, and some to spare.
 pub const SEATS: usize = 48;
 
 /// What a server works with.
@@ -31,7 +31,7 @@ pub struct Parts<T: Tree + Drop, S: Seconds + Drop, O: Notices + Drop> {
     pub notices: O,
     /// The name of the socket, as clients are told it.
     pub sockname: String,
-    /// How long the server waits between two rounds of crawls.
+    /// How long the server waits between two rounds of crawls, and a session between two idle moments of a root.
     pub interval: Duration,
 }
 

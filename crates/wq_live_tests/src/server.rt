@@ -53,7 +53,7 @@ impl Notices for Operator {
 }
 
 /// Makes a folder that stood nowhere before, and gives its path.
-fn make_room(rt: &HostRuntime) -> io::Result<String> {
+pub(crate) fn make_room(rt: &HostRuntime) -> io::Result<String> {
     let above = env::temp_dir(rt)?;
     let process = process::id(rt.process());
     for number in 0..TRIES {

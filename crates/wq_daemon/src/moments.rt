@@ -1,0 +1,75 @@
+//! Idle moments: for which roots a session gets one, and what brings them into its queue.
+ghost use Rattle.std.specs.Prelude.{◌≡◌, ◌+◌, ◌-◌, ◌++◌, IfOk};
+ghost use Rattle.std.specs.List.{range_with_len};
+
+use crate::host::Host;
+use crate::queue::Queue;
+use crate::server::Server;
+use std::alloc::AllocError;
+use std::sync::Wait;
+use std::time::Clock;
+use wq_serve::Event;
+
+/// The roots at some moment.
+#[derive(Drop)]
+pub struct RootNumbers {
+    /// The numbers of those that are shown.
+    pub shown: Vec<u64>,
+    /// How many were ever started, which is the number of the last one.
+    pub given: u64,
+}
+
+impl RootNumbers {
+    /// The numbers for which there is an idle moment once so many roots were ever started: those that were shown at this
+    /// moment, and then those that were given since. No number is used again, so each that is shown by then is among them.
+    fn due(&self, given: u64) -> Result<Vec<u64>, AllocError>
+        ensures { IfOk result (λ due. due.items
+            ≡ self.now.shown.items ++ range_with_len (self.now.given + 1) (given - self.now.given)) }
+    {
+        let mut due = self.shown.clone()?;
+        for last in self.given..given {
+            due.push(last + 1)?;
+        }
+        Ok(due)
+    }
+}
+
+/// Puts an idle moment for each root that is due into a session's queue, once in each interval, as long as the queue is
+/// open. The first interval begins where the roots were these.
+///
+/// Where memory is refused for them, they are due an interval later.
+pub(crate) fn bring_moments<R, H>(rt: &R, server: &Server<H>, numbers: RootNumbers, queue: &Queue)
+where
+    R: Wait + Clock,
+    H: Host + Drop,
+{
+    let mut then = numbers;
+    for _ in rt.forever() {
+        if queue.pause(rt, server.interval) {
+            return;
+        }
+        if let Some((now, due)) = due_by_now(&server.host, &then) {
+            if !put_moments(rt, &due, queue) {
+                return;
+            }
+            then = now;
+        }
+    }
+}
+
+/// The roots as they are now, and the numbers that are due since then; none where memory is refused.
+fn due_by_now<H: Host>(host: &H, then: &RootNumbers) -> Option<(RootNumbers, Vec<u64>)> {
+    let now = host.numbers()?;
+    let due = then.due(now.given).ok()?;
+    Some((now, due))
+}
+
+/// Puts an idle moment for each of these numbers into the queue, and says whether the queue is open.
+fn put_moments<R: Wait>(rt: &R, numbers: &[u64], queue: &Queue) -> bool {
+    for &number in numbers {
+        if !queue.put(rt, Event::Idle(number)) {
+            return false;
+        }
+    }
+    true
+}

@@ -1,0 +1,14 @@
+//! What the threads of a server share.
+
+use crate::host::Host;
+use crate::stop::Stop;
+use std::time::Duration;
+
+/// A server that runs.
+#[derive(Drop)]
+pub(crate) struct Server<H: Host + Drop> {
+    pub(crate) host: H,
+    pub(crate) stop: Stop,
+    /// How long it waits between two rounds of crawls, and a client's session between two idle moments of a root.
+    pub(crate) interval: Duration,
+}

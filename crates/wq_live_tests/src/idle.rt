@@ -1,0 +1,70 @@
+//! The idle moments that come to a session.
+
+use crate::server::make_room;
+use std::alloc::Global;
+use std::io::{Read, Write};
+use std::os::unix::net::UnixStream;
+use std::sync::atomic::{AtomicU64, Ordering};
+use std::test::Fail;
+use std::time::Duration;
+use std::{fs, io};
+use wq_daemon::{Host, RootNumbers, listen, remove, run};
+use wq_serve::Event;
+use wq_server::Inbox;
+
+/// The numbers of two intervals: those that were shown and those that were given, and then those that were shown.
+const NUMBERS: &[u8] = b"1234525";
+
+/// A host whose roots change once, and whose sessions write the numbers of their first events.
+#[derive(Drop)]
+struct Teller {
+    alloc: Global,
+    looks: AtomicU64,
+}
+
+impl Host for Teller {
+    fn greet(&self) {}
+
+    fn serve<I: Inbox, W: Write>(&self, inbox: &mut I, writer: &mut W) -> bool {
+        for _ in NUMBERS {
+            let number = match inbox.next() {
+                Event::Idle(number) => number,
+                _ => 0,
+            };
+            // A client that has gone is written nothing.
+            let _ = writer.write_all(&[b'0' + (number % 10) as u8]);
+        }
+        true
+    }
+
+    fn crawl(&self) {}
+
+    /// Roots 1 and 2 at the first look, and 2 and 5 from then on. Roots 3 and 4 have come and gone between.
+    fn numbers(&self) -> Option<RootNumbers> {
+        let (first, last) = match self.looks.fetch_add(1, Ordering::SeqCst) {
+            0 => (1, 2),
+            _ => (2, 5),
+        };
+        let shown = vec![in self.alloc; first, last].ok()?;
+        Some(RootNumbers { shown, given: last })
+    }
+}
+
+#[test]
+fn a_session_gets_idle_moments(rt: HostRuntime) -> Result<(), Fail> {
+    let room = make_room(&rt)?;
+    let path = format!(in rt.alloc(); "{room}/socket")?;
+    let listening = listen(&rt, rt.alloc(), &path)?;
+    let mut stream = UnixStream::connect(&rt, path.as_str())?;
+    let host = Teller {
+        alloc: rt.alloc(),
+        looks: AtomicU64::new(0),
+    };
+    run(rt, rt.alloc(), &listening, host, Duration::from_millis(10))?;
+    let mut written = Vec::new(rt.alloc());
+    stream.read_to_end(&mut written)?;
+    remove(&rt, &listening);
+    fs::remove_dir(&rt, room.as_str())?;
+    assert_eq!(rt; written.as_slice(), NUMBERS);
+    Ok(())
+}
