@@ -15,6 +15,8 @@ import built
 PATIENCE = 60.0
 A_HOUR = 3_600_000
 VERSION = {"version": "wq-1"}
+# What ./wqd adds to it, so that memory which is freed goes back to the system or is used again.
+ENVIRONMENT = {"MALLOC_ARENA_MAX": "2", "MALLOC_MMAP_THRESHOLD_": "131072", **os.environ}
 Row = Tuple[str, str, int, int]
 
 
@@ -105,7 +107,7 @@ class Server:
         self.sockname = str(room / "socket")
         self.said = tempfile.TemporaryFile()
         words = ["serve", "--sockname", self.sockname, "--start", "7", "--pid", "9", "--interval", str(interval)]
-        self.process = subprocess.Popen([str(built.program_path()), *words], stderr=self.said)
+        self.process = subprocess.Popen([str(built.program_path()), *words], stderr=self.said, env=ENVIRONMENT)
         if not self.says(f"listening on {self.sockname}\n".encode()):
             self.kill()
             raise ValueError(f"the server does not listen: {self.errors()!r}")
@@ -145,6 +147,19 @@ class Server:
     def most_memory(self) -> int:
         """The most memory that the server had so far, in bytes."""
         return self.status("VmHWM") * 1024
+
+    def has_memory_below(self, most: int) -> bool:
+        """Whether the server comes to have less memory than so many bytes before the patience ends."""
+        end = time.monotonic() + PATIENCE
+        while self.memory() >= most:
+            if time.monotonic() > end:
+                return False
+            time.sleep(0.02)
+        return True
+
+    def memory(self) -> int:
+        """The memory that the server has, in bytes."""
+        return self.status("VmRSS") * 1024
 
     def threads(self) -> int:
         return self.status("Threads")
