@@ -16,7 +16,8 @@ PATIENCE = 60.0
 A_HOUR = 3_600_000
 VERSION = {"version": "wq-1"}
 # What ./wqd adds to it, so that memory which is freed goes back to the system or is used again.
-ENVIRONMENT = {"MALLOC_ARENA_MAX": "2", "MALLOC_MMAP_THRESHOLD_": "131072", **os.environ}
+MALLOC = {"MALLOC_ARENA_MAX": "2", "MALLOC_MMAP_THRESHOLD_": "131072"}
+ENVIRONMENT = {**MALLOC, **os.environ}
 Row = Tuple[str, str, int, int]
 
 

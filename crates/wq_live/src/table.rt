@@ -139,7 +139,8 @@ impl RootTable {
 
     /// The numbers of the roots that are shown, in the order of their starts.
     pub fn numbers(&self) -> Result<Vec<u64>, AllocError>
-        ensures { IfOk result (λ numbers. numbers.items ≡ map (λ root. root.number) self.now.roots) }
+        ensures { IfOk result
+            (λ numbers. numbers.items ≡ map (λ root. root.number) self.now.roots) }
     {
         let mut numbers = Vec::with_capacity(*self.roots.allocator(), self.roots.len())?;
         for root in &self.roots {
