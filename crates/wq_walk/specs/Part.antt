@@ -1,18 +1,18 @@
 -- The part of a tree that a walk lists, and what a listing of it is.
 -- No public document is behind it.
-use Rattle.std.specs.Prelude.{ℕ, Bool, List, true, not, IsTrue, ◌≤◌, length}
+use Rattle.std.specs.Prelude.{ℕ, Bool, List, true, not, ◌&&◌, IsTrue, ◌≤◌, length}
 use Rattle.std.specs.List.{list_all}
+use Rattle.std.specs.Option.{option_map_or}
 use Rattle.std.specs.Ordering.{is_lt}
 use Rattle.wq_view.specs.Listing.{name_cmp}
 use Rattle.wq_view.specs.Seen.{SeenData, is_lawful_row}
 use Rattle.wq_walk.specs.declared.part.Part.{Part}
-use Rattle.wq_walk.specs.declared.part.Part.TheVariants.{Whole, Before, From}
 
--- whether a name is in a part: each name, the names below a cut, or the cut itself and the names above it
+-- whether a name is in a part: from one cut on and below the other one, where there is one
 abbrev pub is_in : Part → List ℕ → Bool
-is_in Whole name = true
-is_in (Before cut) name = is_lt (name_cmp name cut.items)
-is_in (From cut) name = not (is_lt (name_cmp name cut.items))
+is_in part name =
+    option_map_or (λ cut. not (is_lt (name_cmp name cut.now))) part.from true
+    && option_map_or (λ cut. is_lt (name_cmp name cut.now)) part.below true
 
 -- whether the name of a row is in a part
 abbrev pub is_row_in : Part → SeenData → Bool

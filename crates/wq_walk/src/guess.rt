@@ -1,21 +1,21 @@
-//! A cut for a root that was not listed yet: a name in the middle of what stands at the top of its tree.
+//! Where a tree that was not listed yet may be cut: at the names that stand at its top.
 
 use crate::disk::Disk;
 use crate::names::{Block, Names};
 use crate::path::{TreePath, with_slash};
+use crate::piece::MOST_PIECES;
 use std::alloc::{AllocError, Global};
 use wq_live::TreeFault;
 
-/// Where the root has fewer names than this, those below them are weighed too.
+/// Where the root has fewer names than this, those below them are taken too.
 const FEW: usize = 256;
 
-/// The name in the middle of those in the root's folder and, if these are few, of those in its folders. Nothing where the
-/// root has no name.
-pub(crate) fn guessed_cut<D: Disk>(
+/// Some names at even distances among those in the root's folder and, if these are few, those in its folders. They rise.
+pub(crate) fn names_at_top<D: Disk>(
     disk: &D,
     alloc: Global,
     root: &str,
-) -> Result<Option<Vec<u8>>, TreeFault> {
+) -> Result<Vec<Vec<u8>>, TreeFault> {
     let mut block = Block::new(alloc)?;
     let folder = with_slash(alloc, root)?;
     let path = TreePath::new(alloc, &folder)?;
@@ -29,11 +29,22 @@ pub(crate) fn guessed_cut<D: Disk>(
         add_names_below(disk, &mut block, path, &mut names)?;
         names.sort_unstable();
     }
-    let middle = names.len() / 2;
-    if middle < names.len() {
-        return Ok(Some(names.swap_remove(middle)));
+    Ok(some_of(alloc, names)?)
+}
+
+/// As many of these names as a tree has pieces, at even distances; all of them if they are fewer.
+fn some_of(alloc: Global, names: Vec<Vec<u8>>) -> Result<Vec<Vec<u8>>, AllocError> {
+    if names.len() <= MOST_PIECES {
+        return Ok(names);
     }
-    Ok(None)
+    let mut some = Vec::with_capacity(alloc, MOST_PIECES)?;
+    for number in 0..MOST_PIECES {
+        let place = names.len().saturating_mul(number) / MOST_PIECES;
+        if let Some(name) = names.get(place) {
+            some.push(name.clone()?)?;
+        }
+    }
+    Ok(some)
 }
 
 /// Adds the whole names of the entries of the folders of these names.

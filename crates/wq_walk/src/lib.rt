@@ -10,6 +10,7 @@ mod listing;
 mod names;
 mod part;
 mod path;
+mod piece;
 mod rows;
 mod stat;
 mod unseen;

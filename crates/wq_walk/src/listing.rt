@@ -1,22 +1,38 @@
-//! A listing of a tree, made in two parts at once or in one. How a part is walked is not said here.
-ghost use Rattle.std.specs.Prelude.{◌≤◌, length, IfOk, IsTrue};
+//! A listing of a tree, made in pieces by two threads, or in one piece. How a piece is walked is not said here.
+ghost use Rattle.std.specs.Prelude.{◌≡◌, ◌≤◌, length, IfOk, IsTrue};
 ghost use Rattle.std.specs.List.{list_all};
 ghost use Rattle.std.specs.Thread.{IsSync};
 ghost use Rattle.wq_view.specs.Seen.{is_lawful_row};
-ghost use Rattle.wq_walk.specs.Part.{IsListing};
 
 use crate::disk::Disk;
-use crate::guess::guessed_cut;
-use crate::part::Part;
+use crate::guess::names_at_top;
 use crate::path::with_slash;
+use crate::piece::{Piece, first_pieces, pieces_of};
+use crate::rows::Rows;
 use crate::walk::rows_in;
 use std::alloc::{AllocError, Global};
+use std::sync::atomic::{AtomicUsize, Ordering};
 use std::thread::{Threads, join};
 use wq_live::TreeFault;
 use wq_view::{MAX_ROWS, Record, Seen};
 
-/// A listing of fewer rows than this is made in one part.
-const FEW: usize = 2000;
+/// The end of a list of pieces from which a thread takes them.
+#[derive(Clone, Copy)]
+enum End {
+    First,
+    Last,
+}
+
+impl End {
+    /// The piece that is next after so many.
+    fn piece<'a>(self, pieces: &[Piece<'a>], number: usize) -> Option<Piece<'a>> {
+        let place = match self {
+            End::First => number,
+            End::Last => pieces.len().checked_sub(number)?.checked_sub(1)?,
+        };
+        pieces.get(place).copied()
+    }
+}
 
 /// The rows of the files below a root that was not listed before.
 pub(crate) fn first_rows<T: Threads, D: Disk + Sync>(
@@ -28,8 +44,9 @@ pub(crate) fn first_rows<T: Threads, D: Disk + Sync>(
     ensures lawful { IfOk result (λ rows. IsTrue (list_all is_lawful_row rows.items)) }
     ensures few { IfOk result (λ rows. length rows.items ≤ 1000000) }
 {
-    let cut = guessed_cut(disk, alloc, root)?;
-    rows_cut_at(threads, disk, alloc, root, cut, &[])
+    let names = names_at_top(disk, alloc, root)?;
+    let pieces = first_pieces(alloc, &names)?;
+    rows_of(threads, disk, alloc, root, &pieces)
 }
 
 /// The rows of the files below a root whose last view has these records. They share the names.
@@ -43,27 +60,26 @@ pub(crate) fn rows_again<T: Threads, D: Disk + Sync>(
     ensures lawful { IfOk result (λ rows. IsTrue (list_all is_lawful_row rows.items)) }
     ensures few { IfOk result (λ rows. length rows.items ≤ 1000000) }
 {
-    let cut = middle_of(alloc, last)?;
-    rows_cut_at(threads, disk, alloc, root, cut, last)
+    let pieces = pieces_of(alloc, last)?;
+    rows_of(threads, disk, alloc, root, &pieces)
 }
 
-/// The rows of the files below a root, in two parts if there is a cut. They share the names of these records.
+/// The rows of the files below a root, of these pieces of its tree. They share the names of the pieces' records.
 ///
 /// A root that went while it was walked cannot be read: of what was not looked at yet nothing is known.
-fn rows_cut_at<T: Threads, D: Disk + Sync>(
+fn rows_of<T: Threads, D: Disk + Sync>(
     threads: &T,
     disk: &D,
     alloc: Global,
     root: &str,
-    cut: Option<Vec<u8>>,
-    last: &[Record],
+    pieces: &[Piece<'_>],
 ) -> Result<Vec<Seen>, TreeFault>
     ensures lawful { IfOk result (λ rows. IsTrue (list_all is_lawful_row rows.items)) }
     ensures few { IfOk result (λ rows. length rows.items ≤ 1000000) }
 {
-    let rows = match cut {
-        Some(cut) => rows_by_two(threads, disk, alloc, root, cut, last)?,
-        None => rows_in(disk, alloc, root, Part::Whole, last, last.len())?,
+    let rows = match pieces {
+        [piece] => rows_in(disk, alloc, root, *piece)?.into_rows(),
+        _ => joined(alloc, rows_by_two(threads, disk, alloc, root, pieces)?)?,
     };
     match disk.stat(&with_slash(alloc, root)?)? {
         Some(_) => Ok(rows),
@@ -71,52 +87,79 @@ fn rows_cut_at<T: Threads, D: Disk + Sync>(
     }
 }
 
-/// The name in the middle, and none where they are few.
-fn middle_of(alloc: Global, records: &[Record]) -> Result<Option<Vec<u8>>, AllocError> {
-    match records.get(records.len() / 2) {
-        Some(record) if records.len() >= FEW => {
-            Ok(Some(Vec::from_slice(alloc, record.name.as_bytes())?))
-        }
-        _ => Ok(None),
-    }
-}
-
-/// The rows of the files below a root, in two parts: before and from this cut, which is in the middle of these records, if
-/// there are any. The names below the cut are walked in a thread of their own, or last where none can be made.
-///
-/// The first part has room for the second too.
-fn rows_by_two<T: Threads, D: Disk + Sync>(
+/// The rows of each piece. Two threads take the pieces, one from the first on and one from the last back, until they meet; where
+/// no thread can be made, one takes all.
+fn rows_by_two<'a, T: Threads, D: Disk + Sync>(
     threads: &T,
     disk: &D,
     alloc: Global,
     root: &str,
-    cut: Vec<u8>,
-    records: &[Record],
-) -> Result<Vec<Seen>, TreeFault>
+    pieces: &[Piece<'a>],
+) -> Result<Vec<Rows<'a>>, TreeFault> {
+    let taken = AtomicUsize::new(0);
+    let (first, rest) = join(
+        threads,
+        || -> Result<Vec<Rows<'_>>, TreeFault>
+            requires { IsSync D.row }
+        { rows_of_free(disk, alloc, root, pieces, End::First, &taken) },
+        || -> Result<Vec<Rows<'_>>, TreeFault>
+            requires { IsSync D.row }
+        { rows_of_free(disk, alloc, root, pieces, End::Last, &taken) },
+    );
+    let (mut listed, rest) = (first?, rest?);
+    for rows in rest.into_iter().rev() {
+        listed.push(rows).map_err(AllocError::from)?;
+    }
+    Ok(listed)
+}
+
+/// The rows of pieces, one after the other from one end, as long as fewer are taken than there are.
+fn rows_of_free<'a, D: Disk>(
+    disk: &D,
+    alloc: Global,
+    root: &str,
+    pieces: &[Piece<'a>],
+    end: End,
+    taken: &AtomicUsize,
+) -> Result<Vec<Rows<'a>>, TreeFault> {
+    let mut listed = Vec::with_capacity(alloc, pieces.len())?;
+    for number in 0..pieces.len() {
+        let Some(piece) = end.piece(pieces, number) else {
+            break;
+        };
+        if taken.fetch_add(1, Ordering::Relaxed) >= pieces.len() {
+            break;
+        }
+        let rows = rows_in(disk, alloc, root, piece)?;
+        listed.push(rows).map_err(AllocError::from)?;
+    }
+    Ok(listed)
+}
+
+/// The rows of these pieces, one behind the other. What one of them held is free again once it is added.
+fn joined(alloc: Global, pieces: Vec<Rows<'_>>) -> Result<Vec<Seen>, TreeFault>
     ensures lawful { IfOk result (λ rows. IsTrue (list_all is_lawful_row rows.items)) }
     ensures few { IfOk result (λ rows. length rows.items ≤ 1000000) }
 {
-    let (below, above) = records.split_at(records.len() / 2);
-    let (room, rest_room) = (records.len(), above.len());
-    let before = Part::Before(cut.clone()?);
-    let from = Part::From(cut);
-    let (first, rest) = join(
-        threads,
-        move || -> Result<Vec<Seen>, TreeFault>
-            requires { IsSync D.row }
-            ensures { IfOk result (λ rows. IsListing before rows.items) }
-        { rows_in(disk, alloc, root, before, below, room) },
-        move || -> Result<Vec<Seen>, TreeFault>
-            requires { IsSync D.row }
-            ensures { IfOk result (λ rows. IsListing from rows.items) }
-        { rows_in(disk, alloc, root, from, above, rest_room) },
-    );
-    joined(first?, rest?)
+    let mut rows = Vec::with_capacity(alloc, count_of(&pieces))?;
+    for piece in pieces {
+        rows = with_rows(rows, piece.into_rows())?;
+    }
+    Ok(rows)
 }
 
-/// The rows of two parts, one behind the other.
+/// How many rows there are in all pieces.
+fn count_of(pieces: &[Rows<'_>]) -> usize {
+    let mut count = 0usize;
+    for rows in pieces {
+        count = count.saturating_add(rows.len());
+    }
+    count
+}
+
+/// Rows, and others behind them.
 #[tactic(auto, using(crate::proofs::Joins::all_of_both))]
-fn joined(mut first: Vec<Seen>, mut rest: Vec<Seen>) -> Result<Vec<Seen>, TreeFault>
+fn with_rows(mut first: Vec<Seen>, mut rest: Vec<Seen>) -> Result<Vec<Seen>, TreeFault>
     requires lawful { IsTrue (list_all is_lawful_row first.items) × IsTrue (list_all is_lawful_row rest.items) }
     requires few { (length first.items ≤ 1000000) × (length rest.items ≤ 1000000) }
     ensures lawful { IfOk result (λ rows. IsTrue (list_all is_lawful_row rows.items)) }

@@ -11,18 +11,22 @@ use wq_view::{MAX_ROWS, Seen};
 
 /// At most 1,000,000 rows of a part, each of which a pass takes.
 #[derive(Drop)]
-pub(crate) struct Rows {
-    part: Part,
+pub(crate) struct Rows<'a> {
+    part: Part<'a>,
     rows: Vec<Seen>,
     ghost lawful: { IsTrue (list_all is_lawful_row rows.items) },
     ghost few: { length rows.items ≤ 1000000 },
     ghost within: { IsTrue (list_all (is_row_in part) rows.items) },
 }
 
-impl Rows {
+impl<'a> Rows<'a> {
     /// No row of a part, with room for so many.
-    pub(crate) fn with_room(alloc: Global, part: Part, room: usize) -> Result<Rows, AllocError>
-        ensures { IfOk result (λ rows. rows.part ≡ part) }
+    pub(crate) fn with_room(
+        alloc: Global,
+        part: Part<'a>,
+        room: usize,
+    ) -> Result<Rows<'a>, AllocError>
+        ensures { IfOk result (λ rows. rows.part ≡ part.entry) }
     {
         Ok(Rows {
             part,
@@ -31,10 +35,15 @@ impl Rows {
     }
 
     /// The part whose rows they are.
-    pub(crate) fn part(&self) -> &Part
-        ensures { result.now ≡ self.now.part }
+    pub(crate) fn part(&self) -> Part<'a>
+        ensures { result ≡ self.now.part }
     {
-        &self.part
+        self.part
+    }
+
+    /// How many they are.
+    pub(crate) fn len(&self) -> usize {
+        self.rows.len()
     }
 
     /// Adds a row behind the others.
@@ -52,7 +61,7 @@ impl Rows {
 
     /// The rows, in the order in which they were added.
     pub(crate) fn into_rows(self) -> Vec<Seen>
-        ensures { IsListing self.part result.items }
+        ensures { IsListing self.entry.part result.items }
     {
         self.rows
     }

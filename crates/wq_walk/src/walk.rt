@@ -3,21 +3,20 @@ ghost use Rattle.std.specs.Prelude.{◌≡◌, IfOk, IfSome, IsTrue};
 ghost use Rattle.std.specs.Arc.{arc_slice_items};
 ghost use Rattle.wq_view.specs.Name.{is_valid_name};
 ghost use Rattle.wq_view.specs.Seen.{is_lawful_row};
-ghost use Rattle.wq_walk.specs.Part.{IsListing};
 ghost use Rattle.wq_walk.specs.Path.{name_of};
 
 use crate::disk::Disk;
 use crate::folder::{Folder, Step};
 use crate::known::Known;
 use crate::names::{Block, Names, Place};
-use crate::part::Part;
 use crate::path::{TreePath, with_slash};
+use crate::piece::Piece;
 use crate::rows::Rows;
 use crate::stat::Stat;
 use std::alloc::{AllocError, Global};
 use std::sync::ArcSlice;
 use wq_live::TreeFault;
-use wq_view::{Kind, Record, Seen, is_valid_name};
+use wq_view::{Kind, Seen, is_valid_name};
 
 /// A walk on its way.
 #[derive(Drop)]
@@ -27,31 +26,29 @@ struct Walk<'a> {
     path: TreePath,
     /// From the root down to the folder in which the walk is.
     folders: Vec<Folder>,
-    rows: Rows,
+    rows: Rows<'a>,
     known: Known<'a>,
 }
 
-/// The rows of the files below a root whose names are in a part, each of which a pass takes. They share the names of known
-/// records. There is room for so many from the start.
+/// The rows of the files below a root whose names are in a piece's part, each of which a pass takes. They share the names of
+/// the piece's records. There is room for as many from the start.
 ///
 /// The walk reads each folder whole, and then looks at its entries. It follows no links, but one that is the root. An entry
 /// that cannot be looked at is left out, as one that goes while the walk is on its way; so is one whose name no pass takes.
 /// Of a folder below the root that cannot be read only its own row is listed; but where no more files can be opened, which
 /// says nothing of the folder, the walk fails. Folders below which no name is in the part are not read.
-pub(crate) fn rows_in<D: Disk>(
+pub(crate) fn rows_in<'a, D: Disk>(
     disk: &D,
     alloc: Global,
     root: &str,
-    part: Part,
-    known: &[Record],
-    room: usize,
-) -> Result<Vec<Seen>, TreeFault>
-    ensures { IfOk result (λ rows. IsListing part rows.items) }
+    piece: Piece<'a>,
+) -> Result<Rows<'a>, TreeFault>
+    ensures { IfOk result (λ rows. rows.part ≡ piece.entry.part) }
 {
-    let rows = Rows::with_room(alloc, part, room)?;
-    let mut walk = Walk::new(disk, alloc, root, rows, Known::new(known))?;
+    let rows = Rows::with_room(alloc, piece.part, piece.known.len())?;
+    let mut walk = Walk::new(disk, alloc, root, rows, Known::new(piece.known))?;
     walk.run(disk)?;
-    Ok(walk.rows.into_rows())
+    Ok(walk.rows)
 }
 
 impl<'a> Walk<'a> {
@@ -60,10 +57,10 @@ impl<'a> Walk<'a> {
         disk: &D,
         alloc: Global,
         root: &str,
-        rows: Rows,
+        rows: Rows<'a>,
         known: Known<'a>,
     ) -> Result<Walk<'a>, TreeFault>
-        ensures { IfOk result (λ walk. walk.rows ≡ rows) }
+        ensures { IfOk result (λ walk. walk.rows ≡ rows.entry) }
     {
         let folder = with_slash(alloc, root)?;
         let mut block = Block::new(alloc)?;
