@@ -219,7 +219,12 @@ impl<N: Named, R: Wait + Drop, T: Tree + Drop, S: Seconds + Drop> Crawler<N, R, 
             Ok(rows) => rows,
             Err(fault) => return Err(not_listed(fault)),
         };
-        match Pass::new(rows, self.seconds.second()) {
+        let second = self.seconds.second();
+        let made = match self.publisher.table().root(root) {
+            Some((_number, last)) => Pass::again(rows, second, last),
+            None => Pass::new(rows, second),
+        };
+        match made {
             Ok(pass) => Ok(pass),
             Err(fault) => Err(no_pass(fault)),
         }

@@ -15,6 +15,7 @@
 mod below;
 mod file_record;
 mod kind;
+mod known;
 mod law;
 mod limit;
 mod listing;
@@ -24,6 +25,7 @@ mod view;
 
 pub use file_record::Record;
 pub use kind::Kind;
+pub use known::Known;
 pub use law::{history_has_one_view, kept_positions_filter, positions_are_there, positions_filter};
 pub use limit::{MAX_RECORDS, MAX_ROWS, MAX_TICK};
 pub use listing::{Pass, PassFault, Seen};

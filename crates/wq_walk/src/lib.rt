@@ -5,7 +5,6 @@
 mod disk;
 mod folder;
 mod guess;
-mod known;
 mod listing;
 mod names;
 mod part;

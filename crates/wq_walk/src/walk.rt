@@ -7,7 +7,6 @@ ghost use Rattle.wq_walk.specs.Path.{name_of};
 
 use crate::disk::Disk;
 use crate::folder::{Folder, Step};
-use crate::known::Known;
 use crate::names::{Block, Names, Place};
 use crate::path::{TreePath, with_slash};
 use crate::piece::Piece;
@@ -16,7 +15,7 @@ use crate::stat::Stat;
 use std::alloc::{AllocError, Global};
 use std::sync::ArcSlice;
 use wq_live::TreeFault;
-use wq_view::{Kind, Seen, is_valid_name};
+use wq_view::{Kind, Known, Seen};
 
 /// A walk on its way.
 #[derive(Drop)]
@@ -46,7 +45,10 @@ pub(crate) fn rows_in<'a, D: Disk>(
     ensures { IfOk result (λ rows. rows.part ≡ piece.entry.part) }
 {
     let rows = Rows::with_room(alloc, piece.part, piece.known.len())?;
-    let mut walk = Walk::new(disk, alloc, root, rows, Known::new(piece.known))?;
+    let known = Known {
+        records: piece.known,
+    };
+    let mut walk = Walk::new(disk, alloc, root, rows, known)?;
     walk.run(disk)?;
     Ok(walk.rows)
 }
@@ -126,10 +128,13 @@ impl<'a> Walk<'a> {
         if !reaches && !self.rows.part().has(self.path.name()) {
             return Ok(());
         }
+        let Some(shared) = self.known.shared(self.alloc, self.path.name())? else {
+            return Ok(());
+        };
         let Some(stat) = self.stat(disk)? else {
             return Ok(());
         };
-        self.list(&stat)?;
+        self.list(shared, &stat)?;
         if let (true, Kind::Dir, Some(folder)) = (reaches, stat.kind, self.folders.last_mut()) {
             folder.enter_later(name)?;
         }
@@ -146,26 +151,20 @@ impl<'a> Walk<'a> {
         }
     }
 
-    /// What is seen of the file at the path, if a pass takes its name and it can be looked at.
-    fn stat<D: Disk>(&self, disk: &D) -> Result<Option<Stat>, TreeFault>
-        ensures { IfOk result (λ stat. IfSome stat (λ _. IsTrue (is_valid_name (name_of self.now.path)))) }
-    {
-        if !is_valid_name(self.path.name()) {
-            return Ok(None);
+    /// What is seen of the file at the path, if it can be looked at.
+    fn stat<D: Disk>(&self, disk: &D) -> Result<Option<Stat>, TreeFault> {
+        match self.path.text() {
+            Some(path) => disk.stat(path),
+            None => Ok(None),
         }
-        let Some(path) = self.path.text() else {
-            return Ok(None);
-        };
-        disk.stat(path)
     }
 
-    /// Adds the row of the file at the path, if its name is in the part.
-    fn list(&mut self, stat: &Stat) -> Result<(), TreeFault>
-        requires { IsTrue (is_valid_name (name_of self.old.path)) }
+    /// Adds the row of the file of this name, if the name is in the part.
+    fn list(&mut self, name: ArcSlice<u8>, stat: &Stat) -> Result<(), TreeFault>
+        requires { IsTrue (is_valid_name (arc_slice_items name)) }
         ensures part { self.new.rows.part ≡ self.old.rows.part }
     {
-        if self.rows.part().has(self.path.name()) {
-            let name = self.known.shared(self.alloc, self.path.name())?;
+        if self.rows.part().has(&name) {
             self.rows.add(row_of(name, stat))?;
         }
         Ok(())

@@ -6,12 +6,13 @@ use Rattle.std.specs.List.Sorted.{IsSortedBy}
 use Rattle.wq_view.specs.Seen.{SeenData}
 use Rattle.wq_view.proofs.Sorting.{is_below, sorted_tells}
 use Rattle.wq_view.proofs.listing.sort_by_name.Goals as goal
-use Rattle.wq_view.proofs.listing.sort_by_name.Goals.{then-not-names_rise, else-not-names_rise}
+
+pub returns-then-names_rise-clause-distinct : goal.returns-then-names_rise-clause-distinct
+returns-then-names_rise-clause-distinct c =
+    let rises = sym c.if-names_rise.true ∙ c.names_rise.ensures in
+    sorted_tells c.args.rows.now c.args.rows.now _ (IsPermutation-refl _) (inl (sym rises)) rises
 
 pub returns-clause-distinct : goal.returns-clause-distinct
-returns-clause-distinct c = elim c.if-not-names_rise.branch [
-  | then-not-names_rise w ↦
-      let weak : IsSortedBy is_below c.if-not-names_rise.rows = rw w.rows-is (w.sort_unstable_by.ensures.sorted is_below (ranks_by nat_list_cmp_total (λ (row : SeenData). row.name)) (answers_always _ _ _ (λ f a r g called. search rules))) in
-      sorted_tells c.args.rows.now c.if-not-names_rise.rows _ (rw w.rows-is w.sort_unstable_by.ensures.permutation) (inr weak) c.names_rise-2.ensures
-  | else-not-names_rise w ↦ sorted_tells c.args.rows.now c.if-not-names_rise.rows _ (rw w.rows-is (IsPermutation-refl _)) (inl (rw w.rows-is (sym c.names_rise.ensures ∙ w.if-not-names_rise.false))) c.names_rise-2.ensures
-]
+returns-clause-distinct c =
+    let weak : IsSortedBy is_below c.sort_unstable_by.new.self = c.sort_unstable_by.ensures.sorted is_below (ranks_by nat_list_cmp_total (λ (row : SeenData). row.name)) (answers_always _ _ _ (λ f a r g called. search rules)) in
+    sorted_tells c.args.rows.now c.sort_unstable_by.new.self _ c.sort_unstable_by.ensures.permutation (inr weak) c.names_rise-2.ensures

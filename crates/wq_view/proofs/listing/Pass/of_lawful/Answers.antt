@@ -12,7 +12,7 @@ use Rattle.wq_view.specs.Seen.{SeenData, is_lawful_row, is_count}
 use Rattle.wq_view.specs.declared.limit.TheConstants.{MAX_ROWS}
 use Rattle.wq_view.proofs.Faults.{fault_when_lawful}
 use Rattle.wq_view.proofs.Listings.{sorted_listing, is_pass}
-use Rattle.wq_view.proofs.listing.Pass.new.Goals as goal
+use Rattle.wq_view.proofs.listing.Pass.of_lawful.Goals as goal
 
 -- the second as it was passed
 is_second : (second : ℤ) (r : Bool) → SFits w64 second → r ≡ is_count (to_z w64 (of_z w64 second)) → r ≡ true → is_count second ≡ true
@@ -20,17 +20,17 @@ is_second second r fits e is = ap is_count (sym (to_z-of_z w64 second fits)) ∙
 
 pub returns-then-not-sort_by_name-clause-fault : goal.returns-then-not-sort_by_name-clause-fault
 returns-then-not-sort_by_name-clause-fault c =
-    let short : length c.args.rows.items ≤ MAX_ROWS = omega (arith, c.args.rows.ok.0) in
-    let lawful : list_all is_lawful_row c.args.rows.items ≡ true = rw c.deref.ensures.value at c.in_default.ensures.none in
+    let short : length c.args.rows.items ≤ MAX_ROWS = c.requires.few in
+    let lawful : list_all is_lawful_row c.args.rows.items ≡ true = c.requires.lawful in
     let second = is_second c.args.second _ c.ranges.second c.is_count.ensures c.if-not-is_count.false in
-    fault_when_lawful c.args.rows.items c.args.second false short second lawful (rw (c.if-not-sort_by_name.true, c.deref_mut-2.ensures.value) at c.sort_by_name.ensures.distinct)
+    fault_when_lawful c.args.rows.items c.args.second false short second lawful (rw (c.if-not-sort_by_name.true, c.deref_mut.ensures.value) at c.sort_by_name.ensures.distinct)
 
 pub returns-clause-fault : goal.returns-clause-fault
 returns-clause-fault c =
-    let short : length c.args.rows.items ≤ MAX_ROWS = omega (arith, c.args.rows.ok.0) in
-    let lawful : list_all is_lawful_row c.args.rows.items ≡ true = rw c.deref.ensures.value at c.in_default.ensures.none in
+    let short : length c.args.rows.items ≤ MAX_ROWS = c.requires.few in
+    let lawful : list_all is_lawful_row c.args.rows.items ≡ true = c.requires.lawful in
     let second = is_second c.args.second _ c.ranges.second c.is_count.ensures c.if-not-is_count.false in
-    fault_when_lawful c.args.rows.items c.args.second true short second lawful (rw (c.if-not-sort_by_name.false, c.deref_mut-2.ensures.value) at c.sort_by_name.ensures.distinct)
+    fault_when_lawful c.args.rows.items c.args.second true short second lawful (rw (c.if-not-sort_by_name.false, c.deref_mut.ensures.value) at c.sort_by_name.ensures.distinct)
 
 -- the vector after the sort has the sorted rows
 written : (rows : Vec Seen Global) (sorted : List SeenData) → IsPermutation rows.items sorted → (with_items rows sorted).items ≡ sorted
@@ -38,14 +38,14 @@ written rows sorted moved = with_items_is rows sorted (omega (arith, length_perm
 
 pub invariant_of-result : goal.invariant_of-result
 invariant_of-result c =
-    let short : length c.args.rows.items ≤ MAX_ROWS = omega (arith, c.args.rows.ok.0) in
-    let lawful : list_all is_lawful_row c.args.rows.items ≡ true = rw c.deref.ensures.value at c.in_default.ensures.none in
+    let short : length c.args.rows.items ≤ MAX_ROWS = c.requires.few in
+    let lawful : list_all is_lawful_row c.args.rows.items ≡ true = c.requires.lawful in
     let second = is_second c.args.second _ c.ranges.second c.is_count.ensures c.if-not-is_count.false in
-    let moved : IsPermutation c.args.rows.items c.sort_by_name.new.rows = rw c.deref_mut-2.ensures.value at c.sort_by_name.ensures.same in
+    let moved : IsPermutation c.args.rows.items c.sort_by_name.new.rows = rw c.deref_mut.ensures.value at c.sort_by_name.ensures.same in
     rw (to_z-of_z w64 c.args.second c.ranges.second, written c.args.rows c.sort_by_name.new.rows moved) (is_pass c.args.rows.items c.sort_by_name.new.rows c.args.second moved short lawful second (c.sort_by_name.ensures.rise c.if-not-sort_by_name.false))
 
 pub returns-clause-pass : goal.returns-clause-pass
 returns-clause-pass c =
-    let moved : IsPermutation c.args.rows.items c.sort_by_name.new.rows = rw c.deref_mut-2.ensures.value at c.sort_by_name.ensures.same in
-    let distinct = (rw c.deref_mut-2.ensures.value at c.sort_by_name.ensures.distinct).0 c.if-not-sort_by_name.false in
+    let moved : IsPermutation c.args.rows.items c.sort_by_name.new.rows = rw c.deref_mut.ensures.value at c.sort_by_name.ensures.same in
+    let distinct = (rw c.deref_mut.ensures.value at c.sort_by_name.ensures.distinct).0 c.if-not-sort_by_name.false in
     rw (to_z-of_z w64 c.args.second c.ranges.second, written c.args.rows c.sort_by_name.new.rows moved) (ap (λ m. record { stats = m; second = c.args.second }) (sorted_listing c.args.rows.items c.sort_by_name.new.rows moved distinct (c.sort_by_name.ensures.rise c.if-not-sort_by_name.false)))

@@ -1,6 +1,6 @@
 -- with each turn fewer records are left
 use Rattle.std.proofs.Common.{length}
-use Rattle.wq_walk.proofs.known.Known.shared.Given as goal
+use Rattle.wq_view.proofs.known.Known.find.Given as goal
 
 abbrev pub decreases-loop-record : goal.decreases-loop-record
 decreases-loop-record l = length l.self.records.now
