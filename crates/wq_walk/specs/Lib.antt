@@ -1,4 +1,5 @@
 pub mod Stat
 pub mod Path
 pub mod Part
+pub mod Pieces
 pub mod Unseen

@@ -1,6 +1,9 @@
 //! The pieces in which a tree is walked: parts of it, and what of the last view of it lies in each. What walks them is not said
 //! here.
 
+ghost use Rattle.std.specs.Prelude.{◌≡◌, IfOk};
+ghost use Rattle.wq_walk.specs.Pieces.{IsSharedOut, IsSharedOutBelow, is_behind};
+
 use crate::part::Part;
 use std::alloc::{AllocError, Global};
 use wq_view::Record;
@@ -36,73 +39,113 @@ impl Named for Vec<u8> {
     }
 }
 
-/// The pieces of a tree whose last view has these records, in the order of names.
-pub(crate) fn pieces_of(alloc: Global, last: &[Record]) -> Result<Vec<Piece<'_>>, AllocError> {
+/// Pieces that were cut off a tree, in the order of names, so that each name below the last cut is in exactly one of them.
+#[derive(Drop)]
+struct Cuts<'a> {
+    pieces: Vec<Piece<'a>>,
+    last: Option<&'a [u8]>,
+    ghost shared: { IsSharedOutBelow last pieces.items },
+}
+
+impl<'a> Cuts<'a> {
+    /// A tree that is whole, with room for so many pieces of it.
+    fn new(alloc: Global, most: usize) -> Result<Cuts<'a>, AllocError> {
+        Ok(Cuts {
+            pieces: Vec::with_capacity(alloc, most)?,
+            last: None,
+        })
+    }
+
+    /// Cuts off the piece below a name, whose part has these records, if the name is behind the last cut. Says whether it is.
+    fn cut(&mut self, name: &'a [u8], known: &'a [Record]) -> Result<bool, AllocError> {
+        if !is_behind(name, self.last) {
+            return Ok(false);
+        }
+        self.pieces.push(Piece {
+            part: Part {
+                from: self.last,
+                below: Some(name),
+            },
+            known,
+        })?;
+        self.last = Some(name);
+        Ok(true)
+    }
+
+    /// All pieces: those that were cut off, and what is left, whose part has these records.
+    fn with_rest(self, known: &'a [Record]) -> Result<Vec<Piece<'a>>, AllocError>
+        ensures { IfOk result (λ pieces. IsSharedOut pieces.items) }
+    {
+        let part = Part {
+            from: self.last,
+            below: None,
+        };
+        let mut pieces = self.pieces;
+        pieces.push(Piece { part, known })?;
+        Ok(pieces)
+    }
+}
+
+/// The pieces of a tree whose last view has these records, in the order of names. Each name is in exactly one.
+pub(crate) fn pieces_of(alloc: Global, last: &[Record]) -> Result<Vec<Piece<'_>>, AllocError>
+    ensures { IfOk result (λ pieces. IsSharedOut pieces.items) }
+{
     let most = if last.len() < FEW { 1 } else { MOST_PIECES };
     pieces_cut(alloc, most, last, last)
 }
 
-/// The pieces of a tree that had no view yet, cut at some of these names, which rise.
-pub(crate) fn first_pieces(alloc: Global, names: &[Vec<u8>]) -> Result<Vec<Piece<'_>>, AllocError> {
+/// The pieces of a tree that had no view yet, cut at some of these names, which rise. Each name is in exactly one.
+pub(crate) fn first_pieces(alloc: Global, names: &[Vec<u8>]) -> Result<Vec<Piece<'_>>, AllocError>
+    ensures { IfOk result (λ pieces. IsSharedOut pieces.items) }
+{
     pieces_cut(alloc, MOST_PIECES, names, &[])
 }
 
 /// At most so many pieces, in the order of names, between which as many of these names lie.
 ///
-/// Of two cuts within one folder, which would be read once more for each of them, only the first is made; but the one in the
-/// middle always is.
+/// No cut is made within the folder in which its piece begins, since the folder would be read once more for it; but the one in
+/// the middle always is.
 fn pieces_cut<'a, T: Named>(
     alloc: Global,
     most: usize,
     names: &'a [T],
     known: &'a [Record],
-) -> Result<Vec<Piece<'a>>, AllocError> {
-    let mut pieces = Vec::with_capacity(alloc, most)?;
+) -> Result<Vec<Piece<'a>>, AllocError>
+    ensures { IfOk result (λ pieces. IsSharedOut pieces.items) }
+{
+    let mut cuts = Cuts::new(alloc, most)?;
     let mut start = 0;
     for number in 1..most {
         let end = names.len().saturating_mul(number) / MOST_PIECES;
         let is_middle = number == MOST_PIECES / 2;
-        if end > start && (is_middle || !are_in_one_folder(names, start, end)) {
-            pieces.push(piece_between(names, start, end, known))?;
+        if let Some(name) = cut_between(names, start, end, is_middle)
+            && cuts.cut(name, known.get(start..end).unwrap_or(&[]))?
+        {
             start = end;
         }
     }
-    pieces.push(piece_between(names, start, names.len(), known))?;
-    Ok(pieces)
+    cuts.with_rest(known.get(start..).unwrap_or(&[]))
 }
 
-/// The piece from the name at one place on and before the name at another; the first and the last one have all that is before
-/// and behind the names too.
-fn piece_between<'a, T: Named>(
+/// The name at the second of two places, where a piece that begins with the name at the first one ends before it.
+fn cut_between<'a, T: Named>(
     names: &'a [T],
     start: usize,
     end: usize,
-    known: &'a [Record],
-) -> Piece<'a> {
-    let from = if start == 0 {
-        None
-    } else {
-        name_at(names, start)
-    };
-    Piece {
-        part: Part {
-            from,
-            below: name_at(names, end),
-        },
-        known: known.get(start..end).unwrap_or(&[]),
-    }
+    is_middle: bool,
+) -> Option<&'a [u8]> {
+    let (first, name) = (names.get(start)?.name(), names.get(end)?.name());
+    let is_apart = is_middle || folder_of(first) != folder_of(name);
+    (end > start && is_apart).then_some(name)
 }
 
-/// The name at a place.
-fn name_at<T: Named>(names: &[T], place: usize) -> Option<&[u8]> {
-    Some(names.get(place)?.name())
-}
-
-/// Whether what has the names at two places lies in one folder.
-fn are_in_one_folder<T: Named>(names: &[T], place: usize, other: usize) -> bool {
-    match (name_at(names, place), name_at(names, other)) {
-        (Some(name), Some(other)) => folder_of(name) == folder_of(other),
-        _ => false,
+/// Whether a name is behind a cut, where there is one.
+fn is_behind(name: &[u8], cut: Option<&[u8]>) -> bool
+    ensures { result ≡ is_behind name.now cut.entry }
+{
+    match cut {
+        Some(cut) => cut.cmp(name).is_lt(),
+        None => true,
     }
 }
 
