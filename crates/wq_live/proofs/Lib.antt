@@ -10,5 +10,6 @@ mod Beginnings
 mod Adding
 mod Comparing
 mod Sharing
+mod Spending
 mod Fullness
 mod Numbers

@@ -60,8 +60,8 @@ abbrev pub passes_over : ℕ → List RootEvent → History
 passes_over number events = filter_map (pass_in number) events
 
 -- what holds of each list that the server makes: the roots got the numbers 1, 2, 3 and so on, no
--- event is about a number that no root got, and of the passes over a root each saw something else
--- than the one before
+-- event is about a number beyond the last one, and of the passes over a root each saw something
+-- else than the one before
 pub record IsLawful (events : List RootEvent) : Type 0 where
   pub numbers : map (λ root. root.number) (started events) ≡ range_with_len 1 (length (started events))
   pub known : All (λ event. number_in event ≤ length (started events)) events

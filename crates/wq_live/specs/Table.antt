@@ -2,6 +2,7 @@
 -- No public document is behind it.
 use Rattle.std.specs.Prelude.{◌≡◌, ◌≢◌, ◌==◌, ◌⊎◌, ◌+◌, ℕ, Bool, true, false, if◌then◌else◌, not, All, List, [], ◌∷◌, ◌++◌, length, map, filter, bytes_eq, refl}
 use Rattle.std.specs.Coded.{Coded, code_by, coded×, coded_ℕ, coded_list}
+use Rattle.wq_view.specs.Limit.{max_tick}
 use Rattle.wq_view.specs.Listing.{PassData}
 use Rattle.wq_view.specs.History.{last_stats}
 use Rattle.wq_view.specs.View.{ViewData, view_code, IsViewOf}
@@ -66,6 +67,11 @@ IsNoNews events number pass =
 abbrev pub IsNews : List RootEvent → ℕ → PassData → Type 0
 IsNews events number pass =
     (is_shown events number ≡ true) × (last_stats (passes_over number events) ≢ pass.stats)
+
+-- the pass tells something, and its root has no tick left for it
+abbrev pub WantsForTicks : List RootEvent → ℕ → PassData → Type 0
+WantsForTicks events number pass =
+    IsNews events number pass × (length (passes_over number events) ≡ max_tick)
 
 -- the table without the root of this number
 abbrev pub without : ℕ → TableData → TableData

@@ -3,11 +3,10 @@ ghost use Rattle.std.specs.Prelude.{if◌then◌else◌, ◌+◌, ◌↔◌, Non
 ghost use Rattle.left_right.specs.Sides.{view};
 ghost use Rattle.wq_live.specs.Front.{Begins, head_of};
 ghost use Rattle.wq_base.specs.Limit.{max_number};
-ghost use Rattle.wq_view.specs.Limit.{max_tick};
 ghost use Rattle.wq_live.specs.Limit.{max_roots};
 ghost use Rattle.wq_live.specs.declared.event.RootEvent.TheVariants.{Ended, Passed};
-ghost use Rattle.wq_live.specs.Event.{first_history, is_shown, passes_over, root_named, shown, start_events, started};
-ghost use Rattle.wq_live.specs.Table.{IsNews, IsNoNews, IsTableOf};
+ghost use Rattle.wq_live.specs.Event.{first_history, is_shown, root_named, shown, start_events, started};
+ghost use Rattle.wq_live.specs.Table.{IsNews, IsNoNews, IsTableOf, WantsForTicks};
 
 use crate::event::RootEvent;
 use crate::front::Head;
@@ -156,8 +155,7 @@ impl<N: Named, R: Wait + Drop> Publisher<N, R> {
         ensures told { IfOk result (λ told. told ≡ self.new) }
         ensures added { IfOk result (λ _. (IsNoNews self.old number pass × (self.new ≡ self.old))
             ⊎ (IsNews self.old number pass × (self.new ≡ self.old ++ Passed number pass ∷ []))) }
-        ensures spent { result ≡ Err ViewFault.TicksSpent → IsNews self.old number pass
-            × (length (passes_over number self.old) ≡ max_tick) }
+        ensures spent { (result ≡ Err ViewFault.TicksSpent) ↔ WantsForTicks self.old number pass }
         ensures err { IfErr result (λ _. self.new ≡ self.old) }
     {
         let Some(next) = self.table().with_pass(number, &pass)? else {

@@ -9,7 +9,7 @@ ghost use Rattle.wq_view.specs.Limit.{max_tick};
 ghost use Rattle.wq_view.specs.View.{IsViewOf};
 ghost use Rattle.wq_live.specs.Event.{first_history, is_shown, passes_over, start_events};
 ghost use Rattle.wq_live.specs.Limit.{max_roots};
-ghost use Rattle.wq_live.specs.Table.{IsNews, IsNoNews, IsStarted, IsTableOf, has_number, has_text, with_view, without};
+ghost use Rattle.wq_live.specs.Table.{IsNews, IsNoNews, IsStarted, IsTableOf, WantsForTicks, has_number, has_text, with_view, without};
 
 use crate::limit::MAX_ROOTS;
 use crate::shown_root::ShownRoot;
@@ -216,7 +216,7 @@ impl RootTable {
     /// The table after a pass over the root of this number; none where nothing is added, since the root is not
     /// shown or the last pass over it saw just the same.
     ///
-    /// Refused where the root's ticks are spent and the pass saw something else.
+    /// Refused where the root's ticks are spent and the pass saw something else, and for want of memory.
     pub fn with_pass(&self, number: u64, pass: &Pass) -> Result<Option<RootTable>, ViewFault>
         ensures passed { (events : List RootEvent) → IsTableOf events self.now
             → IfOk result (λ next. MatchOption next
@@ -226,8 +226,7 @@ impl RootTable {
         ensures room { (events : List RootEvent) → IsTableOf events self.now
             → IfOk result (λ next. IfSome next (λ _. length (passes_over number events) < max_tick)) }
         ensures spent { (events : List RootEvent) → IsTableOf events self.now
-            → result ≡ Err ViewFault.TicksSpent → IsNews events number pass.now
-            × (length (passes_over number events) ≡ max_tick) }
+            → ((result ≡ Err ViewFault.TicksSpent) ↔ WantsForTicks events number pass.now) }
     {
         let Some(root) = self.root_of_number(number) else {
             return Ok(None);

@@ -1,30 +1,60 @@
 -- by the root that is found, and what its view is after the pass
-use Rattle.std.proofs.Common.{◌≡◌, ◌≢◌, ◌<◌, ◌++◌, ◌∷◌, [], Ok, Err, Some, IfSome, option_map, inl, inr, ap, sym, subst, ◌∙◌}
+use Rattle.std.proofs.Common.{◌≡◌, ◌≢◌, ◌<◌, ◌++◌, ◌∷◌, [], Ok, Err, None, Some, IfSome, option_map, inl, inr, ap, sym, subst, ◌∙◌}
 use Rattle.std.proofs.lemmas.Result.{err_from_is_err_and}
-use Rattle.wq_view.specs.declared.view.ViewFault.TheVariants.{TicksSpent}
 use Rattle.wq_view.specs.History.{last_stats}
 use Rattle.wq_view.specs.Limit.{max_tick}
 use Rattle.wq_view.specs.View.{IsViewOf}
 use Rattle.wq_live.specs.Event.{passes_over}
-use Rattle.wq_live.proofs.Finding.{same_fault}
 use Rattle.wq_live.proofs.Passes.{not_shown, is_there, found_view, found_known, after_pass}
+use Rattle.wq_live.proofs.Spending.{no_memory, same_error, wants_by_view, well}
 use Rattle.wq_live.proofs.table.RootTable.with_pass.Goals as goal
 
 pub returns-in_default-clause-passed : goal.returns-in_default-clause-passed
 returns-in_default-clause-passed c events is =
     inl (not_shown events c.args.self.now is c.args.number (sym c.root_of_number.ensures ∙ ap (option_map (λ root. root.now)) c.in_default.is))
 
+pub returns-in_default-clause-spent : goal.returns-in_default-clause-spent
+returns-in_default-clause-spent c events is =
+    let hidden = not_shown events c.args.self.now is c.args.number (sym c.root_of_number.ensures ∙ ap (option_map (λ root. root.now)) c.in_default.is) in
+    ((λ h. absurd (cc h)), (λ wants. absurd (cc (hidden, wants.0.0))))
+
 pub returns-in_err-view-clause-spent : goal.returns-in_err-view-clause-spent
-returns-in_err-view-clause-spent c events is spent =
+returns-in_err-view-clause-spent c events is =
     let found = sym c.root_of_number.ensures ∙ ap (option_map (λ root. root.now)) c.in-Some.is in
     let of = found_view events c.args.self.now is c.args.number c.in-Some.root.now found in
     let lent = subst (IsViewOf (passes_over c.args.number events)) (sym (c.deref.ensures ∙ ap (λ r. r.view) c.root.view_is)) of in
+    let shown = is_there events c.args.self.now is c.args.number c.in-Some.root.now found in
+    let wants = wants_by_view events c.args.number c.args.pass.now c.deref.result.now.tick shown lent.tick (c.after.ensures.spent (passes_over c.args.number events) lent) in
     let p = err_from_is_err_and c.from_residual.result c.from_residual.ensures.1 in
-    let was : c.after.result ≡ Err TicksSpent = c.in_err-view.was ∙ ap Err (sym p.2 ∙ same_fault (sym p.1 ∙ spent)) in
-    let both = (c.after.ensures.spent (passes_over c.args.number events) lent).0 was in (
-      (is_there events c.args.self.now is c.args.number c.in-Some.root.now found, both.1),
-      sym lent.tick ∙ both.0,
-    )
+    same_error c.from_residual.result c.after.result p.0 p.1 (c.in_err-view.was ∙ ap Err (sym p.2)) wants
+
+pub returns-in_default-2-clause-spent : goal.returns-in_default-2-clause-spent
+returns-in_default-2-clause-spent c events is =
+    let found = sym c.root_of_number.ensures ∙ ap (option_map (λ root. root.now)) c.in-Some.is in
+    let of = found_view events c.args.self.now is c.args.number c.in-Some.root.now found in
+    let lent = subst (IsViewOf (passes_over c.args.number events)) (sym (c.deref.ensures ∙ ap (λ r. r.view) c.root.view_is)) of in
+    let shown = is_there events c.args.self.now is c.args.number c.in-Some.root.now found in
+    let wants = wants_by_view events c.args.number c.args.pass.now c.deref.result.now.tick shown lent.tick (c.after.ensures.spent (passes_over c.args.number events) lent) in
+    well None c.after.result None (c.in_ok-view.was ∙ ap Ok c.in_default-2.is) wants
+
+pub returns-in_err-with_view-clause-spent : goal.returns-in_err-with_view-clause-spent
+returns-in_err-with_view-clause-spent c events is =
+    let found = sym c.root_of_number.ensures ∙ ap (option_map (λ root. root.now)) c.in-Some.is in
+    let of = found_view events c.args.self.now is c.args.number c.in-Some.root.now found in
+    let lent = subst (IsViewOf (passes_over c.args.number events)) (sym (c.deref.ensures ∙ ap (λ r. r.view) c.root.view_is)) of in
+    let shown = is_there events c.args.self.now is c.args.number c.in-Some.root.now found in
+    let wants = wants_by_view events c.args.number c.args.pass.now c.deref.result.now.tick shown lent.tick (c.after.ensures.spent (passes_over c.args.number events) lent) in
+    let p = err_from_is_err_and c.from_residual-in_err-with_view.result c.from_residual-in_err-with_view.ensures.1 in
+    no_memory c.from_residual-in_err-with_view.result c.after.result (Some c.in-Some-2.view) p.0 p.1 p.2 (c.in_ok-view.was ∙ ap Ok c.in-Some-2.is) wants
+
+pub returns-clause-spent : goal.returns-clause-spent
+returns-clause-spent c events is =
+    let found = sym c.root_of_number.ensures ∙ ap (option_map (λ root. root.now)) c.in-Some.is in
+    let of = found_view events c.args.self.now is c.args.number c.in-Some.root.now found in
+    let lent = subst (IsViewOf (passes_over c.args.number events)) (sym (c.deref.ensures ∙ ap (λ r. r.view) c.root.view_is)) of in
+    let shown = is_there events c.args.self.now is c.args.number c.in-Some.root.now found in
+    let wants = wants_by_view events c.args.number c.args.pass.now c.deref.result.now.tick shown lent.tick (c.after.ensures.spent (passes_over c.args.number events) lent) in
+    well (Some c.in_ok-with_view.field-0) c.after.result (Some c.in-Some-2.view) (c.in_ok-view.was ∙ ap Ok c.in-Some-2.is) wants
 
 pub returns-in_default-2-clause-passed : goal.returns-in_default-2-clause-passed
 returns-in_default-2-clause-passed c events is =

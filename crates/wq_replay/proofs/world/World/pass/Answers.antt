@@ -42,7 +42,7 @@ pub returns-in-Err-TicksSpent : goal.returns-in-Err-TicksSpent
 returns-in-Err-TicksSpent c = λ before stands.
     let number = c.in-Some.number in
     let some : number_in c.args.root c.args.self.now.table ≡ Some c.in-Some.number = subst (λ (text : List ℕ). number_in text c.args.self.now.table ≡ Some c.in-Some.number) c.as_str.ensures (sym c.number_of.ensures ∙ c.in-Some.is) in
-    let spent = c.with_pass.ensures.spent before.events stands.roots (c.in-Err-TicksSpent.is ∙ ap Err c.in-Err-TicksSpent.field-0-is) in (
+    let spent = (c.with_pass.ensures.spent before.events stands.roots).0 (c.in-Err-TicksSpent.is ∙ ap Err c.in-Err-TicksSpent.field-0-is) in (
       refusing c.args.root TicksSpent before,
       crawls_shown before (refusing c.args.root TicksSpent before) c.args.root c.args.pass.now c.args.self.now.table number stands.roots some (inr (inr (spent.0, spent.1, refl))),
       record { run = stands.run; roots = stands.roots; shelf = stands.shelf; refused = refl; whole = stands.whole },
