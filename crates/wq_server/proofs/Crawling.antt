@@ -9,13 +9,13 @@ use Rattle.wq_server.specs.Crawl.{Began, CrawledAt, CrawlerData, IsNotTakenIn, I
 
 module _ (text : List ℕ) (before mid after : CrawlerData) (pass : PassData) where
   -- a pass over a root stays one where nothing more is listed, and the clock is not asked again
-  still : IsPassOver text before pass mid → after.listed ≡ mid.listed → after.told ≡ mid.told → IsPassOver text before pass after
-  still (rows, second) listed told =
-      (subst (IsOfRows before.listed text pass) (sym listed) rows, subst (Gave before.told pass.second) (sym told) second)
+  still : IsPassOver text before pass mid → after.listed ≡ mid.listed → after.clock ≡ mid.clock → IsPassOver text before pass after
+  still (rows, second) listed clock =
+      (subst (IsOfRows before.listed text pass) (sym listed) rows, subst (Gave before.clock pass.second) (sym clock) second)
 
   -- a root that is shown
   pub crawled_at : (number : ℕ) (result : Result (List RootEvent) CrawlFault) → mid.events ≡ before.events → IsPassOver text before pass mid
-      → after.listed ≡ mid.listed → after.told ≡ mid.told
+      → after.listed ≡ mid.listed → after.clock ≡ mid.clock
       → MatchResult result (λ told. (told ≡ after.events) × Passes mid.events number pass after.events)
       (λ fault. (after.events ≡ mid.events) × IsNotTakenIn mid.events number pass fault) → CrawledAt number text before result after
   crawled_at number (Ok told) kept over listed second (same, passes) =
@@ -25,7 +25,7 @@ module _ (text : List ℕ) (before mid after : CrawlerData) (pass : PassData) wh
 
   -- a root that is not shown
   pub began : (result : Result (List RootEvent) CrawlFault) → mid.events ≡ before.events → IsPassOver text before pass mid
-      → after.listed ≡ mid.listed → after.told ≡ mid.told
+      → after.listed ≡ mid.listed → after.clock ≡ mid.clock
       → MatchResult result (λ told. (told ≡ after.events) × (after.events ≡ with_start text pass mid.events))
       (λ fault. (after.events ≡ mid.events) × (fault ≡ NoMemory)) → Began text before result after
   began (Ok told) kept over listed second (same, added) = (same, pass, still over listed second, added ∙ ap (with_start text pass) kept)

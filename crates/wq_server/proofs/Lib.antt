@@ -1,3 +1,4 @@
+mod Beginnings
 mod Fronts
 mod Shown
 mod Held

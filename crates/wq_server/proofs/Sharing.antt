@@ -10,7 +10,7 @@ use Rattle.wq_server.specs.Roots.{Gives, passing}
 
 -- a crawler with this list, whose tree and clock show nothing
 abbrev plain : List RootEvent → CrawlerData
-plain events = record { events = events; told = None; listed = None; failed = 0 }
+plain events = record { events = events; clock = None; listed = None; failed = 0 }
 
 -- a pass that sees what the last one over the root of this number saw
 abbrev same_again : ℕ → List RootEvent → PassData
@@ -20,7 +20,7 @@ same_again number events = record { stats = last_stats (passes_over number event
 shared_at : (text : List ℕ) (number : ℕ) (before after : CrawlerData) (answer : Result (List RootEvent) CrawlFault) → Shared before answer after
     → CrawledAt number text (plain before.events) answer (plain before.events)
 shared_at text number before after (Ok told) (same, kept) = (same, same_again number before.events, (tt, tt), inl (inr refl, refl))
-shared_at text number before after (Err fault) (lacking, kept) = (refl, inr (same_again number before.events, (tt, tt), inl lacking))
+shared_at text number before after (Err fault) (lacking, kept) = (refl, inr (same_again number before.events, (tt, tt), inr (lacking, (λ wants. wants.0.1 refl))))
 
 pub once_gives : (text : List ℕ) (asked : ℕ) (last : ℕ → Option ℕ) (before after : CrawlerData) (result : Result (Option (List RootEvent)) CrawlFault)
     → CrawledOnce text asked last before result after → Gives None (passing text) result None

@@ -6,7 +6,6 @@ use Rattle.std.specs.Prelude.{List, [], ◌∷◌, ◌++◌, length}
 use Rattle.std.specs.Prelude.{Option, Some, None, IsSome, Result, Ok, Err, option_map}
 use Rattle.std.specs.Coded.{Coded, code_by, coded×, coded_ℕ, coded_ℤ, coded_option}
 use Rattle.wq_base.specs.Limit.{max_number}
-use Rattle.wq_view.specs.Limit.{max_tick}
 use Rattle.wq_view.specs.Listing.{PassData, listing_fault, listing_of}
 use Rattle.wq_view.specs.Seen.{SeenData}
 use Rattle.wq_view.specs.declared.listing.PassFault.{PassFault}
@@ -14,10 +13,10 @@ use Rattle.wq_view.specs.declared.listing.PassFault.TheVariants.{BadName, NameTw
 use Rattle.wq_view.specs.declared.listing.PassFault.TheVariants.{OutOfRange}
 use Rattle.wq_view.specs.declared.listing.PassFault.TheVariants.{NoMemory as NoPassMemory}
 use Rattle.wq_live.specs.Device.{Gave}
-use Rattle.wq_live.specs.Event.{is_shown, passes_over, root_named, shown, start_events, started}
+use Rattle.wq_live.specs.Event.{is_shown, root_named, shown, start_events, started}
 use Rattle.wq_live.specs.Front.{events_code}
 use Rattle.wq_live.specs.Limit.{max_roots}
-use Rattle.wq_live.specs.Table.{IsNews, IsNoNews}
+use Rattle.wq_live.specs.Table.{IsNews, IsNoNews, WantsForTicks}
 use Rattle.wq_live.specs.Tree.{IsCounted, ListedData, Lists, listed_code}
 use Rattle.wq_live.specs.declared.event.RootEvent.{RootEvent}
 use Rattle.wq_live.specs.declared.event.RootEvent.TheVariants.{Ended, Passed}
@@ -35,7 +34,7 @@ use Rattle.wq_session.specs.declared.crawl.CrawlFault.TheVariants.{NoMemory}
 -- failed
 pub record CrawlerData : Type 0 where
   pub events : List RootEvent
-  pub told : Option (ℕ × ℤ)
+  pub clock : Option (ℕ × ℤ)
   pub listed : Option (ℕ × ListedData)
   pub failed : ℕ
 
@@ -46,10 +45,10 @@ crawler_code =
     (coded× events_code
     (coded× (coded_option (coded× coded_ℕ coded_ℤ))
     (coded× (coded_option (coded× coded_ℕ listed_code)) coded_ℕ)))
-    (λ c. (c.events, (c.told, (c.listed, c.failed))))
-    (λ (events, (told, (listed, failed))). record {
+    (λ c. (c.events, (c.clock, (c.listed, c.failed))))
+    (λ (events, (clock, (listed, failed))). record {
       events = events;
-      told = told;
+      clock = clock;
       listed = listed;
       failed = failed;
     }) (λ _. refl)
@@ -94,26 +93,24 @@ IsOfRows before text pass (Some after) =
 -- that the clock told then
 abbrev pub IsPassOver : List ℕ → CrawlerData → PassData → CrawlerData → Type 0
 IsPassOver text before pass after =
-    IsOfRows before.listed text pass after.listed × Gave before.told pass.second after.told
+    IsOfRows before.listed text pass after.listed × Gave before.clock pass.second after.clock
 
 -- a root was to be listed, and this is why there is no pass over it: the tree did not list it, and
 -- the clock was not asked; or what it listed makes none at the second that the clock told
 abbrev pub IsNoPassOver : List ℕ → CrawlerData → CrawlFault → CrawlerData → Type 0
 IsNoPassOver text before fault after =
     ((why : TreeFault) × Lists before.listed text (Err why) after.listed
-    × (after.told ≡ before.told) × IsCounted before.failed after.failed why
+    × (after.clock ≡ before.clock) × IsCounted before.failed after.failed why
     × (fault ≡ not_listed why))
     ⊎ ((rows : List SeenData) × (second : ℤ) × (why : PassFault)
-    × Lists before.listed text (Ok rows) after.listed × Gave before.told second after.told
+    × Lists before.listed text (Ok rows) after.listed × Gave before.clock second after.clock
     × (listing_fault rows second ≡ Some why) × (fault ≡ no_pass why))
 
--- why a pass over a root is not published: for want of memory; or the pass saw something else than
--- the last one, and the ticks of the root are spent
+-- why a pass over a root is not published: it wants for ticks; or it does not, and memory ran out
 abbrev pub IsNotTakenIn : List RootEvent → ℕ → PassData → CrawlFault → Type 0
 IsNotTakenIn events number pass fault =
-    (fault ≡ NoMemory)
-    ⊎ ((fault ≡ TicksSpent) × IsNews events number pass
-    × (length (passes_over number events) ≡ max_tick))
+    ((fault ≡ TicksSpent) × WantsForTicks events number pass)
+    ⊎ ((fault ≡ NoMemory) × (WantsForTicks events number pass → ⊥))
 
 -- a root that is shown was crawled: it was listed, and a pass over it is added, unless that tells
 -- nothing, and the list is told; where it is refused, nothing is added

@@ -1,8 +1,9 @@
 //! The answer to an ask: what it needs is done, its root is looked at, and the shelf is held.
-ghost use Rattle.std.specs.Prelude.{◌≡◌, option_map};
+ghost use Rattle.std.specs.Prelude.{◌≡◌, Ok, Some, option_map};
 ghost use Rattle.wq_clock.specs.Instance.{instance_data};
 ghost use Rattle.wq_server.specs.Answering.{AnswersAfter, AnswersEnd, IfRetires, SeesFirst, known};
 ghost use Rattle.wq_server.specs.Desk.{AnswersAt};
+ghost use Rattle.wq_server.specs.Ready.{Learns};
 ghost use Rattle.wq_server.specs.Roots.{Gives, showing};
 ghost use Rattle.wq_server.specs.Serving.{IsAnswered};
 ghost use Rattle.wq_session.specs.Answer.{MayRefuse};
@@ -161,9 +162,21 @@ fn hold_at_end<N: Named, D: Desk>(
                 view: &view,
             };
             let out = hold(client, ask, Some(at), desk);
-            (seat.learn(told), out)
+            (learn_and_leave(seat, told), out)
         }
         Err(fault) => (seat, refuse(client, fault)),
+    }
+}
+
+/// Learns what was told, and looks at once, so that the seat keeps nothing of it that is shown by then. Else it would keep the
+/// views of all roots as they were told, for as long as its client asks nothing that looks.
+#[tactic(auto, using(crate::proofs::Beginnings::begins_later))]
+fn learn_and_leave<N: Named>(seat: Seat<N>, told: Told<N>) -> Seat<N>
+    ensures { Learns seat (Ok (Some told)) result }
+{
+    match seat.learn(told).look() {
+        Ok(look) => look.leave(),
+        Err(seat) => seat,
     }
 }
 

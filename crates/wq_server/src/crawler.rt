@@ -47,7 +47,7 @@ impl<N: Named, R: Wait + Drop, T: Tree + Drop, S: Seconds + Drop> Model for Craw
 
     ghost view = { λ c. record {
       events = c.publisher;
-      told = S.told c.seconds;
+      clock = S.told c.seconds;
       listed = T.listed c.tree;
       failed = T.failed c.tree;
     } };
@@ -58,7 +58,7 @@ impl<N: Named, R: Wait + Drop, T: Tree + Drop, S: Seconds + Drop> Crawler<N, R, 
     pub fn new(publisher: Publisher<N, R>, tree: T, seconds: S) -> Crawler<N, R, T, S>
         ensures { result ≡ record {
           events = publisher;
-          told = S.told seconds;
+          clock = S.told seconds;
           listed = T.listed tree;
           failed = T.failed tree;
         } }
@@ -178,7 +178,7 @@ impl<N: Named, R: Wait + Drop, T: Tree + Drop, S: Seconds + Drop> Crawler<N, R, 
             (λ fault. ((self.new).events ≡ (self.old).events)
             × IsNotTakenIn (self.old).events number pass fault) }
         ensures listed { (self.new).listed ≡ (self.old).listed }
-        ensures told { (self.new).told ≡ (self.old).told }
+        ensures clock { (self.new).clock ≡ (self.old).clock }
         ensures failed { (self.new).failed ≡ (self.old).failed }
     {
         match self.publisher.publish(number, pass) {
@@ -197,7 +197,7 @@ impl<N: Named, R: Wait + Drop, T: Tree + Drop, S: Seconds + Drop> Crawler<N, R, 
             × ((self.new).events ≡ with_start root.now pass (self.old).events))
             (λ fault. ((self.new).events ≡ (self.old).events) × (fault ≡ CrawlFault.NoMemory)) }
         ensures listed { (self.new).listed ≡ (self.old).listed }
-        ensures told { (self.new).told ≡ (self.old).told }
+        ensures clock { (self.new).clock ≡ (self.old).clock }
     {
         match self.publisher.start(root, pass) {
             Ok((_number, told)) => Ok(told),
@@ -233,7 +233,7 @@ impl<N: Named, R: Wait + Drop, T: Tree + Drop, S: Seconds + Drop> Crawler<N, R, 
     /// The rows of a root, as the tree shows it now. They may share the names of its view.
     fn rows(&mut self, root: &str) -> Result<Vec<Seen>, TreeFault>
         ensures events { (self.new).events ≡ (self.old).events }
-        ensures told { (self.new).told ≡ (self.old).told }
+        ensures clock { (self.new).clock ≡ (self.old).clock }
         ensures counted { IfErr result (IsCounted (self.old).failed (self.new).failed) }
         ensures listed { Lists (self.old).listed root.now (rows_given result) (self.new).listed }
     {
