@@ -43,7 +43,7 @@ where
         }
     };
     if has_asked {
-        server.stop.ask(&rt);
+        server.end(&rt);
     }
     link.set_over();
 }

@@ -100,7 +100,7 @@ where
         refuse(&mut &stream, NO_MEMORY);
         return None;
     };
-    match run(rt, alloc, stream, server) {
+    match start_session(rt, alloc, stream, server) {
         Ok(client) => Some(client),
         Err(_) => {
             refuse(&mut &spare, NO_MEMORY);
@@ -116,7 +116,7 @@ fn with_patience(stream: &UnixStream) -> io::Result<UnixStream> {
 }
 
 /// Starts the thread of a client's session.
-fn run<R, H>(
+fn start_session<R, H>(
     rt: R,
     alloc: Global,
     stream: UnixStream,

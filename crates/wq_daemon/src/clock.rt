@@ -4,8 +4,9 @@ use std::time::{Clock, SystemTime, UNIX_EPOCH};
 use wq_base::MAX_NUMBER;
 use wq_server::Seconds;
 
-/// The seconds of the Unix epoch by the machine's clock. Where it cannot be read, or stands before the epoch, the last second
-/// that it told is told again.
+/// The seconds of the Unix epoch by the machine's clock, which never fall: where it was set back, cannot be read or stands before
+/// the epoch, the last second that it told is told again. So who asks what changed since a second may be told too much, and
+/// misses nothing.
 #[derive(Drop)]
 pub struct MachineClock<R: Clock + Drop> {
     rt: R,
@@ -13,6 +14,7 @@ pub struct MachineClock<R: Clock + Drop> {
 }
 
 impl<R: Clock + Drop> MachineClock<R> {
+    /// A clock that told no second yet.
     pub fn new(rt: R) -> MachineClock<R> {
         MachineClock { rt, last: 0 }
     }
@@ -28,7 +30,7 @@ impl<R: Clock + Drop> MachineClock<R> {
 impl<R: Clock + Drop> Seconds for MachineClock<R> {
     fn second(&mut self) -> i64 {
         if let Some(now) = self.now() {
-            self.last = now;
+            self.last = self.last.max(now);
         }
         self.last
     }

@@ -15,6 +15,9 @@ pub trait Host {
     /// Crawls each root that is watched, once.
     fn crawl(&self);
 
+    /// Has a round of crawls end with the crawl that goes on, since the server ends.
+    fn end(&self);
+
     /// The roots as they are shown now; none where memory is refused for them.
     fn numbers(&self) -> Option<RootNumbers>;
 }

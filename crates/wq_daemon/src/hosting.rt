@@ -8,6 +8,7 @@ use crate::moments::RootNumbers;
 use crate::refusal::{NO_MEMORY, refuse};
 use std::alloc::{AllocError, Global};
 use std::io::Write;
+use std::sync::atomic::{AtomicBool, Ordering};
 use std::sync::{Arc, Mutex, Wait};
 use wq_clock::Run;
 use wq_live::{Named, RootTable, Seat, Tree};
@@ -33,6 +34,7 @@ where
     crawler: Arc<SharedCrawler<N, R, T, S>>,
     shelf: Arc<Mutex<SharedShelf>>,
     failing: Mutex<Failing>,
+    ends: AtomicBool,
     /// What the operator is told once clients are served.
     greeting: String,
     notices: O,
@@ -67,6 +69,7 @@ where
             crawler,
             shelf,
             failing: Mutex::new(Failing::new(alloc)),
+            ends: AtomicBool::new(false),
             greeting,
             notices,
         })
@@ -106,19 +109,22 @@ where
     fn crawl_all(&self, roots: Vec<String>) {
         let mut failing = Failing::new(self.alloc);
         for root in roots {
-            let crawled = self.crawler.crawl(&self.rt, &root);
-            if let Err(fault) = crawled {
-                if !self.failing.lock(&self.rt).has(&root, fault) {
-                    self.tell(&root, fault);
-                }
+            if self.ends.load(Ordering::SeqCst) {
+                return;
+            }
+            if let Err(fault) = self.crawler.crawl(&self.rt, &root) {
+                self.tell_once(&root, fault);
                 failing.add(root, fault);
             }
         }
         *self.failing.lock(&self.rt) = failing;
     }
 
-    /// Tells that a root cannot be crawled.
-    fn tell(&self, root: &str, fault: CrawlFault) {
+    /// Tells that a root cannot be crawled, unless that was so in the last round already.
+    fn tell_once(&self, root: &str, fault: CrawlFault) {
+        if self.failing.lock(&self.rt).has(root, fault) {
+            return;
+        }
         if let Ok(line) = format!(in self.alloc; "{root}: {fault}") {
             self.notices.tell(&line);
         }
@@ -213,6 +219,10 @@ where
         if let Ok(roots) = self.roots() {
             self.crawl_all(roots);
         }
+    }
+
+    fn end(&self) {
+        self.ends.store(true, Ordering::SeqCst);
     }
 
     fn numbers(&self) -> Option<RootNumbers> {

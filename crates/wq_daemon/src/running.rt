@@ -54,7 +54,7 @@ where
             }
         }
     }
-    server.stop.ask(&rt);
+    server.end(&rt);
     clients.end_all(&rt);
     crawling.join(&rt);
     Ok(())

@@ -2,6 +2,7 @@
 
 use crate::host::Host;
 use crate::stop::Stop;
+use std::sync::Wait;
 use std::time::Duration;
 
 /// A server that runs.
@@ -11,4 +12,12 @@ pub(crate) struct Server<H: Host + Drop> {
     pub(crate) stop: Stop,
     /// How long it waits between two rounds of crawls, and a client's session between two idle moments of a root.
     pub(crate) interval: Duration,
+}
+
+impl<H: Host + Drop> Server<H> {
+    /// Has the server end: no more roots are crawled and no more connections accepted.
+    pub(crate) fn end<R: Wait>(&self, rt: &R) {
+        self.host.end();
+        self.stop.ask(rt);
+    }
 }

@@ -1,7 +1,7 @@
 //! The server's socket in the file system: how it comes, so that nobody else can connect to it, and how it goes.
 
 use std::alloc::{AllocError, Global};
-use std::fs::{self, DirBuilder, Files, Metadata, Permissions};
+use std::fs::{self, DirBuilder, Files, Permissions};
 use std::io::{self, Error, ErrorKind};
 use std::net::Net;
 use std::os::unix::fs::{DirBuilderExt, FileTypeExt, MetadataExt, PermissionsExt};
@@ -19,10 +19,28 @@ const FOLDER_MODE: u32 = 0o700;
 /// A socket that is listened on.
 #[derive(Drop)]
 pub struct Listening {
+    /// What accepts connections.
     pub listener: UnixListener,
     path: String,
-    /// Device and number of its file.
-    file: (u64, u64),
+    file: FileId,
+}
+
+/// Which file it is, under whatever path.
+#[derive(Clone, Copy, PartialEq, Eq, Drop)]
+struct FileId {
+    device: u64,
+    number: u64,
+}
+
+impl FileId {
+    /// That of the file at a path. A link is not followed.
+    fn at<R: Files>(rt: &R, path: &str) -> io::Result<FileId> {
+        let metadata = fs::symlink_metadata(rt, path)?;
+        Ok(FileId {
+            device: metadata.dev(),
+            number: metadata.ino(),
+        })
+    }
 }
 
 /// Listens on a socket at a path, which only the owner can connect to.
@@ -33,30 +51,43 @@ pub struct Listening {
 pub fn listen<R: Files + Net>(rt: &R, alloc: Global, path: &str) -> io::Result<Listening> {
     // A path that is too long for clients is refused.
     SocketAddr::from_pathname(path)?;
+    let kept_path = String::from_str(alloc, path)?;
     let folder = make_folder(rt, alloc, path)?;
-    let listener = listen_in(rt, alloc, &folder, path);
+    let listened = listen_in(rt, alloc, &folder, path);
     let _ = fs::remove_dir(rt, folder.as_str());
-    let listener = listener?;
-    let metadata = fs::symlink_metadata(rt, path)?;
+    let (listener, file) = listened?;
     Ok(Listening {
         listener,
-        path: String::from_str(alloc, path)?,
-        file: identity(&metadata),
+        path: kept_path,
+        file,
     })
 }
 
-/// Removes the file of a socket, unless another stands in its place.
-pub fn remove<R: Files>(rt: &R, listening: &Listening) {
+/// Removes the file of a socket, unless another stands in its place. Where no memory is left for that, it stays, as a stale one.
+pub fn remove<R: Files>(rt: &R, alloc: Global, listening: &Listening) {
     let path = listening.path.as_str();
-    if let Ok(metadata) = fs::symlink_metadata(rt, path)
-        && identity(&metadata) == listening.file
-    {
-        let _ = fs::remove_file(rt, path);
+    if FileId::at(rt, path).ok() != Some(listening.file) {
+        return;
+    }
+    if let Ok(folder) = make_folder(rt, alloc, path) {
+        if let Ok(aside) = format!(in alloc; "{folder}/s") {
+            remove_aside(rt, &aside, listening);
+        }
+        let _ = fs::remove_dir(rt, folder.as_str());
     }
 }
 
-fn identity(metadata: &Metadata) -> (u64, u64) {
-    (metadata.dev(), metadata.ino())
+/// Removes the file of a socket by way of a path where nobody else comes: since it was looked at, another server may have put
+/// its own in its place, and that one's gets its name back.
+fn remove_aside<R: Files>(rt: &R, aside: &str, listening: &Listening) {
+    let path = listening.path.as_str();
+    if fs::rename(rt, path, aside).is_err() {
+        return;
+    }
+    if FileId::at(rt, aside).ok() != Some(listening.file) {
+        let _ = fs::hard_link(rt, aside, path);
+    }
+    let _ = fs::remove_file(rt, aside);
 }
 
 /// Removes a socket on which nobody listens, if there is one.
@@ -121,24 +152,26 @@ fn make_folder<R: Files>(rt: &R, alloc: Global, path: &str) -> io::Result<String
 }
 
 /// Listens on a socket that is made in a folder of its own, and then named by a path at which no more than a stale socket may
-/// stand.
+/// stand. Says which file it is.
 fn listen_in<R: Files + Net>(
     rt: &R,
     alloc: Global,
     folder: &str,
     path: &str,
-) -> io::Result<UnixListener> {
+) -> io::Result<(UnixListener, FileId)> {
     let made = format!(in alloc; "{folder}/s")?;
     clear(rt, path, &made)?;
     let listener = UnixListener::bind(rt, made.as_str())?;
     let named = name(rt, &made, path);
     let _ = fs::remove_file(rt, made.as_str());
-    named?;
-    Ok(listener)
+    Ok((listener, named?))
 }
 
-/// Gives a socket its mode and its name.
-fn name<R: Files>(rt: &R, made: &str, path: &str) -> io::Result<()> {
+/// Gives a socket its mode and its name, and says which file it is: once it has its name, another server may move it aside for a
+/// moment, to see whether somebody listens.
+fn name<R: Files>(rt: &R, made: &str, path: &str) -> io::Result<FileId> {
     fs::set_permissions(rt, made, Permissions::from_mode(SOCKET_MODE))?;
-    fs::hard_link(rt, made, path)
+    let file = FileId::at(rt, made)?;
+    fs::hard_link(rt, made, path)?;
+    Ok(file)
 }

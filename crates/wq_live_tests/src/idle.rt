@@ -39,6 +39,8 @@ impl Host for Teller {
 
     fn crawl(&self) {}
 
+    fn end(&self) {}
+
     /// Roots 1 and 2 at the first look, and 2 and 5 from then on. Roots 3 and 4 have come and gone between.
     fn numbers(&self) -> Option<RootNumbers> {
         let (first, last) = match self.looks.fetch_add(1, Ordering::SeqCst) {
@@ -63,7 +65,7 @@ fn a_session_gets_idle_moments(rt: HostRuntime) -> Result<(), Fail> {
     run(rt, rt.alloc(), &listening, host, Duration::from_millis(10))?;
     let mut written = Vec::new(rt.alloc());
     stream.read_to_end(&mut written)?;
-    remove(&rt, &listening);
+    remove(&rt, rt.alloc(), &listening);
     fs::remove_dir(&rt, room.as_str())?;
     assert_eq!(rt; written.as_slice(), NUMBERS);
     Ok(())

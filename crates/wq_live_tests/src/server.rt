@@ -127,7 +127,7 @@ fn a_server_answers_and_ends(rt: HostRuntime) -> Result<(), Fail> {
     let parts = make_parts(rt.alloc(), told.clone()?)?;
     let blank = Blank::new(rt.alloc(), &rt, SEATS)?;
     let replies = serve_one::<Brand, HostRuntime>(rt, rt.alloc(), blank, &listening, parts, stream);
-    remove(&rt, &listening);
+    remove(&rt, rt.alloc(), &listening);
     let is_empty = fs::remove_dir(&rt, room.as_str()).is_ok();
     assert_eq!(rt; replies.as_deref(), Some(REPLIES));
     assert_eq!(rt; told.load(Ordering::SeqCst), 1);

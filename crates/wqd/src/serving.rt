@@ -63,7 +63,7 @@ where
         return cannot_listen(rt);
     };
     let served = serve_socket(threads, rt.alloc(), &listening, machine, settings);
-    remove(rt, &listening);
+    remove(rt, rt.alloc(), &listening);
     match served {
         Ok(()) => ExitCode::SUCCESS,
         Err(_) => cannot_listen(rt),
