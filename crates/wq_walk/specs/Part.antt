@@ -1,9 +1,13 @@
 -- The part of a tree that a walk lists, and what a listing of it is.
 -- No public document is behind it.
-use Rattle.std.specs.Prelude.{ℕ, Bool, List, true, not, ◌&&◌, IsTrue, ◌≤◌, length}
+use Rattle.std.specs.Prelude.{◌≡◌, ℕ, Bool, List, ◌∷◌, ◌++◌, true, not, ◌&&◌, IsTrue, ◌≤◌, length}
+use Rattle.std.specs.Bool.{⊤}
 use Rattle.std.specs.List.{list_all}
 use Rattle.std.specs.Option.{option_map_or}
 use Rattle.std.specs.Ordering.{is_lt}
+use Rattle.std.specs.Str.{byte}
+use Rattle.std.specs.declared.cmp.Ordering.{Ordering}
+use Rattle.std.specs.declared.cmp.Ordering.TheVariants.{Less, Equal, Greater}
 use Rattle.wq_view.specs.Listing.{name_cmp}
 use Rattle.wq_view.specs.Seen.{SeenData, is_lawful_row}
 use Rattle.wq_walk.specs.declared.part.Part.{Part}
@@ -24,3 +28,14 @@ IsListing part rows =
     IsTrue (list_all is_lawful_row rows)
     × (length rows ≤ 1000000)
     × IsTrue (list_all (is_row_in part) rows)
+
+-- the name of a file below a folder: the folder's name, a slash, and what follows
+abbrev pub name_below : List ℕ → List ℕ → List ℕ
+name_below folder rest = folder ++ (byte "/" ∷ rest)
+
+-- how a cut stands to the names below a folder: before each of them, or behind each; nothing is said
+-- of one that may be among them
+abbrev pub IsOrderBelow : List ℕ → List ℕ → Ordering → Type 0
+IsOrderBelow folder cut Less = (rest : List ℕ) → name_cmp cut (name_below folder rest) ≡ Less
+IsOrderBelow folder cut Equal = ⊤
+IsOrderBelow folder cut Greater = (rest : List ℕ) → name_cmp cut (name_below folder rest) ≡ Greater

@@ -1,6 +1,6 @@
 //! The part of a tree that a walk lists: the names between two cuts. What lists it is not said here.
-ghost use Rattle.std.specs.Prelude.{◌≡◌};
-ghost use Rattle.wq_walk.specs.Part.{is_in};
+ghost use Rattle.std.specs.Prelude.{◌≡◌, ℕ, IsTrue, List};
+ghost use Rattle.wq_walk.specs.Part.{IsOrderBelow, is_in, name_below};
 
 use std::cmp::Ordering;
 
@@ -27,22 +27,31 @@ impl Part<'_> {
         is_from && is_below
     }
 
-    /// Whether names below the folder of this name may be in the part.
-    pub(crate) fn reaches(&self, folder: &[u8]) -> bool {
-        let is_from = match self.from {
-            Some(cut) => order_below(folder, cut).is_le(),
-            None => true,
-        };
-        let is_below = match self.below {
-            Some(cut) => order_below(folder, cut).is_ge(),
-            None => true,
-        };
-        is_from && is_below
+    /// Whether names below the folder of this name may be in the part: true wherever one is.
+    #[tactic(auto, using(crate::proofs::Below::from_there, crate::proofs::Below::below_there))]
+    pub(crate) fn reaches(&self, folder: &[u8]) -> bool
+        ensures { (rest : List ℕ) → IsTrue (is_in self.now (name_below folder.now rest))
+            → IsTrue result }
+    {
+        if let Some(cut) = self.from
+            && order_below(folder, cut).is_gt()
+        {
+            return false;
+        }
+        if let Some(cut) = self.below
+            && order_below(folder, cut).is_lt()
+        {
+            return false;
+        }
+        true
     }
 }
 
 /// How a cut stands to the names below a folder: before them, among them, or behind them.
-fn order_below(folder: &[u8], cut: &[u8]) -> Ordering {
+#[tactic(auto, using(crate::proofs::Below::order_beside, crate::proofs::Below::order_from, crate::proofs::Below::order_at))]
+fn order_below(folder: &[u8], cut: &[u8]) -> Ordering
+    ensures { IsOrderBelow folder.now cut.now result }
+{
     match cut.strip_prefix(folder) {
         Some([next, ..]) => next.cmp(&b'/'),
         Some([]) => Ordering::Less,
