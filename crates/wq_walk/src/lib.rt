@@ -10,6 +10,7 @@ mod names;
 mod part;
 mod path;
 mod piece;
+mod progress;
 mod rows;
 mod stat;
 mod unseen;

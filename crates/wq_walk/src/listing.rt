@@ -8,10 +8,10 @@ use crate::disk::Disk;
 use crate::guess::names_at_top;
 use crate::path::with_slash;
 use crate::piece::{Piece, first_pieces, pieces_of};
+use crate::progress::Progress;
 use crate::rows::Rows;
 use crate::walk::rows_in;
 use std::alloc::{AllocError, Global};
-use std::sync::atomic::{AtomicUsize, Ordering};
 use std::thread::{Threads, join};
 use wq_live::TreeFault;
 use wq_view::{MAX_ROWS, Record, Seen};
@@ -77,9 +77,13 @@ fn rows_of<T: Threads, D: Disk + Sync>(
     ensures lawful { IfOk result (λ rows. IsTrue (list_all is_lawful_row rows.items)) }
     ensures few { IfOk result (λ rows. length rows.items ≤ 1000000) }
 {
+    let progress = Progress::new(pieces.len());
     let rows = match pieces {
-        [piece] => rows_in(disk, alloc, root, *piece)?.into_rows(),
-        _ => joined(alloc, rows_by_two(threads, disk, alloc, root, pieces)?)?,
+        [piece] => rows_in(disk, alloc, root, *piece, &progress)?.into_rows(),
+        _ => {
+            let listed = rows_by_two(threads, disk, alloc, root, pieces, &progress)?;
+            joined(alloc, listed)?
+        }
     };
     match disk.stat(&with_slash(alloc, root)?)? {
         Some(_) => Ok(rows),
@@ -88,23 +92,23 @@ fn rows_of<T: Threads, D: Disk + Sync>(
 }
 
 /// The rows of each piece. Two threads take the pieces, one from the first on and one from the last back, until they meet; where
-/// no thread can be made, one takes all.
+/// no thread can be made, one takes all. Where one of them fails the other takes no further piece.
 fn rows_by_two<'a, T: Threads, D: Disk + Sync>(
     threads: &T,
     disk: &D,
     alloc: Global,
     root: &str,
     pieces: &[Piece<'a>],
+    progress: &'a Progress,
 ) -> Result<Vec<Rows<'a>>, TreeFault> {
-    let taken = AtomicUsize::new(0);
     let (first, rest) = join(
         threads,
         || -> Result<Vec<Rows<'_>>, TreeFault>
             requires { IsSync D.row }
-        { rows_of_free(disk, alloc, root, pieces, End::First, &taken) },
+        { rows_from(disk, alloc, root, pieces, End::First, progress) },
         || -> Result<Vec<Rows<'_>>, TreeFault>
             requires { IsSync D.row }
-        { rows_of_free(disk, alloc, root, pieces, End::Last, &taken) },
+        { rows_from(disk, alloc, root, pieces, End::Last, progress) },
     );
     let (mut listed, rest) = (first?, rest?);
     for rows in rest.into_iter().rev() {
@@ -113,24 +117,40 @@ fn rows_by_two<'a, T: Threads, D: Disk + Sync>(
     Ok(listed)
 }
 
-/// The rows of pieces, one after the other from one end, as long as fewer are taken than there are.
+/// The rows of the pieces that one thread takes from one end. Where it fails it leaves no piece for the other thread.
+fn rows_from<'a, D: Disk>(
+    disk: &D,
+    alloc: Global,
+    root: &str,
+    pieces: &[Piece<'a>],
+    end: End,
+    progress: &'a Progress,
+) -> Result<Vec<Rows<'a>>, TreeFault> {
+    let listed = rows_of_free(disk, alloc, root, pieces, end, progress);
+    if listed.is_err() {
+        progress.stop();
+    }
+    listed
+}
+
+/// The rows of pieces, one after the other from one end, as long as there are some to be taken.
 fn rows_of_free<'a, D: Disk>(
     disk: &D,
     alloc: Global,
     root: &str,
     pieces: &[Piece<'a>],
     end: End,
-    taken: &AtomicUsize,
+    progress: &'a Progress,
 ) -> Result<Vec<Rows<'a>>, TreeFault> {
     let mut listed = Vec::with_capacity(alloc, pieces.len())?;
     for number in 0..pieces.len() {
         let Some(piece) = end.piece(pieces, number) else {
             break;
         };
-        if taken.fetch_add(1, Ordering::Relaxed) >= pieces.len() {
+        if !progress.take() {
             break;
         }
-        let rows = rows_in(disk, alloc, root, piece)?;
+        let rows = rows_in(disk, alloc, root, piece, progress)?;
         listed.push(rows).map_err(AllocError::from)?;
     }
     Ok(listed)

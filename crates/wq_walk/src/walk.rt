@@ -10,6 +10,7 @@ use crate::folder::{Folder, Step};
 use crate::names::{Block, Names, Place};
 use crate::path::{TreePath, with_slash};
 use crate::piece::Piece;
+use crate::progress::Progress;
 use crate::rows::Rows;
 use crate::stat::Stat;
 use std::alloc::{AllocError, Global};
@@ -27,6 +28,7 @@ struct Walk<'a> {
     folders: Vec<Folder>,
     rows: Rows<'a>,
     known: Known<'a>,
+    progress: &'a Progress,
 }
 
 /// The rows of the files below a root whose names are in a piece's part, each of which a pass takes. They share the names of
@@ -36,11 +38,14 @@ struct Walk<'a> {
 /// that cannot be looked at is left out, as one that goes while the walk is on its way; so is one whose name no pass takes.
 /// Of a folder below the root that cannot be read only its own row is listed; but where no more files can be opened, which
 /// says nothing of the folder, the walk fails. Folders below which no name is in the part are not read.
+///
+/// It fails too as soon as more rows of the whole tree were counted than a pass takes.
 pub(crate) fn rows_in<'a, D: Disk>(
     disk: &D,
     alloc: Global,
     root: &str,
     piece: Piece<'a>,
+    progress: &'a Progress,
 ) -> Result<Rows<'a>, TreeFault>
     ensures { IfOk result (λ rows. rows.part ≡ piece.entry.part) }
 {
@@ -48,7 +53,7 @@ pub(crate) fn rows_in<'a, D: Disk>(
     let known = Known {
         records: piece.known,
     };
-    let mut walk = Walk::new(disk, alloc, root, rows, known)?;
+    let mut walk = Walk::new(disk, alloc, root, rows, known, progress)?;
     walk.run(disk)?;
     Ok(walk.rows)
 }
@@ -61,6 +66,7 @@ impl<'a> Walk<'a> {
         root: &str,
         rows: Rows<'a>,
         known: Known<'a>,
+        progress: &'a Progress,
     ) -> Result<Walk<'a>, TreeFault>
         ensures { IfOk result (λ walk. walk.rows ≡ rows.entry) }
     {
@@ -81,6 +87,7 @@ impl<'a> Walk<'a> {
             folders,
             rows,
             known,
+            progress,
         })
     }
 
@@ -159,13 +166,14 @@ impl<'a> Walk<'a> {
         }
     }
 
-    /// Adds the row of the file of this name, if the name is in the part.
+    /// Adds the row of the file of this name, if the name is in the part, and counts it.
     fn list(&mut self, name: ArcSlice<u8>, stat: &Stat) -> Result<(), TreeFault>
         requires { IsTrue (is_valid_name (arc_slice_items name)) }
         ensures part { self.new.rows.part ≡ self.old.rows.part }
     {
         if self.rows.part().has(&name) {
             self.rows.add(row_of(name, stat))?;
+            self.progress.count(&self.rows)?;
         }
         Ok(())
     }
