@@ -7,10 +7,14 @@ use crate::piece::MOST_PIECES;
 use std::alloc::{AllocError, Global};
 use wq_live::TreeFault;
 
-/// Where the root has fewer names than this, those below them are taken too.
+/// Where the root has fewer names than this, some of those below them are taken too.
 const FEW: usize = 256;
 
-/// Some names at even distances among those in the root's folder and, if these are few, those in its folders. They rise.
+/// Of so many names of a folder below the root's one is taken. Few are asked for in the end, and whole names take memory.
+const ONE_IN: usize = 16;
+
+/// Some names at even distances among those in the root's folder and, if these are few, some of those in its folders. They
+/// rise.
 pub(crate) fn names_at_top<D: Disk>(
     disk: &D,
     alloc: Global,
@@ -24,7 +28,8 @@ pub(crate) fn names_at_top<D: Disk>(
     };
     let is_few = top.len() < FEW;
     let mut names = Vec::new(alloc);
-    add_names(&mut names, &path, top)?;
+    // Each of them, since the folders below are found by these names.
+    add_names(&mut names, &path, top, 1)?;
     if is_few {
         add_names_below(disk, &mut block, path, &mut names)?;
         names.sort_unstable();
@@ -47,7 +52,7 @@ fn some_of(alloc: Global, names: Vec<Vec<u8>>) -> Result<Vec<Vec<u8>>, AllocErro
     Ok(some)
 }
 
-/// Adds the whole names of the entries of the folders of these names.
+/// Adds whole names of entries of the folders of these names.
 fn add_names_below<D: Disk>(
     disk: &D,
     block: &mut Block,
@@ -63,26 +68,29 @@ fn add_names_below<D: Disk>(
         let entries = path.text().map(|text| disk.names_in(block, text));
         if let Some(Ok(Some(entries))) = entries {
             path.add(b"/")?;
-            add_names(names, &path, entries)?;
+            add_names(names, &path, entries, ONE_IN)?;
         }
     }
     Ok(())
 }
 
-/// Adds the whole names of the entries of the folder at the path.
+/// Adds the whole names of entries of the folder at the path: of one in so many, beginning with the first.
 fn add_names(
     names: &mut Vec<Vec<u8>>,
     path: &TreePath,
     mut entries: Names,
+    one_in: usize,
 ) -> Result<(), AllocError> {
     let alloc = *names.allocator();
-    for _ in 0..entries.len() {
+    for number in 0..entries.len() {
         let Some(entry) = entries.take() else {
             break;
         };
-        let mut name = Vec::from_slice(alloc, path.name())?;
-        name.extend_from_slice(entries.at(entry))?;
-        names.push(name)?;
+        if number.is_multiple_of(one_in) {
+            let mut name = Vec::from_slice(alloc, path.name())?;
+            name.extend_from_slice(entries.at(entry))?;
+            names.push(name)?;
+        }
     }
     Ok(())
 }
