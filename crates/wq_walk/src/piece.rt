@@ -23,17 +23,17 @@ pub(crate) struct Piece<'a> {
 }
 
 /// What has a name.
-trait Named {
+trait HasName {
     fn name(&self) -> &[u8];
 }
 
-impl Named for Record {
+impl HasName for Record {
     fn name(&self) -> &[u8] {
         self.name.as_bytes()
     }
 }
 
-impl Named for Vec<u8> {
+impl HasName for Vec<u8> {
     fn name(&self) -> &[u8] {
         self.as_slice()
     }
@@ -105,7 +105,7 @@ pub(crate) fn first_pieces(alloc: Global, names: &[Vec<u8>]) -> Result<Vec<Piece
 ///
 /// No cut is made within the folder in which its piece begins, since the folder would be read once more for it; but the one in
 /// the middle always is.
-fn pieces_cut<'a, T: Named>(
+fn pieces_cut<'a, T: HasName>(
     alloc: Global,
     most: usize,
     names: &'a [T],
@@ -128,7 +128,7 @@ fn pieces_cut<'a, T: Named>(
 }
 
 /// The name at the second of two places, where a piece that begins with the name at the first one ends before it.
-fn cut_between<'a, T: Named>(
+fn cut_between<'a, T: HasName>(
     names: &'a [T],
     start: usize,
     end: usize,

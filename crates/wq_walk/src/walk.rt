@@ -112,6 +112,7 @@ impl<'a> Walk<'a> {
         Some((folder.path_len(), folder.step()))
     }
 
+    /// Does what comes next in the folder whose path has this length, which is the one in which the walk is.
     fn take<D: Disk>(&mut self, disk: &D, path_len: usize, step: Step) -> Result<(), TreeFault>
         ensures { self.new.rows.part ≡ self.old.rows.part }
     {
