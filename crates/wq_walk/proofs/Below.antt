@@ -1,12 +1,14 @@
 -- How a cut stands to the names below a folder, and which names of a part lie there.
-use Rattle.std.proofs.Common.{◌≡◌, ℕ, ◌+◌, ◌<◌, ◌≤◌, true, false, not, nat_eq, IsTrue, List, [], ◌∷◌, ◌++◌, length, get_or, take, drop, ◌≢◌, Bor, Some, None, Ordering, Less, Equal, Greater, nat_cmp, is_lt, is_gt, refl, ap, sym, ◌∙◌, arith}
+use Rattle.std.proofs.Common.{◌≡◌, ℕ, ◌+◌, ◌<◌, ◌≤◌, true, false, not, nat_eq, IsTrue, List, [], ◌∷◌, ◌++◌, length, get_or, take, drop, ◌≢◌, Bor, Some, None, Ordering, Less, Equal, Greater, nat_cmp, is_lt, is_gt, append-nil, refl, ap, sym, ◌∙◌, arith}
 use Rattle.std.specs.Ordering.{ordering_then}
 use Rattle.std.specs.Str.{byte}
 use Rattle.std.specs.Cmp.Lexicographic.{pointwise, nat_list_cmp_total}
-use Rattle.std.specs.Cmp.{nat_cmp_is}
+use Rattle.std.specs.Cmp.{nat_cmp_is, tied_itself}
 use Rattle.std.proofs.lemmas.Cmp.{ranked}
 use Rattle.std.proofs.lemmas.Bool.Decides.{Decides-eqb}
 use Rattle.std.proofs.lemmas.Slice.Eq.{strip_prefix_is}
+use Rattle.std.proofs.lemmas.Map.Lookups.{exact_bytes}
+use mathlib.Core.Bool.{true≢false}
 use Rattle.wq_view.specs.Listing.{name_cmp}
 use Rattle.wq_walk.specs.Part.{name_below, IsOrderBelow}
 
@@ -26,15 +28,14 @@ beside (c ∷ cut) (f ∷ folder) more apart = at (nat_cmp c f) refl (beside cut
     at Equal e same = same (λ rest is. apart rest (λ i. ranked c f Equal (sym e) i ∷ is i))
     at Greater e same = refl
 
--- an order in which a cut stands to each name below a folder
-each : (cut folder : List ℕ) (o : Ordering) → ((rest : List ℕ) → name_cmp cut (name_below folder rest) ≡ o) → IsOrderBelow folder cut o
-each cut folder Less is = is
-each cut folder Equal is = tt
-each cut folder Greater is = is
-
 -- the order of a cut that does not begin with a folder's name
 pub order_beside : (cut folder : List ℕ) → pointwise nat_eq (take (length folder) cut) folder ≡ false → IsOrderBelow folder cut (name_cmp cut folder)
-order_beside cut folder apart = each cut folder _ (λ rest. beside cut folder (byte "/" ∷ rest) (strip_prefix_is Decides-eqb cut folder None apart))
+order_beside cut folder stripped = at (name_cmp cut folder) refl (strip_prefix_is Decides-eqb cut folder None stripped)
+  where
+    at : (o : Ordering) → name_cmp cut folder ≡ o → ((rest : List ℕ) → cut ≢ folder ++ rest) → IsOrderBelow folder cut o
+    at Less e apart = λ rest. beside cut folder (byte "/" ∷ rest) apart ∙ e
+    at Equal e apart = absurd (apart [] (exact_bytes cut folder e ∙ sym (append-nil folder)))
+    at Greater e apart = λ rest. beside cut folder (byte "/" ∷ rest) apart ∙ e
 
 -- the order of a cut in which something stands behind a folder's name
 behind : (cut folder left : List ℕ) → cut ≡ folder ++ left → 1 ≤ length left → IsOrderBelow folder cut (nat_cmp (get_or left 0 0) (byte "/"))
@@ -46,7 +47,7 @@ behind cut folder (next ∷ left) is more = at (nat_cmp next (byte "/")) refl
 
     at : (o : Ordering) → nat_cmp next (byte "/") ≡ o → IsOrderBelow folder cut o
     at Less e = to Less e
-    at Equal e = tt
+    at Equal e = (left, is ∙ λ i. folder ++ (ranked next (byte "/") Equal (sym e) i ∷ left))
     at Greater e = to Greater e
 
 -- the same, where it is what is left when the folder's name is taken away
@@ -72,3 +73,17 @@ pub below_there : (cut folder rest : List ℕ) (o : Ordering) → IsOrderBelow f
 below_there cut folder rest Less is below = sym (rw (nat_list_cmp_total.antisymm (name_below folder rest) cut, is rest) at below)
 below_there cut folder rest Equal is below = refl
 below_there cut folder rest Greater is below = refl
+
+-- to some name below a folder a cut stands in its order
+stands : (cut folder : List ℕ) (o : Ordering) → IsOrderBelow folder cut o → (rest : List ℕ) × (name_cmp cut (name_below folder rest) ≡ o)
+stands cut folder Less is = ([], is [])
+stands cut folder Equal is = (is.0, ap (name_cmp cut) (sym is.1) ∙ tied_itself nat_list_cmp_total cut)
+stands cut folder Greater is = ([], is [])
+
+-- a cut that is not told to be behind all names below a folder is not
+pub not_behind : (cut folder : List ℕ) (o : Ordering) → IsOrderBelow folder cut o → is_gt o ≡ false → IsOrderBelow folder cut Greater → ⊥
+not_behind cut folder o is isnt all = let s = stands cut folder o is in true≢false (ap is_gt (sym (all s.0) ∙ s.1) ∙ isnt)
+
+-- a cut that is not told to be before all names below a folder is not
+pub not_before : (cut folder : List ℕ) (o : Ordering) → IsOrderBelow folder cut o → is_lt o ≡ false → IsOrderBelow folder cut Less → ⊥
+not_before cut folder o is isnt all = let s = stands cut folder o is in true≢false (ap is_lt (sym (all s.0) ∙ s.1) ∙ isnt)

@@ -1,7 +1,7 @@
 -- The part of a tree that a walk lists, and what a listing of it is.
 -- No public document is behind it.
-use Rattle.std.specs.Prelude.{◌≡◌, ℕ, Bool, List, ◌∷◌, ◌++◌, true, not, ◌&&◌, IsTrue, ◌≤◌, length}
-use Rattle.std.specs.Bool.{⊤}
+use Rattle.std.specs.Prelude.{◌≡◌, ℕ, Bool, List, ◌∷◌, ◌++◌, true, not, ◌&&◌, ◌≤◌, length}
+use Rattle.std.specs.Prelude.{IsTrue, IfSome}
 use Rattle.std.specs.List.{list_all}
 use Rattle.std.specs.Option.{option_map_or}
 use Rattle.std.specs.Ordering.{is_lt}
@@ -33,9 +33,15 @@ IsListing part rows =
 abbrev pub name_below : List ℕ → List ℕ → List ℕ
 name_below folder rest = folder ++ (byte "/" ∷ rest)
 
--- how a cut stands to the names below a folder: before each of them, or behind each; nothing is said
--- of one that may be among them
+-- how a cut stands to the names below a folder: before each of them, one of them, or behind each
 abbrev pub IsOrderBelow : List ℕ → List ℕ → Ordering → Type 0
 IsOrderBelow folder cut Less = (rest : List ℕ) → name_cmp cut (name_below folder rest) ≡ Less
-IsOrderBelow folder cut Equal = ⊤
+IsOrderBelow folder cut Equal = (rest : List ℕ) × (cut ≡ name_below folder rest)
 IsOrderBelow folder cut Greater = (rest : List ℕ) → name_cmp cut (name_below folder rest) ≡ Greater
+
+-- a part that may have names below a folder: its first cut is not behind each of them, and its
+-- second one not before each
+abbrev pub MayHaveBelow : Part → List ℕ → Type 0
+MayHaveBelow part folder =
+    IfSome part.from (λ cut. IsOrderBelow folder cut.now Greater → ⊥)
+    × IfSome part.below (λ cut. IsOrderBelow folder cut.now Less → ⊥)

@@ -1,7 +1,8 @@
 //! A listing of a tree, made in pieces by two threads, or in one piece. How a piece is walked is not said here.
-ghost use Rattle.std.specs.Prelude.{◌≡◌, ◌≤◌, length, IfOk, IsTrue};
-ghost use Rattle.std.specs.List.{list_all};
+ghost use Rattle.std.specs.Prelude.{◌≡◌, ◌+◌, ◌≤◌, ◌<◌, ◌++◌, length, IfErr, IfOk, IsTrue};
+ghost use Rattle.std.specs.List.{flat_map, list_all};
 ghost use Rattle.std.specs.Thread.{IsSync};
+ghost use Rattle.wq_live.specs.declared.tree.TreeFault.TheVariants.{TooManyRows};
 ghost use Rattle.wq_view.specs.Seen.{is_lawful_row};
 
 use crate::disk::Disk;
@@ -158,6 +159,8 @@ fn rows_of_free<'a, D: Disk>(
 
 /// The rows of these pieces, one behind the other. What one of them held is free again once it is added.
 fn joined(alloc: Global, pieces: Vec<Rows<'_>>) -> Result<Vec<Seen>, TreeFault>
+    ensures all { IfOk result (λ rows.
+        rows.items ≡ flat_map (λ piece. piece.rows.items) pieces.entry.items) }
     ensures lawful { IfOk result (λ rows. IsTrue (list_all is_lawful_row rows.items)) }
     ensures few { IfOk result (λ rows. length rows.items ≤ 1000000) }
 {
@@ -180,8 +183,12 @@ fn count_of(pieces: &[Rows<'_>]) -> usize {
 /// Rows, and others behind them.
 #[tactic(auto, using(crate::proofs::Joins::all_of_both))]
 fn with_rows(mut first: Vec<Seen>, mut rest: Vec<Seen>) -> Result<Vec<Seen>, TreeFault>
-    requires lawful { IsTrue (list_all is_lawful_row first.items) × IsTrue (list_all is_lawful_row rest.items) }
+    requires lawful { IsTrue (list_all is_lawful_row first.items)
+        × IsTrue (list_all is_lawful_row rest.items) }
     requires few { (length first.items ≤ 1000000) × (length rest.items ≤ 1000000) }
+    ensures all { IfOk result (λ rows. rows.items ≡ first.items ++ rest.items) }
+    ensures many { IfErr result (λ fault. fault ≡ TooManyRows
+        → 1000000 < length first.items + length rest.items) }
     ensures lawful { IfOk result (λ rows. IsTrue (list_all is_lawful_row rows.items)) }
     ensures few { IfOk result (λ rows. length rows.items ≤ 1000000) }
 {

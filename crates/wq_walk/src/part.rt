@@ -1,6 +1,6 @@
 //! The part of a tree that a walk lists: the names between two cuts. What lists it is not said here.
 ghost use Rattle.std.specs.Prelude.{◌≡◌, ℕ, IsTrue, List};
-ghost use Rattle.wq_walk.specs.Part.{IsOrderBelow, is_in, name_below};
+ghost use Rattle.wq_walk.specs.Part.{IsOrderBelow, MayHaveBelow, is_in, name_below};
 
 use std::cmp::Ordering;
 
@@ -28,10 +28,11 @@ impl Part<'_> {
     }
 
     /// Whether names below the folder of this name may be in the part: true wherever one is.
-    #[tactic(auto, using(crate::proofs::Below::from_there, crate::proofs::Below::below_there))]
+    #[tactic(auto, using(crate::proofs::Below::from_there, crate::proofs::Below::below_there, crate::proofs::Below::not_behind, crate::proofs::Below::not_before))]
     pub(crate) fn reaches(&self, folder: &[u8]) -> bool
-        ensures { (rest : List ℕ) → IsTrue (is_in self.now (name_below folder.now rest))
+        ensures all { (rest : List ℕ) → IsTrue (is_in self.now (name_below folder.now rest))
             → IsTrue result }
+        ensures only { IsTrue result → MayHaveBelow self.now folder.now }
     {
         if let Some(cut) = self.from
             && order_below(folder, cut).is_gt()

@@ -1,4 +1,6 @@
 //! How far the threads are that walk one tree. What they do with a piece is not said here.
+ghost use Rattle.std.specs.Prelude.{◌≡◌, IfErr};
+ghost use Rattle.wq_live.specs.declared.tree.TreeFault.TheVariants.{TooManyRows};
 
 use crate::rows::Rows;
 use std::sync::atomic::{AtomicUsize, Ordering};
@@ -44,7 +46,9 @@ impl Progress {
     ///
     /// It fails where more rows were counted than a pass takes. So it never does for a tree that has no more: what is counted
     /// was listed.
-    pub(crate) fn count(&self, rows: &Rows<'_>) -> Result<(), TreeFault> {
+    pub(crate) fn count(&self, rows: &Rows<'_>) -> Result<(), TreeFault>
+        ensures { IfErr result (λ fault. fault ≡ TooManyRows) }
+    {
         if !rows.len().is_multiple_of(BATCH) {
             return Ok(());
         }

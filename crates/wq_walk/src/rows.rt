@@ -1,6 +1,7 @@
 //! The rows of a listing that is being made. Where they come from is not looked at here.
-ghost use Rattle.std.specs.Prelude.{◌≡◌, ◌≤◌, length, IfOk, IsTrue};
+ghost use Rattle.std.specs.Prelude.{◌≡◌, ◌≤◌, ◌++◌, ◌∷◌, [], length, IfErr, IfOk, OnOk, IsTrue};
 ghost use Rattle.std.specs.List.{list_all};
+ghost use Rattle.wq_live.specs.declared.tree.TreeFault.TheVariants.{TooManyRows};
 ghost use Rattle.wq_view.specs.Seen.{is_lawful_row};
 ghost use Rattle.wq_walk.specs.Part.{IsListing, is_row_in};
 
@@ -50,7 +51,10 @@ impl<'a> Rows<'a> {
     pub(crate) fn add(&mut self, row: Seen) -> Result<(), TreeFault>
         requires lawful { IsTrue (is_lawful_row row) }
         requires within { IsTrue (is_row_in self.old.part row) }
-        ensures { self.new.part ≡ self.old.part }
+        ensures part { self.new.part ≡ self.old.part }
+        ensures row { OnOk result (self.new.rows.items ≡ self.old.rows.items ++ (row ∷ [])) }
+        ensures many { IfErr result (λ fault. fault ≡ TooManyRows
+            → length self.old.rows.items ≡ 1000000) }
     {
         if self.rows.len() >= MAX_ROWS {
             return Err(TreeFault::TooManyRows);
@@ -61,7 +65,8 @@ impl<'a> Rows<'a> {
 
     /// The rows, in the order in which they were added.
     pub(crate) fn into_rows(self) -> Vec<Seen>
-        ensures { IsListing self.entry.part result.items }
+        ensures all { result.items ≡ self.entry.rows.items }
+        ensures listing { IsListing self.entry.part result.items }
     {
         self.rows
     }

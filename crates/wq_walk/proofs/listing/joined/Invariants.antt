@@ -1,12 +1,14 @@
--- what is joined so far is rows that passes take, and not too many
-use Rattle.std.proofs.Common.{◌≤◌, length, IsTrue}
-use Rattle.std.specs.List.{list_all}
+-- what is joined so far is the rows of the pieces that were added, and not too many
+use Rattle.std.proofs.Common.{◌≡◌, ◌≤◌, ◌++◌, length, IsTrue}
+use Rattle.std.specs.List.{flat_map, list_all}
+use Rattle.std.specs.Vec.Iter.{into_iter_items, into_iter_len}
 use Rattle.wq_view.specs.Seen.{is_lawful_row}
 use Rattle.wq_walk.proofs.listing.joined.Given as goal
 
 abbrev pub invariant-loop-piece : goal.invariant-loop-piece
 invariant-loop-piece l =
-    (goal.iterator-loop-piece).can_next l.piece-iterator
-    × (goal.iterator-loop-piece).is_finite l.piece-iterator
+    (l.rows.items ++ flat_map (λ piece. piece.rows.items) (into_iter_items l.piece-iterator)
+    ≡ flat_map (λ piece. piece.rows.items) (into_iter_items l.initial.piece-iterator))
+    × (into_iter_len l.piece-iterator ≡ length (into_iter_items l.piece-iterator))
     × IsTrue (list_all is_lawful_row l.rows.items)
     × (length l.rows.items ≤ 1000000)
