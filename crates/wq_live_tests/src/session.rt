@@ -21,7 +21,7 @@ use wq_view::Seen;
 #[derive(Drop)]
 pub(crate) struct SameFiles {
     pub(crate) alloc: Global,
-    pub(crate) names: &'static [&'static [u8]],
+    pub(crate) names: Names,
 }
 
 impl Tree for SameFiles {
@@ -90,6 +90,12 @@ fn write_session<N: Named, R: Roots<N>, D: Desk>(
 /// What one client sends, and what is written to it.
 type Talk<'a> = (&'a [u8], &'static [u8]);
 
+/// The names of the files of a tree.
+type Names = &'static [&'static [u8]];
+
+/// The files of a tree that has some.
+const FILES: Names = &[b"b.txt", b"src/a.c"];
+
 /// What a session looks with and asks: its seat, and its roots.
 #[derive(Drop)]
 struct Ends<N: Named, R: Wait + Drop> {
@@ -97,14 +103,16 @@ struct Ends<N: Named, R: Wait + Drop> {
     roots: MemoryRoots<N, R, SameFiles, Still>,
 }
 
-/// The ends of a session over a tree of two files.
-fn make_ends<N: Named, R: Wait + Drop>(rt: R, alloc: Global, blank: Blank) -> Option<Ends<N, R>>
+/// The ends of a session over a tree of these files.
+fn make_ends<N: Named, R: Wait + Drop>(
+    rt: R,
+    alloc: Global,
+    blank: Blank,
+    names: Names,
+) -> Option<Ends<N, R>>
     requires { blank.book ≡ N.book }
 {
-    let tree = SameFiles {
-        alloc,
-        names: &[b"b.txt", b"src/a.c"],
-    };
+    let tree = SameFiles { alloc, names };
     let mut crawler = Crawler::new(blank.open::<N, R>(rt), tree, Still(100));
     let seat = crawler.seat().ok()?;
     let roots = MemoryRoots { crawler };
@@ -129,11 +137,12 @@ fn play<N: Named, R: Wait + Copy + Drop>(
     rt: R,
     alloc: Global,
     blank: Blank,
+    names: Names,
     talks: &[Talk<'_>],
 ) -> Option<usize>
     requires { blank.book ≡ N.book }
 {
-    let mut ends = make_ends::<N, R>(rt, alloc, blank)?;
+    let mut ends = make_ends::<N, R>(rt, alloc, blank, names)?;
     let shelf = shared_shelf(alloc)?;
     for (place, talk) in talks.iter().enumerate() {
         let mut desk = LockDesk::new(Arc::try_clone(&shelf).ok()?, rt);
@@ -146,10 +155,29 @@ fn play<N: Named, R: Wait + Copy + Drop>(
     Some(talks.len())
 }
 
-/// How many clients are written what they should.
-fn well<R: Wait + Copy + Drop>(rt: R, alloc: Global, talks: &[Talk<'_>]) -> Option<usize> {
+/// How many clients are written what they should, over a tree of these files.
+fn well<R: Wait + Copy + Drop>(
+    rt: R,
+    alloc: Global,
+    names: Names,
+    talks: &[Talk<'_>],
+) -> Option<usize> {
     let blank = Blank::new(alloc, &rt, 1).ok()?;
-    play::<Brand, R>(rt, alloc, blank, talks)
+    play::<Brand, R>(rt, alloc, blank, names, talks)
+}
+
+/// What stands before a line of so many spaces, that line without its end, and what stands behind it.
+fn with_spaces(
+    alloc: Global,
+    before: &[u8],
+    spaces: usize,
+    behind: &[u8],
+) -> Result<Vec<u8>, AllocError> {
+    let line = vec![in alloc; b' '; spaces]?;
+    let mut bytes = Vec::from_slice(alloc, before)?;
+    bytes.extend_from_slice(&line)?;
+    bytes.extend_from_slice(behind)?;
+    Ok(bytes)
 }
 
 /// Serves clients one after the other at the same desk, which nothing else has. Says how many were written what they
@@ -162,7 +190,7 @@ fn play_alone<N: Named, R: Wait + Drop>(
 ) -> Option<usize>
     requires { blank.book ≡ N.book }
 {
-    let mut ends = make_ends::<N, R>(rt, alloc, blank)?;
+    let mut ends = make_ends::<N, R>(rt, alloc, blank, FILES)?;
     let mut desk = MemoryDesk {
         shelf: new_shelf(alloc)?,
     };
@@ -190,7 +218,7 @@ fn is_answered<N: Named, R: Roots<N>>(roots: &mut R) -> bool {
 fn outlive<N: Named, R: Wait + Drop>(rt: R, alloc: Global, blank: Blank) -> Option<bool>
     requires { blank.book ≡ N.book }
 {
-    let ends = make_ends::<N, R>(rt, alloc, blank)?;
+    let ends = make_ends::<N, R>(rt, alloc, blank, FILES)?;
     let mut desk = MemoryDesk {
         shelf: new_shelf(alloc)?,
     };
@@ -200,8 +228,14 @@ fn outlive<N: Named, R: Wait + Drop>(rt: R, alloc: Global, blank: Blank) -> Opti
     Some(is_right && is_answered(&mut roots))
 }
 
+/// How many bytes the longest line has that a session takes.
+const LONGEST_LINE: usize = 1_048_576;
+
+/// The end of a line, and a line behind it.
+const BEHIND: &[u8] = b"\n[\"version\"]\n";
+
 #[test]
-fn a_session_goes_on_after_a_line_that_is_refused(rt: HostRuntime) {
+fn a_session_goes_on_after_a_line_that_is_refused(rt: HostRuntime) -> Result<(), Fail> {
     let lines = br#"["watch","/r"]
 [
 7
@@ -213,8 +247,15 @@ fn a_session_goes_on_after_a_line_that_is_refused(rt: HostRuntime) {
 {"error":"E3: not a command array","version":"wq-1"}
 {"error":"E4: unknown command","version":"wq-1"}
 {"error":"E24: unknown term","version":"wq-1"}
+{"error":"E2: not JSON","version":"wq-1"}
+{"version":"wq-1"}
 "#;
-    assert_eq!(rt; well(rt, rt.alloc(), &[(lines, written)]), Some(1));
+    let stream = with_spaces(rt.alloc(), lines, LONGEST_LINE, BEHIND)?;
+    assert_eq!(rt;
+        well(rt, rt.alloc(), &[], &[(stream.as_slice(), written)]),
+        Some(1)
+    );
+    Ok(())
 }
 
 #[test]
@@ -223,16 +264,16 @@ fn byte_0_ends_a_session(rt: HostRuntime) {
 {"error":"E6: BSER is not spoken here","version":"wq-1"}
 "#;
     let talk: Talk<'_> = (b"[\"version\"]\n\0\n[\"version\"]\n", written);
-    assert_eq!(rt; well(rt, rt.alloc(), &[talk]), Some(1));
+    assert_eq!(rt; well(rt, rt.alloc(), FILES, &[talk]), Some(1));
 }
 
 #[test]
 fn a_long_line_ends_a_session(rt: HostRuntime) -> Result<(), Fail> {
-    let stream = vec![in rt.alloc(); b' '; 1_048_577]?;
+    let stream = with_spaces(rt.alloc(), b"", LONGEST_LINE + 1, BEHIND)?;
     let written = br#"{"error":"E1: line too long","version":"wq-1"}
 "#;
     assert_eq!(rt;
-        well(rt, rt.alloc(), &[(stream.as_slice(), written)]),
+        well(rt, rt.alloc(), FILES, &[(stream.as_slice(), written)]),
         Some(1)
     );
     Ok(())
@@ -272,7 +313,7 @@ const WATCH: Talk<'static> = (
 
 #[test]
 fn sessions_share_programs(rt: HostRuntime) {
-    assert_eq!(rt; well(rt, rt.alloc(), &SHARERS), Some(3));
+    assert_eq!(rt; well(rt, rt.alloc(), FILES, &SHARERS), Some(3));
 }
 
 #[test]
@@ -311,7 +352,7 @@ fn a_root_that_is_deleted_is_not_watched(rt: HostRuntime) {
 {"clock":"c:7:9:2:1","version":"wq-1"}
 {"roots":["/r"],"version":"wq-1"}
 "#;
-    assert_eq!(rt; well(rt, rt.alloc(), &[(lines, written)]), Some(1));
+    assert_eq!(rt; well(rt, rt.alloc(), FILES, &[(lines, written)]), Some(1));
 }
 
 #[test]
@@ -353,5 +394,5 @@ fn a_seventeenth_root_is_refused(rt: HostRuntime) {
     let refused = br#"{"error":"E13: too many roots","version":"wq-1"}
 "#;
     let talks: [Talk<'_>; 2] = [(lines, written), (b"[\"watch\",\"/17\"]\n", refused)];
-    assert_eq!(rt; well(rt, rt.alloc(), &talks), Some(2));
+    assert_eq!(rt; well(rt, rt.alloc(), FILES, &talks), Some(2));
 }
