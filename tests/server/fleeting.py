@@ -76,9 +76,11 @@ def check_files_that_go_during_walks(tally: built.Tally, room: Path) -> None:
         blinking = Blinking(folder)
         fleeting = {f"folder/{file.name}" for file in blinking.files}
         blinking.start()
-        replies = [client.ask("query", str(root), query_of_names()) for _ in range(WALKS)]
-        blinking.ends.set()
-        blinking.join()
+        try:
+            replies = [client.ask("query", str(root), query_of_names()) for _ in range(WALKS)]
+        finally:
+            blinking.ends.set()
+            blinking.join()
         wrong = [reply for reply in replies if sorted(set(reply.get("files", [])) - fleeting) != stays]
         same(tally, "walks while files come and go", wrong[:1], [])
         seen = {name for reply in replies for name in reply.get("files", [])} & fleeting
