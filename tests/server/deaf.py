@@ -4,7 +4,7 @@ import time
 from pathlib import Path
 
 import built
-from client import Server, same
+from client import A_HOUR, Server, same
 from slow import ask_much, fill_root
 
 # A client is cut off after one to two minutes, and some seconds may pass until its threads have ended.
@@ -15,7 +15,7 @@ MOST_WAIT = 150
 def check_a_write_that_waits(tally: built.Tally, room: Path) -> None:
     root = room / "tree"
     fill_root(root, 10_000)
-    with Server(room) as server, server.client() as client:
+    with Server(room, interval=A_HOUR) as server, server.client() as client:
         client.ask("watch", str(root))
         before = server.threads()
         with server.client() as deaf:

@@ -51,7 +51,7 @@ def first_status(servers: list) -> object:
 
 def answer_at(path: Path) -> object:
     """The other server may still be starting."""
-    end = time.monotonic() + 5
+    end = time.monotonic() + PATIENCE
     while True:
         try:
             with Client(str(path)) as client:
