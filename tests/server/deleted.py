@@ -1,9 +1,10 @@
 """Roots that are deleted: what they took is free for the next ones."""
 
 from pathlib import Path
+from typing import List
 
 import built
-from client import A_HOUR, Client, Server
+from client import A_HOUR, PATIENCE, Client, Server
 from gone import fill_folder
 
 FILES = 20_000
@@ -29,10 +30,43 @@ def check_a_view_that_goes(tally: built.Tally, room: Path) -> None:
     fill_folder(root, FILES)
     with Server(room) as server, server.client() as client:
         client.ask("watch", str(root))
-        before = server.memory()
+        before = server.least_memory()
         client.ask("watch-del", str(root))
-        has_gone = server.has_memory_below(before - FILES * RECORD_BYTES * 3 // 4)
-    tally.check("the view of a root that was deleted", has_gone, [f"{before} bytes before"])
+        tally.check("the view of a root that was deleted", has_less(server, before), [f"{before} bytes before"])
+
+
+def check_what_sessions_keep(tally: built.Tally, room: Path) -> None:
+    """A session keeps nothing of what it was told of a deletion. So where another client deletes a second root after it,
+    the view of that goes too, though the session never looks again."""
+    small, large = room / "small", room / "large"
+    fill_folder(small, 1)
+    fill_folder(large, FILES)
+    for leaves in (False, True):
+        with Server(room) as server, server.client() as other:
+            other.ask("version")
+            threads = server.threads()
+            with server.client() as client:
+                before = delete_the_first(server, client, [small, large])
+                if leaves:
+                    client.close()
+                    tally.check("the end of a session that was told", server.has_threads(threads, PATIENCE))
+                other.ask("watch-del", str(large))
+                name = f"a view behind a deletion that a client was told of that {'left' if leaves else 'stays'}"
+                tally.check(name, has_less(server, before), [f"{before} bytes before, {server.memory()} after"])
+
+
+def delete_the_first(server: Server, client: Client, roots: List[Path]) -> int:
+    """Has a client watch roots and delete the first of them. Gives the memory that the server has with all."""
+    for root in roots:
+        client.ask("watch", str(root))
+    before = server.least_memory()
+    client.ask("watch-del", str(roots[0]))
+    return before
+
+
+def has_less(server: Server, before: int) -> bool:
+    """Whether the server comes to have less memory than before by most of the records of a large root."""
+    return server.has_memory_below(before - FILES * RECORD_BYTES * 3 // 4)
 
 
 def memory_with(server: Server, client: Client, root: Path) -> int:
