@@ -63,20 +63,30 @@ def check_its_view(tally: built.Tally, client: Client, root: Path) -> None:
 
 
 def check_a_root_that_goes_during_walks(tally: built.Tally, room: Path) -> None:
-    """A root that goes while it is walked, and is away for longer than a walk: no file of it is told as gone."""
+    """A root that goes while it is walked, and is away for longer than a walk: no file of it is told as gone. The
+    operator is told that it could not be read."""
     root, away = room / "tree", room / "away"
     for number in range(40):
         fill_folder(root / f"folder{number:02}", 500)
     with Server(room, interval=20) as server, server.client() as client:
         client.ask("watch", str(root))
         first = client.ask("clock", str(root))["clock"]
+        seconds = seconds_of_a_crawl(client, root)
         for _ in range(5):
             shutil.move(root, away)
-            time.sleep(1)
+            time.sleep(max(1, 10 * seconds))
             shutil.move(away, root)
-            time.sleep(0.1)
+            time.sleep(max(0.1, 2 * seconds))
         reply = client.ask("query", str(root), {"since": first, **query_of_names()})
         same(tally, "a root that went during walks", (reply["files"], reply["clock"]), ([], first))
+        tally.check("walks found it gone", server.says(f"{root}: the root cannot be read\n".encode()))
+
+
+def seconds_of_a_crawl(client: Client, root: Path) -> float:
+    """How long a query takes that crawls, and waits for a crawl that goes on before that: a crawl at least."""
+    began = time.monotonic()
+    client.ask("query", str(root), {"expression": "false"})
+    return time.monotonic() - began
 
 
 def fill_folder(folder: Path, count: int) -> None:
