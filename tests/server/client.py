@@ -1,11 +1,11 @@
 """A server that runs, a plain client of it, and a plain walk of a tree."""
 
-import ctypes
 import json
 import os
 import socket
 import stat
 import subprocess
+import sys
 import tempfile
 import time
 from pathlib import Path
@@ -20,13 +20,9 @@ VERSION = {"version": "wq-1"}
 MALLOC = {"MALLOC_ARENA_MAX": "2", "MALLOC_MMAP_THRESHOLD_": "131072"}
 ENVIRONMENT = {**MALLOC, **os.environ}
 Row = Tuple[str, str, int, int]
+PLAIN = Path(__file__).resolve().parent / "plain.py"
 # How often the memory of a server is looked at for its least, over half a second.
 LOOKS = 10
-# The two powers by which root reads every file and folder, and the call by which a process and what it starts give one up
-# for good, as Linux numbers them.
-READING_POWERS = {"CAP_DAC_OVERRIDE": 1, "CAP_DAC_READ_SEARCH": 2}
-PR_CAPBSET_DROP = 24
-LIBRARY = ctypes.CDLL(None, use_errno=True)
 
 
 def same(tally: built.Tally, name: str, found: object, expected: object) -> None:
@@ -109,15 +105,6 @@ class Client:
             self.read += piece
 
 
-def give_up_reading_powers() -> None:
-    """In a process of root's that is about to become another program: that one reads what the modes of files let it."""
-    if os.geteuid() != 0:
-        return
-    for name, power in READING_POWERS.items():
-        if LIBRARY.prctl(PR_CAPBSET_DROP, power, 0, 0, 0) != 0:
-            raise OSError(ctypes.get_errno(), f"{name} cannot be given up")
-
-
 class Server:
     """A server whose socket stands in a folder. One that is plain reads no more than any user, though root starts it."""
 
@@ -125,10 +112,9 @@ class Server:
         self.sockname = str(room / "socket")
         self.said = tempfile.TemporaryFile()
         words = ["serve", "--sockname", self.sockname, "--start", "7", "--pid", "9", "--interval", str(interval)]
-        before = give_up_reading_powers if is_plain else None
-        self.process = subprocess.Popen(
-            [str(built.program_path()), *words], stderr=self.said, env=ENVIRONMENT, preexec_fn=before
-        )
+        through = [sys.executable, str(PLAIN)] if is_plain else []
+        command = [*through, str(built.program_path()), *words]
+        self.process = subprocess.Popen(command, stderr=self.said, env=ENVIRONMENT)
         if not self.says(f"listening on {self.sockname}\n".encode()):
             self.kill()
             raise ValueError(f"the server does not listen: {self.errors()!r}")
