@@ -161,6 +161,8 @@ fn rows_of_free<'a, D: Disk>(
 fn joined(alloc: Global, pieces: Vec<Rows<'_>>) -> Result<Vec<Seen>, TreeFault>
     ensures all { IfOk result (λ rows.
         rows.items ≡ flat_map (λ piece. piece.rows.items) pieces.entry.items) }
+    ensures many { IfErr result (λ fault. fault ≡ TooManyRows
+        → 1000000 < length (flat_map (λ piece. piece.rows.items) pieces.entry.items)) }
     ensures lawful { IfOk result (λ rows. IsTrue (list_all is_lawful_row rows.items)) }
     ensures few { IfOk result (λ rows. length rows.items ≤ 1000000) }
 {
