@@ -4,7 +4,7 @@ use crate::word::{bytes, unsigned};
 use anyhow::{Result, bail};
 use percent_encoding::{CONTROLS, percent_encode};
 use std::alloc::Global;
-use wq_serve::{Event, Splitter};
+use wq_stream::{Event, Splitter};
 
 /// `stream LENGTH TEXT`: the events of a text that comes in pieces of this length.
 pub(crate) fn stream_case(alloc: Global, words: &[Vec<u8>]) -> Result<String> {

@@ -2,7 +2,7 @@
 
 use crate::moments::RootNumbers;
 use std::io::Write;
-use wq_server::Inbox;
+use wq_serve::Inbox;
 
 /// What serves clients and crawls roots, from many threads at once.
 pub trait Host {

@@ -12,7 +12,7 @@ use std::sync::atomic::{AtomicBool, Ordering};
 use std::sync::{Arc, Mutex, Wait};
 use wq_clock::Run;
 use wq_live::{Named, RootTable, Seat, Tree};
-use wq_server::{Crawler, Inbox, LockDesk, LockRoots, Seconds, SharedCrawler, SharedShelf, serve};
+use wq_serve::{Crawler, Inbox, LockDesk, LockRoots, Seconds, SharedCrawler, SharedShelf, serve};
 use wq_session::CrawlFault;
 
 /// A server's parts. It serves a client for each seat that is free.

@@ -8,7 +8,7 @@ use crate::server::Server;
 use std::alloc::AllocError;
 use std::sync::Wait;
 use std::time::Clock;
-use wq_serve::Event;
+use wq_stream::Event;
 
 /// The roots at some moment.
 #[derive(Drop)]

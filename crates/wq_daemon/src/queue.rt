@@ -4,7 +4,7 @@
 use std::alloc::{AllocError, Global};
 use std::sync::{Condvar, Mutex, Wait};
 use std::time::{Clock, Duration};
-use wq_serve::{Event, Waiting};
+use wq_stream::{Event, Waiting};
 
 /// A queue that threads share.
 #[derive(Drop)]

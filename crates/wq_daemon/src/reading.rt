@@ -5,7 +5,7 @@ use std::alloc::{AllocError, Global};
 use std::io::{ErrorKind, Read};
 use std::sync::Wait;
 use std::time::{Clock, Duration};
-use wq_serve::{Event, Splitter};
+use wq_stream::{Event, Splitter};
 
 /// How many bytes of a stream are asked for at once.
 const PIECE: usize = 65_536;

@@ -13,7 +13,7 @@ use std::time::{Clock, Duration};
 use wq_clock::Run;
 use wq_live::{Blank, Named, Tree};
 use wq_registry::Cache;
-use wq_server::{Crawler, Seconds, SharedShelf};
+use wq_serve::{Crawler, Seconds, SharedShelf};
 
 /// How many seats a server has: one for each session, one for idle moments, and some to spare.
 pub const SEATS: usize = 48;

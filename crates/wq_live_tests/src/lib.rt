@@ -1,4 +1,4 @@
-//! Tests of the shared view, of sessions over it, and of a server: what no contract of `wq_live`, `wq_server` and
+//! Tests of the shared view, of sessions over it, and of a server: what no contract of `wq_live`, `wq_serve` and
 //! `wq_daemon` says. Calls succeed while there is memory, a look finds what was published last, looks wait for nobody,
 //! sessions share one shelf, a server answers on its socket and ends, and its sessions get idle moments.
 #![tactic(auto)]

@@ -11,8 +11,8 @@ use std::marker::Brand;
 use std::sync::{Arc, Wait};
 use wq_clock::Run;
 use wq_live::{Blank, Named, Told, Tree, TreeFault};
-use wq_serve::Splitter;
-use wq_server::{Crawler, LockDesk, LockRoots, MemoryInbox, Roots, SharedCrawler, serve};
+use wq_stream::Splitter;
+use wq_serve::{Crawler, LockDesk, LockRoots, MemoryInbox, Roots, SharedCrawler, serve};
 use wq_session::CrawlFault;
 use wq_view::Seen;
 

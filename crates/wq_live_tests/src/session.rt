@@ -10,8 +10,8 @@ use std::test::Fail;
 use wq_clock::Run;
 use wq_live::{Blank, Named, Seat, Tree, TreeFault};
 use wq_registry::{Cache, Shelf};
-use wq_serve::Splitter;
-use wq_server::{
+use wq_stream::Splitter;
+use wq_serve::{
     Crawler, Desk, LockDesk, MemoryDesk, MemoryInbox, MemoryRoots, Roots, Seconds, SharedShelf,
     serve,
 };

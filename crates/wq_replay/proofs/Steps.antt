@@ -1,7 +1,7 @@
 -- What the lines of a script do, and what the code did.
 use Rattle.std.proofs.Common.{◌≡◌, ◌≢◌, ℕ, ℤ, Bool, true, false, not, if◌then◌else◌, List, [], ◌∷◌, ◌++◌, Option, Some, None, option_map, is_none, Result, Ok, Err, IsErr, IsErrAnd, refl, sym, ap, subst, ◌∙◌}
 use mathlib.Core.Bool.{false≢true}
-use Rattle.wq_serve.specs.declared.event.Event.{Event}
+use Rattle.wq_stream.specs.declared.event.Event.{Event}
 use Rattle.wq_session.specs.Need.{need_of}
 use Rattle.wq_session.specs.Reading.{Asks}
 use Rattle.wq_session.specs.declared.ask.Ask.{Ask}

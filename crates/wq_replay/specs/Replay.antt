@@ -6,7 +6,7 @@ use Rattle.std.specs.Fmt.{signed_decimal}
 use Rattle.std.specs.List.{list_any}
 use Rattle.std.specs.Io.KnownBytes.{Appends}
 use Rattle.wq_base.specs.Byte.{newline}
-use Rattle.wq_serve.specs.declared.event.Event.{Event}
+use Rattle.wq_stream.specs.declared.event.Event.{Event}
 use Rattle.wq_live.specs.Event.{IsLawful}
 use Rattle.wq_session.specs.Need.{NeedData, crawl as crawl_of, opening as opening_of, need_of}
 use Rattle.wq_session.specs.Reading.{Asks}

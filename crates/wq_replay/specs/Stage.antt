@@ -1,9 +1,9 @@
 -- Where a script stands, and what its next line does there.
 -- It is this server's own.
 use Rattle.std.specs.Prelude.{ℕ, ℤ, pos, Bool, true, false, nat_le, if◌then◌else◌, List, [], ◌∷◌, ◌++◌, length, codes, Option, Some, None, is_none}
-use Rattle.wq_serve.specs.Stream.{event_of}
-use Rattle.wq_serve.specs.declared.event.Event.{Event}
-use Rattle.wq_serve.specs.declared.event.Event.TheVariants.{End}
+use Rattle.wq_stream.specs.Stream.{event_of}
+use Rattle.wq_stream.specs.declared.event.Event.{Event}
+use Rattle.wq_stream.specs.declared.event.Event.TheVariants.{End}
 use Rattle.wq_view.specs.Seen.{SeenData}
 use Rattle.wq_view.specs.Listing.{PassData, listing_of, listing_fault}
 use Rattle.wq_replay.specs.Limit.{max_script_line}

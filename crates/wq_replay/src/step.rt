@@ -1,7 +1,7 @@
 //! One line of a script: what it does at the stage where the script stands.
 ghost use Rattle.std.specs.Prelude.{◌≡◌, ℕ, ℤ, [], List, Option, None, Some, IfOk, Ok, OnOk, true};
-ghost use Rattle.wq_serve.specs.Stream.{event_of, is_binary};
-ghost use Rattle.wq_serve.specs.declared.event.Event.{Event};
+ghost use Rattle.wq_stream.specs.Stream.{event_of, is_binary};
+ghost use Rattle.wq_stream.specs.declared.event.Event.{Event};
 ghost use Rattle.wq_session.specs.Reading.{Asks};
 ghost use Rattle.wq_replay.specs.LineData.{line_data, seen_data};
 ghost use Rattle.wq_replay.specs.Replay.{crawled};
@@ -23,7 +23,7 @@ use std::alloc::{AllocError, Global};
 use std::io::Write;
 use std::sync::ArcSlice;
 use wq_base::Table;
-use wq_serve::{Event, MAX_LINE};
+use wq_stream::{Event, MAX_LINE};
 use wq_session::{Ask, Refusal};
 use wq_view::{Pass, Seen};
 

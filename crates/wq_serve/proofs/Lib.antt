@@ -1,4 +1,9 @@
-mod Parts
-mod Adding
-mod FirstLines
-mod Feeding
+mod Beginnings
+mod Fronts
+mod Shown
+mod Held
+mod Reaching
+mod Getting
+mod Going
+mod Crawling
+mod Sharing

@@ -1,6 +1,10 @@
+pub mod Crawl
+pub mod Roots
+pub mod Inbox
+pub mod Reached
+pub mod Desk
+pub mod Run
+pub mod Ready
+pub mod Serving
 pub mod Limit
-pub mod Stream
-pub mod Line
-pub mod Told
-pub mod Law
-pub mod Queue
+pub mod Answering

@@ -1,7 +1,7 @@
--- The limit of a client's lines, which is this server's own.
+-- The limit of a session, which is this server's own.
 -- No public document names one.
-use Rattle.std.specs.Prelude.{ℕ}
+use Rattle.std.specs.Prelude.{ℕ, ◌^◌}
 
--- how many bytes a line may have, without its newline
-abbrev pub max_line : ℕ
-max_line = 1048576
+-- how many events a session takes
+abbrev pub max_events : ℕ
+max_events = 2 ^ 62

@@ -1,17 +1,34 @@
-//! What sessions of clients take: how the bytes of a client become events, and the events that wait.
+//! Serving one client: a session over all its events, at ends that are handed in. An inbox hands out the events, a
+//! writer takes the replies, a seat shows the views of roots, the roots are crawled, and a desk holds the shelf that all
+//! clients share.
 //!
-//! What a line says, and what it is answered, is not looked at here; nor are sockets and threads.
+//! Nothing here knows a socket, a file or a thread. What waits does so behind one of the ends.
 #![tactic(auto)]
 
-mod event;
-mod law;
-mod line;
-mod splitter;
-mod telling;
-mod waiting;
+mod answering;
+mod crawler;
+mod desk;
+mod faults;
+mod inbox;
+mod lock_desk;
+mod lock_roots;
+mod looking;
+mod memory_desk;
+mod memory_roots;
+mod roots;
+mod serving;
+mod shared_crawler;
+mod shared_shelf;
+mod writing;
 
-pub use event::Event;
-pub use law::{cuts_do_not_matter, pieces_tell_the_stream, told_events_stay};
-pub use line::MAX_LINE;
-pub use splitter::Splitter;
-pub use waiting::{MAX_WAITING, Waiting};
+pub use crawler::{Crawler, Seconds};
+pub use desk::Desk;
+pub use inbox::{Inbox, MemoryInbox};
+pub use lock_desk::LockDesk;
+pub use lock_roots::LockRoots;
+pub use memory_desk::MemoryDesk;
+pub use memory_roots::MemoryRoots;
+pub use roots::Roots;
+pub use serving::{Ended, MAX_EVENTS, serve};
+pub use shared_crawler::SharedCrawler;
+pub use shared_shelf::{SharedShelf, reached_by_calls};

@@ -13,8 +13,8 @@ use Rattle.wq_base.specs.Fault.{or_fault, or_its_fault, unless_fault}
 use Rattle.wq_code.specs.File.{file_at}
 use Rattle.wq_code.specs.declared.raw.Raw.{Raw}
 use Rattle.wq_code.specs.declared.fault.FileFault.{FileFault}
-use Rattle.wq_serve.specs.declared.event.Event.{Event}
-use Rattle.wq_serve.specs.declared.event.Event.TheVariants.{Line, Long, Binary, Idle, End, Fault}
+use Rattle.wq_stream.specs.declared.event.Event.{Event}
+use Rattle.wq_stream.specs.declared.event.Event.TheVariants.{Line, Long, Binary, Idle, End, Fault}
 use Rattle.wq_verify.specs.Typing.{IsFirstFault, IsValid}
 use Rattle.wq_session.specs.Argument.{are_none, are_options, clock_arguments, is_name, one_text}
 use Rattle.wq_session.specs.Argument.{query_arguments, two_texts}

@@ -19,7 +19,7 @@ use crate::root::is_absolute;
 use serde_json::Value;
 use std::alloc::Global;
 use wq_base::Text;
-use wq_serve::Event;
+use wq_stream::Event;
 
 impl Ask {
     /// What an event asks. A line whose text, words, root or program are wrong is refused here, whatever is asked; of

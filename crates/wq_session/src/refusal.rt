@@ -13,7 +13,7 @@ use wq_verify::ProgramFault;
 /// growth may be refused before any of them but the first two.
 #[derive(Clone, Copy, Debug, Drop)]
 pub enum Refusal {
-    /// A line of over [`MAX_LINE`](wq_serve::MAX_LINE) bytes.
+    /// A line of over [`MAX_LINE`](wq_stream::MAX_LINE) bytes.
     LineTooLong,
     /// The line begins with byte 0, as Watchman's binary messages do.
     Bser,

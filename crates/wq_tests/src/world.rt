@@ -8,7 +8,7 @@ use std::test::Fail;
 use wq_base::{Table, Text};
 use wq_clock::Run;
 use wq_replay::{Happening, Sent, World};
-use wq_serve::Event;
+use wq_stream::Event;
 use wq_session::{Ask, CrawlFault};
 use wq_view::Pass;
 

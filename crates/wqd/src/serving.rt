@@ -10,7 +10,7 @@ use std::time::{Clock, Duration};
 use wq_clock::Run;
 use wq_daemon::{Listening, Notices, Parts, SEATS, listen, remove, serve_clients};
 use wq_live::{Blank, Tree};
-use wq_server::Seconds;
+use wq_serve::Seconds;
 
 /// What the command line says of the server.
 #[derive(Debug, Drop)]

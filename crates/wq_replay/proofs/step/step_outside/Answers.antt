@@ -1,8 +1,8 @@
 -- A listing is begun, or a client is heard.
 use Rattle.std.proofs.Common.{FitsSigned, w64, rules, Ok, true, false, refl, sym, subst}
 use mir.Facts.{to_z-of_z}
-use Rattle.wq_serve.specs.Stream.{event_of}
-use Rattle.wq_serve.specs.declared.event.Event.TheVariants.{End}
+use Rattle.wq_stream.specs.Stream.{event_of}
+use Rattle.wq_stream.specs.declared.event.Event.TheVariants.{End}
 use Rattle.wq_replay.specs.LineData.{line_data}
 use Rattle.wq_replay.specs.Stage.{drafts, empty_draft, hears, turn_outside}
 use Rattle.wq_replay.specs.Step.{Takes}

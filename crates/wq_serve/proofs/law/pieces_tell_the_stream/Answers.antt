@@ -1,5 +1,0 @@
-use Rattle.wq_serve.proofs.Adding.{all_in_turn}
-use Rattle.wq_serve.proofs.law.pieces_tell_the_stream.Goals as goal
-
-pub returns : goal.returns
-returns c = all_in_turn

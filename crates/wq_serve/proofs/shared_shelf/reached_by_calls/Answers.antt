@@ -1,0 +1,6 @@
+-- The law by its lemma, which takes that of answers.
+use Rattle.wq_serve.proofs.Reaching.{reached_by_calls}
+use Rattle.wq_serve.proofs.shared_shelf.reached_by_calls.Goals as goal
+
+pub returns : goal.returns
+returns c = reached_by_calls c.answers_are_calls.ensures

@@ -1,0 +1,13 @@
+-- Where a part of the line is not written whole, what was written is a front of the line.
+use Rattle.std.proofs.Common.{codes}
+use Rattle.std.proofs.lemmas.Result.{on_err_weaker}
+use Rattle.wq_serve.proofs.Fronts.{front_before, front_behind, on_err}
+use Rattle.wq_serve.proofs.writing.write_line.Goals as goal
+
+pub returns-in_err-write_all-clause-front : goal.returns-in_err-write_all-clause-front
+returns-in_err-write_all-clause-front g c =
+    on_err c.from_residual.result (front_before _ _ c.args.text.now (codes "\n") c.in_err-write_all.ensures.front)
+
+pub returns-clause-front : goal.returns-clause-front
+returns-clause-front g c =
+    on_err_weaker c.write_all-2.result (λ last. front_behind _ _ _ c.args.text.now (codes "\n") c.in_ok-write_all.ensures.done last) c.write_all-2.ensures.front

@@ -1,0 +1,71 @@
+-- What the parts of answering an ask come to.
+-- No public document is behind it.
+use Rattle.std.specs.Prelude.{◌≡◌, ◌⊎◌, List, Option, Some, None, Result, Ok, Err, option_map}
+use mathlib.Core.List.{IsPrefix}
+use Rattle.wq_clock.specs.Instance.{InstanceData}
+use Rattle.wq_live.specs.declared.event.RootEvent.{RootEvent}
+use Rattle.wq_session.specs.Answer.{MayRefuse}
+use Rattle.wq_session.specs.Crawl.{crawl_refusal}
+use Rattle.wq_session.specs.Need.{NeedData, none, look, crawl, opening, retire, need_of}
+use Rattle.wq_session.specs.Out.{OutData}
+use Rattle.wq_session.specs.Query.{AtData, ShelfNow}
+use Rattle.wq_session.specs.declared.ask.Ask.{Ask}
+use Rattle.wq_session.specs.declared.crawl.CrawlFault.{CrawlFault}
+use Rattle.wq_serve.specs.Desk.{AnswersAt}
+use Rattle.wq_serve.specs.Ready.{KnownData, Learns, ended}
+use Rattle.wq_serve.specs.Crawl.{CrawlerData}
+use Rattle.wq_serve.specs.Run.{ShowsAt}
+use Rattle.wq_clock.specs.declared.run.Run.{Run}
+
+-- what is known of the roots, from its parts
+abbrev pub known : Option CrawlerData → List RootEvent → KnownData
+known roots seen = record { roots = roots; seen = seen }
+
+-- the root that an ask needs, as a list shows it
+abbrev pub ShowsNeeded : Run → NeedData → List RootEvent → Option AtData → Type 0
+ShowsNeeded run none events at = at ≡ None
+ShowsNeeded run (look root) events at = ShowsAt run root events at
+ShowsNeeded run (crawl root) events at = ShowsAt run root events at
+ShowsNeeded run (opening root) events at = ShowsAt run root events at
+ShowsNeeded run (retire root) events at = ShowsAt run root events at
+
+-- the root that an ask needs is looked at, or the look is refused
+abbrev pub Sees : Run → NeedData → List RootEvent → Option AtData → List RootEvent → Type 0
+Sees run need before at after =
+    (IsPrefix before after × ShowsNeeded run need after at) ⊎ ((after ≡ before) × (at ≡ None))
+
+-- the root is looked at, and the ask is answered at it
+abbrev pub SeesFirst : Run → Ask → List RootEvent → Option ShelfNow → OutData → List RootEvent
+    → Option ShelfNow → Type 0
+SeesFirst run ask before shelf out after left =
+    (at : Option AtData) × Sees run (need_of ask) before at after × AnswersAt shelf ask at out left
+
+-- the roots told this, and then the root is looked at, and the ask is answered
+abbrev pub AnswersAfter : Run → Ask → Result (Option (List RootEvent)) CrawlFault → List RootEvent
+    → Option ShelfNow → OutData → List RootEvent → Option ShelfNow → Type 0
+AnswersAfter run ask (Ok told) before shelf out after left =
+    (heard : List RootEvent) × Learns before (Ok told) heard
+    × SeesFirst run ask heard shelf out after left
+AnswersAfter run ask (Err fault) before shelf out after left =
+    MayRefuse (crawl_refusal fault) out × (after ≡ before) × (left ≡ shelf)
+
+-- the number of the root that an ask needs is looked for
+abbrev pub SeesNumber : Run → NeedData → List RootEvent → Option InstanceData → List RootEvent
+    → Type 0
+SeesNumber run need before instance after =
+    (at : Option AtData) × Sees run need before at after
+    × (instance ≡ option_map (λ at. at.instance) at)
+
+-- the end of a root of this number was told, or refused, and then the ask is answered
+abbrev pub AnswersEnd : InstanceData → Ask → Result (List RootEvent) CrawlFault → List RootEvent
+    → Option ShelfNow → OutData → List RootEvent → Option ShelfNow → Type 0
+AnswersEnd instance ask (Ok told) before shelf out after left =
+    Learns before (Ok (Some told)) after
+    × AnswersAt shelf ask (Some (ended instance)) out left
+AnswersEnd instance ask (Err fault) before shelf out after left =
+    MayRefuse (crawl_refusal fault) out × (after ≡ before) × (left ≡ shelf)
+
+-- this holds where an ask needs that a root is retired
+abbrev pub IfRetires : NeedData → Type 0 → Type 0
+IfRetires (retire root) fact = fact
+IfRetires _ fact = Unit {0}

@@ -1,0 +1,120 @@
+-- What a session does of the events that it takes, one after the other, and what it writes.
+-- A reply to each line is from Watchman's documentation of its socket interface; the rest is this
+-- server's own.
+use Rattle.std.specs.Prelude.{◌≡◌, ◌⊎◌, ◌<◌, ℕ, Bool, true, false, List, [], ◌∷◌, ◌++◌, length}
+use Rattle.std.specs.Prelude.{codes}
+use Rattle.std.specs.Prelude.{Option, Some, None, Ok, Err}
+use Rattle.std.specs.Io.KnownBytes.{Appends}
+use Rattle.wq_stream.specs.declared.event.Event.{Event}
+use Rattle.wq_session.specs.Answer.{MayRefuse}
+use Rattle.wq_session.specs.Crawl.{crawl_refusal}
+use Rattle.wq_session.specs.Need.{need_of}
+use Rattle.wq_session.specs.Out.{OutData}
+use Rattle.wq_session.specs.Query.{ShelfNow}
+use Rattle.wq_session.specs.Reading.{Asks}
+use Rattle.wq_session.specs.declared.ask.Ask.{Ask}
+use Rattle.wq_live.specs.declared.event.RootEvent.{RootEvent}
+use Rattle.wq_serve.specs.Answering.{known}
+use Rattle.wq_serve.specs.Desk.{AnswersAt}
+use Rattle.wq_serve.specs.Inbox.{Hands}
+use Rattle.wq_serve.specs.Limit.{max_events}
+use Rattle.wq_serve.specs.Ready.{KnownData, ReadyData, Readies}
+use Rattle.wq_serve.specs.Crawl.{CrawlerData}
+use Rattle.wq_clock.specs.declared.run.Run.{Run}
+
+-- what the ends of a session show: the events that are left, what is known of the roots, and the
+-- shelf
+pub record PlaceData : Type 0 where
+  pub left : Option (List Event)
+  pub known : KnownData
+  pub shelf : Option ShelfNow
+
+-- an ask that is ready is answered at the shelf; or its line is refused since its root could not be
+-- crawled, opened or retired, which leaves the shelf
+abbrev pub Replies : ReadyData → Ask → Option ShelfNow → OutData → Option ShelfNow → Type 0
+Replies (Ok at) ask shelf out after = AnswersAt shelf ask at out after
+Replies (Err fault) ask shelf out after = MayRefuse (crawl_refusal fault) out × (after ≡ shelf)
+
+-- an ask is answered, when what it needs was done
+abbrev pub IsAnswered : Run → Ask → KnownData → Option ShelfNow → OutData → KnownData
+    → Option ShelfNow → Type 0
+IsAnswered run ask before shelf out after left =
+    (ready : ReadyData) × Readies run (need_of ask) before ready after
+    × Replies ready ask shelf out left
+
+-- an event is taken: this is given out for it, and the ends are then so
+abbrev pub Serves : Run → PlaceData → Event → OutData → PlaceData → Type 0
+Serves run before event out after =
+    (ask : Ask) × Hands before.left event after.left × Asks event ask
+    × IsAnswered run ask before.known before.shelf out after.known after.shelf
+
+-- what is written of a reply, if there is one: its text and a newline
+abbrev pub line_for : Option (List ℕ) → List ℕ
+line_for None = []
+line_for (Some text) = text ++ codes "\n"
+
+-- these events are taken one after the other; after each the session goes on; this is written
+abbrev pub GoesOn : Run → PlaceData → List Event → List ℕ → PlaceData → Type 0
+GoesOn run before [] written after = (written ≡ []) × (after ≡ before)
+GoesOn run before (event ∷ later) written after =
+    (out : OutData) × (next : PlaceData) × (rest : List ℕ) × Serves run before event out next
+    × (out.goes_on ≡ true) × (written ≡ line_for out.reply ++ rest)
+    × GoesOn run next later rest after
+
+-- a front of some bytes was written, but not all of them
+abbrev pub WritesFront : Option (List ℕ) → Option (List ℕ) → List ℕ → Type 0
+WritesFront before after bytes =
+    (front : List ℕ) × (back : List ℕ) × (bytes ≡ front ++ back) × (length front < length bytes)
+    × Appends before after front
+
+-- the ends, from their parts
+abbrev pub place : Option (List Event) → Option CrawlerData → List RootEvent → Option ShelfNow
+    → PlaceData
+place left roots seen shelf = record { left = left; known = known roots seen; shelf = shelf }
+
+-- how a session came to its end
+pub record EndData : Type 0 where
+  -- the server is to end
+  pub shut : Bool
+  -- the writer failed
+  pub fault : Bool
+
+-- what the writer holds at the end of a session: all that was to be written, unless it failed
+-- within the last reply
+abbrev pub Wrote : Bool → Option (List ℕ) → Option (List ℕ) → List ℕ → List ℕ → Type 0
+Wrote false before after lines last = Appends before after (lines ++ last)
+Wrote true before after lines last =
+    (between : Option (List ℕ)) × Appends before between lines × WritesFront between after last
+
+-- a session ends with an event, after which it does not go on, or the reply to which is not written
+-- whole; after the events before it, it goes on
+pub record EndsBy (run : Run) (before : PlaceData) (old new : Option (List ℕ)) (after : PlaceData)
+    (how : EndData) : Type 0 where
+  pub events : List Event
+  pub lines : List ℕ
+  pub between : PlaceData
+  pub last : Event
+  pub out : OutData
+  pub goes_on : GoesOn run before events lines between
+  pub count : length events < max_events
+  pub serves : Serves run between last out after
+  pub ends : how.fault ≡ false → out.goes_on ≡ false
+  pub shuts : how.shut ≡ out.shuts
+  pub wrote : Wrote how.fault old new lines (line_for out.reply)
+
+-- a session ends since it took as many events as may be
+pub record EndsFull (run : Run) (before : PlaceData) (old new : Option (List ℕ)) (after : PlaceData)
+    (how : EndData) : Type 0 where
+  pub events : List Event
+  pub lines : List ℕ
+  pub goes_on : GoesOn run before events lines after
+  pub count : length events ≡ max_events
+  pub wrote : Appends old new lines
+  pub shuts : how.shut ≡ false
+  pub fault : how.fault ≡ false
+
+-- a session from its first event to its end
+abbrev pub IsServed : Run → PlaceData → Option (List ℕ) → Option (List ℕ) → PlaceData → EndData
+    → Type 0
+IsServed run before old new after how =
+    EndsBy run before old new after how ⊎ EndsFull run before old new after how

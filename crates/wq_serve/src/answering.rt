@@ -1,0 +1,188 @@
+//! The answer to an ask: what it needs is done, its root is looked at, and the shelf is held.
+ghost use Rattle.std.specs.Prelude.{◌≡◌, Ok, Some, option_map};
+ghost use Rattle.wq_clock.specs.Instance.{instance_data};
+ghost use Rattle.wq_serve.specs.Answering.{AnswersAfter, AnswersEnd, IfRetires, SeesFirst, known};
+ghost use Rattle.wq_serve.specs.Desk.{AnswersAt};
+ghost use Rattle.wq_serve.specs.Ready.{Learns};
+ghost use Rattle.wq_serve.specs.Roots.{Gives, showing};
+ghost use Rattle.wq_serve.specs.Serving.{IsAnswered};
+ghost use Rattle.wq_session.specs.Answer.{MayRefuse};
+ghost use Rattle.wq_session.specs.Crawl.{crawl_refusal};
+ghost use Rattle.wq_session.specs.Need.{need_of};
+ghost use Rattle.wq_session.specs.Work.{at_data};
+
+use crate::desk::Desk;
+use crate::looking::{look_for, number_for};
+use crate::roots::Roots;
+use std::alloc::Global;
+use wq_clock::{Instance, Run};
+use wq_live::{Named, Seat, Told};
+use wq_session::{Ask, At, CrawlFault, Need, Out, Refusal, Session};
+use wq_view::View;
+
+/// What a server has for one client.
+#[derive(Drop)]
+pub(crate) struct Client {
+    pub(crate) alloc: Global,
+    pub(crate) run: Run,
+    pub(crate) session: Session,
+}
+
+/// Does what an ask needs, and answers it.
+pub(crate) fn answer<N: Named, R: Roots<N>, D: Desk>(
+    client: &mut Client,
+    ask: Ask,
+    seat: Seat<N>,
+    roots: &mut R,
+    desk: &mut D,
+) -> (Seat<N>, Out)
+    ensures gets { IsAnswered client.old.run ask (known (R.crawler roots.old) seat) (D.shelf desk.old)
+        result.1 (known (R.crawler roots.new) result.0) (D.shelf desk.new) }
+    ensures run { client.new.run ≡ client.old.run }
+{
+    match ask.need() {
+        Need::None => (seat, hold(client, ask, None, desk)),
+        Need::Look(_) => look_and_hold(client, ask, seat, desk),
+        Need::Crawl(root) => {
+            let told = roots.crawl(root);
+            learn_and_hold(client, ask, seat, told, desk)
+        }
+        Need::Open(root) => {
+            let told = open(roots, root);
+            learn_and_hold(client, ask, seat, told, desk)
+        }
+        Need::Retire(_) => retire_and_hold(client, ask, seat, roots, desk),
+    }
+}
+
+/// Opens a root.
+fn open<N: Named, R: Roots<N>>(roots: &mut R, root: &str) -> Result<Option<Told<N>>, CrawlFault>
+    ensures { Gives (R.crawler roots.old) (showing root.now) result (R.crawler roots.new) }
+{
+    match roots.open(root) {
+        Ok(told) => Ok(Some(told)),
+        Err(fault) => Err(fault),
+    }
+}
+
+/// Answers an ask at a root, or at none: the shelf is held while it is taken, and not while it is finished.
+fn hold<D: Desk>(client: &mut Client, ask: Ask, at: Option<At<'_>>, desk: &mut D) -> Out
+    ensures answers { AnswersAt (D.shelf desk.old) ask (option_map at_data at.entry) result
+        (D.shelf desk.new) }
+    ensures run { client.new.run ≡ client.old.run }
+{
+    let work = desk.hold(client.alloc, &mut client.session, ask, at);
+    let mut out = work.finish(client.alloc, at);
+    if let Some(cursor) = client.session.settle(&mut out) {
+        desk.unset(&cursor);
+    }
+    out
+}
+
+/// Looks at the root that an ask needs, and answers it.
+fn look_and_hold<N: Named, D: Desk>(
+    client: &mut Client,
+    ask: Ask,
+    seat: Seat<N>,
+    desk: &mut D,
+) -> (Seat<N>, Out)
+    ensures answers { SeesFirst client.old.run ask seat (D.shelf desk.old) result.1 result.0
+        (D.shelf desk.new) }
+    ensures run { client.new.run ≡ client.old.run }
+{
+    match seat.look() {
+        Ok(look) => {
+            let at = look_for(client.run, &ask, &look);
+            let out = hold(client, ask, at, desk);
+            (look.leave(), out)
+        }
+        Err(seat) => (seat, hold(client, ask, None, desk)),
+    }
+}
+
+/// Answers an ask for which the roots told this.
+fn learn_and_hold<N: Named, D: Desk>(
+    client: &mut Client,
+    ask: Ask,
+    seat: Seat<N>,
+    told: Result<Option<Told<N>>, CrawlFault>,
+    desk: &mut D,
+) -> (Seat<N>, Out)
+    ensures answers { AnswersAfter client.old.run ask told seat (D.shelf desk.old) result.1 result.0
+        (D.shelf desk.new) }
+    ensures run { client.new.run ≡ client.old.run }
+{
+    match told {
+        Ok(None) => look_and_hold(client, ask, seat, desk),
+        Ok(Some(told)) => look_and_hold(client, ask, seat.learn(told), desk),
+        Err(fault) => (seat, refuse(client, fault)),
+    }
+}
+
+/// Retires the root that an ask needs, if it is shown, and answers the ask at its number.
+fn retire_and_hold<N: Named, R: Roots<N>, D: Desk>(
+    client: &mut Client,
+    ask: Ask,
+    seat: Seat<N>,
+    roots: &mut R,
+    desk: &mut D,
+) -> (Seat<N>, Out)
+    ensures gets { IfRetires (need_of ask) (IsAnswered client.old.run ask (known (R.crawler roots.old) seat)
+        (D.shelf desk.old) result.1 (known (R.crawler roots.new) result.0) (D.shelf desk.new)) }
+    ensures run { client.new.run ≡ client.old.run }
+{
+    let (seat, instance) = number_for(client.run, &ask, seat);
+    match instance {
+        None => (seat, hold(client, ask, None, desk)),
+        Some(instance) => {
+            let told = roots.retire(instance.root);
+            hold_at_end(client, ask, seat, instance, told, desk)
+        }
+    }
+}
+
+/// Answers an ask at the number of a root, the end of which was told.
+fn hold_at_end<N: Named, D: Desk>(
+    client: &mut Client,
+    ask: Ask,
+    seat: Seat<N>,
+    instance: Instance,
+    told: Result<Told<N>, CrawlFault>,
+    desk: &mut D,
+) -> (Seat<N>, Out)
+    ensures answers { AnswersEnd (instance_data instance) ask told seat (D.shelf desk.old) result.1
+        result.0 (D.shelf desk.new) }
+    ensures run { client.new.run ≡ client.old.run }
+{
+    match told {
+        Ok(told) => {
+            let view = View::new(client.alloc);
+            let at = At {
+                instance,
+                view: &view,
+            };
+            let out = hold(client, ask, Some(at), desk);
+            (learn_and_leave(seat, told), out)
+        }
+        Err(fault) => (seat, refuse(client, fault)),
+    }
+}
+
+/// Learns what was told, and looks at once, so that the seat keeps nothing of it that is shown by then. Else it would keep the
+/// views of all roots as they were told, for as long as its client asks nothing that looks.
+#[tactic(auto, using(crate::proofs::Beginnings::begins_later))]
+fn learn_and_leave<N: Named>(seat: Seat<N>, told: Told<N>) -> Seat<N>
+    ensures { Learns seat (Ok (Some told)) result }
+{
+    match seat.learn(told).look() {
+        Ok(look) => look.leave(),
+        Err(seat) => seat,
+    }
+}
+
+/// The reply to a line, the root of which could not be crawled, opened or retired.
+fn refuse(client: &Client, fault: CrawlFault) -> Out
+    ensures { MayRefuse (crawl_refusal fault) result }
+{
+    Out::refused(client.alloc, Refusal::from(fault))
+}

@@ -1,0 +1,28 @@
+//! Where a session finds the shelf.
+ghost use Rattle.std.specs.Prelude.{option_map};
+ghost use Rattle.wq_serve.specs.Desk.{Holds, Unsets};
+ghost use Rattle.wq_session.specs.Work.{at_data, work_data};
+
+use std::alloc::Global;
+use wq_registry::Shelf;
+use wq_session::{Ask, At, Cursor, Session, Work};
+
+/// What holds the shelf for a session: for an ask, and where a cursor is to be unset.
+///
+/// It may show its shelf.
+pub trait Desk {
+    ghost use Rattle.std.specs.Prelude.{Option};
+    ghost use Rattle.wq_session.specs.Query.{ShelfNow};
+
+    // The shelf, where it is shown.
+    ghost shelf: { Self → Option ShelfNow };
+
+    /// Takes an ask ([`Session::take`]) at the shelf as it stands.
+    fn hold(&mut self, alloc: Global, session: &mut Session, ask: Ask, at: Option<At<'_>>) -> Work
+        ensures { Holds (shelf self.old) ask (option_map at_data at.entry) (work_data result)
+            (shelf self.new) };
+
+    /// Unsets a cursor ([`Shelf::unset_cursor`]) on the shelf as it stands.
+    fn unset(&mut self, cursor: &Cursor)
+        ensures { Unsets (shelf self.old) cursor.now (shelf self.new) };
+}

@@ -1,0 +1,61 @@
+//! What a session looks at for an ask.
+ghost use Rattle.std.specs.Prelude.{◌≡◌, Option, option_map};
+ghost use Rattle.wq_serve.specs.Answering.{SeesNumber, ShowsNeeded};
+ghost use Rattle.wq_serve.specs.Run.{ShowsAt};
+ghost use Rattle.wq_clock.specs.Instance.{instance_data};
+ghost use Rattle.wq_session.specs.Need.{need_of};
+ghost use Rattle.wq_session.specs.Query.{AtData};
+ghost use Rattle.wq_session.specs.Work.{at_data};
+
+use wq_clock::{Instance, Run};
+use wq_live::{Look, Named, Seat};
+use wq_session::{Ask, At, Need};
+
+/// The root that an ask needs, as a look shows it, if it does.
+pub(crate) fn look_for<'a, N: Named>(run: Run, ask: &Ask, look: &'a Look<N>) -> Option<At<'a>>
+    ensures { ShowsNeeded run (need_of ask.now) look.now (option_map at_data result) }
+{
+    match ask.need() {
+        Need::None => None,
+        Need::Look(root) | Need::Crawl(root) | Need::Open(root) | Need::Retire(root) => {
+            root_at(run, root, look)
+        }
+    }
+}
+
+/// The root of this text, as a look shows it, if it does.
+pub(crate) fn root_at<'a, N: Named>(run: Run, root: &str, look: &'a Look<N>) -> Option<At<'a>>
+    ensures { ShowsAt run root.now look.now (option_map at_data result) }
+{
+    let (number, view) = look.root(root)?;
+    Some(At {
+        instance: run.instance(number),
+        view,
+    })
+}
+
+/// Looks for the number of the root that an ask needs.
+pub(crate) fn number_for<N: Named>(
+    run: Run,
+    ask: &Ask,
+    seat: Seat<N>,
+) -> (Seat<N>, Option<Instance>)
+    ensures { SeesNumber run (need_of ask.now) seat (option_map instance_data result.1) result.0 }
+{
+    match seat.look() {
+        Ok(look) => {
+            let instance = number_in(run, ask, &look);
+            (look.leave(), instance)
+        }
+        Err(seat) => (seat, None),
+    }
+}
+
+/// The number of the root that an ask needs, as a look shows it, if it does.
+fn number_in<N: Named>(run: Run, ask: &Ask, look: &Look<N>) -> Option<Instance>
+    ensures { (at : Option AtData) × ShowsNeeded run (need_of ask.now) look.now at
+        × (option_map instance_data result ≡ option_map (λ at. at.instance) at) }
+{
+    let at = look_for(run, ask, look)?;
+    Some(at.instance)
+}

@@ -1,0 +1,100 @@
+//! A session from its first event to its end.
+ghost use Rattle.std.specs.Prelude.{◌≡◌};
+ghost use Rattle.wq_serve.specs.Serving.{IsServed, Serves, place};
+ghost use Rattle.wq_stream.specs.declared.event.Event.{Event};
+
+use crate::answering::{Client, answer};
+use crate::desk::Desk;
+use crate::inbox::Inbox;
+use crate::roots::Roots;
+use crate::writing::write_reply;
+use std::alloc::Global;
+use std::io::Write;
+use wq_clock::Run;
+use wq_live::{Named, Seat};
+use wq_session::{Ask, Out, Session};
+
+/// How many events a session takes, 2^62.
+pub const MAX_EVENTS: u64 = 1 << 62;
+
+/// How a session came to its end.
+#[derive(Drop)]
+pub struct Ended<N: Named> {
+    /// The seat from which it looked.
+    pub seat: Seat<N>,
+    /// Whether the server is to end.
+    pub shut: bool,
+    /// Whether the writer failed.
+    pub fault: bool,
+}
+
+/// Serves one client: takes its events one after the other, and writes a line for each reply.
+///
+/// For each line it first does what that needs: the roots are asked, and what they told is learnt; then it looks at the
+/// root; then the shelf is held while the line is taken. No look is open while the roots are asked, nor while a reply is
+/// written. Where a look is refused, the line is answered as at a root that is not watched.
+///
+/// It ends where the client has gone, by a line with which a session ends, where the writer fails, and after 2^62 events.
+pub fn serve<N: Named, I: Inbox, W: Write, R: Roots<N>, D: Desk>(
+    alloc: Global,
+    run: Run,
+    inbox: &mut I,
+    writer: &mut W,
+    seat: Seat<N>,
+    roots: &mut R,
+    desk: &mut D,
+) -> Ended<N>
+    ensures { IsServed run (place (I.left inbox.old) (R.crawler roots.old) seat (D.shelf desk.old))
+        (W.contents writer.old) (W.contents writer.new)
+        (place (I.left inbox.new) (R.crawler roots.new) result.seat (D.shelf desk.new))
+        (record { shut = result.shut; fault = result.fault }) }
+{
+    let mut client = Client {
+        alloc,
+        run,
+        session: Session::new(),
+    };
+    let mut seat = seat;
+    for _ in 0..MAX_EVENTS {
+        let (after, out) = take_event(&mut client, inbox, seat, roots, desk);
+        seat = after;
+        let shut = out.shuts();
+        if write_reply(writer, &out).is_err() {
+            return Ended {
+                seat,
+                shut,
+                fault: true,
+            };
+        }
+        if !out.goes_on() {
+            return Ended {
+                seat,
+                shut,
+                fault: false,
+            };
+        }
+    }
+    Ended {
+        seat,
+        shut: false,
+        fault: false,
+    }
+}
+
+/// Takes the next event, and answers it.
+fn take_event<N: Named, I: Inbox, R: Roots<N>, D: Desk>(
+    client: &mut Client,
+    inbox: &mut I,
+    seat: Seat<N>,
+    roots: &mut R,
+    desk: &mut D,
+) -> (Seat<N>, Out)
+    ensures serves { (event : Event) × Serves client.old.run
+        (place (I.left inbox.old) (R.crawler roots.old) seat (D.shelf desk.old)) event result.1
+        (place (I.left inbox.new) (R.crawler roots.new) result.0 (D.shelf desk.new)) }
+    ensures run { client.new.run ≡ client.old.run }
+{
+    let event = inbox.next();
+    let ask = Ask::read(client.alloc, event);
+    answer(client, ask, seat, roots, desk)
+}

@@ -1,0 +1,82 @@
+//! A shelf that many sessions share, one at a time.
+ghost use Rattle.std.specs.Prelude.{◌≡◌, option_map, string_bytes};
+ghost use Rattle.wq_registry.specs.Shelf.{blank, cursor_unset};
+ghost use Rattle.wq_serve.specs.Reached.{IsReached, ReachedByCalls};
+ghost use Rattle.wq_session.specs.Answer.{Takes};
+ghost use Rattle.wq_session.specs.Work.{at_data, work_data};
+
+use std::alloc::Global;
+use std::marker::Model;
+use wq_registry::{Cache, Root, Shelf};
+use wq_session::{Ask, At, Cursor, Session, Work, answers_are_calls};
+
+/// A shelf that is changed by what sessions take and unset there, and by nothing else: so that leads to it, from one on which
+/// nothing stands.
+#[derive(Drop)]
+pub struct SharedShelf {
+    shelf: Shelf<()>,
+}
+
+impl Model for SharedShelf {
+    ghost use Rattle.wq_serve.specs.Reached.{IsReached};
+    ghost use Rattle.wq_session.specs.Query.{ShelfNow};
+
+    ghost Value = { ShelfNow };
+
+    ghost view = { λ s. s.shelf };
+
+    ghost invariant = { λ s. IsReached s.shelf };
+}
+
+impl SharedShelf {
+    /// A shelf with nothing on it but this cache, of a server whose socket has this name.
+    pub fn new(alloc: Global, cache: Cache, sockname: String) -> SharedShelf
+        ensures { result ≡ blank (string_bytes sockname) }
+    {
+        SharedShelf {
+            shelf: Shelf::new(alloc, cache, sockname),
+        }
+    }
+
+    /// The name of the server's socket.
+    pub fn sockname(&self) -> &str
+        ensures { result.now ≡ self.now.sockname }
+    {
+        self.shelf.sockname()
+    }
+
+    /// The roots, in the order in which they were added.
+    pub fn roots(&self) -> &[Root<()>]
+        ensures { result.now ≡ self.now.roots }
+    {
+        self.shelf.roots()
+    }
+
+    /// Takes an ask of a session ([`Session::take`]).
+    pub(crate) fn take(
+        &mut self,
+        alloc: Global,
+        session: &mut Session,
+        ask: Ask,
+        at: Option<At<'_>>,
+    ) -> Work
+        ensures reached { IsReached self.old }
+        ensures taken { Takes ask (option_map at_data at.entry) self.old (work_data result) self.new }
+    {
+        session.take(alloc, ask, at, &mut self.shelf)
+    }
+
+    /// Unsets a cursor ([`Shelf::unset_cursor`]).
+    pub(crate) fn unset(&mut self, cursor: &Cursor)
+        ensures { self.new ≡ cursor_unset cursor.now.root cursor.now.name self.old }
+    {
+        self.shelf.unset_cursor(cursor.root, cursor.name.as_str());
+    }
+}
+
+/// To a shelf to which leads what sessions did, accepted calls lead. So the laws of lists of accepted calls hold there.
+pub fn reached_by_calls()
+    ensures { ReachedByCalls }
+{
+    answers_are_calls();
+}

@@ -1,9 +1,0 @@
-mod Beginnings
-mod Fronts
-mod Shown
-mod Held
-mod Reaching
-mod Getting
-mod Going
-mod Crawling
-mod Sharing

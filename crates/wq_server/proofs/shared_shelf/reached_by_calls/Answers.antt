@@ -1,6 +1,0 @@
--- The law by its lemma, which takes that of answers.
-use Rattle.wq_server.proofs.Reaching.{reached_by_calls}
-use Rattle.wq_server.proofs.shared_shelf.reached_by_calls.Goals as goal
-
-pub returns : goal.returns
-returns c = reached_by_calls c.answers_are_calls.ensures

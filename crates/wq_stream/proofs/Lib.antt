@@ -1,0 +1,4 @@
+mod Parts
+mod Adding
+mod FirstLines
+mod Feeding

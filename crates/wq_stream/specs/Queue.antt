@@ -1,0 +1,34 @@
+-- The events that wait for a session, as a queue that can be closed.
+-- No public document is behind it.
+use Rattle.std.specs.Prelude.{◌≡◌, ℕ, Bool, true, false, List, [], ◌∷◌, ◌++◌, Option, Some, None}
+use Rattle.wq_stream.specs.declared.event.Event.{Event}
+use Rattle.wq_stream.specs.declared.event.Event.TheVariants.{End}
+
+-- how many events may wait
+abbrev pub most_waiting : ℕ
+most_waiting = 8
+
+-- the events that wait, the first one first, and whether no more are taken in
+pub record QueueData : Type 0 where
+  pub events : List Event
+  pub is_closed : Bool
+
+-- the queue with an event behind the others
+abbrev pub with_event : Event → QueueData → QueueData
+with_event event queue =
+    record { events = queue.events ++ event ∷ []; is_closed = queue.is_closed }
+
+-- the queue in which nothing waits and no more is taken in
+abbrev pub closed : QueueData
+closed = record { events = []; is_closed = true }
+
+-- an event was put behind the others of a queue that is open, or it was not and the queue is closed
+abbrev pub Puts : Event → QueueData → Bool → QueueData → Type 0
+Puts event old true new = (old.is_closed ≡ false) × (new ≡ with_event event old)
+Puts event old false new = new ≡ closed
+
+-- what was taken: of a closed queue the end; of an open one the first event, where one waits
+abbrev pub Takes : QueueData → Option Event → QueueData → Type 0
+Takes old (Some event) new = (new.is_closed ≡ old.is_closed)
+    × (old.is_closed ≡ true → event ≡ End) × (old.is_closed ≡ false → old.events ≡ event ∷ new.events)
+Takes old None new = (old.is_closed ≡ false) × (old.events ≡ []) × (new ≡ old)

@@ -1,0 +1,54 @@
+//! The first line of some bytes. Nothing is kept here.
+ghost use Rattle.std.specs.Prelude.{◌≡◌, ◌++◌, false};
+ghost use Rattle.wq_stream.specs.Line.{IsFirstLine};
+ghost use Rattle.wq_stream.specs.Stream.{IsRest, is_binary};
+
+use memchr::memchr;
+
+/// How many bytes a line may have, without its newline.
+pub const MAX_LINE: usize = 1_048_576;
+
+/// What the first line of some bytes is.
+pub(crate) enum FirstLine {
+    /// It ends at the newline in this place, and is within the limit.
+    Ends(usize),
+    /// It has not ended, and may still.
+    Open,
+    /// It is over the limit.
+    Long,
+    /// It begins with byte 0.
+    Binary,
+}
+
+/// What the first line of a rest and of the bytes behind it is; places count in those bytes.
+pub(crate) fn first_line(rest: &[u8], bytes: &[u8]) -> FirstLine
+    requires { IsRest rest.now }
+    ensures { IsFirstLine rest.now bytes.now result }
+{
+    if rest.is_empty() && is_binary(bytes) {
+        FirstLine::Binary
+    } else {
+        first_text_line(rest, bytes)
+    }
+}
+
+/// Whether bytes begin with byte 0.
+fn is_binary(bytes: &[u8]) -> bool
+    ensures { result ≡ is_binary bytes.now }
+{
+    bytes.first() == Some(&0)
+}
+
+/// The same of a line that begins with another byte, or has none yet.
+fn first_text_line(rest: &[u8], bytes: &[u8]) -> FirstLine
+    requires rest { IsRest rest.now }
+    requires text { is_binary (rest.now ++ bytes.now) ≡ false }
+    ensures { IsFirstLine rest.now bytes.now result }
+{
+    let room = MAX_LINE - rest.len();
+    match memchr(b'\n', bytes) {
+        Some(at) if at <= room => FirstLine::Ends(at),
+        None if bytes.len() <= room => FirstLine::Open,
+        _ => FirstLine::Long,
+    }
+}
