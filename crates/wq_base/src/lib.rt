@@ -15,7 +15,7 @@ mod version;
 pub use compare::{Case, Relation, is_suffix};
 pub use decimal::{signed_number, unsigned_number};
 pub use directory::{rest_below, slashes};
-pub use limit::{MAX_NUMBER, MAX_SIGNED};
+pub use limit::{MAX_NUMBER, MAX_ROOTS, MAX_SIGNED};
 pub use table::Table;
 pub use text::Text;
 pub use version::VERSION;

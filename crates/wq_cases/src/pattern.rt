@@ -3,7 +3,7 @@
 use crate::word::{bytes, text, unsigned};
 use anyhow::{Result, bail};
 use std::alloc::{AllocError, Global};
-use wq_glob::{Flags, Hit, MAX_TEXT, Pattern, PatternFault};
+use wq_glob::{Flags, Hit, MAX_MATCHED_TEXT, Pattern, PatternFault};
 
 /// The flags that a word names, with a comma between two; `plain` is none.
 fn flags(word: &str) -> Result<Flags> {
@@ -41,7 +41,7 @@ fn pattern(alloc: Global, words: &[Vec<u8>]) -> Result<Result<Pattern, PatternFa
 /// How the case's pattern fits its text, the word behind it.
 fn hit(alloc: Global, words: &[Vec<u8>]) -> Result<Hit> {
     let name = bytes(words, 3)?;
-    if name.len() > MAX_TEXT {
+    if name.len() > MAX_MATCHED_TEXT {
         bail!("the text is too long");
     }
     Ok(pattern(alloc, words)??.matches(name))

@@ -4,12 +4,12 @@ use Rattle.std.specs.Prelude.{◌≡◌, ◌≢◌, ◌⊎◌, ℕ, List, ◌++�
 use Rattle.std.specs.Fmt.{decimal}
 use Rattle.std.specs.Io.KnownBytes.{Appends}
 use Rattle.wq_code.specs.File.{file_at}
-use Rattle.wq_code.specs.FileFault.{number_of as file_number}
+use Rattle.wq_code.specs.FileFault.{file_fault_number as file_number}
 use Rattle.wq_code.specs.Spelling.{IsSpelling}
 use Rattle.wq_code.specs.declared.fault.FileFault.TheVariants.{NoMemory as NoFileMemory}
 use Rattle.wq_code.specs.declared.raw.Raw.{Raw}
 use Rattle.wq_verify.specs.Budget.{budget_of}
-use Rattle.wq_verify.specs.ProgramFault.{number_of as program_number}
+use Rattle.wq_verify.specs.ProgramFault.{program_fault_number as program_number}
 use Rattle.wq_verify.specs.Typing.{IsFirstFault, IsValid}
 use Rattle.wq_verify.specs.declared.fault.ProgramFault.TheVariants.{NoMemory as NoProgramMemory}
 use Rattle.wq_check.specs.declared.answer.Answer.{Answer}
@@ -29,11 +29,11 @@ IsAnswer bytes (WrongProgram fault at) = (raw : Raw) × IsSpelling raw bytes
     × (IsFirstFault raw fault at ⊎ ((fault ≡ NoProgramMemory) × (at ≡ 0)))
 
 -- the line that says an answer
-abbrev pub line_of : Answer → List ℕ
-line_of (Accepted instructions budget) =
+abbrev pub answer_line : Answer → List ℕ
+answer_line (Accepted instructions budget) =
     codes "ok " ++ (decimal instructions ++ (codes " " ++ (decimal budget ++ codes "\n")))
-line_of (WrongFile fault) = codes "refused F" ++ (decimal (file_number fault) ++ codes "\n")
-line_of (WrongProgram fault at) =
+answer_line (WrongFile fault) = codes "refused F" ++ (decimal (file_number fault) ++ codes "\n")
+answer_line (WrongProgram fault at) =
     codes "refused Y" ++ (decimal (program_number fault)
     ++ (codes " at " ++ (decimal at ++ codes "\n")))
 
@@ -46,6 +46,6 @@ status_of (WrongProgram _ _) = 3
 -- the line of what the bytes are was written, and the status is its own; or the status is 1
 abbrev pub Checks : List ℕ → Option (List ℕ) → Option (List ℕ) → ℕ → Type 0
 Checks bytes before after status =
-    ((answer : Answer) × IsAnswer bytes answer × Appends before after (line_of answer)
+    ((answer : Answer) × IsAnswer bytes answer × Appends before after (answer_line answer)
     × (status ≡ status_of answer))
     ⊎ (status ≡ 1)

@@ -4,7 +4,7 @@ ghost use Rattle.wq_check.specs.Answer.{IsAnswer, status_of};
 
 use std::alloc::Global;
 use wq_code::{FileFault, decode};
-use wq_verify::{ProgramFault, Refusal, verify};
+use wq_verify::{ProgramFault, Rejection, verify};
 
 /// How many bytes a file may have that `check` looks at.
 pub const MAX_FILE: usize = 16_777_216;
@@ -38,7 +38,7 @@ impl Answer {
                 instructions: program.raw().code.len(),
                 budget: program.budget(LONGEST_NAME),
             },
-            Err((_, Refusal { code: fault, at })) => Answer::WrongProgram { fault, at },
+            Err((_, Rejection { code: fault, at })) => Answer::WrongProgram { fault, at },
         }
     }
 

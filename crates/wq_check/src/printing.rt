@@ -1,6 +1,6 @@
 //! The line that `check` prints.
 ghost use Rattle.std.specs.Prelude.{◌≡◌, IfOk};
-ghost use Rattle.wq_check.specs.Answer.{Checks, line_of};
+ghost use Rattle.wq_check.specs.Answer.{Checks, answer_line};
 
 use crate::answer::Answer;
 use std::alloc::{AllocError, Global};
@@ -28,7 +28,7 @@ pub fn check<W: Write>(alloc: Global, bytes: &[u8], writer: &mut W) -> u8
 
 /// The line that says an answer.
 fn line_of(alloc: Global, answer: Answer) -> Result<String, AllocError>
-    ensures { IfOk result (λ line. line.bytes.items ≡ line_of answer) }
+    ensures { IfOk result (λ line. line.bytes.items ≡ answer_line answer) }
 {
     match answer {
         Answer::Accepted {

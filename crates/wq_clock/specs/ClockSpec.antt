@@ -7,7 +7,7 @@ use Rattle.wq_base.specs.Limit.{max_number}
 use Rattle.wq_base.specs.Byte.{is_colon}
 use Rattle.wq_base.specs.Decimal.{unsigned_of}
 use Rattle.wq_base.specs.Fault.{with_first}
-use Rattle.wq_clock.specs.Limit.{max_name_length}
+use Rattle.wq_clock.specs.Limit.{max_cursor_name}
 use Rattle.wq_clock.specs.Instance.{InstanceData, IsInRange}
 
 -- a clock spec that is a text
@@ -20,11 +20,11 @@ pub data SpecData : Type 0 where
 abbrev pub IsWithinLimits : SpecData → Type 0
 IsWithinLimits (clock_id instance tick) = IsInRange instance × (tick ≤ max_number)
 IsWithinLimits old_clock_id = Unit {0}
-IsWithinLimits (named_cursor name) = (1 ≤ length name) × (length name ≤ max_name_length)
+IsWithinLimits (named_cursor name) = (1 ≤ length name) × (length name ≤ max_cursor_name)
 
 -- the parts of a text between its colons
-abbrev pub parts_of : List ℕ → List (List ℕ)
-parts_of text = slice_split is_colon text
+abbrev pub colon_parts : List ℕ → List (List ℕ)
+colon_parts text = slice_split is_colon text
 
 -- the numbers of all parts in their order, unless some part is no number
 abbrev pub numbers_of : List (List ℕ) → Option (List ℕ)
@@ -40,12 +40,12 @@ id_from_numbers _ = None
 
 -- what the text behind `c:` says: the id whose numbers stand between its colons
 abbrev pub id_of : List ℕ → Option SpecData
-id_of text = option_and_then id_from_numbers (numbers_of (parts_of text))
+id_of text = option_and_then id_from_numbers (numbers_of (colon_parts text))
 
 -- what the text behind `n:` says: a cursor's name of 1 to 255 bytes
 abbrev pub cursor_of : List ℕ → Option SpecData
 cursor_of name =
-    if nat_le 1 (length name) && nat_le (length name) max_name_length
+    if nat_le 1 (length name) && nat_le (length name) max_cursor_name
     then Some (named_cursor name) else None
 
 -- what a text says as a clock spec

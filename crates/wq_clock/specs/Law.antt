@@ -4,12 +4,12 @@ use Rattle.wq_base.specs.Limit.{max_number}
 use Rattle.wq_clock.specs.Instance.{InstanceData, IsInRange}
 use Rattle.wq_clock.specs.ClockText.{clock_text}
 use Rattle.wq_clock.specs.ClockSpec.{SpecData, clock_id, clock_spec_of}
-use Rattle.wq_clock.specs.Spelling.{IsSpelling}
+use Rattle.wq_clock.specs.Spelling.{IsClockSpelling}
 
 -- a text says a clock spec exactly where the grammar has it as a spelling of that clock spec
 abbrev pub TextsSayWhatTheySpell : Type 0
 TextsSayWhatTheySpell = (text : List ℕ) (spec : SpecData)
-    → (clock_spec_of text ≡ Some spec) ↔ IsSpelling spec text
+    → (clock_spec_of text ≡ Some spec) ↔ IsClockSpelling spec text
 
 -- the text of a clock id says that id
 abbrev pub PrintedIdsReadBack : Type 0

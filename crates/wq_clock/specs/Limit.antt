@@ -3,5 +3,5 @@
 use Rattle.std.specs.Prelude.{ℕ}
 
 -- the most bytes of a cursor's name
-abbrev pub max_name_length : ℕ
-max_name_length = 255
+abbrev pub max_cursor_name : ℕ
+max_cursor_name = 255

@@ -2,17 +2,17 @@
 -- From Watchman's documentation of clockspecs; the limits are this server's own.
 use Rattle.std.specs.Prelude.{ℕ, ◌≡◌, ◌≤◌, List, ◌++◌, length, codes}
 use Rattle.wq_base.specs.Limit.{max_number}
-use Rattle.wq_clock.specs.Limit.{max_name_length}
+use Rattle.wq_clock.specs.Limit.{max_cursor_name}
 use Rattle.wq_clock.specs.Instance.{IsInRange}
 use Rattle.wq_clock.specs.ClockText.{clock_text, old_clock_text}
 use Rattle.wq_clock.specs.ClockSpec.{SpecData, clock_id, old_clock_id, named_cursor}
 
 -- a clock id has one text; any two numbers make an old one; a cursor's name stands behind `n:`
-abbrev pub IsSpelling : SpecData → List ℕ → Type 0
-IsSpelling (clock_id instance tick) text =
+abbrev pub IsClockSpelling : SpecData → List ℕ → Type 0
+IsClockSpelling (clock_id instance tick) text =
     IsInRange instance × (tick ≤ max_number) × (text ≡ clock_text instance tick)
-IsSpelling old_clock_id text =
+IsClockSpelling old_clock_id text =
     (pid : ℕ) × (tick : ℕ) × (pid ≤ max_number) × (tick ≤ max_number)
     × (text ≡ old_clock_text pid tick)
-IsSpelling (named_cursor name) text =
-    (1 ≤ length name) × (length name ≤ max_name_length) × (text ≡ codes "n:" ++ name)
+IsClockSpelling (named_cursor name) text =
+    (1 ≤ length name) × (length name ≤ max_cursor_name) × (text ≡ codes "n:" ++ name)

@@ -1,6 +1,6 @@
 //! Reading clock specs from texts, without memory.
 ghost use Rattle.std.specs.Prelude.{◌≡◌, ◌≤◌, Some, None, IfSome, IfNone, IfOk, OnErr, All};
-ghost use Rattle.wq_clock.specs.ClockSpec.{IsWithinLimits, parts_of, numbers_of, id_from_numbers, id_of, cursor_of, clock_spec_of};
+ghost use Rattle.wq_clock.specs.ClockSpec.{IsWithinLimits, colon_parts, numbers_of, id_from_numbers, id_of, cursor_of, clock_spec_of};
 ghost use Rattle.wq_clock.specs.Spec.{said_by, spec_data};
 
 use crate::instance::Instance;
@@ -61,7 +61,7 @@ fn id(text: &str) -> Result<Spec<'_>, ClockFault>
 
 /// The numbers between the colons of `text`, if there are at most four.
 fn numbers(text: &str) -> Option<ArrayVec<u64, ID_NUMBERS>>
-    ensures found { IfSome result (λ found. numbers_of (parts_of text.now) ≡ Some found.items) }
+    ensures found { IfSome result (λ found. numbers_of (colon_parts text.now) ≡ Some found.items) }
     ensures in_range { IfSome result (λ found. All (λ n. n ≤ MAX_NUMBER) found.items) }
     ensures refused { IfNone result (id_of text.now ≡ None) }
 {

@@ -6,11 +6,11 @@ use Rattle.std.specs.Int.{w64}
 use Rattle.std.proofs.lemmas.Bool.{eqb-true}
 use Rattle.std.proofs.lemmas.List.Elements.{All-weaker}
 use Rattle.std.proofs.lemmas.List.Sums.{AllPass-from_list_all, list_all-from_AllPass}
-use Rattle.wq_code.specs.Limit.{max_rows}
-use Rattle.wq_code.specs.Fits.{is_text, is_list, is_pattern, fits}
+use Rattle.wq_code.specs.Limit.{max_table_rows}
+use Rattle.wq_code.specs.Fits.{is_short_text, is_list, is_pattern, raw_fits}
 use Rattle.wq_code.specs.Reading.{exact_at, count_at, many_at, number_at, text_at, list_at, pattern_at, op_at}
 use Rattle.wq_code.specs.File.{head_at, counts_at, tables_at, raw_at}
-use Rattle.wq_code.specs.Spelling.{short, number, text, entries, pattern, instruction, spelling, AreBytes, IsInRange}
+use Rattle.wq_code.specs.Spelling.{short, number, text, entries, pattern, instruction, spelling, AreBytes, FitsFields}
 use Rattle.wq_code.specs.declared.fault.FileFault.{FileFault}
 use Rattle.wq_code.specs.declared.fault.FileFault.TheVariants.{WrongMagic, OtherVersion}
 use Rattle.wq_code.specs.declared.file.Counts.{Counts}
@@ -54,32 +54,32 @@ counts c = short c.nums ++ (short c.texts ++ (short c.lists ++ (short c.patterns
 
 -- each count is within its limit
 pub record AreCounts (c : Counts) : Type 0 where
-  pub nums : c.nums ≤ max_rows
-  pub texts : c.texts ≤ max_rows
-  pub lists : c.lists ≤ max_rows
-  pub patterns : c.patterns ≤ max_rows
-  pub code : c.code ≤ max_rows
+  pub nums : c.nums ≤ max_table_rows
+  pub texts : c.texts ≤ max_table_rows
+  pub lists : c.lists ≤ max_table_rows
+  pub patterns : c.patterns ≤ max_table_rows
+  pub code : c.code ≤ max_table_rows
 
-count : IsForm (count_at max_rows) short (λ n. n ≤ max_rows)
-count = count-form max_rows (lit< tt)
+count : IsForm (count_at max_table_rows) short (λ n. n ≤ max_table_rows)
+count = count-form max_table_rows (lit< tt)
 
 counts_takes : (bytes : List ℕ) (x : Counts × List ℕ) → AreBytes bytes → counts_at bytes ≡ Ok x
     → (bytes ≡ counts x.0 ++ x.1) × AreCounts x.0
 unfolding counts_at
-counts_takes bytes x fits e =
-    bind_then (count_at max_rows bytes) _ x e (λ a ea e.
-    let ta = count.takes bytes a fits ea in
-    let fa = rest_are_bytes bytes (short a.0) a.1 fits ta.0 in
-    bind_then (count_at max_rows a.1) _ x e (λ b eb e.
+counts_takes bytes x raw_fits e =
+    bind_then (count_at max_table_rows bytes) _ x e (λ a ea e.
+    let ta = count.takes bytes a raw_fits ea in
+    let fa = rest_are_bytes bytes (short a.0) a.1 raw_fits ta.0 in
+    bind_then (count_at max_table_rows a.1) _ x e (λ b eb e.
     let tb = count.takes a.1 b fa eb in
     let fb = rest_are_bytes a.1 (short b.0) b.1 fa tb.0 in
-    bind_then (count_at max_rows b.1) _ x e (λ c ec e.
+    bind_then (count_at max_table_rows b.1) _ x e (λ c ec e.
     let tc = count.takes b.1 c fb ec in
     let fc = rest_are_bytes b.1 (short c.0) c.1 fb tc.0 in
-    bind_then (count_at max_rows c.1) _ x e (λ d ed e.
+    bind_then (count_at max_table_rows c.1) _ x e (λ d ed e.
     let td = count.takes c.1 d fc ed in
     let fd = rest_are_bytes c.1 (short d.0) d.1 fc td.0 in
-    bind_then (count_at max_rows d.1) _ x e (λ f ef e.
+    bind_then (count_at max_table_rows d.1) _ x e (λ f ef e.
     let tf = count.takes d.1 f fd ef in
     let p4 = joined c.1 (short d.0) d.1 (short f.0) f.1 td.0 tf.0 in
     let p3 = joined b.1 (short c.0) c.1 (short d.0 ++ short f.0) f.1 tc.0 p4 in
@@ -123,10 +123,10 @@ pub record AreTables (c : Counts) (raw : Raw) : Type 0 where
 tables_takes : (counts : Counts) (bytes : List ℕ) (x : Raw × List ℕ) → AreBytes bytes → tables_at counts bytes ≡ Ok x
     → (bytes ≡ tables x.0 ++ x.1) × AreTables counts x.0
 unfolding tables_at
-tables_takes counts bytes x fits e =
+tables_takes counts bytes x raw_fits e =
     bind_then (many_at number_at counts.nums bytes) _ x e (λ a ea e.
-    let ta = (many-form _ _ _ number-form counts.nums).takes bytes a fits ea in
-    let fa = rest_are_bytes bytes (flat_map number a.0) a.1 fits ta.0 in
+    let ta = (many-form _ _ _ number-form counts.nums).takes bytes a raw_fits ea in
+    let fa = rest_are_bytes bytes (flat_map number a.0) a.1 raw_fits ta.0 in
     bind_then (many_at text_at counts.texts a.1) _ x e (λ b eb e.
     let tb = (many-form _ _ _ text-form counts.texts).takes a.1 b fa eb in
     let fb = rest_are_bytes a.1 (flat_map text b.0) b.1 fa tb.0 in
@@ -175,7 +175,7 @@ counts_in raw = record {
 
 -- what is good of a program
 abbrev pub IsFile : Raw → Type 0
-IsFile raw = (fits raw ≡ true) × IsInRange raw
+IsFile raw = (raw_fits raw ≡ true) × FitsFields raw
 
 file_from : (c : Counts) (raw : Raw) → AreCounts c → AreTables c raw → IsFile raw
 file_from c raw few good = (
@@ -185,7 +185,7 @@ file_from c raw few good = (
     lists = omega (arith, few.lists, good.lists.0);
     patterns = omega (arith, few.patterns, good.patterns.0);
     code = omega (arith, few.code, good.code.0);
-    each_text = list_all-from_AllPass is_text raw.texts (All-weaker IsText (λ t. is_text t ≡ true) (λ _ h. h.0) raw.texts good.texts.1);
+    each_text = list_all-from_AllPass is_short_text raw.texts (All-weaker IsText (λ t. is_short_text t ≡ true) (λ _ h. h.0) raw.texts good.texts.1);
     each_list = list_all-from_AllPass is_list raw.lists (All-weaker IsList (λ t. is_list t ≡ true) (λ _ h. h.0) raw.lists good.lists.1);
     each_pattern = list_all-from_AllPass is_pattern raw.patterns (All-weaker IsPattern (λ t. is_pattern t ≡ true) (λ _ h. h.0) raw.patterns good.patterns.1);
   }),
@@ -208,7 +208,7 @@ tables_from raw h =
     let w = within raw h.0 in
     record {
       nums = (refl, h.1.nums);
-      texts = (refl, all_both (λ t. is_text t ≡ true) AreBytes raw.texts (AllPass-from_list_all is_text raw.texts w.each_text) h.1.texts);
+      texts = (refl, all_both (λ t. is_short_text t ≡ true) AreBytes raw.texts (AllPass-from_list_all is_short_text raw.texts w.each_text) h.1.texts);
       lists = (refl, all_both (λ t. is_list t ≡ true) (All AreBytes) raw.lists (AllPass-from_list_all is_list raw.lists w.each_list) h.1.lists);
       patterns = (refl, all_both (λ t. is_pattern t ≡ true) (λ p. AreBytes p.text) raw.patterns (AllPass-from_list_all is_pattern raw.patterns w.each_pattern) h.1.patterns);
       code = (refl, h.1.code);
@@ -217,10 +217,10 @@ tables_from raw h =
 raw_takes : (bytes : List ℕ) (x : Raw × List ℕ) → AreBytes bytes → raw_at bytes ≡ Ok x
     → (bytes ≡ spelling x.0 ++ x.1) × IsFile x.0
 unfolding raw_at spelling
-raw_takes bytes x fits e =
+raw_takes bytes x raw_fits e =
     bind_then (head_at bytes) _ x e (λ r er e.
     let tr = head_at-takes bytes r er in
-    let fr = rest_are_bytes bytes head r fits tr in
+    let fr = rest_are_bytes bytes head r raw_fits tr in
     bind_then (counts_at r) _ x e (λ c ec e.
     let tc = counts-form.takes r c fr ec in
     let fc = rest_are_bytes r (counts c.0) c.1 fr tc.0 in

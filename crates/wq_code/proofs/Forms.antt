@@ -12,8 +12,8 @@ use Rattle.std.proofs.lemmas.List.Elements.{All-nil, All-cons, All-head, All-tai
 use Rattle.std.proofs.lemmas.Nat.{be_bytes_2, be_bytes_8, from_be_bytes-to_be_bytes_2, from_be_bytes-to_be_bytes_8}
 use Rattle.std.proofs.lemmas.Int.{of_z-to_z, to_z-of_z}
 use Rattle.std.proofs.Math.Facts.{sfits_to_z, Fits-of_z}
-use Rattle.wq_code.specs.Limit.{max_text_length, max_entries}
-use Rattle.wq_code.specs.Fits.{is_text, is_list, is_pattern}
+use Rattle.wq_code.specs.Limit.{max_constant_text, max_entries}
+use Rattle.wq_code.specs.Fits.{is_short_text, is_list, is_pattern}
 use Rattle.wq_glob.specs.Pattern.{PatternData}
 use Rattle.wq_glob.specs.declared.flag.Flags.{Flags}
 use Rattle.wq_code.specs.declared.fault.FileFault.{FileFault}
@@ -25,7 +25,7 @@ use Rattle.wq_base.specs.declared.compare.Relation.TheVariants.{Eq, Ne, Lt, Le, 
 use Rattle.wq_code.specs.declared.operation.Op.{Op}
 use Rattle.wq_code.specs.declared.operation.Op.TheVariants.{Flag, Number, Text, Compare, Equal, Depth, OneOf, Match, Jump, JumpIfNot, JumpIf}
 use Rattle.wq_code.specs.Word.{code_of, a_of, b_of, blank_ops, flag_code, case_code, relation_code, op_of_code, flag_of_code, case_of_code, relation_of_code, with_a, with_b}
-use Rattle.wq_code.specs.Reading.{◌>>=◌, Reader, bytes_at, many_at, short_at, count_at, number_at, text_at, list_at, flags_of, pattern_at, or_fault, op_at}
+use Rattle.wq_code.specs.Reading.{◌>>=◌, Reader, bytes_at, many_at, short_at, count_at, number_at, text_at, list_at, flags_in, pattern_at, or_file_fault, op_at}
 use Rattle.wq_code.specs.Spelling.{short, number, text, entries, flags_byte, pattern, instruction, AreBytes}
 
 -- the value of a field that did not fail, and what was read of it
@@ -152,22 +152,22 @@ number-form = record {
 
 -- a text
 abbrev pub IsText : List ℕ → Type 0
-IsText bytes = (is_text bytes ≡ true) × AreBytes bytes
+IsText bytes = (is_short_text bytes ≡ true) × AreBytes bytes
 
 -- a text is read as it is written
 pub text-form : IsForm text_at text IsText
 unfolding text_at
 text-form = record {
   takes = λ bytes x fits e.
-      let b = bind_ok (count_at max_text_length bytes) _ x e in
-      let t = (count-form max_text_length (lit< tt)).takes bytes b.0 fits b.1 in
+      let b = bind_ok (count_at max_constant_text bytes) _ x e in
+      let t = (count-form max_constant_text (lit< tt)).takes bytes b.0 fits b.1 in
       let s = bytes_at-takes b.0.0 b.0.1 x b.2 in
       let rest = rest_are_bytes bytes (short b.0.0) b.0.1 fits t.0 in
       let whole : bytes ≡ text x.0 ++ x.1 =
       t.0 ∙ ap (λ (n : ℕ). short n ++ b.0.1) (sym s.1) ∙ ap (λ (r : List ℕ). short (length x.0) ++ r) s.0 in
       (whole, (le-leb _ _ (omega (arith, s.1, t.1)), front_are_bytes b.0.1 x.0 x.1 rest s.0));
   again = λ a rest h.
-      rw ((count-form max_text_length (lit< tt)).again (length a) (a ++ rest) (leb-true _ _ h.0)) (bytes_at-again (length a) a rest refl);
+      rw ((count-form max_constant_text (lit< tt)).again (length a) (a ++ rest) (leb-true _ _ h.0)) (bytes_at-again (length a) a rest refl);
 }
 
 -- what follows the first field of several
@@ -232,18 +232,18 @@ list-form = record {
       let m = (many-form text_at text IsText text-form b.0.0).takes b.0.1 x rest b.2 in
       let whole : bytes ≡ entries x.0 ++ x.1 =
       t.0 ∙ ap (λ (n : ℕ). short n ++ b.0.1) (sym m.1.0) ∙ ap (λ (r : List ℕ). short (length x.0) ++ r) m.0 in
-      let each : list_all is_text x.0 ≡ true =
-      list_all-from_AllPass is_text x.0 (All-weaker IsText (λ text. is_text text ≡ true) (λ text h. h.0) x.0 m.1.1) in
+      let each : list_all is_short_text x.0 ≡ true =
+      list_all-from_AllPass is_short_text x.0 (All-weaker IsText (λ text. is_short_text text ≡ true) (λ text h. h.0) x.0 m.1.1) in
       (whole, (and_from _ _ (le-leb _ _ (omega (arith, m.1.0, t.1))) each, All-weaker IsText AreBytes (λ text h. h.1) x.0 m.1.1));
   again = λ a rest h.
-      let limits = and_parts (leb (length a) max_entries) (list_all is_text a) h.0 in
+      let limits = and_parts (leb (length a) max_entries) (list_all is_short_text a) h.0 in
       let few : length a < 2 ^ 16 = omega (arith, leb-true (length a) max_entries limits.0) in
-      let good = all_both (λ text. is_text text ≡ true) AreBytes a (AllPass-from_list_all is_text a limits.1) h.1 in
+      let good = all_both (λ text. is_short_text text ≡ true) AreBytes a (AllPass-from_list_all is_short_text a limits.1) h.1 in
       rw (short-form.again (length a) (flat_map text a ++ rest) few) (many_again text_at text IsText text-form a rest good);
 }
 
 -- the flags of a pattern and the bits that stand for them
-bits_back : (bits : ℕ) → bits < 16 → flags_byte (flags_of bits) ≡ bits
+bits_back : (bits : ℕ) → bits < 16 → flags_byte (flags_in bits) ≡ bits
 bits_back zero h = refl
 bits_back (suc zero) h = refl
 bits_back (suc (suc zero)) h = refl
@@ -254,7 +254,7 @@ bits_back (suc (suc (suc (suc (suc (suc zero)))))) h = refl
 bits_back (suc (suc (suc (suc (suc (suc (suc zero))))))) h = refl
 bits_back (suc (suc (suc (suc (suc (suc (suc (suc n)))))))) h = bits_back_high n (omega arith)
   where
-    bits_back_high : (n : ℕ) → n < 8 → flags_byte (flags_of (suc (suc (suc (suc (suc (suc (suc (suc n))))))))) ≡ suc (suc (suc (suc (suc (suc (suc (suc n)))))))
+    bits_back_high : (n : ℕ) → n < 8 → flags_byte (flags_in (suc (suc (suc (suc (suc (suc (suc (suc n))))))))) ≡ suc (suc (suc (suc (suc (suc (suc (suc n)))))))
     bits_back_high zero h = refl
     bits_back_high (suc zero) h = refl
     bits_back_high (suc (suc zero)) h = refl
@@ -268,7 +268,7 @@ bits_back (suc (suc (suc (suc (suc (suc (suc (suc n)))))))) h = bits_back_high n
 abbrev flags_from : Bool → Bool → Bool → Bool → Flags
 flags_from wholename dotfiles noescape fold = record { wholename = wholename; dotfiles = dotfiles; noescape = noescape; fold = fold }
 
-flags_again : (w d n f : Bool) → (flags_of (flags_byte (flags_from w d n f)) ≡ flags_from w d n f) × (ltb (flags_byte (flags_from w d n f)) 16 ≡ true)
+flags_again : (w d n f : Bool) → (flags_in (flags_byte (flags_from w d n f)) ≡ flags_from w d n f) × (ltb (flags_byte (flags_from w d n f)) 16 ≡ true)
 flags_again true true true true = (refl, refl)
 flags_again true true true false = (refl, refl)
 flags_again true true false true = (refl, refl)
@@ -298,10 +298,10 @@ pattern_takes : (bytes : List ℕ) (x : PatternData × List ℕ) → AreBytes by
 unfolding pattern_at
 pattern_takes [] x fits e = absurd cc
 pattern_takes (bits ∷ []) x fits e =
-    let b = bind_ok (cond (ltb bits 16) (Ok (flags_of bits)) (Err BadOperand)) _ x e in absurd (let h = b.2 in cc)
+    let b = bind_ok (cond (ltb bits 16) (Ok (flags_in bits)) (Err BadOperand)) _ x e in absurd (let h = b.2 in cc)
 pattern_takes (bits ∷ n ∷ bytes) x fits e =
-    let b = bind_ok (cond (ltb bits 16) (Ok (flags_of bits)) (Err BadOperand)) _ x e in
-    let g = passed_ok (ltb bits 16) BadOperand (flags_of bits) b.0 b.1 in
+    let b = bind_ok (cond (ltb bits 16) (Ok (flags_in bits)) (Err BadOperand)) _ x e in
+    let g = passed_ok (ltb bits 16) BadOperand (flags_in bits) b.0 b.1 in
     let c = bind_ok (bytes_at n bytes) _ x b.2 in
     let t = bytes_at-takes n bytes c.0 c.1 in
     let after = behind_byte n bytes (behind_byte bits (n ∷ bytes) fits) in
@@ -344,7 +344,7 @@ relation_of_code-code : (a : ℕ) (x : Relation) → relation_of_code a ≡ Some
 relation_of_code-code a x e =
     eqb-true _ _ (find_passes (λ x. relation_code x == a) (Eq ∷ Ne ∷ Lt ∷ Le ∷ Gt ∷ Ge ∷ []) x e)
 
-some_fault : {A : Type 0} (o : Option A) (fault : FileFault) (x : A) → or_fault o fault ≡ Ok x → o ≡ Some x
+some_fault : {A : Type 0} (o : Option A) (fault : FileFault) (x : A) → or_file_fault o fault ≡ Ok x → o ≡ Some x
 some_fault (Some y) fault x e = ap (λ z. Some z) (ok_is y x e)
 some_fault None fault x e = absurd cc
 
@@ -405,12 +405,12 @@ op_takes : (bytes : List ℕ) (x : Op × List ℕ) → AreBytes bytes → op_at 
 unfolding op_at op_of_code
 op_takes [] x fits e = absurd cc
 op_takes (code ∷ []) x fits e =
-    let a = bind_ok (or_fault (op_of_code code) UnknownOperation) _ x e in absurd (let h = a.2 in cc)
+    let a = bind_ok (or_file_fault (op_of_code code) UnknownOperation) _ x e in absurd (let h = a.2 in cc)
 op_takes (code ∷ a ∷ bytes) x fits e =
-    let o = bind_ok (or_fault (op_of_code code) UnknownOperation) _ x e in
-    let p = bind_ok (or_fault (with_a o.0 a) BadOperand) _ x o.2 in
+    let o = bind_ok (or_file_fault (op_of_code code) UnknownOperation) _ x e in
+    let p = bind_ok (or_file_fault (with_a o.0 a) BadOperand) _ x o.2 in
     let b = bind_ok (short_at bytes) _ x p.2 in
-    let q = bind_ok (or_fault (with_b p.0 b.0.0) BadOperand) _ x b.2 in
+    let q = bind_ok (or_file_fault (with_b p.0 b.0.0) BadOperand) _ x b.2 in
     let t = short-form.takes bytes b.0 (behind_byte a bytes (behind_byte code (a ∷ bytes) fits)) b.1 in
     let coded : code_of o.0 ≡ code = eqb-true _ _ (find_passes (λ op. code_of op == code) blank_ops o.0 (some_fault _ _ _ o.1)) in
     let has_a = with_a-has o.0 a p.0 (some_fault _ _ _ p.1) in

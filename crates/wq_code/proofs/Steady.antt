@@ -4,9 +4,9 @@ use Rattle.std.proofs.Common.{◌≡◌, ℕ, zero, suc, Bool, true, false, cond
 use Rattle.std.specs.Prelude.{codes}
 use Rattle.std.proofs.lemmas.Bool.{cases_lt, lt-ltb, le-ltb}
 use Rattle.std.proofs.lemmas.List.{length-append, take-append-le, drop-append-le}
-use Rattle.wq_code.specs.Limit.{max_rows, max_text_length}
+use Rattle.wq_code.specs.Limit.{max_table_rows, max_constant_text}
 use Rattle.wq_code.specs.Word.{op_of_code, with_a, with_b}
-use Rattle.wq_code.specs.Reading.{◌>>=◌, Reader, or_fault, bytes_at, byte_at, exact_at, many_at, short_at, count_at, number_at, text_at, list_at, flags_of, pattern_at, op_at}
+use Rattle.wq_code.specs.Reading.{◌>>=◌, Reader, or_file_fault, bytes_at, byte_at, exact_at, many_at, short_at, count_at, number_at, text_at, list_at, flags_in, pattern_at, op_at}
 use Rattle.wq_code.specs.File.{head_at, counts_at, tables_at, raw_at}
 use Rattle.wq_code.specs.declared.fault.FileFault.{FileFault}
 use Rattle.wq_code.specs.declared.fault.FileFault.TheVariants.{WrongMagic, OtherVersion, CutShort, BytesAfterEnd, UnknownOperation, BadOperand, OverLimit, NoMemory}
@@ -115,7 +115,7 @@ number_steady bytes more = steady_then (with_more more) (with_more more) (bytes_
 text_steady : IsSteady text_at
 unfolding text_at
 text_steady bytes more =
-    steady_then (with_more more) (with_more more) (count_at max_text_length bytes) _ _ _ (count_steady max_text_length bytes more)
+    steady_then (with_more more) (with_more more) (count_at max_constant_text bytes) _ _ _ (count_steady max_constant_text bytes more)
     (λ x. bytes_steady x.0 x.1 more)
 
 list_steady : IsSteady list_at
@@ -128,8 +128,8 @@ pattern_steady : IsSteady pattern_at
 unfolding pattern_at
 pattern_steady bytes more =
     steady_then (with_more more) (with_more more) (byte_at bytes) _ _ _ (byte_steady bytes more) (λ bits.
-    steady_then (λ flags. flags) (with_more more) (cond (ltb bits.0 16) (Ok (flags_of bits.0)) (Err BadOperand)) _ _ _
-    (steady_same (cond (ltb bits.0 16) (Ok (flags_of bits.0)) (Err BadOperand))) (λ flags.
+    steady_then (λ flags. flags) (with_more more) (cond (ltb bits.0 16) (Ok (flags_in bits.0)) (Err BadOperand)) _ _ _
+    (steady_same (cond (ltb bits.0 16) (Ok (flags_in bits.0)) (Err BadOperand))) (λ flags.
     steady_then (with_more more) (with_more more) (byte_at bits.1) _ _ _ (byte_steady bits.1 more) (λ n.
     steady_then (with_more more) (with_more more) (bytes_at n.0 n.1) _ _ _ (bytes_steady n.0 n.1 more) (λ text. refl))))
 
@@ -137,14 +137,14 @@ op_steady : IsSteady op_at
 unfolding op_at
 op_steady bytes more =
     steady_then (with_more more) (with_more more) (byte_at bytes) _ _ _ (byte_steady bytes more) (λ code.
-    steady_then (λ op. op) (with_more more) (or_fault (op_of_code code.0) UnknownOperation) _ _ _
-    (steady_same (or_fault (op_of_code code.0) UnknownOperation)) (λ blank.
+    steady_then (λ op. op) (with_more more) (or_file_fault (op_of_code code.0) UnknownOperation) _ _ _
+    (steady_same (or_file_fault (op_of_code code.0) UnknownOperation)) (λ blank.
     steady_then (with_more more) (with_more more) (byte_at code.1) _ _ _ (byte_steady code.1 more) (λ a.
-    steady_then (λ op. op) (with_more more) (or_fault (with_a blank a.0) BadOperand) _ _ _
-    (steady_same (or_fault (with_a blank a.0) BadOperand)) (λ half.
+    steady_then (λ op. op) (with_more more) (or_file_fault (with_a blank a.0) BadOperand) _ _ _
+    (steady_same (or_file_fault (with_a blank a.0) BadOperand)) (λ half.
     steady_then (with_more more) (with_more more) (short_at a.1) _ _ _ (short_steady a.1 more) (λ b.
-    steady_then (λ op. op) (with_more more) (or_fault (with_b half b.0) BadOperand) _ _ _
-    (steady_same (or_fault (with_b half b.0) BadOperand)) (λ op. refl))))))
+    steady_then (λ op. op) (with_more more) (or_file_fault (with_b half b.0) BadOperand) _ _ _
+    (steady_same (or_file_fault (with_b half b.0) BadOperand)) (λ op. refl))))))
 
 head_steady : (bytes more : List ℕ) → Steady (λ rest. rest ++ more) (head_at bytes) (head_at (bytes ++ more))
 unfolding head_at
@@ -155,11 +155,11 @@ head_steady bytes more =
 counts_steady : IsSteady counts_at
 unfolding counts_at
 counts_steady bytes more =
-    steady_then (with_more more) (with_more more) (count_at max_rows bytes) _ _ _ (count_steady max_rows bytes more) (λ a.
-    steady_then (with_more more) (with_more more) (count_at max_rows a.1) _ _ _ (count_steady max_rows a.1 more) (λ b.
-    steady_then (with_more more) (with_more more) (count_at max_rows b.1) _ _ _ (count_steady max_rows b.1 more) (λ c.
-    steady_then (with_more more) (with_more more) (count_at max_rows c.1) _ _ _ (count_steady max_rows c.1 more) (λ d.
-    steady_then (with_more more) (with_more more) (count_at max_rows d.1) _ _ _ (count_steady max_rows d.1 more) (λ e. refl)))))
+    steady_then (with_more more) (with_more more) (count_at max_table_rows bytes) _ _ _ (count_steady max_table_rows bytes more) (λ a.
+    steady_then (with_more more) (with_more more) (count_at max_table_rows a.1) _ _ _ (count_steady max_table_rows a.1 more) (λ b.
+    steady_then (with_more more) (with_more more) (count_at max_table_rows b.1) _ _ _ (count_steady max_table_rows b.1 more) (λ c.
+    steady_then (with_more more) (with_more more) (count_at max_table_rows c.1) _ _ _ (count_steady max_table_rows c.1 more) (λ d.
+    steady_then (with_more more) (with_more more) (count_at max_table_rows d.1) _ _ _ (count_steady max_table_rows d.1 more) (λ e. refl)))))
 
 tables_steady : (counts : Counts) → IsSteady (tables_at counts)
 unfolding tables_at

@@ -1,7 +1,7 @@
 -- The program file, version 1, field by field: what its bytes hold, or the first that is wrong.
 -- This server's own format.
 use Rattle.std.specs.Prelude.{ℕ, List, [], ◌∷◌, codes, Result, Ok}
-use Rattle.wq_code.specs.Limit.{max_rows}
+use Rattle.wq_code.specs.Limit.{max_table_rows}
 use Rattle.wq_code.specs.Reading.{◌>>=◌, Reader, exact_at, end_at, count_at, many_at, number_at, text_at, list_at, pattern_at, op_at}
 use Rattle.wq_code.specs.declared.fault.FileFault.{FileFault}
 use Rattle.wq_code.specs.declared.fault.FileFault.TheVariants.{WrongMagic, OtherVersion}
@@ -17,11 +17,11 @@ head_at bytes = do
 -- the counts of the tables' rows
 unfoldable pub counts_at : Reader Counts
 counts_at bytes = do
-  (nums, bytes) ← count_at max_rows bytes
-  (texts, bytes) ← count_at max_rows bytes
-  (lists, bytes) ← count_at max_rows bytes
-  (patterns, bytes) ← count_at max_rows bytes
-  (code, bytes) ← count_at max_rows bytes
+  (nums, bytes) ← count_at max_table_rows bytes
+  (texts, bytes) ← count_at max_table_rows bytes
+  (lists, bytes) ← count_at max_table_rows bytes
+  (patterns, bytes) ← count_at max_table_rows bytes
+  (code, bytes) ← count_at max_table_rows bytes
   Ok (
     record {
       nums = nums;

@@ -3,12 +3,12 @@
 use Rattle.std.specs.Prelude.{ℕ}
 
 -- the most rows of a table: numbers, texts, lists, patterns and instructions
-abbrev pub max_rows : ℕ
-max_rows = 4096
+abbrev pub max_table_rows : ℕ
+max_table_rows = 4096
 
 -- the most bytes of a text, of an entry of a list too
-abbrev pub max_text_length : ℕ
-max_text_length = 4096
+abbrev pub max_constant_text : ℕ
+max_constant_text = 4096
 
 -- the most entries of a list: what two bytes can count
 abbrev pub max_entries : ℕ

@@ -4,7 +4,7 @@ use Rattle.std.specs.Prelude.{◌≡◌, ℕ, zero, suc, ℤ, bit_and, not, ◌=
 use Rattle.std.specs.Int.{w16, w64, from_be_bytes, cast_signed}
 use Rattle.wq_glob.specs.Pattern.{PatternData}
 use Rattle.wq_glob.specs.declared.flag.Flags.{Flags}
-use Rattle.wq_code.specs.Limit.{max_text_length}
+use Rattle.wq_code.specs.Limit.{max_constant_text}
 use Rattle.wq_code.specs.Word.{op_of_code, with_a, with_b}
 use Rattle.wq_code.specs.declared.fault.FileFault.{FileFault}
 use Rattle.wq_code.specs.declared.fault.FileFault.TheVariants.{CutShort, BytesAfterEnd, UnknownOperation, BadOperand, OverLimit, NoMemory}
@@ -22,9 +22,9 @@ abbrev pub Reader : Type 0 → Type 0
 Reader A = List ℕ → Result (A × List ℕ) FileFault
 
 -- a value that is there, or else this fault
-abbrev pub or_fault : {A : Type 0} → Option A → FileFault → Result A FileFault
-or_fault (Some x) fault = Ok x
-or_fault None fault = Err fault
+abbrev pub or_file_fault : {A : Type 0} → Option A → FileFault → Result A FileFault
+or_file_fault (Some x) fault = Ok x
+or_file_fault None fault = Err fault
 
 -- so many bytes
 unfoldable pub bytes_at : ℕ → Reader (List ℕ)
@@ -75,7 +75,7 @@ number_at bytes = do
 -- a text: its length and its bytes
 unfoldable pub text_at : Reader (List ℕ)
 text_at bytes = do
-  (n, bytes) ← count_at max_text_length bytes
+  (n, bytes) ← count_at max_constant_text bytes
   bytes_at n bytes
 
 -- a list: how many texts it has, and these
@@ -85,8 +85,8 @@ list_at bytes = do
   many_at text_at n bytes
 
 -- the flags that a byte holds, by its lowest four bits
-abbrev pub flags_of : ℕ → Flags
-flags_of bits = record {
+abbrev pub flags_in : ℕ → Flags
+flags_in bits = record {
   wholename = not (bit_and bits 1 == 0);
   dotfiles = not (bit_and bits 2 == 0);
   noescape = not (bit_and bits 4 == 0);
@@ -97,7 +97,7 @@ flags_of bits = record {
 unfoldable pub pattern_at : Reader PatternData
 pattern_at bytes = do
   (bits, bytes) ← byte_at bytes
-  flags ← if nat_lt bits 16 then Ok (flags_of bits) else Err BadOperand
+  flags ← if nat_lt bits 16 then Ok (flags_in bits) else Err BadOperand
   (n, bytes) ← byte_at bytes
   (text, bytes) ← bytes_at n bytes
   Ok (record { text = text; flags = flags }, bytes)
@@ -106,11 +106,11 @@ pattern_at bytes = do
 unfoldable pub op_at : Reader Op
 op_at bytes = do
   (code, bytes) ← byte_at bytes
-  op ← or_fault (op_of_code code) UnknownOperation
+  op ← or_file_fault (op_of_code code) UnknownOperation
   (a, bytes) ← byte_at bytes
-  op ← or_fault (with_a op a) BadOperand
+  op ← or_file_fault (with_a op a) BadOperand
   (b, bytes) ← short_at bytes
-  op ← or_fault (with_b op b) BadOperand
+  op ← or_file_fault (with_b op b) BadOperand
   Ok (op, bytes)
 
 -- a fault of the code is that of the reading, but where a growth was refused

@@ -5,7 +5,7 @@ use Rattle.std.specs.Int.{w16, w64, to_be_bytes, cast_unsigned}
 use Rattle.std.specs.List.{flat_map}
 use Rattle.wq_glob.specs.Pattern.{PatternData}
 use Rattle.wq_glob.specs.declared.flag.Flags.{Flags}
-use Rattle.wq_code.specs.Fits.{fits}
+use Rattle.wq_code.specs.Fits.{raw_fits}
 use Rattle.wq_code.specs.Word.{code_of, flag_code, a_of, b_of}
 use Rattle.wq_code.specs.declared.operation.Op.{Op}
 use Rattle.wq_code.specs.declared.raw.Raw.{Raw}
@@ -54,7 +54,7 @@ abbrev pub AreBytes : List ℕ → Type 0
 AreBytes bytes = All (λ b. b < 256) bytes
 
 -- each number, byte and operand has room in its field: so it is of every `Raw` in memory
-pub record IsInRange (raw : Raw) : Type 0 where
+pub record FitsFields (raw : Raw) : Type 0 where
   pub nums : All (λ n. FitsSigned w64 n) raw.nums
   pub texts : All AreBytes raw.texts
   pub lists : All (All AreBytes) raw.lists
@@ -63,6 +63,6 @@ pub record IsInRange (raw : Raw) : Type 0 where
 
 -- the bytes are the file of this program
 pub record IsSpelling (raw : Raw) (bytes : List ℕ) : Type 0 where
-  pub within_limits : IsTrue (fits raw)
-  pub in_range : IsInRange raw
+  pub within_limits : IsTrue (raw_fits raw)
+  pub in_range : FitsFields raw
   pub written : bytes ≡ spelling raw

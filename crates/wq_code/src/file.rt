@@ -1,6 +1,6 @@
 //! A program file whole: the order of its fields, read and written.
 ghost use Rattle.std.specs.Prelude.{◌≡◌, IsTrue, IfOk};
-ghost use Rattle.wq_code.specs.Fits.{fits};
+ghost use Rattle.wq_code.specs.Fits.{raw_fits};
 ghost use Rattle.wq_code.specs.Reading.{Gives};
 ghost use Rattle.wq_code.specs.File.{head_at, counts_at, tables_at, raw_at, file_at};
 ghost use Rattle.wq_code.specs.Spelling.{spelling, IsSpelling};
@@ -8,7 +8,7 @@ ghost use Rattle.wq_code.specs.declared.raw.Raw.{Raw};
 
 use crate::fault::FileFault;
 use crate::field::{count_of, end_of, exact_of, many_of, put_many, put_short};
-use crate::limit::MAX_ROWS;
+use crate::limit::MAX_TABLE_ROWS;
 use crate::raw::Raw;
 use std::alloc::{AllocError, Global};
 
@@ -36,11 +36,11 @@ fn head_of(bytes: &[u8]) -> Result<&[u8], FileFault>
 fn counts_of(bytes: &[u8]) -> Result<(Counts, &[u8]), FileFault>
     ensures { Gives (λ x. (x.0, x.1.now)) result (counts_at bytes.now) }
 {
-    let (nums, rest) = count_of(MAX_ROWS, bytes)?;
-    let (texts, rest) = count_of(MAX_ROWS, rest)?;
-    let (lists, rest) = count_of(MAX_ROWS, rest)?;
-    let (patterns, rest) = count_of(MAX_ROWS, rest)?;
-    let (code, rest) = count_of(MAX_ROWS, rest)?;
+    let (nums, rest) = count_of(MAX_TABLE_ROWS, bytes)?;
+    let (texts, rest) = count_of(MAX_TABLE_ROWS, rest)?;
+    let (lists, rest) = count_of(MAX_TABLE_ROWS, rest)?;
+    let (patterns, rest) = count_of(MAX_TABLE_ROWS, rest)?;
+    let (code, rest) = count_of(MAX_TABLE_ROWS, rest)?;
     let counts = Counts {
         nums,
         texts,
@@ -115,7 +115,7 @@ pub fn decode(alloc: Global, bytes: &[u8]) -> Result<Raw, FileFault>
 /// The one file of a program that fits.
 #[tactic(auto, unfolding(crate::specs::Spelling::spelling))]
 pub fn encode(alloc: Global, raw: &Raw) -> Result<Vec<u8>, AllocError>
-    requires { IsTrue (fits raw.now) }
+    requires { IsTrue (raw_fits raw.now) }
     ensures { IfOk result (λ bytes. bytes.items ≡ spelling raw.now) }
 {
     let mut out = Vec::new(alloc);

@@ -26,9 +26,9 @@ pub use law::{
     faults_stay, files_are_spellings, fronts_are_cut_short, none_begins_another, one_spelling,
     spellings_are_read_back,
 };
-pub use limit::{MAX_ENTRIES, MAX_ROWS, MAX_TEXT};
+pub use limit::{MAX_CONSTANT_TEXT, MAX_ENTRIES, MAX_TABLE_ROWS};
 pub use operation::{CellKind, Op};
 pub use raw::Raw;
-pub use signature::Need;
+pub use signature::CellNeed;
 pub use word::Word;
 pub use wq_base::{Case, Relation, Table};

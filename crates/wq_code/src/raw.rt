@@ -1,9 +1,9 @@
 //! A program that nobody has looked at.
 ghost use Rattle.std.specs.Prelude.{◌≡◌};
-ghost use Rattle.wq_code.specs.Fits.{fits};
+ghost use Rattle.wq_code.specs.Fits.{raw_fits};
 
 use crate::field::all_fit;
-use crate::limit::MAX_ROWS;
+use crate::limit::MAX_TABLE_ROWS;
 use crate::operation::Op;
 use wq_base::Table;
 use wq_glob::Pattern;
@@ -24,17 +24,17 @@ pub struct Raw {
 }
 
 impl Raw {
-    /// Whether the program keeps to the limits of a file: at most [`MAX_ROWS`] rows of each table,
-    /// texts of at most [`MAX_TEXT`](crate::limit::MAX_TEXT) bytes and lists of at most
+    /// Whether the program keeps to the limits of a file: at most [`MAX_TABLE_ROWS`] rows of each table,
+    /// texts of at most [`MAX_CONSTANT_TEXT`](crate::limit::MAX_CONSTANT_TEXT) bytes and lists of at most
     /// [`MAX_ENTRIES`](crate::limit::MAX_ENTRIES). A pattern has at most 255 bytes anyway.
-    #[tactic(auto, unfolding(crate::specs::Fits::fits))]
+    #[tactic(auto, unfolding(crate::specs::Fits::raw_fits))]
     pub fn fits(&self) -> bool
-        ensures { result ≡ fits self.now }
+        ensures { result ≡ raw_fits self.now }
     {
-        self.nums.len() <= MAX_ROWS
-            && (self.texts.len() <= MAX_ROWS && all_fit(self.texts.as_slice()))
-            && (self.lists.len() <= MAX_ROWS && all_fit(self.lists.as_slice()))
-            && (self.patterns.len() <= MAX_ROWS && all_fit(self.patterns.as_slice()))
-            && self.code.len() <= MAX_ROWS
+        self.nums.len() <= MAX_TABLE_ROWS
+            && (self.texts.len() <= MAX_TABLE_ROWS && all_fit(self.texts.as_slice()))
+            && (self.lists.len() <= MAX_TABLE_ROWS && all_fit(self.lists.as_slice()))
+            && (self.patterns.len() <= MAX_TABLE_ROWS && all_fit(self.patterns.as_slice()))
+            && self.code.len() <= MAX_TABLE_ROWS
     }
 }

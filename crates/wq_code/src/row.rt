@@ -1,13 +1,13 @@
 //! The rows of a program file's tables: how each is read and written, and its limits.
 ghost use Rattle.std.specs.Prelude.{◌≡◌};
-ghost use Rattle.wq_code.specs.Reading.{flags_of};
+ghost use Rattle.wq_code.specs.Reading.{flags_in};
 ghost use Rattle.wq_code.specs.Spelling.{flags_byte};
 
 use crate::fault::FileFault;
 use crate::field::{
     Field, all_fit, byte_of, bytes_of, count_of, many_of, put_many, put_short, short_of,
 };
-use crate::limit::{MAX_ENTRIES, MAX_TEXT};
+use crate::limit::{MAX_CONSTANT_TEXT, MAX_ENTRIES};
 use crate::operation::Op;
 use crate::word::{op_of_byte, take_a, take_b};
 use std::alloc::{AllocError, Global};
@@ -49,17 +49,17 @@ impl Field for i64 {
 impl Field for Table<u8> {
     ghost use Rattle.wq_code.specs.Reading.{text_at};
     ghost use Rattle.wq_code.specs.Spelling.{text};
-    ghost use Rattle.wq_code.specs.Fits.{is_text};
+    ghost use Rattle.wq_code.specs.Fits.{is_short_text};
 
     ghost reading = { text_at };
 
     ghost spelling = { text };
 
-    ghost within = { is_text };
+    ghost within = { is_short_text };
 
     #[tactic(auto, unfolding(crate::specs::Reading::text_at))]
     fn read(alloc: Global, bytes: &[u8]) -> Result<(Table<u8>, &[u8]), FileFault> {
-        let (len, rest) = count_of(MAX_TEXT, bytes)?;
+        let (len, rest) = count_of(MAX_CONSTANT_TEXT, bytes)?;
         let (text, rest) = bytes_of(len, rest)?;
         Ok((Table::from_vec(Vec::from_slice(alloc, text)?), rest))
     }
@@ -70,7 +70,7 @@ impl Field for Table<u8> {
     }
 
     fn fits(&self) -> bool {
-        self.len() <= MAX_TEXT
+        self.len() <= MAX_CONSTANT_TEXT
     }
 }
 
@@ -151,7 +151,7 @@ fn bits_of_flags(flags: Flags) -> u8
 
 /// The flags of a pattern from the lowest four bits of a byte.
 fn flags_of_bits(bits: u8) -> Flags
-    ensures { result ≡ flags_of bits }
+    ensures { result ≡ flags_in bits }
 {
     Flags {
         wholename: bits & 1 != 0,

@@ -6,22 +6,22 @@ use crate::operation::{CellKind, Op};
 
 /// What has to stand in one place of the stack.
 #[derive(Clone, Copy, Debug)]
-pub enum Need {
+pub enum CellNeed {
     /// A cell of any kind.
     AnyCell,
     /// A cell of this kind.
     Cell(CellKind),
 }
 
-const FLAG: Need = Need::Cell(CellKind::Flag);
+const FLAG: CellNeed = CellNeed::Cell(CellKind::Flag);
 
-const NUMBER: Need = Need::Cell(CellKind::Number);
+const NUMBER: CellNeed = CellNeed::Cell(CellKind::Number);
 
-const TEXT: Need = Need::Cell(CellKind::Text);
+const TEXT: CellNeed = CellNeed::Cell(CellKind::Text);
 
 impl Op {
     /// The cells that the instruction takes from the stack, the top first.
-    pub fn needs(self) -> &'static [Need]
+    pub fn needs(self) -> &'static [CellNeed]
         ensures kinds { result.now ≡ (signature self).needs }
         ensures few { length result.now ≤ 2 }
     {
@@ -31,7 +31,7 @@ impl Op {
             Op::OneOf(_, _) | Op::Match(_) => &[TEXT],
             Op::Not | Op::JumpIfNot(_) | Op::JumpIf(_) | Op::Return => &[FLAG],
             Op::And | Op::Or => &[FLAG, FLAG],
-            Op::Drop => &[Need::AnyCell],
+            Op::Drop => &[CellNeed::AnyCell],
             _ => &[],
         }
     }

@@ -33,7 +33,7 @@ use Rattle.wq_term.specs.declared.expr.Since.{Since}
 use Rattle.wq_term.specs.declared.expr.Since.TheVariants.{Observed, Created, Modified}
 use Rattle.wq_term.specs.CodeLength.{code_len, terms_len, others_len as terms_others_len}
 use Rattle.wq_term.specs.NameFit.{scope_with}
-use Rattle.wq_term.specs.Text.{part_of as part_of_name}
+use Rattle.wq_term.specs.Text.{scope_part as part_of_name}
 use Rattle.wq_term.specs.Expr.{ExprData, always, never, exists, empty, kind_is, name_is, matches}
 use Rattle.wq_term.specs.Expr.{suffix_is, size_is, since, below, negation, all_of, any_of}
 use Rattle.wq_term.specs.Expr.{ExprsData, no_terms, term, means, every, some, has_kind}

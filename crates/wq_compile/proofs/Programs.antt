@@ -8,7 +8,7 @@ use Rattle.wq_code.specs.Item.{Item}
 use Rattle.wq_code.specs.Machine.{flag, Answered, cells_after, charge, step, advance, after, Answers}
 use Rattle.wq_code.specs.declared.operation.Op.TheVariants.{Return}
 use Rattle.wq_code.specs.declared.raw.Raw.{Raw}
-use Rattle.wq_verify.specs.Kinds.{Kinds, Lists, leads}
+use Rattle.wq_verify.specs.Kinds.{Kinds, KnownKinds, leads}
 use Rattle.wq_verify.specs.Typing.{KeepsRules, LeadsTo, IsTyping}
 use Rattle.wq_machine.specs.Item.{item_of}
 use Rattle.wq_term.specs.CodeLength.{code_len}
@@ -83,7 +83,7 @@ agrees-self [] = tt
 agrees-self (k ∷ known) = (refl, agrees-behind k known 0 known (agrees-self known))
 
 -- the kinds that are known of a program
-abbrev pub program_lists : ExprData → Lists
+abbrev pub program_lists : ExprData → KnownKinds
 program_lists t = slice_get (program_kinds t)
 
 known-in : (t : ExprData) → Agrees (program_lists t) 0 (term_kinds t)

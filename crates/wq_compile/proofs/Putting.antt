@@ -2,13 +2,13 @@
 use Rattle.std.proofs.Common.{◌≡◌, ℕ, suc, ◌+◌, ◌<◌, Bool, true, false, List, [], ◌∷◌, ◌++◌, length, map, drop, get_or, sym, ap, ◌∙◌, arith, add-one}
 use Rattle.std.proofs.Math.Seq.{drop-cons}
 use Rattle.std.proofs.lemmas.Bool.{and_parts, ltb-false}
-use Rattle.wq_code.specs.Limit.{max_rows}
+use Rattle.wq_code.specs.Limit.{max_table_rows}
 use Rattle.wq_code.specs.declared.operation.Op.TheVariants.{Drop, Not, Return}
 use Rattle.wq_code.specs.declared.raw.Raw.{Raw}
 use Rattle.wq_term.specs.CodeLength.{code_len, terms_len, others_len as terms_others_len}
 use Rattle.wq_term.specs.declared.expr.Expr.{Expr}
 use Rattle.wq_term.specs.Expr.{ExprData, ExprsData, no_terms, term, term_of, terms_of}
-use Rattle.wq_term.specs.Fits.{keeps_limits, all_keep_limits, fits}
+use Rattle.wq_term.specs.Fits.{keeps_limits, all_keep_limits, expr_fits}
 use Rattle.wq_compile.specs.Draft.{HasRoom}
 use Rattle.wq_compile.specs.Instruction.{plain, put, put_all, blank}
 use Rattle.wq_compile.specs.Code.{others_len, others, joined, jump_if, code_of, parts_of, program_of}
@@ -31,12 +31,12 @@ length-code t at raw = length-put_all (code_of t at) raw ∙ ap (λ n. length ra
 pub record IsBefore (flag : Bool) (end : ℕ) (left : ExprsData) (now whole : Raw) : Type 0 where
   pub made : put_all (others flag end (parts_of left) (length now.code)) now ≡ whole
   pub end_is : end ≡ length now.code + terms_others_len left
-  pub within : end < max_rows
+  pub within : end < max_table_rows
   pub limits : all_keep_limits left ≡ true
 
 -- so it is after the first
 pub first_put : (flag : Bool) (end : ℕ) (t : ExprData) (ts : ExprsData) (old now : Raw)
-    → now ≡ put_all (code_of t (length old.code)) old → end ≡ length old.code + terms_len (term t ts) → length old.code + terms_len (term t ts) < max_rows
+    → now ≡ put_all (code_of t (length old.code)) old → end ≡ length old.code + terms_len (term t ts) → length old.code + terms_len (term t ts) < max_table_rows
     → all_keep_limits (term t ts) ≡ true
     → IsBefore flag end ts now (put_all (joined flag (parts_of (term t ts)) (length old.code)) old)
 first_put flag end t ts old now is e lt k =
@@ -116,10 +116,10 @@ program_put t = sym (put_all-append (code_of t 0) (plain Return ∷ []) blank)
 -- the code of an expression that is not too large has room
 pub program_room : (t : ExprData) → is_too_large t ≡ false → HasRoom (code_len t) blank
 program_room t l =
-    let few = ltb-false max_rows (code_len t + 1) (or_parts (nat_lt max_rows (code_len t + 1)) (has_long_list t) l).0 in
+    let few = ltb-false max_table_rows (code_len t + 1) (or_parts (nat_lt max_table_rows (code_len t + 1)) (has_long_list t) l).0 in
     omega (arith, few)
 
 -- the terms of an expression that fits keep their limits
-pub program_limits : (t : ExprData) → fits t ≡ true → keeps_limits t ≡ true
-unfolding fits
+pub program_limits : (t : ExprData) → expr_fits t ≡ true → keeps_limits t ≡ true
+unfolding expr_fits
 program_limits t f = (and_parts _ (keeps_limits t) f).1

@@ -7,8 +7,8 @@ use Rattle.std.proofs.lemmas.List.Folds.{list_all-append}
 use Rattle.wq_base.specs.declared.compare.Case.{Case}
 use Rattle.wq_base.specs.declared.compare.Relation.TheVariants.{Ge}
 use Rattle.wq_clock.specs.declared.bound.Bound.TheVariants.{Fresh, Tick, Second}
-use Rattle.wq_code.specs.Fits.{is_text, is_list, is_pattern, fits as raw_fits}
-use Rattle.wq_code.specs.Limit.{max_rows, max_entries}
+use Rattle.wq_code.specs.Fits.{is_short_text, is_list, is_pattern, raw_fits as raw_fits}
+use Rattle.wq_code.specs.Limit.{max_table_rows, max_entries}
 use Rattle.wq_code.specs.declared.operation.Op.TheVariants.{Not, Return}
 use Rattle.wq_code.specs.declared.raw.Raw.{Raw}
 use Rattle.wq_verify.specs.Typing.{IsValid}
@@ -17,14 +17,14 @@ use Rattle.wq_term.specs.declared.expr.Depth.TheVariants.{Any, Is}
 use Rattle.wq_term.specs.declared.expr.Since.{Since}
 use Rattle.wq_term.specs.declared.expr.Since.TheVariants.{Observed, Created, Modified}
 use Rattle.wq_term.specs.CodeLength.{code_len}
-use Rattle.wq_term.specs.Fits.{depth_fits, keeps_limits, all_keep_limits, fits}
+use Rattle.wq_term.specs.Fits.{depth_fits, keeps_limits, all_keep_limits, expr_fits}
 use Rattle.wq_term.specs.Expr.{ExprData, always, never, exists, empty, kind_is, name_is, matches}
 use Rattle.wq_term.specs.Expr.{suffix_is, size_is, since, below, negation, all_of, any_of}
 use Rattle.wq_term.specs.Expr.{ExprsData, no_terms, term}
 use Rattle.wq_compile.specs.Instruction.{Instruction, plain, number, text, one_of, fitting, put, put_all, blank}
 use Rattle.wq_compile.specs.Code.{Part, straight, jump_if, others_len, others, joined}
 use Rattle.wq_compile.specs.Code.{depth_code, filled, since_code, code_of, parts_of, program_of}
-use Rattle.wq_compile.specs.Large.{is_long, has_long_list, have_long_list, is_too_large}
+use Rattle.wq_compile.specs.Large.{is_long_list, has_long_list, have_long_list, is_too_large}
 use Rattle.wq_compile.proofs.Puts.{length-put}
 use Rattle.wq_compile.proofs.Programs.{program_long, program_lists, program-typed}
 
@@ -34,13 +34,13 @@ pub record IsSmall (raw : Raw) : Type 0 where
   pub texts : length raw.texts ≤ length raw.code
   pub lists : length raw.lists ≤ length raw.code
   pub patterns : length raw.patterns ≤ length raw.code
-  pub texts_fit : list_all is_text raw.texts ≡ true
+  pub texts_fit : list_all is_short_text raw.texts ≡ true
   pub lists_fit : list_all is_list raw.lists ≡ true
   pub patterns_fit : list_all is_pattern raw.patterns ≡ true
 
 -- the constant of an instruction keeps the limits
 abbrev pub constant_fits : Instruction → Bool
-constant_fits (text bytes) = is_text bytes
+constant_fits (text bytes) = is_short_text bytes
 constant_fits (one_of case entries) = is_list entries
 constant_fits (fitting pattern) = is_pattern pattern
 constant_fits _ = true
@@ -84,7 +84,7 @@ put-small (text bytes) raw s e =
       texts = omega (arith, l, b, more);
       lists = omega (arith, l, c);
       patterns = omega (arith, l, d);
-      texts_fit = all-behind is_text raw.texts bytes s.texts_fit e;
+      texts_fit = all-behind is_short_text raw.texts bytes s.texts_fit e;
       lists_fit = s.lists_fit;
       patterns_fit = s.patterns_fit;
     }
@@ -135,18 +135,18 @@ blank-small = record {
 }
 
 -- a small program with a short code fits
-pub small-fits : (raw : Raw) → IsSmall raw → length raw.code ≤ max_rows → raw_fits raw ≡ true
+pub small-fits : (raw : Raw) → IsSmall raw → length raw.code ≤ max_table_rows → raw_fits raw ≡ true
 unfolding raw_fits
 small-fits raw s short =
     let a = s.nums in let b = s.texts in let c = s.lists in let d = s.patterns in
     and_from _ _
     (and_from _ _
     (and_from _ _
-    (and_from _ _ (le-leb (length raw.nums) max_rows (omega (arith, a, short)))
-    (and_from _ _ (le-leb (length raw.texts) max_rows (omega (arith, b, short))) s.texts_fit))
-    (and_from _ _ (le-leb (length raw.lists) max_rows (omega (arith, c, short))) s.lists_fit))
-    (and_from _ _ (le-leb (length raw.patterns) max_rows (omega (arith, d, short))) s.patterns_fit))
-    (le-leb (length raw.code) max_rows short)
+    (and_from _ _ (le-leb (length raw.nums) max_table_rows (omega (arith, a, short)))
+    (and_from _ _ (le-leb (length raw.texts) max_table_rows (omega (arith, b, short))) s.texts_fit))
+    (and_from _ _ (le-leb (length raw.lists) max_table_rows (omega (arith, c, short))) s.lists_fit))
+    (and_from _ _ (le-leb (length raw.patterns) max_table_rows (omega (arith, d, short))) s.patterns_fit))
+    (le-leb (length raw.code) max_table_rows short)
 
 -- ---- the constants of terms
 
@@ -175,22 +175,22 @@ joined-fits stop (p ∷ ps) f at =
     ∙ and_from _ _ (f.0 at) (others-fit stop (at + p.len + others_len ps) ps f.1 (at + p.len))
 
 -- what is kept of short texts is short
-filled-fit : (texts : List (List ℕ)) → list_all is_text texts ≡ true → list_all is_text (filled texts) ≡ true
+filled-fit : (texts : List (List ℕ)) → list_all is_short_text texts ≡ true → list_all is_short_text (filled texts) ≡ true
 filled-fit [] e = refl
 filled-fit (bytes ∷ texts) e =
-    let p = and_parts (is_text bytes) (list_all is_text texts) e in
+    let p = and_parts (is_short_text bytes) (list_all is_short_text texts) e in
     at (not (length bytes == 0)) p.0 (filled-fit texts p.1)
   where
-    at : (b : Bool) → is_text bytes ≡ true → list_all is_text (filled texts) ≡ true
-        → list_all is_text (if b then bytes ∷ filled texts else filled texts) ≡ true
+    at : (b : Bool) → is_short_text bytes ≡ true → list_all is_short_text (filled texts) ≡ true
+        → list_all is_short_text (if b then bytes ∷ filled texts else filled texts) ≡ true
     at true one all = and_from _ _ one all
     at false one all = all
 
 -- a list that is not too long
-list-fits : (texts : List (List ℕ)) → list_all is_text texts ≡ true → is_long texts ≡ false → is_list texts ≡ true
+list-fits : (texts : List (List ℕ)) → list_all is_short_text texts ≡ true → is_long_list texts ≡ false → is_list texts ≡ true
 list-fits texts short few = and_from _ _ (le-leb (length texts) max_entries (ltb-false max_entries (length texts) few)) short
 
-depth-constants : (case : Case) (dir : List ℕ) (depth : Depth) → is_text dir ≡ true → Fits (record { len = code_len (below case dir depth); code = code_of (below case dir depth) })
+depth-constants : (case : Case) (dir : List ℕ) (depth : Depth) → is_short_text dir ≡ true → Fits (record { len = code_len (below case dir depth); code = code_of (below case dir depth) })
 depth-constants case dir Any short at = and_from _ _ short refl
 depth-constants case dir (Is relation n) short at =
     joined-fits false (straight (depth_code case dir Ge (pos 0)) ∷ straight (depth_code case dir relation n) ∷ [])
@@ -240,20 +240,20 @@ mutual
       ((λ at. term-fits t p.0 q.0 at), terms-fit ts p.1 q.1)
 
 -- the program of an expression that fits and is not too large keeps the limits
-program-fits : (t : ExprData) → fits t ≡ true → is_too_large t ≡ false → raw_fits (program_of t) ≡ true
-unfolding program_of fits
+program-fits : (t : ExprData) → expr_fits t ≡ true → is_too_large t ≡ false → raw_fits (program_of t) ≡ true
+unfolding program_of expr_fits
 program-fits t f l =
     let p = and_parts _ (keeps_limits t) f in
-    let q = or_parts (nat_lt max_rows (code_len t + 1)) (has_long_list t) l in
+    let q = or_parts (nat_lt max_table_rows (code_len t + 1)) (has_long_list t) l in
     let long = program_long t in
-    let few = ltb-false max_rows (code_len t + 1) q.0 in
+    let few = ltb-false max_table_rows (code_len t + 1) q.0 in
     small-fits (program_of t)
     (put_all-small (code_of t 0 ++ plain Return ∷ []) blank blank-small
     (list_all-append constant_fits (code_of t 0) (plain Return ∷ []) ∙ and_from _ _ (term-fits t p.1 q.1 0) refl))
     (omega (arith, long, few))
 
 -- and it may run
-pub program_valid : (t : ExprData) → fits t ≡ true → is_too_large t ≡ false → IsValid (program_of t)
+pub program_valid : (t : ExprData) → expr_fits t ≡ true → is_too_large t ≡ false → IsValid (program_of t)
 program_valid t f l =
     let long = program_long t in
     record {

@@ -12,7 +12,7 @@ use Rattle.wq_code.specs.declared.operation.CellKind.TheVariants as cell
 use Rattle.wq_code.specs.declared.operation.Op.{Op}
 use Rattle.wq_code.specs.declared.operation.Op.TheVariants.{Flag, Number, Text, OneOf, Match, Not, Drop}
 use Rattle.wq_code.specs.declared.raw.Raw.{Raw}
-use Rattle.wq_verify.specs.Kinds.{Kinds, Lists, all_meet, kinds_after, leads}
+use Rattle.wq_verify.specs.Kinds.{Kinds, KnownKinds, all_meet, kinds_after, leads}
 use Rattle.wq_verify.specs.Limit.{max_cells}
 use Rattle.wq_verify.specs.Typing.{IsNext, IsWell}
 use Rattle.wq_compile.specs.Instruction.{Instruction, plain, number, text, one_of, fitting, blank}
@@ -23,16 +23,16 @@ use Rattle.wq_compile.proofs.Runs.{goes_next, next-flow, joined_len}
 -- ---- what is known at places
 
 -- from a place on these kinds are known
-abbrev pub Agrees : Lists → ℕ → List Kinds → Type 0
+abbrev pub Agrees : KnownKinds → ℕ → List Kinds → Type 0
 Agrees lists at [] = Unit {0}
 Agrees lists at (kinds ∷ more) = (lists at ≡ Some kinds) × Agrees lists (suc at) more
 
 -- what is known, cut in two
-pub agrees-first : (lists : Lists) (at : ℕ) (xs ys : List Kinds) → Agrees lists at (xs ++ ys) → Agrees lists at xs
+pub agrees-first : (lists : KnownKinds) (at : ℕ) (xs ys : List Kinds) → Agrees lists at (xs ++ ys) → Agrees lists at xs
 agrees-first lists at [] ys a = tt
 agrees-first lists at (x ∷ xs) ys a = (a.0, agrees-first lists (suc at) xs ys a.1)
 
-pub agrees-second : (lists : Lists) (at : ℕ) (xs ys : List Kinds) → Agrees lists at (xs ++ ys) → Agrees lists (at + length xs) ys
+pub agrees-second : (lists : KnownKinds) (at : ℕ) (xs ys : List Kinds) → Agrees lists at (xs ++ ys) → Agrees lists (at + length xs) ys
 agrees-second lists at [] ys a = let z : at + 0 ≡ at = omega arith in subst (λ n. Agrees lists n ys) (sym z) a
 agrees-second lists at (x ∷ xs) ys a =
     let z : suc at + length xs ≡ at + suc (length xs) = omega arith in
@@ -41,19 +41,19 @@ agrees-second lists at (x ∷ xs) ys a =
 -- ---- sound places
 
 -- the instruction at a place keeps the rules, and may go on to the next place
-pub record Sound (whole : Raw) (lists : Lists) (at : ℕ) : Type 0 where
+pub record Sound (whole : Raw) (lists : KnownKinds) (at : ℕ) : Type 0 where
   pub op : Op
   pub kinds : Kinds
   pub well : IsWell whole lists at op kinds
   pub on : leads (flow op) at (at + 1) ≡ true
 
 -- so many places from one on are sound
-abbrev pub AreSound : Raw → Lists → ℕ → ℕ → Type 0
+abbrev pub AreSound : Raw → KnownKinds → ℕ → ℕ → Type 0
 AreSound whole lists at zero = Unit {0}
 AreSound whole lists at (suc n) = Sound whole lists at × AreSound whole lists (suc at) n
 
 -- sound places behind sound places
-sound-both : (whole : Raw) (lists : Lists) (at m n : ℕ) → AreSound whole lists at m → AreSound whole lists (at + m) n
+sound-both : (whole : Raw) (lists : KnownKinds) (at m n : ℕ) → AreSound whole lists at m → AreSound whole lists (at + m) n
     → AreSound whole lists at (m + n)
 sound-both whole lists at zero n a b =
     let z : at + 0 ≡ at = omega arith in
@@ -65,7 +65,7 @@ sound-both whole lists at (suc m) n a b =
     subst (AreSound whole lists at) y (a.0, sound-both whole lists (suc at) m n a.1 (subst (λ p. AreSound whole lists p n) z b))
 
 -- one of the sound places
-pub sound-at : (whole : Raw) (lists : Lists) (at n i : ℕ) → AreSound whole lists at n → i < n → Sound whole lists (at + i)
+pub sound-at : (whole : Raw) (lists : KnownKinds) (at n i : ℕ) → AreSound whole lists at n → i < n → Sound whole lists (at + i)
 sound-at whole lists at zero i a lt = absurd (omega (arith, lt))
 sound-at whole lists at (suc n) zero a lt = let z : at ≡ at + 0 = omega arith in subst (Sound whole lists) z a.0
 sound-at whole lists at (suc n) (suc i) a lt =
@@ -139,20 +139,20 @@ kinds_behind [] kinds = kinds
 kinds_behind (i ∷ is) kinds = kinds_behind is (kinds_next i kinds)
 
 -- what is known where they begin
-known-first : (lists : Lists) (at : ℕ) (is : List Instruction) (kinds : Kinds) → Agrees lists at (kinds_before is kinds)
+known-first : (lists : KnownKinds) (at : ℕ) (is : List Instruction) (kinds : Kinds) → Agrees lists at (kinds_before is kinds)
     → lists (at + length is) ≡ Some (kinds_behind is kinds) → lists at ≡ Some kinds
 known-first lists at [] kinds a e = let z : at + 0 ≡ at = omega arith in subst (λ n. lists n ≡ Some kinds) z e
 known-first lists at (i ∷ is) kinds a e = a.0
 
 -- the next place, and no other
-only-next : (whole : Raw) (lists : Lists) (at : ℕ) (after : Kinds) → lists (suc at) ≡ Some after → suc at < length whole.code
+only-next : (whole : Raw) (lists : KnownKinds) (at : ℕ) (after : Kinds) → lists (suc at) ≡ Some after → suc at < length whole.code
     → (place : ℕ) → (place == at + 1) ≡ true → IsNext whole lists at after place
 only-next whole lists at after known within place e =
     let is : place ≡ at + 1 = eqb-true place (at + 1) e in
     let z : suc at ≡ place = omega (arith, is) in
     record { later = omega (arith, is); within = subst (λ n. n < length whole.code) z within; known = subst (λ n. lists n ≡ Some after) z known }
 
-fine-sound : (whole : Raw) (lists : Lists) (at : ℕ) (i : Instruction) (kinds : Kinds) → StandsAt whole at i → is_fine i kinds ≡ true
+fine-sound : (whole : Raw) (lists : KnownKinds) (at : ℕ) (i : Instruction) (kinds : Kinds) → StandsAt whole at i → is_fine i kinds ≡ true
     → lists at ≡ Some kinds → lists (suc at) ≡ Some (kinds_next i kinds) → suc at < length whole.code → Sound whole lists at
 fine-sound whole lists at i kinds s fine known then within =
     let a = and_parts _ _ fine in
@@ -189,7 +189,7 @@ fine-sound whole lists at i kinds s fine known then within =
     not-stop f a b = cc
 
 -- code without jumps is sound
-pub straight-sound : (whole : Raw) (lists : Lists) (is : List Instruction) (at : ℕ) (kinds : Kinds) → HasCode whole at is
+pub straight-sound : (whole : Raw) (lists : KnownKinds) (is : List Instruction) (at : ℕ) (kinds : Kinds) → HasCode whole at is
     → are_fine is kinds ≡ true → Agrees lists at (kinds_before is kinds)
     → lists (at + length is) ≡ Some (kinds_behind is kinds) → at + length is < length whole.code
     → AreSound whole lists at (length is)
@@ -213,8 +213,8 @@ one_flag = cell.Flag ∷ []
 pub record IsTyped (part : Part) (kinds : List Kinds) : Type 0 where
   pub long : (at : ℕ) → length (part.code at) ≡ part.len
   pub each : length kinds ≡ part.len
-  pub starts : (lists : Lists) (at : ℕ) → Agrees lists at kinds → lists at ≡ Some []
-  pub sound : (whole : Raw) (lists : Lists) (at : ℕ) → HasCode whole at (part.code at) → Agrees lists at kinds
+  pub starts : (lists : KnownKinds) (at : ℕ) → Agrees lists at kinds → lists at ≡ Some []
+  pub sound : (whole : Raw) (lists : KnownKinds) (at : ℕ) → HasCode whole at (part.code at) → Agrees lists at kinds
       → lists (at + part.len) ≡ Some one_flag → at + part.len < length whole.code → AreSound whole lists at part.len
 
 length-before : (is : List Instruction) (kinds : Kinds) → length (kinds_before is kinds) ≡ length is
@@ -269,7 +269,7 @@ others-long stop [] (kinds ∷ more) end at t = absurd t
 others-long stop (p ∷ ps) [] end at t = absurd t
 
 -- where the others begin, and at their end, stands one flag
-others-first : (lists : Lists) (ps : List Part) (all : List (List Kinds)) (end at : ℕ) → AllTyped ps all
+others-first : (lists : KnownKinds) (ps : List Part) (all : List (List Kinds)) (end at : ℕ) → AllTyped ps all
     → end ≡ at + others_len ps → Agrees lists at (others_kinds all) → lists end ≡ Some one_flag → lists at ≡ Some one_flag
 others-first lists [] [] end at t is a e = let z : end ≡ at = omega (arith, is) in subst (λ n. lists n ≡ Some one_flag) z e
 others-first lists (p ∷ ps) (kinds ∷ more) end at t is a e = a.0
@@ -277,7 +277,7 @@ others-first lists [] (kinds ∷ more) end at t is a e = absurd t
 others-first lists (p ∷ ps) [] end at t is a e = absurd t
 
 -- a jump on a flag is sound
-fork-sound : (whole : Raw) (lists : Lists) (stop : Bool) (end at : ℕ) → StandsAt whole at (plain (jump_if stop end))
+fork-sound : (whole : Raw) (lists : KnownKinds) (stop : Bool) (end at : ℕ) → StandsAt whole at (plain (jump_if stop end))
     → at < end → end < length whole.code → suc at < length whole.code → lists at ≡ Some one_flag → lists end ≡ Some one_flag
     → lists (suc at) ≡ Some one_flag → Sound whole lists at
 fork-sound whole lists stop end at s later within next-in known at-end then = jump stop s.is
@@ -324,7 +324,7 @@ fork-sound whole lists stop end at s later within next-in known at-end then = ju
     }
 
 -- a part and what stands behind it are sound
-part-sound : (whole : Raw) (lists : Lists) (at n : ℕ) (p : Part) (kinds : List Kinds) (rest : List Instruction) (more : List Kinds)
+part-sound : (whole : Raw) (lists : KnownKinds) (at n : ℕ) (p : Part) (kinds : List Kinds) (rest : List Instruction) (more : List Kinds)
     → IsTyped p kinds → HasCode whole at (p.code at ++ rest) → Agrees lists at (kinds ++ more)
     → at + p.len < length whole.code
     → (Agrees lists (at + p.len) more → lists (at + p.len) ≡ Some one_flag)
@@ -338,7 +338,7 @@ part-sound whole lists at n p kinds rest more t h a within first then =
     (then h' a')
 
 -- the parts behind the first are sound
-others-sound : (whole : Raw) (lists : Lists) (stop : Bool) (ps : List Part) (all : List (List Kinds)) (end at : ℕ)
+others-sound : (whole : Raw) (lists : KnownKinds) (stop : Bool) (ps : List Part) (all : List (List Kinds)) (end at : ℕ)
     → AllTyped ps all → end ≡ at + others_len ps → HasCode whole at (others stop end ps at)
     → Agrees lists at (others_kinds all) → lists end ≡ Some one_flag → end < length whole.code
     → AreSound whole lists at (others_len ps)

@@ -1,7 +1,7 @@
 -- Programs while they are made.
 -- The limits are those of program files, which are this server's own.
 use Rattle.std.specs.Prelude.{ℕ, ◌+◌, ◌<◌, ◌≤◌, length}
-use Rattle.wq_code.specs.Limit.{max_rows}
+use Rattle.wq_code.specs.Limit.{max_table_rows}
 use Rattle.wq_code.specs.declared.raw.Raw.{Raw}
 
 -- no table of constants has more rows than there are instructions
@@ -13,4 +13,4 @@ pub record HasFewConstants (raw : Raw) : Type 0 where
 
 -- so many more instructions, and the end, have room
 abbrev pub HasRoom : ℕ → Raw → Type 0
-HasRoom count raw = length raw.code + count < max_rows
+HasRoom count raw = length raw.code + count < max_table_rows

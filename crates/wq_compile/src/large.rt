@@ -1,10 +1,10 @@
 //! Which expressions have no program: those whose code or lists are too long.
 ghost use Rattle.std.specs.Prelude.{◌≡◌, length, map};
 ghost use Rattle.wq_term.specs.Expr.{term_of, terms_of, texts_in};
-ghost use Rattle.wq_compile.specs.Large.{has_long_list, have_long_list, is_long, is_too_large};
+ghost use Rattle.wq_compile.specs.Large.{has_long_list, have_long_list, is_long_list, is_too_large};
 ghost use Rattle.wq_compile.specs.Code.{filled};
 
-use wq_code::{MAX_ENTRIES, MAX_ROWS};
+use wq_code::{MAX_ENTRIES, MAX_TABLE_ROWS};
 use wq_term::{Expr, code_len};
 
 /// Whether the code of the expression and the end have too many instructions, or a list has too
@@ -12,7 +12,7 @@ use wq_term::{Expr, code_len};
 pub(crate) fn is_too_large(expr: &Expr) -> bool
     ensures { result ≡ is_too_large (term_of expr.now) }
 {
-    code_len(expr) >= MAX_ROWS as u64 || has_long_list(expr)
+    code_len(expr) >= MAX_TABLE_ROWS as u64 || has_long_list(expr)
 }
 
 /// Whether a list of texts in the expression has too many entries; empty suffixes do not count.

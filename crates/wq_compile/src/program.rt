@@ -2,7 +2,7 @@
 ghost use Rattle.std.specs.Prelude.{◌≡◌, ◌+◌, ◌↔◌, false, IfOk, IsErrOf, IsTrue, length};
 ghost use Rattle.wq_term.specs.CodeLength.{code_len};
 ghost use Rattle.wq_term.specs.Expr.{term_of};
-ghost use Rattle.wq_term.specs.Fits.{fits};
+ghost use Rattle.wq_term.specs.Fits.{expr_fits};
 ghost use Rattle.wq_compile.specs.Code.{program_of};
 ghost use Rattle.wq_compile.specs.Large.{is_too_large};
 ghost use Rattle.wq_compile.specs.Meaning.{AnswersMeaning};
@@ -28,7 +28,7 @@ use wq_verify::{Program, ProgramFault, verify};
 /// [`CompileFault::NoMemory`] where a growth was refused.
 #[tactic(auto, using(crate::proofs::Programs::program_answers, crate::proofs::Programs::program_long, crate::proofs::Sizes::program_valid))]
 pub fn compile(alloc: Global, expr: &Expr) -> Result<Program, CompileFault>
-    requires { IsTrue (fits (term_of expr.now)) }
+    requires { IsTrue (expr_fits (term_of expr.now)) }
 
     ensures meaning { IfOk result (λ program. AnswersMeaning program (term_of expr.now)) }
     ensures length { IfOk result (λ program.
@@ -52,7 +52,7 @@ pub fn compile(alloc: Global, expr: &Expr) -> Result<Program, CompileFault>
 /// The program of an expression that is not too large, before it is verified.
 #[tactic(auto, using(crate::proofs::Putting::program_put, crate::proofs::Putting::program_room, crate::proofs::Putting::program_limits))]
 fn raw_of(alloc: Global, expr: &Expr) -> Result<Raw, AllocError>
-    requires limits { IsTrue (fits (term_of expr.now)) }
+    requires limits { IsTrue (expr_fits (term_of expr.now)) }
     requires small { is_too_large (term_of expr.now) ≡ false }
     ensures { IfOk result (λ raw. raw ≡ program_of (term_of expr.now)) }
 {

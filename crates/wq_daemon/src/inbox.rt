@@ -2,8 +2,8 @@
 
 use crate::link::Link;
 use std::sync::{Arc, Wait};
-use wq_stream::Event;
 use wq_serve::Inbox;
+use wq_stream::Event;
 
 /// The events of a client, in their order. It does not show them.
 #[derive(Drop)]

@@ -5,7 +5,7 @@ use Rattle.std.specs.Option.{option_map_or}
 use Rattle.std.proofs.lemmas.Bool.{lt-ltb, le-ltb, eq-eqb, ne_eqb}
 use Rattle.wq_view.specs.RecordData.{RecordData}
 use Rattle.wq_view.specs.Position.{passes_at, all_positions, positions_of}
-use Rattle.wq_gen.specs.Union.{put, union}
+use Rattle.wq_gen.specs.Union.{put_position, union}
 use Rattle.wq_gen.proofs.Positions.{filter_alike}
 
 -- positions from one on are above each lower one
@@ -18,12 +18,12 @@ kept_above f a from (suc n) low = at (f from) (kept_above f a (from + 1) n (omeg
     at false rest = rest
 
 -- a number below all of the right list comes first
-put_first : (x : ℕ) (later : List ℕ → List ℕ) (ys : List ℕ) → AllByRecursion (λ y. x < y) ys → put x later ys ≡ x ∷ later ys
+put_first : (x : ℕ) (later : List ℕ → List ℕ) (ys : List ℕ) → AllByRecursion (λ y. x < y) ys → put_position x later ys ≡ x ∷ later ys
 put_first x later [] above = refl
 put_first x later (y ∷ ys) above = rw (lt-ltb x y above.0) refl
 
 -- a number of both lists comes once
-put_both : (x : ℕ) (later : List ℕ → List ℕ) (ys : List ℕ) → put x later (x ∷ ys) ≡ x ∷ later ys
+put_both : (x : ℕ) (later : List ℕ → List ℕ) (ys : List ℕ) → put_position x later (x ∷ ys) ≡ x ∷ later ys
 put_both x later ys = rw (le-ltb x x (omega arith), eq-eqb x x refl) refl
 
 -- and so does one of the right list that is below all of the left

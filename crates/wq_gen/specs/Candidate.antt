@@ -21,14 +21,14 @@ use Rattle.wq_gen.specs.declared.generators.PathGen.{PathGen}
 
 -- whether the file was seen to change after a tick, or at a second or after it; a fresh bound gives
 -- nothing
-abbrev pub is_since : Bound → RecordData → Bool
-is_since Fresh r = false
-is_since (Tick tick) r = nat_lt tick r.otick
-is_since (Second second) r = int_le second r.osec
+abbrev pub changed_since : Bound → RecordData → Bool
+changed_since Fresh r = false
+changed_since (Tick tick) r = nat_lt tick r.otick
+changed_since (Second second) r = int_le second r.osec
 
 -- whether the suffix of the name is one of these texts, with A to Z as a to z; an empty one is none
-abbrev pub has_suffix : List (List ℕ) → RecordData → Bool
-has_suffix suffixes r = list_any (λ text. is_suffix text (suffix_of r.name)) suffixes
+abbrev pub suffix_is_among : List (List ℕ) → RecordData → Bool
+suffix_is_among suffixes r = list_any (λ text. is_suffix text (suffix_of r.name)) suffixes
 
 -- whether what follows a directory in a name has at most so many slashes; -1 is without limit
 abbrev pub is_within : ℤ → List ℕ → Bool
@@ -54,7 +54,7 @@ gives test (Some generator) r = test generator r
 -- whether some generator gives the record
 abbrev pub is_given : Generators → RecordData → Bool
 is_given generators r =
-    gives is_since generators.since r || gives has_suffix generators.suffix r
+    gives changed_since generators.since r || gives suffix_is_among generators.suffix r
     || gives is_on_path generators.path r
 
 -- whether there is a bound that is not fresh

@@ -1,6 +1,6 @@
 //! The candidates among the records of a view.
 ghost use Rattle.std.specs.Prelude.{◌≡◌, IfOk};
-ghost use Rattle.wq_gen.specs.Candidate.{gives, has_suffix, is_candidate, is_on_path, is_since};
+ghost use Rattle.wq_gen.specs.Candidate.{gives, suffix_is_among, is_candidate, is_on_path, changed_since};
 ghost use Rattle.wq_view.specs.Position.{all_positions, positions_of};
 
 use crate::generators::{Generators, PathGen, has_suffix, is_since};
@@ -46,7 +46,7 @@ fn all(alloc: Global, view: &View) -> Result<Vec<u32>, AllocError>
 /// The positions of the files that changed after a bound, if it is there.
 fn changed_since(alloc: Global, view: &View, since: Option<Bound>) -> Result<Vec<u32>, AllocError>
     ensures { IfOk result (λ found. found.items
-        ≡ positions_of (gives is_since since) view.now.records) }
+        ≡ positions_of (gives changed_since since) view.now.records) }
 {
     let mut found = Vec::new(alloc);
     let Some(bound) = since else {
@@ -68,7 +68,7 @@ fn with_suffix(
     suffixes: &Option<Table<Text>>,
 ) -> Result<Vec<u32>, AllocError>
     ensures { IfOk result (λ found. found.items
-        ≡ positions_of (gives has_suffix suffixes.now) view.now.records) }
+        ≡ positions_of (gives suffix_is_among suffixes.now) view.now.records) }
 {
     let mut found = Vec::new(alloc);
     let Some(suffixes) = suffixes else {

@@ -1,6 +1,6 @@
 //! The generators of a query, and what they say of one record.
 ghost use Rattle.std.specs.Prelude.{◌≡◌, ◌≤◌, length};
-ghost use Rattle.wq_gen.specs.Candidate.{has_suffix, is_any_there, is_bounded, is_itself, is_since, is_under, is_within};
+ghost use Rattle.wq_gen.specs.Candidate.{suffix_is_among, is_any_there, is_bounded, is_itself, changed_since, is_under, is_within};
 
 use wq_base::{Case, Table, Text, is_suffix, rest_below, slashes};
 use wq_clock::Bound;
@@ -52,7 +52,7 @@ fn is_bounded(since: Option<Bound>) -> bool
 
 /// Whether the file was seen to change after the bound: of a second, at it or after it.
 pub(crate) fn is_since(bound: Bound, file: &Record) -> bool
-    ensures { result ≡ is_since bound file.now }
+    ensures { result ≡ changed_since bound file.now }
 {
     match bound {
         Bound::Fresh => false,
@@ -63,7 +63,7 @@ pub(crate) fn is_since(bound: Bound, file: &Record) -> bool
 
 /// Whether the suffix of the file is one of the texts.
 pub(crate) fn has_suffix(texts: &[Text], file: &Record) -> bool
-    ensures { result ≡ has_suffix texts.now file.now }
+    ensures { result ≡ suffix_is_among texts.now file.now }
 {
     let suffix = file.suffix();
     for text in texts {

@@ -7,7 +7,7 @@ use Rattle.wq_glob.specs.Byte.{is_star, is_open, is_close}
 use Rattle.wq_glob.specs.Class.{Class}
 use Rattle.wq_glob.specs.Reading.{begins, letter, class_at, class_items, first_item, before_items, items_from, is_negation}
 use Rattle.wq_glob.specs.Atom.{Atom, One, Star, Dirs, class_of, literal_of, opens, literal_at, one_of_at, stars_at, stars_before, first_atom, atoms_from}
-use Rattle.wq_glob.specs.Step.{StandsFor, AllStand, step_opens}
+use Rattle.wq_glob.specs.Step.{IsStepOf, AllStand, step_opens}
 use Rattle.wq_glob.specs.declared.class.Item.{Item}
 use Rattle.wq_glob.specs.declared.flag.Flags.{Flags}
 use Rattle.wq_glob.specs.declared.step.Step.{Step}
@@ -136,7 +136,7 @@ atoms_few f (suc n) start (x ∷ xs) =
 
 -- what stands for the atoms that are left completes what was read
 pub atoms_more : (f : Flags) (step : Step) (start : Bool) (text after : List ℕ) (steps tail : List Step) (opening : Bool) (all : List Atom) → 0 < length text →
-    StandsFor f step (first_atom f start text).0 → after ≡ (first_atom f start text).1 → opening ≡ step_opens step →
+    IsStepOf f step (first_atom f start text).0 → after ≡ (first_atom f start text).1 → opening ≡ step_opens step →
     ((tail : List Step) → AllStand f tail (atoms_from (length text) f start text) → AllStand f (steps ++ tail) all) →
     AllStand f tail (atoms_from (length after) f opening after) → AllStand f ((steps ++ step ∷ []) ++ tail) all
 atoms_more f step start text after steps tail opening all some stands after_is opening_is was left =

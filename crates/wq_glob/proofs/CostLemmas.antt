@@ -5,7 +5,7 @@ use Rattle.wq_glob.specs.Atom.{Atom}
 use Rattle.wq_glob.specs.FitsTest.{Reach, Single, Many, Folders, Form, reach, admits, atom_form, fits_by}
 use Rattle.wq_glob.specs.Pattern.{PatternData, atoms_of, cells_of}
 use Rattle.wq_glob.specs.Table.{Row, begun_at, begun_by, cell_by, row_by}
-use Rattle.wq_glob.specs.Cost.{agrees, begins_literal, cost, differs, end_cells, front, is_live, is_seen, is_seen_at_end, last_part, new_cells, next_fits, row_cells}
+use Rattle.wq_glob.specs.Cost.{agrees, begins_literal, cost, first_differs, end_cells, front, is_live, is_looked_at, is_seen_at_end, last_alone, new_cells, next_fits, row_cells}
 use Rattle.wq_glob.specs.Cell.{step_fits}
 use Rattle.wq_glob.specs.Step.{AllStand, IsCompiled, step_admits, step_form}
 use Rattle.wq_glob.specs.declared.flag.Flags.{Flags}
@@ -16,18 +16,18 @@ use Rattle.wq_glob.proofs.PatternLemmas.{AreBytes, marks_are_bytes, same_fits, s
 
 module _ {A : Type 0} (form : Form A) (atoms : List A) (text : List Mark) where
   -- a last byte that differs costs one cell
-  pub cost_end : differs form (last_part atoms) (last_part text) ≡ true → 1 ≡ cost form atoms text
+  pub cost_end : first_differs form (last_alone atoms) (last_alone text) ≡ true → 1 ≡ cost form atoms text
   unfolding cost
   cost_end is = rw is refl
 
   -- one behind the front costs the front, itself and the last byte
-  pub cost_front : (same : ℕ) → differs form (last_part atoms) (last_part text) ≡ false → same ≡ front form atoms text →
+  pub cost_front : (same : ℕ) → first_differs form (last_alone atoms) (last_alone text) ≡ false → same ≡ front form atoms text →
       begins_literal form (drop same atoms) ≡ true → agrees form (drop same atoms) (drop same text) ≡ false → same + 2 ≡ cost form atoms text
   unfolding cost
   cost_front same end same_is first other = rw (← same_is, end, first, other) refl
 
   -- and what is left is done by rows
-  pub cost_rows : (same : ℕ) → differs form (last_part atoms) (last_part text) ≡ false → same ≡ front form atoms text →
+  pub cost_rows : (same : ℕ) → first_differs form (last_alone atoms) (last_alone text) ≡ false → same ≡ front form atoms text →
       begins_literal form (drop same atoms) ≡ false → same + row_cells form (drop same atoms) (drop same text) ≡ cost form atoms text
   unfolding cost
   cost_rows same end same_is first = rw (← same_is, end, first) refl
@@ -52,7 +52,7 @@ next_same row other same k = ap (λ (c : Cell). c.fits) (same (k + 1))
 same_end : (row other : Row) → ((k : ℕ) → row k ≡ other k) → (k : ℕ) → is_seen_at_end row k ≡ is_seen_at_end other k
 same_end row other same k = rw (same k, next_same row other same k) refl
 
-same_seen : (atoms : ℕ) (old other_old new other_new : Row) → ((k : ℕ) → old k ≡ other_old k) → ((k : ℕ) → new k ≡ other_new k) → (k : ℕ) → is_seen atoms old new k ≡ is_seen atoms other_old other_new k
+same_seen : (atoms : ℕ) (old other_old new other_new : Row) → ((k : ℕ) → old k ≡ other_old k) → ((k : ℕ) → new k ≡ other_new k) → (k : ℕ) → is_looked_at atoms old new k ≡ is_looked_at atoms other_old other_new k
 same_seen atoms old other_old new other_new same_old same_new k =
     rw (any_same _ _ (atoms + 1) 0 from, any_same _ _ (atoms + 1) 0 to, next_same old other_old same_old k, next_same new other_new same_new k) refl
   where
@@ -100,7 +100,7 @@ module _ (f : Flags) where
   same_front (s ∷ steps) (a ∷ atoms) all [] bytes = refl
   same_front (s ∷ steps) (a ∷ atoms) all (x ∷ xs) bytes = rw (all.0.same_literal, all.0.same_bytes x bytes.0, same_front steps atoms all.1 xs bytes.1) refl
 
-  same_differs : (steps : List Step) (atoms : List Atom) → AllStand f steps atoms → (xs : List Mark) → AreBytes xs → differs (step_form f) steps xs ≡ differs (atom_form f) atoms xs
+  same_differs : (steps : List Step) (atoms : List Atom) → AllStand f steps atoms → (xs : List Mark) → AreBytes xs → first_differs (step_form f) steps xs ≡ first_differs (atom_form f) atoms xs
   same_differs steps atoms all xs bytes = rw (literals steps atoms all, agreeing steps atoms all xs bytes) refl
 
   module _ (steps : List Step) (atoms : List Atom) (all : AllStand f steps atoms) where
@@ -124,7 +124,7 @@ module _ (f : Flags) where
       rw (
         same_front steps atoms all xs bytes,
         same_length f steps atoms all,
-        same_differs (drop (length atoms - 1) steps) (drop (length atoms - 1) atoms) (all_stand_from f (length atoms - 1) steps atoms all) (last_part xs) (bytes_from (length xs - 1) xs bytes),
+        same_differs (drop (length atoms - 1) steps) (drop (length atoms - 1) atoms) (all_stand_from f (length atoms - 1) steps atoms all) (last_alone xs) (bytes_from (length xs - 1) xs bytes),
         same_differs (drop same steps) (drop same atoms) (all_stand_from f same steps atoms all) (drop same xs) (bytes_from same xs bytes),
         same_rows (drop same steps) (drop same atoms) (all_stand_from f same steps atoms all) (drop same xs) (bytes_from same xs bytes),
       ) refl

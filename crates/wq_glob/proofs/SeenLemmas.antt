@@ -2,8 +2,8 @@
 use Rattle.std.proofs.Common.{◌≡◌, ℕ, zero, suc, ◌+◌, ◌-◌, ◌<◌, ◌≤◌, Bool, true, false, ◌&&◌, ◌||◌, List, [], ◌∷◌, ◌⊎◌, length, drop, nat_le, nat_lt, refl, sym, ◌∙◌, ap, subst, inl, inr, arith}
 use Rattle.std.proofs.lemmas.Bool.{cases_lt, cases_eq, le-leb, lt-leb, lt-ltb, le-ltb, and_from, and_left, and_right, or_from, or_left, or_right, or_cases, or_parts, and_parts, and_cases, ltb-true, ltb-false}
 use Rattle.wq_glob.specs.Mark.{Mark}
-use Rattle.wq_glob.specs.Cost.{is_live, is_seen, is_seen_at_end, lives_from, lives_to, next_fits, new_cells, row_cells}
-use Rattle.wq_glob.specs.Cell.{cell_of, dead_cell, row_of, step_fits, marks_at, mark_at, IsWindow}
+use Rattle.wq_glob.specs.Cost.{is_live, is_looked_at, is_seen_at_end, lives_from, lives_to, next_fits, new_cells, row_cells}
+use Rattle.wq_glob.specs.Cell.{cell_of, dead_cell, step_row, step_fits, marks_at, mark_at, IsWindow}
 use Rattle.wq_glob.specs.Step.{step_form}
 use Rattle.wq_glob.specs.declared.flag.Flags.{Flags}
 use Rattle.wq_glob.specs.declared.row.Cell.{Cell}
@@ -17,11 +17,11 @@ use Rattle.wq_glob.proofs.SweepLemmas.{IsSwept, low_dead}
 -- the cell before `k` is looked at: it lived, or the one behind it fits at one of the two texts
 abbrev pub IsOpened : Flags → List Step → Mark → List Mark → ℕ → ℕ → Type 0
 IsOpened f steps x text low j =
-    (nat_le low j || next_fits (row_of f steps text) j || next_fits (row_of f steps (x ∷ text)) j) ≡ true
+    (nat_le low j || next_fits (step_row f steps text) j || next_fits (step_row f steps (x ∷ text)) j) ≡ true
 
 module _ (f : Flags) (steps : List Step) (text : List Mark) where
   -- some cell from `k` on lives up to the window's end
-  from_is : (w : Window) → IsWindow f steps text 0 w → (k : ℕ) → lives_from (length steps) (row_of f steps text) k ≡ nat_le k w.high
+  from_is : (w : Window) → IsWindow f steps text 0 w → (k : ℕ) → lives_from (length steps) (step_row f steps text) k ≡ nat_le k w.high
   from_is w lives k =
       elim (cases_lt w.high k) [
         | inl behind ↦
@@ -37,7 +37,7 @@ module _ (f : Flags) (steps : List Step) (text : List Mark) where
       ]
 
   -- and some cell up to `k` from its beginning on
-  to_is : (w : Window) → IsWindow f steps text 0 w → (k : ℕ) → lives_to (length steps) (row_of f steps text) k ≡ nat_le w.low k
+  to_is : (w : Window) → IsWindow f steps text 0 w → (k : ℕ) → lives_to (length steps) (step_row f steps text) k ≡ nat_le w.low k
   to_is w lives k =
       elim (cases_lt k w.low) [
         | inl before ↦
@@ -54,7 +54,7 @@ module _ (f : Flags) (steps : List Step) (text : List Mark) where
 
   -- where the row has no live cell, no cell of the next one is looked at
   pub dead_cells : (x : Mark) → ((j : ℕ) → 0 ≤ j → j ≤ length steps → cell_of f (drop j steps) text ≡ dead_cell) →
-      new_cells (length steps) (row_of f steps text) (row_of f steps (x ∷ text)) ≡ 0
+      new_cells (length steps) (step_row f steps text) (step_row f steps (x ∷ text)) ≡ 0
   dead_cells x none =
       count_within _ (length steps + 1) 0 0 (omega arith)
       (λ j before.
@@ -63,14 +63,14 @@ module _ (f : Flags) (steps : List Step) (text : List Mark) where
 
   module _ (x : Mark) (w : Window) (lives : IsWindow f steps text 0 w) where
     -- which cells are looked at, by the window
-    seen_is : (j : ℕ) → is_seen (length steps) (row_of f steps text) (row_of f steps (x ∷ text)) j
-        ≡ (nat_le j w.high && (nat_le w.low j || next_fits (row_of f steps text) j || next_fits (row_of f steps (x ∷ text)) j))
+    seen_is : (j : ℕ) → is_looked_at (length steps) (step_row f steps text) (step_row f steps (x ∷ text)) j
+        ≡ (nat_le j w.high && (nat_le w.low j || next_fits (step_row f steps text) j || next_fits (step_row f steps (x ∷ text)) j))
     seen_is j = rw (from_is w lives j, to_is w lives j) refl
 
     -- a sweep that went down to `k` has looked at just these
     pub swept_cells : (k : ℕ) → k ≤ w.high + 1 → ((j : ℕ) → k ≤ j → j ≤ w.high → IsOpened f steps x text w.low j) →
-        ((j : ℕ) → j < k → (nat_le w.low j || next_fits (row_of f steps text) j || next_fits (row_of f steps (x ∷ text)) j) ≡ false) →
-        new_cells (length steps) (row_of f steps text) (row_of f steps (x ∷ text)) ≡ w.high + 1 - k
+        ((j : ℕ) → j < k → (nat_le w.low j || next_fits (step_row f steps text) j || next_fits (step_row f steps (x ∷ text)) j) ≡ false) →
+        new_cells (length steps) (step_row f steps text) (step_row f steps (x ∷ text)) ≡ w.high + 1 - k
     swept_cells k within opened shut =
         count_within _ (length steps + 1) k (w.high + 1) (omega (arith, lives.within))
         (λ j before.
@@ -114,7 +114,7 @@ module _ (f : Flags) (steps : List Step) (text : List Mark) where
     -- and where it stops none before it counts
     pub shut_before : (row : List Cell) (k : ℕ) (old_next new_next : Bool) → IsSwept f steps x text row k old_next new_next →
         (k ≡ 0) ⊎ ((k ≤ w.low) × (old_next ≡ false) × (new_next ≡ false)) → (j : ℕ) → j < k →
-        (nat_le w.low j || next_fits (row_of f steps text) j || next_fits (row_of f steps (x ∷ text)) j) ≡ false
+        (nat_le w.low j || next_fits (step_row f steps text) j || next_fits (step_row f steps (x ∷ text)) j) ≡ false
     shut_before row k old_next new_next swept (inl start) j before = absurd (omega arith)
     shut_before row k old_next new_next swept (inr (low, old_none, new_none)) j before =
         or_from _ _ (or_from _ _ (lt-leb w.low j (omega arith)) old) new
@@ -166,7 +166,7 @@ ended_cells f steps low within fits none =
           ∙ sym (and_from (nat_le (low - 1) j) (nat_lt j (length steps + 1)) (le-leb (low - 1) j above) (lt-ltb j (length steps + 1) (omega arith)))
     ])
   where
-    at : (j : ℕ) → low - 1 ≤ j → j ≤ length steps → is_seen_at_end (row_of f steps []) j ≡ true
+    at : (j : ℕ) → low - 1 ≤ j → j ≤ length steps → is_seen_at_end (step_row f steps []) j ≡ true
     at j above here =
         elim (cases_lt j low) [
           | inl before ↦ or_right _ _ (fits (j + 1) (omega arith) (omega arith))

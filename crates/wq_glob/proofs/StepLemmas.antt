@@ -9,7 +9,7 @@ use Rattle.wq_glob.specs.Class.{Class, in_class}
 use Rattle.wq_glob.specs.Reading.{begins, class_at, class_items, is_negation}
 use Rattle.wq_glob.specs.Atom.{Literal, OneOf, Nothing, is_unknown, known_class, one_of_at}
 use Rattle.wq_glob.specs.Fits.{is_wild}
-use Rattle.wq_glob.specs.Step.{StandsFor}
+use Rattle.wq_glob.specs.Step.{IsStepOf}
 use Rattle.wq_glob.specs.declared.byte_set.ByteSet.{ByteSet}
 use Rattle.wq_glob.specs.declared.class.Item.{Item}
 use Rattle.wq_glob.specs.declared.flag.Flags.{Flags}
@@ -31,16 +31,16 @@ slash_folded true b = at (is_upper b) refl
         ne_eqb (b + 32) 47 high ∙ sym (ne_eqb b 47 here)
 
 -- a byte stands for its literal
-pub stands_byte : (f : Flags) (b : ℕ) → StandsFor f (Byte (lower_if f.fold b)) (Literal b)
+pub stands_byte : (f : Flags) (b : ℕ) → IsStepOf f (Byte (lower_if f.fold b)) (Literal b)
 stands_byte f b = record { same_reach = refl; same_bytes = λ x small. refl; same_opening = slash_folded f.fold b; same_literal = refl }
 
-stands_set : (f : Flags) (set : ByteSet) (c : Class) → ((b : ℕ) → b < 256 → has_byte set b ≡ in_class f.fold c b) → StandsFor f (Set set) (OneOf c)
+stands_set : (f : Flags) (set : ByteSet) (c : Class) → ((b : ℕ) → b < 256 → has_byte set b ≡ in_class f.fold c b) → IsStepOf f (Set set) (OneOf c)
 stands_set f set c holds = record { same_reach = refl; same_bytes = λ x small. ap (λ (h : Bool). is_wild f x && h) (holds x.byte small); same_opening = refl; same_literal = refl }
 
 -- a class whose names are all known
-pub stands_class : (f : Flags) (set : ByteSet) (c : Class) (known : Bool) → known ≡ not (list_any is_unknown c.items) → known ≡ true → ((b : ℕ) → b < 256 → has_byte set b ≡ in_class f.fold c b) → StandsFor f (Set set) (known_class c)
+pub stands_class : (f : Flags) (set : ByteSet) (c : Class) (known : Bool) → known ≡ not (list_any is_unknown c.items) → known ≡ true → ((b : ℕ) → b < 256 → has_byte set b ≡ in_class f.fold c b) → IsStepOf f (Set set) (known_class c)
 stands_class f set c known is all holds =
-    subst (λ (u : Bool). StandsFor f (Set set) (if u then Nothing else OneOf c)) (sym (not-true _ (sym is ∙ all))) (stands_set f set c holds)
+    subst (λ (u : Bool). IsStepOf f (Set set) (if u then Nothing else OneOf c)) (sym (not-true _ (sym is ∙ all))) (stands_set f set c holds)
 
 -- what is read behind a `[`, by the items that are read there
 pub one_of_some : (noescape : Bool) (text after : List ℕ) (items : List Item) → class_items noescape (if begins is_negation text then drop 1 text else text) ≡ Some (items, after) →
@@ -54,5 +54,5 @@ unfolding one_of_at class_at
 one_of_none noescape text is = rw is refl
 
 -- what fits nothing stands for what fits nothing
-pub stands_never : (f : Flags) → StandsFor f Never Nothing
+pub stands_never : (f : Flags) → IsStepOf f Never Nothing
 stands_never f = record { same_reach = refl; same_bytes = λ x small. refl; same_opening = refl; same_literal = refl }

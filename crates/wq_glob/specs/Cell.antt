@@ -28,8 +28,8 @@ abbrev pub cell_of : Flags → List Step → List Mark → Cell
 cell_of f steps text = cell_by (step_form f) steps text
 
 -- the row of the steps at the text
-abbrev pub row_of : Flags → List Step → List Mark → Row
-row_of f steps text = row_by (step_form f) steps text
+abbrev pub step_row : Flags → List Step → List Mark → Row
+step_row f steps text = row_by (step_form f) steps text
 
 -- the cell of a tail that has begun no `**/`
 abbrev pub fit_cell : Bool → Cell
@@ -55,7 +55,7 @@ step_cell step seen old old_next new_next =
 -- the cells round the one at `k` before the byte `x`: its own, and whether the next one fits
 pub record AreRound (f : Flags) (steps : List Step) (k : ℕ) (x : Mark) (text : List Mark)
     (old : Cell) (old_next : Bool) (new_next : Bool) : Type 0 where
-  pub own : old ≡ row_of f steps text k
+  pub own : old ≡ step_row f steps text k
   pub behind : k < length steps → old_next ≡ step_fits f (drop (k + 1) steps) text
   pub here : k < length steps → new_next ≡ step_fits f (drop (k + 1) steps) (x ∷ text)
 
@@ -86,11 +86,11 @@ IsBlank row = (j : ℕ) → slice_index_or row j dead_cell ≡ dead_cell
 -- the row holds the cell of each tail of the steps
 abbrev pub IsRow : Flags → List Step → List Mark → List Cell → Type 0
 IsRow f steps text row =
-    (j : ℕ) → j ≤ length steps → slice_index_or row j dead_cell ≡ row_of f steps text j
+    (j : ℕ) → j ≤ length steps → slice_index_or row j dead_cell ≡ step_row f steps text j
 
 -- the cells of the steps from `k` on are dead
 abbrev pub AreDead : Flags → List Step → List Mark → ℕ → Type 0
-AreDead f steps text k = (j : ℕ) → k ≤ j → j ≤ length steps → row_of f steps text j ≡ dead_cell
+AreDead f steps text k = (j : ℕ) → k ≤ j → j ≤ length steps → step_row f steps text j ≡ dead_cell
 
 -- of the cells from `k` on, the first that lives and the last
 pub record IsWindow (f : Flags) (steps : List Step) (text : List Mark) (k : ℕ)
@@ -98,10 +98,10 @@ pub record IsWindow (f : Flags) (steps : List Step) (text : List Mark) (k : ℕ)
   pub from : k ≤ w.low
   pub ordered : w.low ≤ w.high
   pub within : w.high ≤ length steps
-  pub below : (j : ℕ) → k ≤ j → j < w.low → j ≤ length steps → row_of f steps text j ≡ dead_cell
-  pub above : (j : ℕ) → w.high < j → j ≤ length steps → row_of f steps text j ≡ dead_cell
-  pub first : IsTrue (is_live (row_of f steps text w.low))
-  pub last : IsTrue (is_live (row_of f steps text w.high))
+  pub below : (j : ℕ) → k ≤ j → j < w.low → j ≤ length steps → step_row f steps text j ≡ dead_cell
+  pub above : (j : ℕ) → w.high < j → j ≤ length steps → step_row f steps text j ≡ dead_cell
+  pub first : IsTrue (is_live (step_row f steps text w.low))
+  pub last : IsTrue (is_live (step_row f steps text w.high))
 
 -- the window of the cells from `k` on, or none where all of them are dead
 abbrev pub Bounds : Flags → List Step → List Mark → ℕ → Option Window → Type 0
@@ -111,7 +111,7 @@ Bounds f steps text k w = MatchOption w (AreDead f steps text k) (IsWindow f ste
 abbrev pub Widens : ℕ → Cell → Option Window → Option Window → Type 0
 Widens k cell narrow wide = (f : Flags) (steps : List Step) (text : List Mark)
     → k ≤ length steps → Bounds f steps text (k + 1) narrow
-    → cell ≡ row_of f steps text k → Bounds f steps text k wide
+    → cell ≡ step_row f steps text k → Bounds f steps text k wide
 
 -- a part of this reach may be empty
 abbrev pub may_be_empty : Reach → Bool

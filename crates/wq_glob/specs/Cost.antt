@@ -30,8 +30,8 @@ next_fits row k = (row (k + 1)).fits
 
 -- A cell of a new row is looked at from the last down to the first that lived in the old row, and
 -- before these where the next cell fits in one of the two rows.
-abbrev pub is_seen : ℕ → Row → Row → ℕ → Bool
-is_seen atoms old new k =
+abbrev pub is_looked_at : ℕ → Row → Row → ℕ → Bool
+is_looked_at atoms old new k =
     lives_from atoms old k && (lives_to atoms old k || next_fits old k || next_fits new k)
 
 -- a cell of the row at the end of the text is looked at where it or the next one fits
@@ -40,7 +40,7 @@ is_seen_at_end row k = (row k).fits || next_fits row k
 
 -- how many cells of a new row are looked at
 abbrev pub new_cells : ℕ → Row → Row → ℕ
-new_cells atoms old new = count_by (is_seen atoms old new) (places atoms)
+new_cells atoms old new = count_by (is_looked_at atoms old new) (places atoms)
 
 -- how many cells of the row at the end of the text are looked at
 abbrev pub end_cells : ℕ → Row → ℕ
@@ -64,8 +64,8 @@ agrees form (a ∷ _) (x ∷ _) = form.is_literal a && form.admits_of a x
 agrees form _ _ = false
 
 -- the first atom is a literal, and the text does not begin with it
-abbrev pub differs : {A : Type 0} → Form A → List A → List Mark → Bool
-differs form atoms text = begins_literal form atoms && not (agrees form atoms text)
+abbrev pub first_differs : {A : Type 0} → Form A → List A → List Mark → Bool
+first_differs form atoms text = begins_literal form atoms && not (agrees form atoms text)
 
 -- how many literals at the front of the pattern the text begins with, one after the other
 abbrev pub front : {A : Type 0} → Form A → List A → List Mark → ℕ
@@ -74,12 +74,12 @@ front form (a ∷ later) (x ∷ text) =
 front form _ _ = 0
 
 -- the last of a list, alone
-abbrev pub last_part : {A : Type 0} → List A → List A
-last_part xs = drop (length xs - 1) xs
+abbrev pub last_alone : {A : Type 0} → List A → List A
+last_alone xs = drop (length xs - 1) xs
 
 -- the last atom is a literal, and the text does not end in it
 abbrev pub differs_at_end : {A : Type 0} → Form A → List A → List Mark → Bool
-differs_at_end form atoms text = differs form (last_part atoms) (last_part text)
+differs_at_end form atoms text = first_differs form (last_alone atoms) (last_alone text)
 
 -- The cells of a match. A last byte that differs ends it with one cell. The literals at the front
 -- cost one each; a byte that differs behind them ends it, with its cell and the last byte's. The
@@ -88,5 +88,5 @@ unfoldable pub cost : {A : Type 0} → Form A → List A → List Mark → ℕ
 cost form atoms text =
     let same : ℕ = front form atoms text in
     if differs_at_end form atoms text then 1
-    else if differs form (drop same atoms) (drop same text) then same + 2
+    else if first_differs form (drop same atoms) (drop same text) then same + 2
     else same + row_cells form (drop same atoms) (drop same text)

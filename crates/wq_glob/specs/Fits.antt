@@ -10,12 +10,12 @@ use Rattle.wq_glob.specs.Mark.{Mark}
 use Rattle.wq_glob.specs.declared.flag.Flags.{Flags}
 
 -- no hidden dot: these only a literal takes
-abbrev pub is_shown : Mark → Bool
-is_shown x = not x.hidden
+abbrev pub has_no_hidden_dot : Mark → Bool
+has_no_hidden_dot x = not x.hidden
 
 -- what `?`, a class and `*` may take: no hidden dot, and with `wholename` no slash
 abbrev pub is_wild : Flags → Mark → Bool
-is_wild f x = is_shown x && not (f.wholename && is_slash x.byte)
+is_wild f x = has_no_hidden_dot x && not (f.wholename && is_slash x.byte)
 
 -- the part is one byte, which passes the test
 abbrev pub IsOne : (Mark → Bool) → List Mark → Type 0
@@ -36,8 +36,8 @@ Takes f (Literal b) part = IsOne (λ x. lower_if f.fold x.byte == lower_if f.fol
 Takes f One part = IsOne (is_wild f) part
 Takes f (OneOf c) part = IsOne (λ x. is_wild f x && in_class f.fold c x.byte) part
 Takes f Star part = IsEach (is_wild f) part
-Takes f Dirs part = (part ≡ []) ⊎ (IsEach is_shown part × EndsInSlash part)
-Takes f Rest part = IsEach is_shown part
+Takes f Dirs part = (part ≡ []) ⊎ (IsEach has_no_hidden_dot part × EndsInSlash part)
+Takes f Rest part = IsEach has_no_hidden_dot part
 Takes f Nothing part = ⊥
 
 -- a cut of the text gives the first atom a part that it takes, and the later ones what follows it

@@ -6,7 +6,7 @@ use Rattle.wq_glob.specs.Byte.{lower_if}
 use Rattle.wq_glob.specs.Class.{in_class}
 use Rattle.wq_glob.specs.Atom.{Atom, Literal, One, OneOf, Star, Dirs, Rest, Nothing}
 use Rattle.wq_glob.specs.Mark.{Mark}
-use Rattle.wq_glob.specs.Fits.{is_shown, is_wild}
+use Rattle.wq_glob.specs.Fits.{has_no_hidden_dot, is_wild}
 use Rattle.wq_glob.specs.declared.flag.Flags.{Flags}
 
 -- how far an atom reaches: over one byte, over any number of bytes, or over whole directories
@@ -28,8 +28,8 @@ admits f (Literal b) x = lower_if f.fold x.byte == lower_if f.fold b
 admits f One x = is_wild f x
 admits f (OneOf c) x = is_wild f x && in_class f.fold c x.byte
 admits f Star x = is_wild f x
-admits f Dirs x = is_shown x
-admits f Rest x = is_shown x
+admits f Dirs x = has_no_hidden_dot x
+admits f Rest x = has_no_hidden_dot x
 admits f Nothing x = false
 
 -- the atom is a literal

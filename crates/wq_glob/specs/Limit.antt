@@ -7,5 +7,5 @@ abbrev pub max_pattern_length : ℕ
 max_pattern_length = 255
 
 -- the most bytes of a text that a pattern is tried on: those of the longest name of a file
-abbrev pub max_text_length : ℕ
-max_text_length = 4096
+abbrev pub max_matched_text : ℕ
+max_matched_text = 4096

@@ -7,7 +7,7 @@ use Rattle.wq_glob.specs.Byte.{lower_if}
 use Rattle.wq_glob.specs.ByteSet.{has_byte}
 use Rattle.wq_glob.specs.Atom.{Atom, opens, atoms_from}
 use Rattle.wq_glob.specs.Mark.{Mark}
-use Rattle.wq_glob.specs.Fits.{is_shown, is_wild}
+use Rattle.wq_glob.specs.Fits.{has_no_hidden_dot, is_wild}
 use Rattle.wq_glob.specs.FitsTest.{Reach, Single, Many, Folders, Form, is_literal, reach, admits}
 use Rattle.wq_glob.specs.Limit.{max_pattern_length}
 use Rattle.wq_glob.specs.declared.flag.Flags.{Flags}
@@ -29,7 +29,7 @@ seen_of f x = record {
   byte = x.byte;
   folded = lower_if f.fold x.byte;
   slash = is_slash x.byte;
-  shown = is_shown x;
+  shown = has_no_hidden_dot x;
   wild = is_wild f x;
 }
 
@@ -63,7 +63,7 @@ step_opens Below = true
 step_opens _ = false
 
 -- the step takes what the atom takes
-pub record StandsFor (f : Flags) (step : Step) (atom : Atom) : Type 0 where
+pub record IsStepOf (f : Flags) (step : Step) (atom : Atom) : Type 0 where
   pub same_reach : step_reach step ≡ reach atom
   pub same_bytes : (x : Mark) → x.byte < 256 → step_admits f step x ≡ admits f atom x
   pub same_opening : step_opens step ≡ opens atom
@@ -72,7 +72,7 @@ pub record StandsFor (f : Flags) (step : Step) (atom : Atom) : Type 0 where
 -- the steps stand for the atoms, one for each in order
 abbrev pub AllStand : Flags → List Step → List Atom → Type 0
 AllStand f [] [] = Unit {0}
-AllStand f (s ∷ steps) (a ∷ atoms) = StandsFor f s a × AllStand f steps atoms
+AllStand f (s ∷ steps) (a ∷ atoms) = IsStepOf f s a × AllStand f steps atoms
 AllStand f _ _ = ⊥
 
 -- the steps of a pattern: its text is not too long, and they stand for its atoms

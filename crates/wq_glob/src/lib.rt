@@ -27,6 +27,6 @@ mod step;
 
 pub use flag::Flags;
 pub use law::fits_where_it_can_be_cut;
-pub use limit::{MAX_PATTERN, MAX_TEXT};
+pub use limit::{MAX_MATCHED_TEXT, MAX_PATTERN};
 pub use matching::Hit;
 pub use pattern::{Pattern, PatternFault};

@@ -4,4 +4,4 @@
 pub const MAX_PATTERN: usize = 255;
 
 /// How many bytes a text may have that a pattern is tried on: those of the longest name.
-pub const MAX_TEXT: usize = 4096;
+pub const MAX_MATCHED_TEXT: usize = 4096;

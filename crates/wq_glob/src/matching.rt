@@ -10,7 +10,7 @@ ghost use Rattle.wq_glob.specs.Step.{step_form};
 
 use crate::byte::lower_if;
 use crate::flag::Flags;
-use crate::limit::{MAX_PATTERN, MAX_TEXT};
+use crate::limit::{MAX_MATCHED_TEXT, MAX_PATTERN};
 use crate::row::{Cell, fill_end, renew};
 use crate::step::Step;
 
@@ -29,7 +29,7 @@ fn run(row: &mut [Cell], steps: &[Step], text: &[u8], from: usize, flags: Flags)
     requires room { length steps.now < length row.old }
     requires blank { IsBlank row.old }
     requires small { length steps.now ≤ MAX_PATTERN }
-    requires short { length text.now ≤ MAX_TEXT }
+    requires short { length text.now ≤ MAX_MATCHED_TEXT }
     requires place { from ≤ length text.now }
 
     ensures yes { result.yes ≡ step_fits flags steps.now (marks_at flags text.now from) }
@@ -133,7 +133,7 @@ fn long_row() -> [Cell; LONG_ROW]
 /// Fills rows for the steps behind the front, in as much room as these take.
 fn hit_by_rows(steps: &[Step], text: &[u8], from: usize, flags: Flags) -> Hit
     requires small { length steps.now ≤ MAX_PATTERN }
-    requires short { length text.now ≤ MAX_TEXT }
+    requires short { length text.now ≤ MAX_MATCHED_TEXT }
     requires place { from ≤ length text.now }
 
     ensures yes { result.yes ≡ step_fits flags steps.now (marks_at flags text.now from) }
@@ -153,7 +153,7 @@ fn hit_by_rows(steps: &[Step], text: &[u8], from: usize, flags: Flags) -> Hit
 #[inline(always)]
 pub(crate) fn hit_of(steps: &[Step], text: &[u8], flags: Flags) -> Hit
     requires small { length steps.now ≤ MAX_PATTERN }
-    requires short { length text.now ≤ MAX_TEXT }
+    requires short { length text.now ≤ MAX_MATCHED_TEXT }
 
     ensures yes { result.yes ≡ step_fits flags steps.now (marks flags.dotfiles text.now) }
     ensures cells { result.cells

@@ -3,7 +3,7 @@
 //! or whole, is for others to say.
 ghost use Rattle.std.specs.Prelude.{◌≡◌, ◌<◌, ◌≤◌, ◌↔◌, ◌+◌, ◌*◌, IfOk, IsTrue, length, IsErrOf};
 ghost use Rattle.wq_glob.specs.Pattern.{atoms_of, cells_of, fits, Fits};
-ghost use Rattle.wq_glob.specs.Limit.{max_pattern_length, max_text_length};
+ghost use Rattle.wq_glob.specs.Limit.{max_pattern_length, max_matched_text};
 
 use crate::flag::Flags;
 use crate::limit::MAX_PATTERN;
@@ -137,7 +137,7 @@ impl Pattern {
         self.steps.len()
     }
 
-    /// Whether the pattern fits a text of at most [`MAX_TEXT`](crate::limit::MAX_TEXT) bytes, and
+    /// Whether the pattern fits a text of at most [`MAX_MATCHED_TEXT`](crate::limit::MAX_MATCHED_TEXT) bytes, and
     /// at what cost.
     ///
     /// It fits where some cut of the text gives every atom, from left to right, a part that it
@@ -150,7 +150,7 @@ impl Pattern {
     /// ```
     #[inline(always)]
     pub fn matches(&self, text: &[u8]) -> Hit
-        requires { length text.now ≤ max_text_length }
+        requires { length text.now ≤ max_matched_text }
 
         ensures test { result.yes ≡ fits self.now text.now }
         ensures cuts { IsTrue result.yes ↔ Fits self.now text.now }

@@ -8,7 +8,7 @@ ghost use Rattle.std.specs.List.{prefix_len};
 ghost use Rattle.wq_glob.specs.Byte.{is_star};
 ghost use Rattle.wq_glob.specs.Member.{AreMembers};
 ghost use Rattle.wq_glob.specs.Reading.{begins, is_negation};
-ghost use Rattle.wq_glob.specs.Step.{AllStand, StandsFor, step_opens};
+ghost use Rattle.wq_glob.specs.Step.{AllStand, IsStepOf, step_opens};
 ghost use Rattle.wq_glob.specs.declared.class.Item.{Item};
 
 use crate::byte::{begins, behind, lower_if};
@@ -20,7 +20,7 @@ use std::alloc::{AllocError, Global};
 /// The step of the byte at the front of a text, or of the one behind its backslash.
 #[tactic(auto, unfolding(crate::specs::Atom::literal_at))]
 fn literal(text: &[u8], flags: Flags) -> (Step, &[u8])
-    ensures stands { StandsFor flags result.0 (literal_at flags.noescape text.now).0 }
+    ensures stands { IsStepOf flags result.0 (literal_at flags.noescape text.now).0 }
     ensures rest { result.1.now ≡ (literal_at flags.noescape text.now).1 }
 {
     match letter(text, flags.noescape) {
@@ -32,7 +32,7 @@ fn literal(text: &[u8], flags: Flags) -> (Step, &[u8])
 /// The step of a class with these members.
 fn class_step(members: Members, negated: bool, flags: Flags) -> Step
     ensures { (items : List Item) → AreMembers members items
-        → StandsFor flags result (known_class record { negated = negated; items = items }) }
+        → IsStepOf flags result (known_class record { negated = negated; items = items }) }
 {
     if members.known {
         Step::Set(class_set(&members.set, negated, flags.fold))
@@ -57,7 +57,7 @@ fn items_of(text: &[u8]) -> &[u8]
 
 /// The step of the class behind a `[`.
 fn one_of(text: &[u8], flags: Flags) -> (Step, &[u8])
-    ensures stands { StandsFor flags result.0 (one_of_at flags.noescape text.now).0 }
+    ensures stands { IsStepOf flags result.0 (one_of_at flags.noescape text.now).0 }
     ensures rest { result.1.now ≡ (one_of_at flags.noescape text.now).1 }
 {
     match read_items(items_of(text), flags.noescape) {
@@ -77,7 +77,7 @@ fn star_run(text: &[u8]) -> usize
 /// The step of the run of stars at the front of a text.
 #[tactic(auto, unfolding(crate::specs::Atom::stars_at))]
 fn stars(text: &[u8], at_start: bool, flags: Flags) -> (Step, &[u8])
-    ensures stands { StandsFor flags result.0 (stars_at flags.wholename at_start text.now).0 }
+    ensures stands { IsStepOf flags result.0 (stars_at flags.wholename at_start text.now).0 }
     ensures rest { result.1.now ≡ (stars_at flags.wholename at_start text.now).1 }
 {
     let run = star_run(text);
@@ -97,7 +97,7 @@ fn stars(text: &[u8], at_start: bool, flags: Flags) -> (Step, &[u8])
 #[tactic(auto, unfolding(crate::specs::Atom::first_atom))]
 fn first_step(text: &[u8], at_start: bool, flags: Flags) -> (Step, &[u8])
     requires { 0 < length text.now }
-    ensures stands { StandsFor flags result.0 (first_atom flags at_start text.now).0 }
+    ensures stands { IsStepOf flags result.0 (first_atom flags at_start text.now).0 }
     ensures rest { result.1.now ≡ (first_atom flags at_start text.now).1 }
 {
     if begins(text, b'*') {

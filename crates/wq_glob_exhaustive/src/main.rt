@@ -5,7 +5,7 @@
 
 use plain::{atoms, fits};
 use std::alloc::Global;
-use wq_glob::{Flags, MAX_TEXT, Pattern};
+use wq_glob::{Flags, MAX_MATCHED_TEXT, Pattern};
 
 mod plain;
 
@@ -54,7 +54,7 @@ fn compare(
     let pattern = Pattern::parse(alloc, text, flags)?;
     let parts = atoms(alloc, text, flags)?;
     for name in names {
-        if name.len() <= MAX_TEXT {
+        if name.len() <= MAX_MATCHED_TEXT {
             let yes = pattern.matches(name).yes;
             tally.fitting = tally.fitting.wrapping_add(u64::from(yes));
             tally.differing = tally

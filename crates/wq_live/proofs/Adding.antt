@@ -5,7 +5,7 @@ use mathlib.Core.List.{IsPrefix}
 use prog.Atomic.{either}
 use Rattle.logbook.specs.Pages.{Cell, cell, keeps, no_nib, step, Moves, Goes}
 use Rattle.wq_live.specs.declared.event.RootEvent.{RootEvent}
-use Rattle.wq_live.specs.Front.{IsCount, Adds}
+use Rattle.wq_live.specs.Log.{IsCount, AddsEvent}
 use Rattle.wq_live.proofs.Beginnings.{prefix_whole}
 
 abbrev pub shown : List RootEvent → List RootEvent
@@ -16,7 +16,7 @@ moved xs ys n = Unit {0}
 
 adds_goes : (log v : List RootEvent) (e : RootEvent) (old : ℕ) → length v ≡ old → IsPrefix v log
     → (b : Bool) → (length log == old) ≡ b
-    → Goes IsCount shown moved 0 (v, (no_nib, None)) (λ n. either (n == old) (old + 1) n) (Adds (step 0 old (old + 1) e) (v, (no_nib, None))) ((length log, true) ∷ (0, true) ∷ []) log
+    → Goes IsCount shown moved 0 (v, (no_nib, None)) (λ n. either (n == old) (old + 1) n) (AddsEvent (step 0 old (old + 1) e) (v, (no_nib, None))) ((length log, true) ∷ (0, true) ∷ []) log
 adds_goes log v e old len pre true is =
     let here : length log ≡ old = grind (arith, nat_tests) in
     let same : v ≡ log = prefix_whole v log pre (omega arith) in
@@ -43,7 +43,7 @@ adds_goes log v e old len pre false is =
 
 -- whatever the list is, the exchange adds the event to all that was known, or finds that the list is longer
 pub adds_moves : (v : List RootEvent) (e : RootEvent) (old : ℕ) → length v ≡ old
-    → Moves IsCount shown moved 0 (v, (no_nib, None)) (λ n. either (n == old) (old + 1) n) (Adds (step 0 old (old + 1) e) (v, (no_nib, None)))
+    → Moves IsCount shown moved 0 (v, (no_nib, None)) (λ n. either (n == old) (old + 1) n) (AddsEvent (step 0 old (old + 1) e) (v, (no_nib, None)))
 adds_moves v e old len cs log kept pre away =
-    let P : List Cell → Type 0 = λ c. (0 < length c) × ((cell c 0).1 ≡ true) × Goes IsCount shown moved 0 (v, (no_nib, None)) (λ n. either (n == old) (old + 1) n) (Adds (step 0 old (old + 1) e) (v, (no_nib, None))) c log in
+    let P : List Cell → Type 0 = λ c. (0 < length c) × ((cell c 0).1 ≡ true) × Goes IsCount shown moved 0 (v, (no_nib, None)) (λ n. either (n == old) (old + 1) n) (AddsEvent (step 0 old (old + 1) e) (v, (no_nib, None))) c log in
     subst P (sym kept) (omega arith, refl, adds_goes log v e old len pre (length log == old) refl)

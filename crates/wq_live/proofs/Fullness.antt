@@ -4,13 +4,12 @@ use Rattle.std.specs.FinMap.{empty, len}
 use Rattle.std.specs.List.{find}
 use Rattle.std.proofs.lemmas.List.{length-map}
 use Rattle.std.proofs.lemmas.List.Elements.{recursion_from_All}
-use Rattle.wq_base.specs.Limit.{max_number}
+use Rattle.wq_base.specs.Limit.{max_number, max_roots}
 use Rattle.wq_view.specs.Listing.{PassData}
 use Rattle.wq_live.specs.declared.event.RootEvent.{RootEvent}
 use Rattle.wq_live.specs.declared.table.StartFault.{StartFault}
 use Rattle.wq_live.specs.declared.table.StartFault.TheVariants.{TooManyRoots, NoMemory}
-use Rattle.wq_live.specs.Event.{shown, started, is_shown, passes_over, root_named, first_history}
-use Rattle.wq_live.specs.Limit.{max_roots}
+use Rattle.wq_live.specs.Event.{shown, started, is_shown, passes_over, shown_root, first_history}
 use Rattle.wq_live.specs.Table.{RootView, TableData, IsTableOf, root_of, has_number, has_text}
 use Rattle.wq_live.proofs.Roots.{root_of_text, found_passes}
 use Rattle.wq_view.specs.View.{ViewData, IsViewOf}
@@ -19,21 +18,21 @@ use Rattle.wq_live.proofs.Passes.{not_shown, is_there, found_view}
 
 module _ (events : List RootEvent) (table : TableData) (is : IsTableOf events table) where
   -- the root of a text
-  pub named : (text : List ℕ) → root_named text events ≡ option_map root_of (find (has_text text) table.roots)
+  pub named : (text : List ℕ) → shown_root text events ≡ option_map root_of (find (has_text text) table.roots)
   named text = rw (sym is.roots) (root_of_text text table.roots)
 
   none_named : (o : Option RootView) → option_map root_of o ≡ None → o ≡ None
   none_named None e = refl
   none_named (Some r) e = absurd cc
 
-  pub not_there : (text : List ℕ) → root_named text events ≡ None → find (has_text text) table.roots ≡ None
+  pub not_there : (text : List ℕ) → shown_root text events ≡ None → find (has_text text) table.roots ≡ None
   not_there text e = none_named (find (has_text text) table.roots) (sym (named text) ∙ e)
 
   number_is : (o : Option RootView) → option_map (λ (r : RootView). r.number) o ≡ option_map (λ root. root.number) (option_map root_of o)
   number_is None = refl
   number_is (Some r) = refl
 
-  pub number_named : (text : List ℕ) → option_map (λ (r : RootView). r.number) (find (has_text text) table.roots) ≡ option_map (λ root. root.number) (root_named text events)
+  pub number_named : (text : List ℕ) → option_map (λ (r : RootView). r.number) (find (has_text text) table.roots) ≡ option_map (λ root. root.number) (shown_root text events)
   number_named text = number_is (find (has_text text) table.roots) ∙ ap (option_map (λ root. root.number)) (sym (named text))
 
   -- a table is full where the list is

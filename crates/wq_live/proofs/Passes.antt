@@ -7,7 +7,7 @@ use Rattle.wq_view.specs.History.{Differ, last_stats}
 use Rattle.wq_view.specs.View.{ViewData, IsViewOf}
 use Rattle.wq_live.specs.declared.event.RootEvent.{RootEvent}
 use Rattle.wq_live.specs.declared.event.RootEvent.TheVariants.{Passed}
-use Rattle.wq_live.specs.Event.{number_in, started, is_shown, passes_over, IsLawful}
+use Rattle.wq_live.specs.Event.{number_in, started, is_shown, passes_over, IsLawfulList}
 use Rattle.wq_live.specs.Table.{RootView, TableData, IsTableOf, has_number, with_view}
 use Rattle.wq_live.proofs.Roots.{same_number, turned, any_of_number, found_passes, same_roots}
 use Rattle.wq_live.proofs.Events.{started_after_pass, shown_after_pass, passes_after, differ_more}
@@ -48,7 +48,7 @@ module _ (events : List RootEvent) (table : TableData) (is : IsTableOf events ta
     own : (m : ℕ) → (n == m) ≡ true → passes_over m (events ++ passed ∷ []) ≡ passes_over m events ++ pass ∷ []
     own m e = passes_after m events passed ∙ rw e refl
 
-    lawful : n ≤ table.given → last_stats (passes_over n events) ≢ pass.stats → IsLawful (events ++ passed ∷ [])
+    lawful : n ≤ table.given → last_stats (passes_over n events) ≢ pass.stats → IsLawfulList (events ++ passed ∷ [])
     lawful given new = record {
       numbers = rw (started_after_pass events n pass) is.lawful.numbers;
       known = rw (started_after_pass events n pass) (All-push (λ e. number_in e ≤ length (started events)) events passed is.lawful.known (rw (sym is.given) given));

@@ -4,16 +4,16 @@ use mathlib.Core.Option.{some, some-ne-none}
 use lib.ListN.{get_elem?}
 use Rattle.left_right.specs.Register.{Admits, TurnsAt, Forks, Merges}
 use Rattle.atomic_table.proofs.Lists.{at_set, at_snoc}
-use Rattle.wq_live.specs.Front.{FrontData, Begins}
+use Rattle.wq_live.specs.Log.{LogData, BeginsLog}
 use Rattle.wq_live.specs.Shared.{Knows, AllBegin, Sees}
 use Rattle.wq_live.proofs.Beginnings.{prefix_self, prefix_trans}
 
--- a front begins itself
-pub begins_self : (x : FrontData) → Begins x x
+-- a log begins itself
+pub begins_self : (x : LogData) → BeginsLog x x
 begins_self x = (refl, prefix_self x.log)
 
 -- what is known of a list is known of a longer one
-pub knows_more : (v : Option FrontData) (x y : FrontData) → Begins x y → Knows v x → Knows v y
+pub knows_more : (v : Option LogData) (x y : LogData) → BeginsLog x y → Knows v x → Knows v y
 knows_more None x y up k = tt
 knows_more (Some s) x y up k = (k.0 ∙ up.0, prefix_trans s.log x.log y.log k.1 up.1)
 
@@ -22,11 +22,11 @@ pub admits : Admits AllBegin None
 admits x views h seat v at = ⊎_elim (h seat v) (λ (e : None ≡ v). subst (λ z. Knows z x) e tt) (at_snoc views None v seat at)
 
 -- the first seat knows nothing
-pub begins : (x : FrontData) → AllBegin x (None ∷ [])
+pub begins : (x : LogData) → AllBegin x (None ∷ [])
 begins x = admits x [] (λ seat v at. absurd (some-ne-none v (sym at)))
 
 -- a step that only adds
-pub turns : (seat : ℕ) (v : Option FrontData) (x y : FrontData) → Begins x y → TurnsAt AllBegin seat v x y (λ before _ shown after. Sees before shown after)
+pub turns : (seat : ℕ) (v : Option LogData) (x y : LogData) → BeginsLog x y → TurnsAt AllBegin seat v x y (λ before _ shown after. Sees before shown after)
 turns seat v x y up views h at = (
   Some y,
   (λ j u e. ⊎_elim (λ (t : (j ≡ seat) × (Some y ≡ u)). subst (λ z. Knows z y) t.1 (begins_self y)) (λ (t : (j ≢ seat) × (get_elem? views j ≡ some u)). knows_more u x y up (h j u t.1))
@@ -34,15 +34,15 @@ turns seat v x y up views h at = (
   (knows_more v x y up (h seat v at), refl),
 )
 
-set_known : (x : FrontData) (views : List (Option FrontData)) (seat : ℕ) (v : Option FrontData) → AllBegin x views → Knows v x → AllBegin x (set views seat v)
+set_known : (x : LogData) (views : List (Option LogData)) (seat : ℕ) (v : Option LogData) → AllBegin x views → Knows v x → AllBegin x (set views seat v)
 set_known x views seat v h low j u e = ⊎_elim (λ (t : (j ≡ seat) × (v ≡ u)). subst (λ z. Knows z x) t.1 low) (λ (t : (j ≢ seat) × (get_elem? views j ≡ some u)). h j u t.1) (at_set views seat j v u e)
 
 -- a note is cut off
-pub forks : (seat : ℕ) (v : Option FrontData) → Forks AllBegin seat v v v
+pub forks : (seat : ℕ) (v : Option LogData) → Forks AllBegin seat v v v
 forks seat v x views h at j u e = ⊎_elim (set_known x views seat v h (h seat v at) j u) (λ (same : v ≡ u). subst (λ z. Knows z x) same (h seat v at)) (at_snoc (set views seat v) v u j e)
 
 -- and taken in
-pub merges : (seat : ℕ) (v : Option FrontData) (other : ℕ) (w : Option FrontData) → Merges AllBegin seat v other w w None
+pub merges : (seat : ℕ) (v : Option LogData) (other : ℕ) (w : Option LogData) → Merges AllBegin seat v other w w None
 merges seat v other w x views h at apart there =
     let b : Knows w x = ⊎_elim (λ (t : (other ≡ seat) × (w ≡ w)). absurd (apart t.0)) (λ (t : (other ≢ seat) × (get_elem? views other ≡ some w)). h other w t.1) (at_set views seat other w w there) in
     set_known x (set views seat w) other None (set_known x views seat w h b) tt

@@ -7,7 +7,7 @@ use Rattle.std.proofs.lemmas.List.Elements.{filter_map-append, All-weaker, All-p
 use Rattle.wq_view.specs.View.{ViewData, IsViewOf}
 use Rattle.wq_live.specs.declared.event.RootEvent.{RootEvent}
 use Rattle.wq_live.specs.declared.event.RootEvent.TheVariants.{Started}
-use Rattle.wq_live.specs.Event.{Root, start_in, number_in, started, passes_over, IsLawful}
+use Rattle.wq_live.specs.Event.{Root, start_in, number_in, started, passes_over, IsLawfulList}
 use Rattle.wq_live.specs.Table.{RootView, TableData, IsTableOf, root_of}
 use Rattle.wq_live.proofs.Events.{unknown_passes, known_starts, shown_after_start, passes_after}
 
@@ -56,7 +56,7 @@ module _ (events : List RootEvent) (table : TableData) (is : IsTableOf events ta
     same_passes : (m : ℕ) → passes_over m (events ++ start ∷ []) ≡ passes_over m events
     same_passes m = passes_after m events start ∙ append-nil (passes_over m events)
 
-    lawful : IsLawful (events ++ start ∷ [])
+    lawful : IsLawfulList (events ++ start ∷ [])
     lawful = record {
       numbers = ap (map (λ (root : Root). root.number)) one_more ∙ map-append (λ (root : Root). root.number) (started events) (record { number = n; text = text } ∷ [])
           ∙ ap (λ l. l ++ n ∷ []) is.lawful.numbers ∙ next_number (length (started events)) n (omega (arith, is.given)) ∙ ap (range_with_len 1) (ap (λ k. k + 1) (sym is.given) ∙ sym count);

@@ -52,8 +52,8 @@ abbrev pub is_shown : List RootEvent → ℕ → Bool
 is_shown events number = list_any (λ root. root.number == number) (shown events)
 
 -- the root of this text, where one is shown
-abbrev pub root_named : List ℕ → List RootEvent → Option Root
-root_named text events = find (λ root. bytes_eq root.text text) (shown events)
+abbrev pub shown_root : List ℕ → List RootEvent → Option Root
+shown_root text events = find (λ root. bytes_eq root.text text) (shown events)
 
 -- the passes over the root of this number
 abbrev pub passes_over : ℕ → List RootEvent → History
@@ -62,7 +62,7 @@ passes_over number events = filter_map (pass_in number) events
 -- what holds of each list that the server makes: the roots got the numbers 1, 2, 3 and so on, no
 -- event is about a number beyond the last one, and of the passes over a root each saw something
 -- else than the one before
-pub record IsLawful (events : List RootEvent) : Type 0 where
+pub record IsLawfulList (events : List RootEvent) : Type 0 where
   pub numbers : map (λ root. root.number) (started events) ≡ range_with_len 1 (length (started events))
   pub known : All (λ event. number_in event ≤ length (started events)) events
   pub differ : (number : ℕ) → Differ (passes_over number events)

@@ -7,7 +7,7 @@ use Rattle.wq_view.specs.Listing.{PassData}
 use Rattle.wq_view.specs.History.{last_stats}
 use Rattle.wq_view.specs.View.{ViewData, view_code, IsViewOf}
 use Rattle.wq_live.specs.declared.event.RootEvent.{RootEvent}
-use Rattle.wq_live.specs.Event.{Root, started, shown, is_shown, passes_over, first_history, IsLawful}
+use Rattle.wq_live.specs.Event.{Root, started, shown, is_shown, passes_over, first_history, IsLawfulList}
 
 -- a root that is shown, with its view
 pub record RootView : Type 0 where
@@ -41,7 +41,7 @@ table_code =
 -- the table of a list of events: its roots are those that are shown there, and the view of each is
 -- that of the passes over it
 pub record IsTableOf (events : List RootEvent) (table : TableData) : Type 0 where
-  pub lawful : IsLawful events
+  pub lawful : IsLawfulList events
   pub given : table.given ≡ length (started events)
   pub roots : map root_of table.roots ≡ shown events
   pub views : All (λ root. IsViewOf (passes_over root.number events) root.view) table.roots

@@ -1,7 +1,7 @@
 //! The shared view before it has a name.
 ghost use Rattle.std.specs.Prelude.{◌≡◌, ◌<◌, ◌^◌, [], IfOk};
 
-use crate::front::{Front, Head};
+use crate::log::{Head, Log};
 use crate::named::Named;
 use crate::publisher::Publisher;
 use crate::publishing::{ShownWriter, show};
@@ -25,11 +25,11 @@ pub struct Blank {
 impl Model for Blank {
     ghost use Rattle.std.specs.Prelude.{◌≡◌, Some, [], drop};
     ghost use Rattle.left_right.specs.Sides.{view as known};
-    ghost use Rattle.wq_live.specs.Front.{FrontData, front_code, head_of};
+    ghost use Rattle.wq_live.specs.Log.{LogData, log_code, head_of};
 
-    ghost Value = { FrontData };
+    ghost Value = { LogData };
 
-    ghost coded = { front_code };
+    ghost coded = { log_code };
 
     ghost view = { λ b. b.writer.desk.shown.value };
 
@@ -47,7 +47,7 @@ impl Blank {
         let (seen, mut pen, _second) = Seen::open(Start::alone(), 0, 0);
         let head = Word::tracked(0, &mut pen);
         let table = Arc::new(alloc, RootTable::new(alloc))?;
-        let first = Shown::new(table, Front::new(seen));
+        let first = Shown::new(table, Log::new(seen));
         let second = first.again()?;
         let next = first.again()?;
         let writer = Writer::new(alloc, first, second, seats)?;

@@ -1,17 +1,17 @@
 //! What threads keep of the value that they share: what a seat knows begins the list of what is shown.
 
-use crate::front::Front;
+use crate::log::Log;
 use crate::shown::Shown;
 use atomic_table::{Join, Split};
 use crossbeam_utils::rule::{Outcome, Protocol};
 
 /// What a seat knows of the list: nothing yet, or a beginning.
-pub type Known = Option<Front>;
+pub type Known = Option<Log>;
 
 /// What each seat knows begins the list of what is shown.
 pub struct Kept;
 
-impl Protocol<Shown, Option<Front>> for Kept {
+impl Protocol<Shown, Option<Log>> for Kept {
     ghost use Rattle.std.specs.Prelude.{None};
     ghost use Rattle.wq_live.specs.Shared.{AllBegin};
 
@@ -23,7 +23,7 @@ impl Protocol<Shown, Option<Front>> for Kept {
 /// A step after which a seat knows the list of what is shown.
 pub struct Knowing;
 
-impl Outcome<Shown, Option<Front>> for Knowing {
+impl Outcome<Shown, Option<Log>> for Knowing {
     ghost use Rattle.wq_live.specs.Shared.{Sees};
 
     ghost then = { λ before _ shown after. Sees before shown after };
@@ -32,13 +32,13 @@ impl Outcome<Shown, Option<Front>> for Knowing {
 /// A new seat gets to know what the publisher knows.
 pub struct Note;
 
-impl Split<Option<Front>> for Note {
+impl Split<Option<Log>> for Note {
     ghost left = { λ known. known };
 
     ghost right = { λ known. known };
 }
 
-impl Join<Option<Front>> for Note {
+impl Join<Option<Log>> for Note {
     ghost use Rattle.std.specs.Prelude.{None};
 
     ghost both = { λ _ told. told };

@@ -5,9 +5,8 @@
 
 mod blank;
 mod event;
-mod front;
 mod kept;
-mod limit;
+mod log;
 mod named;
 mod publisher;
 mod publishing;
@@ -19,7 +18,6 @@ mod tree;
 
 pub use blank::Blank;
 pub use event::RootEvent;
-pub use limit::MAX_ROOTS;
 pub use named::Named;
 pub use publisher::Publisher;
 pub use seat::{Look, Seat, Told};

@@ -1,16 +1,15 @@
 //! The publisher: the one that changes the list of events, and shows what follows from it.
 ghost use Rattle.std.specs.Prelude.{if◌then◌else◌, ◌+◌, ◌↔◌, None, option_map, ◌≡◌, ◌⊎◌, ◌++◌, ◌∷◌, [], Err, IfErr, IfOk, MatchResult, Some, drop, false, length, true};
 ghost use Rattle.left_right.specs.Sides.{view};
-ghost use Rattle.wq_live.specs.Front.{Begins, head_of};
-ghost use Rattle.wq_base.specs.Limit.{max_number};
-ghost use Rattle.wq_live.specs.Limit.{max_roots};
+ghost use Rattle.wq_live.specs.Log.{BeginsLog, head_of};
+ghost use Rattle.wq_base.specs.Limit.{max_number, max_roots};
 ghost use Rattle.wq_live.specs.declared.event.RootEvent.TheVariants.{Ended, Passed};
-ghost use Rattle.wq_live.specs.Event.{first_history, is_shown, root_named, shown, start_events, started};
+ghost use Rattle.wq_live.specs.Event.{first_history, is_shown, shown_root, shown, start_events, started};
 ghost use Rattle.wq_live.specs.Table.{IsNews, IsNoNews, IsTableOf, WantsForTicks};
 
 use crate::event::RootEvent;
-use crate::front::Head;
 use crate::kept::Note;
+use crate::log::Head;
 use crate::named::Named;
 use crate::publishing::{ShownWriter, show};
 use crate::seat::{Seat, Told};
@@ -38,7 +37,7 @@ impl<N: Named, R: Wait + Drop> Model for Publisher<N, R> {
     ghost use Rattle.std.specs.Prelude.{◌≡◌, List, Some, [], drop};
     ghost use Rattle.left_right.specs.Sides.{view as known};
     ghost use Rattle.wq_live.specs.declared.event.RootEvent.{RootEvent};
-    ghost use Rattle.wq_live.specs.Front.{events_code, head_of};
+    ghost use Rattle.wq_live.specs.Log.{events_code, head_of};
 
     ghost Value = { List RootEvent };
 
@@ -90,7 +89,7 @@ impl<N: Named, R: Wait + Drop> Publisher<N, R> {
         ensures seat { IfOk result (λ seat. seat ≡ self.new) }
         ensures kept { self.new ≡ self.old }
     {
-        let saw = self.writer.published().front().again();
+        let saw = self.writer.published().log().again();
         let mut reader = self.writer.factory().reader()?;
         reader.learn::<Note>(self.writer.tell::<Note>());
         Ok(Seat::new(reader, saw))
@@ -105,7 +104,7 @@ impl<N: Named, R: Wait + Drop> Publisher<N, R> {
 
     /// The number of the root of this text, where it is shown.
     pub fn find(&self, text: &str) -> Option<u64>
-        ensures { result ≡ option_map (λ root. root.number) (root_named text.now self.now) }
+        ensures { result ≡ option_map (λ root. root.number) (shown_root text.now self.now) }
     {
         self.table().number_of(text)
     }
@@ -123,7 +122,7 @@ impl<N: Named, R: Wait + Drop> Publisher<N, R> {
     /// Refused where 16 roots are shown or the number 2^62 was given. An error changes nothing. It waits for those
     /// that still look at the value before the last one.
     pub fn start(&mut self, text: &str, pass: Pass) -> Result<(u64, Told<N>), StartFault>
-        requires new { root_named text.now self.old ≡ None }
+        requires new { shown_root text.now self.old ≡ None }
         ensures number { IfOk result (λ it. it.0 ≡ length (started self.old) + 1) }
         ensures added { IfOk result (λ it. self.new ≡ self.old ++ start_events it.0 text.now pass) }
         ensures told { IfOk result (λ it. it.1 ≡ self.new) }
@@ -169,7 +168,7 @@ impl<N: Named, R: Wait + Drop> Publisher<N, R> {
     /// it.
     ///
     /// An error changes nothing. It waits for those that still look at the value before the last one.
-    pub fn retire(&mut self, number: u64) -> Result<Told<N>, AllocError>
+    pub fn end(&mut self, number: u64) -> Result<Told<N>, AllocError>
         ensures told { IfOk result (λ told. told ≡ self.new) }
         ensures added { IfOk result (λ _. ((is_shown self.old number ≡ false) × (self.new ≡ self.old))
             ⊎ ((is_shown self.old number ≡ true) × (self.new ≡ self.old ++ Ended number ∷ []))) }
@@ -205,19 +204,19 @@ impl<N: Named, R: Wait + Drop> Publisher<N, R> {
     {
         let table = Arc::new(self.alloc, table)?;
         let told = table.clone()?;
-        let mut front = self.writer.published().front().again();
-        if !front.add_all(&self.head, events) {
+        let mut log = self.writer.published().log().again();
+        if !log.add_all(&self.head, events) {
             return Err(AllocError);
         }
-        let told = Shown::new(told, front.again());
-        self.show(Shown::new(table, front));
+        let told = Shown::new(told, log.again());
+        self.show(Shown::new(table, log));
         self.keeps_older = true;
         Ok(Told::new(told))
     }
 
     /// Shows the next value, the list of which goes on from what is shown.
     fn show(&mut self, next: Shown)
-        requires { Begins (record { book = N.book; log = self.old }) next }
+        requires { BeginsLog (record { book = N.book; log = self.old }) next }
         ensures { self.new ≡ next.log }
     {
         mem::replace_with(&mut self.writer, (&self.rt, next), |writer, (rt, next)| {

@@ -1,28 +1,28 @@
 //! How the writer of the shared value shows the next one.
 ghost use Rattle.std.specs.Prelude.{◌≡◌, ◌++◌, ◌∷◌, [], Some, drop};
 ghost use Rattle.left_right.specs.Sides.{view};
-ghost use Rattle.wq_live.specs.Front.{Begins};
+ghost use Rattle.wq_live.specs.Log.{BeginsLog};
 
-use crate::front::Front;
 use crate::kept::{Kept, Knowing};
+use crate::log::Log;
 use crate::shown::Shown;
 use left_right::writer::Writer;
 use std::sync::Wait;
 
 /// The writer of the shared value.
-pub(crate) type ShownWriter = Writer<Shown, Shown, Option<Front>, Kept>;
+pub(crate) type ShownWriter = Writer<Shown, Shown, Option<Log>, Kept>;
 
 /// Shows the next value, the list of which goes on from what is shown. It waits for those that still look at the
 /// value before the last one.
 pub(crate) fn show<R: Wait>(rt: &R, writer: ShownWriter, next: Shown) -> ShownWriter
     requires ready { drop writer.behind writer.log.items ≡ [] }
-    requires goes_on { Begins writer.desk.shown.value next }
+    requires goes_on { BeginsLog writer.desk.shown.value next }
     ensures shown { result.desk.shown.value ≡ next }
     ensures known { view result.desk.place ≡ Some next }
     ensures ready { drop result.behind result.log.items ≡ [] }
 {
-    let front = next.front().again();
-    publish_pending(rt, append(rt, writer, next), &front)
+    let log = next.log().again();
+    publish_pending(rt, append(rt, writer, next), &log)
 }
 
 /// Lines the next value up. A refused growth is tried again.
@@ -41,9 +41,9 @@ fn append<R: Wait>(rt: &R, mut writer: ShownWriter, mut next: Shown) -> ShownWri
 }
 
 /// Shows what is lined up. A refused growth is tried again.
-fn publish_pending<R: Wait>(rt: &R, mut writer: ShownWriter, next: &Front) -> ShownWriter
+fn publish_pending<R: Wait>(rt: &R, mut writer: ShownWriter, next: &Log) -> ShownWriter
     requires pending { drop writer.behind writer.log.items ≡ next.now ∷ [] }
-    requires goes_on { Begins writer.desk.shown.value next.now }
+    requires goes_on { BeginsLog writer.desk.shown.value next.now }
     ensures shown { result.desk.shown.value ≡ next.now }
     ensures known { view result.desk.place ≡ Some next.now }
     ensures ready { drop result.behind result.log.items ≡ [] }

@@ -4,12 +4,12 @@ ghost use mathlib.Core.List.{IsPrefix};
 ghost use Rattle.left_right.specs.Sides.{view};
 ghost use Rattle.wq_base.specs.Limit.{max_number};
 ghost use Rattle.wq_view.specs.View.{IsViewOf};
-ghost use Rattle.wq_live.specs.Event.{is_shown, passes_over, root_named};
-ghost use Rattle.wq_live.specs.Front.{AgreeAs, Begins, IsAhead, begun_with};
+ghost use Rattle.wq_live.specs.Event.{is_shown, passes_over, shown_root};
+ghost use Rattle.wq_live.specs.Log.{AgreeAs, BeginsLog, IsAhead, begun_with};
 ghost use Rattle.wq_live.specs.Table.{IsTableOf};
 
-use crate::front::Front;
 use crate::kept::{Kept, Knowing};
+use crate::log::Log;
 use crate::named::Named;
 use crate::shown::Shown;
 use crate::table::RootTable;
@@ -30,7 +30,7 @@ impl<N: Named> Model for Told<N> {
 
     ghost Value = { List RootEvent };
 
-    ghost use Rattle.wq_live.specs.Front.{events_code};
+    ghost use Rattle.wq_live.specs.Log.{events_code};
 
     ghost coded = { events_code };
 
@@ -55,8 +55,8 @@ impl<N: Named> Told<N> {
 /// what it saw, and else what it saw. No table is kept that a look would not show.
 #[derive(Drop)]
 pub struct Seat<N: Named> {
-    reader: Reader<Shown, Option<Front>, Kept>,
-    saw: Front,
+    reader: Reader<Shown, Option<Log>, Kept>,
+    saw: Log,
     told: Option<Shown>,
     of: PhantomData<N>,
 }
@@ -65,11 +65,11 @@ impl<N: Named> Model for Seat<N> {
     ghost use Rattle.std.specs.Prelude.{◌≡◌, List, Some};
     ghost use Rattle.left_right.specs.Sides.{view as known};
     ghost use Rattle.wq_live.specs.declared.event.RootEvent.{RootEvent};
-    ghost use Rattle.wq_live.specs.Front.{IsAhead, begun_with};
+    ghost use Rattle.wq_live.specs.Log.{IsAhead, begun_with};
 
     ghost Value = { List RootEvent };
 
-    ghost use Rattle.wq_live.specs.Front.{events_code};
+    ghost use Rattle.wq_live.specs.Log.{events_code};
 
     ghost coded = { events_code };
 
@@ -81,7 +81,7 @@ impl<N: Named> Model for Seat<N> {
 
 impl<N: Named> Seat<N> {
     /// The seat of a reader that knows this list.
-    pub(crate) fn new(reader: Reader<Shown, Option<Front>, Kept>, saw: Front) -> Seat<N>
+    pub(crate) fn new(reader: Reader<Shown, Option<Log>, Kept>, saw: Log) -> Seat<N>
         requires known { view reader.place ≡ Some saw }
         requires named { saw.book ≡ N.book }
         ensures { result ≡ saw.log }
@@ -131,7 +131,7 @@ impl<N: Named> Seat<N> {
         match reader.enter_as::<Knowing>() {
             Ok(reading) => {
                 let told = match told {
-                    Some(told) => ahead(reading.get().front(), told),
+                    Some(told) => ahead(reading.get().log(), told),
                     None => None,
                 };
                 Ok(Look { reading, told, of })
@@ -150,7 +150,7 @@ impl<N: Named> Seat<N> {
 ///
 /// It is not `Drop`: end it by `leave`.
 pub struct Look<N: Named> {
-    reading: Reading<Shown, Option<Front>, Kept>,
+    reading: Reading<Shown, Option<Log>, Kept>,
     /// What was told, where that is longer than what is shown.
     told: Option<Shown>,
     of: PhantomData<N>,
@@ -160,11 +160,11 @@ impl<N: Named> Model for Look<N> {
     ghost use Rattle.std.specs.Prelude.{◌≡◌, List, Some};
     ghost use Rattle.left_right.specs.Sides.{view as known};
     ghost use Rattle.wq_live.specs.declared.event.RootEvent.{RootEvent};
-    ghost use Rattle.wq_live.specs.Front.{IsAhead, begun_with};
+    ghost use Rattle.wq_live.specs.Log.{IsAhead, begun_with};
 
     ghost Value = { List RootEvent };
 
-    ghost use Rattle.wq_live.specs.Front.{events_code};
+    ghost use Rattle.wq_live.specs.Log.{events_code};
 
     ghost coded = { events_code };
 
@@ -191,23 +191,23 @@ impl<N: Named> Look<N> {
         ensures shorter { result ≡ nat_lt (length self.now) (length other.now) }
         ensures begins { AgreeAs result self.now other.now }
     {
-        self.front().is_shorter(other.front())
+        self.log().is_shorter(other.log())
     }
 
     /// The look's list.
-    fn front(&self) -> &Front
+    fn log(&self) -> &Log
         ensures { result.now ≡ record { book = N.book; log = self.now } }
     {
         match &self.told {
-            Some(told) => told.front(),
-            None => self.reading.get().front(),
+            Some(told) => told.log(),
+            None => self.reading.get().log(),
         }
     }
 
     /// The number and the view of the root of this text, where it is shown in the look's list.
     pub fn root(&self, text: &str) -> Option<(u64, &View)>
         ensures number { option_map (λ it. it.0) result
-            ≡ option_map (λ root. root.number) (root_named text.now self.now) }
+            ≡ option_map (λ root. root.number) (shown_root text.now self.now) }
         ensures view { IfSome result (λ it. IsViewOf (passes_over it.0 self.now) it.1.now) }
         ensures bound { IfSome result (λ it. it.0 ≤ max_number) }
     {
@@ -227,7 +227,7 @@ impl<N: Named> Look<N> {
         ensures { result ≡ self }
     {
         let Look { reading, told, of } = self;
-        let saw = reading.get().front().again();
+        let saw = reading.get().log().again();
         Seat {
             reader: reading.leave(),
             saw,
@@ -238,12 +238,12 @@ impl<N: Named> Look<N> {
 }
 
 /// What was told, where it goes beyond this list.
-fn ahead(front: &Front, told: Shown) -> Option<Shown>
-    requires { front.now.book ≡ told.book }
-    ensures ahead { IsAhead front.now result }
-    ensures told { IsPrefix told.log (begun_with front.now result) }
+fn ahead(log: &Log, told: Shown) -> Option<Shown>
+    requires { log.now.book ≡ told.book }
+    ensures ahead { IsAhead log.now result }
+    ensures told { IsPrefix told.log (begun_with log.now result) }
 {
-    if front.is_shorter(told.front()) {
+    if log.is_shorter(told.log()) {
         Some(told)
     } else {
         None
@@ -253,8 +253,8 @@ fn ahead(front: &Front, told: Shown) -> Option<Shown>
 /// The longest that was told.
 fn longest(before: Option<Shown>, told: Shown) -> Shown
     requires { IfSome before (λ before. before.book ≡ told.book) }
-    ensures before { IfSome before (λ before. Begins before result) }
-    ensures told { Begins told result }
+    ensures before { IfSome before (λ before. BeginsLog before result) }
+    ensures told { BeginsLog told result }
 {
     match before {
         Some(before) => before.longer(told),

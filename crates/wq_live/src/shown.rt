@@ -1,9 +1,9 @@
 //! The value that threads share: the table of all roots, with the list of events of which it is the table.
 ghost use Rattle.std.specs.Prelude.{◌≡◌, [], IfOk};
-ghost use Rattle.wq_live.specs.Front.{Compared, longer_front};
+ghost use Rattle.wq_live.specs.Log.{Compared, longer_log};
 ghost use Rattle.wq_live.specs.Table.{IsTableOf};
 
-use crate::front::Front;
+use crate::log::Log;
 use crate::table::RootTable;
 use left_right::Absorb;
 use std::alloc::{AllocError, Global};
@@ -14,29 +14,29 @@ use std::sync::Arc;
 #[derive(Drop)]
 pub struct Shown {
     table: Arc<RootTable>,
-    front: Front,
+    log: Log,
 }
 
 impl Model for Shown {
-    ghost use Rattle.wq_live.specs.Front.{FrontData, front_code};
+    ghost use Rattle.wq_live.specs.Log.{LogData, log_code};
     ghost use Rattle.wq_live.specs.Table.{IsTableOf};
 
-    ghost Value = { FrontData };
+    ghost Value = { LogData };
 
-    ghost coded = { front_code };
+    ghost coded = { log_code };
 
-    ghost view = { λ s. s.front };
+    ghost view = { λ s. s.log };
 
-    ghost invariant = { λ s. IsTableOf s.front.log s.table.value };
+    ghost invariant = { λ s. IsTableOf s.log.log s.table.value };
 }
 
 impl Shown {
     /// The table of this list. It takes no memory.
-    pub(crate) fn new(table: Arc<RootTable>, front: Front) -> Shown
-        requires { IsTableOf front.log table.value }
-        ensures { result ≡ front }
+    pub(crate) fn new(table: Arc<RootTable>, log: Log) -> Shown
+        requires { IsTableOf log.log table.value }
+        ensures { result ≡ log }
     {
-        Shown { table, front }
+        Shown { table, log }
     }
 
     /// The same, which shares the table.
@@ -45,17 +45,17 @@ impl Shown {
     {
         Ok(Shown {
             table: self.table.clone()?,
-            front: self.front.again(),
+            log: self.log.again(),
         })
     }
 
     /// The one of two with the longer list.
     pub(crate) fn longer(self, other: Shown) -> Shown
         requires { self.book ≡ other.book }
-        ensures longer { result ≡ longer_front self other }
+        ensures longer { result ≡ longer_log self other }
         ensures compared { Compared self other }
     {
-        if self.front.is_shorter(&other.front) {
+        if self.log.is_shorter(&other.log) {
             other
         } else {
             self
@@ -70,10 +70,10 @@ impl Shown {
     }
 
     /// The list.
-    pub(crate) fn front(&self) -> &Front
+    pub(crate) fn log(&self) -> &Log
         ensures { result.now ≡ self.now }
     {
-        &self.front
+        &self.log
     }
 }
 

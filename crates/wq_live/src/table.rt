@@ -1,23 +1,21 @@
 //! The table of all roots that are shown. Each change makes a new table and leaves the old one, with which it shares
 //! the texts, and the views of the roots that did not change.
 ghost use Rattle.std.specs.Prelude.{◌≡◌, ◌≢◌, ◌≤◌, ◌<◌, ◌+◌, ◌++◌, ◌∷◌, ◌↔◌, ◌⊎◌, [], Err, IfErr, IfNone, IfOk, IfSome, IsTrue, List, MatchOption, MatchResult, None, Some, false, find, length, map, option_map, true};
-ghost use Rattle.wq_base.specs.Limit.{max_number};
+ghost use Rattle.wq_base.specs.Limit.{max_number, max_roots};
 ghost use Rattle.wq_live.specs.declared.event.RootEvent.{RootEvent};
 ghost use Rattle.wq_live.specs.declared.event.RootEvent.TheVariants.{Ended, Passed};
 ghost use Rattle.wq_view.specs.History.{History, last_stats};
 ghost use Rattle.wq_view.specs.Limit.{max_tick};
 ghost use Rattle.wq_view.specs.View.{IsViewOf};
 ghost use Rattle.wq_live.specs.Event.{first_history, is_shown, passes_over, start_events};
-ghost use Rattle.wq_live.specs.Limit.{max_roots};
 ghost use Rattle.wq_live.specs.Table.{IsNews, IsNoNews, IsStarted, IsTableOf, WantsForTicks, has_number, has_text, with_view, without};
 
-use crate::limit::MAX_ROOTS;
 use crate::shown_root::ShownRoot;
 use std::alloc::{AllocError, Global};
 use std::marker::Model;
 use std::sync::Arc;
 use thiserror::Error;
-use wq_base::{MAX_NUMBER, Text};
+use wq_base::{MAX_NUMBER, MAX_ROOTS, Text};
 use wq_view::{Pass, View, ViewFault};
 
 /// Why a root is not started. It leaves the table as it was.
@@ -51,8 +49,7 @@ pub struct RootTable {
 
 impl Model for RootTable {
     ghost use Rattle.std.specs.Prelude.{◌≤◌, length};
-    ghost use Rattle.wq_base.specs.Limit.{max_number};
-    ghost use Rattle.wq_live.specs.Limit.{max_roots};
+    ghost use Rattle.wq_base.specs.Limit.{max_number, max_roots};
     ghost use Rattle.wq_live.specs.Table.{TableData, table_code};
 
     ghost Value = { TableData };

@@ -12,8 +12,8 @@ use std::{io, thread};
 use wq_base::Table;
 use wq_clock::Run;
 use wq_live::{Blank, Named, Seat};
-use wq_stream::Event;
 use wq_serve::{Crawler, Inbox, LockDesk, LockRoots, SharedCrawler, SharedShelf, serve};
+use wq_stream::Event;
 
 /// How often it is looked whether the other client got its reply.
 const TURNS: u64 = 1_000_000_000;

@@ -9,8 +9,8 @@ use std::test::Fail;
 use std::time::Duration;
 use std::{fs, io};
 use wq_daemon::{Host, RootNumbers, listen, remove, run};
-use wq_stream::Event;
 use wq_serve::Inbox;
+use wq_stream::Event;
 
 /// The numbers of two intervals: those that were shown and those that were given, and then those that were shown.
 const NUMBERS: &[u8] = b"1234525";

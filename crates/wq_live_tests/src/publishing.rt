@@ -11,9 +11,9 @@ use std::marker::Brand;
 use std::sync::{Arc, Wait};
 use wq_clock::Run;
 use wq_live::{Blank, Named, Told, Tree, TreeFault};
-use wq_stream::Splitter;
 use wq_serve::{Crawler, LockDesk, LockRoots, MemoryInbox, Roots, SharedCrawler, serve};
 use wq_session::CrawlFault;
+use wq_stream::Splitter;
 use wq_view::Seen;
 
 /// A tree that has two files, and one at every other listing.
@@ -58,8 +58,8 @@ impl<N: Named, R: Wait + Drop> Roots<N> for Publishing<N, R> {
 
     ghost crawler = { λ _. None };
 
-    fn open(&mut self, root: &str) -> Result<Told<N>, CrawlFault> {
-        let told = self.roots.open(root);
+    fn watch(&mut self, root: &str) -> Result<Told<N>, CrawlFault> {
+        let told = self.roots.watch(root);
         publish_twice(&mut self.roots);
         told
     }
@@ -69,9 +69,9 @@ impl<N: Named, R: Wait + Drop> Roots<N> for Publishing<N, R> {
         self.roots.crawl(root)
     }
 
-    fn retire(&mut self, number: u64) -> Result<Told<N>, CrawlFault> {
+    fn unwatch(&mut self, number: u64) -> Result<Told<N>, CrawlFault> {
         publish_twice(&mut self.roots);
-        self.roots.retire(number)
+        self.roots.unwatch(number)
     }
 }
 

@@ -10,11 +10,11 @@ use std::test::Fail;
 use wq_clock::Run;
 use wq_live::{Blank, Named, Seat, Tree, TreeFault};
 use wq_registry::{Cache, Shelf};
-use wq_stream::Splitter;
 use wq_serve::{
     Crawler, Desk, LockDesk, MemoryDesk, MemoryInbox, MemoryRoots, Roots, Seconds, SharedShelf,
     serve,
 };
+use wq_stream::Splitter;
 use wq_view::Seen;
 
 /// A tree each root of which has the same files.
@@ -208,9 +208,9 @@ fn play_alone<N: Named, R: Wait + Drop>(
 fn is_answered<N: Named, R: Roots<N>>(roots: &mut R) -> bool {
     matches!(roots.crawl("/r"), Ok(Some(_)))
         && matches!(roots.crawl("/q"), Ok(None))
-        && roots.retire(1).is_ok()
+        && roots.unwatch(1).is_ok()
         && matches!(roots.crawl("/r"), Ok(None))
-        && roots.open("/r").is_ok()
+        && roots.watch("/r").is_ok()
         && matches!(roots.crawl("/r"), Ok(Some(_)))
 }
 

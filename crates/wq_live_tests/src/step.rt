@@ -32,7 +32,7 @@ fn take<N: Named, R: Wait + Drop>(
     match step {
         Step::Start(text, files) => start(alloc, publisher, text, *files),
         Step::Pass(number, files) => publish(alloc, publisher, *number, *files),
-        Step::End(number) => publisher.retire(*number).ok(),
+        Step::End(number) => publisher.end(*number).ok(),
     }
 }
 
@@ -159,7 +159,7 @@ fn fill_up<N: Named, R: Wait + Drop>(rt: R, alloc: Global, blank: Blank) -> Opti
     let is_right = fill(alloc, &mut publisher)
         && is_full(alloc, &mut publisher)
         && is_filled(&mut publisher);
-    if !is_right || publisher.retire(3).is_err() {
+    if !is_right || publisher.end(3).is_err() {
         return None;
     }
     start(alloc, &mut publisher, "17", 1);

@@ -13,7 +13,7 @@ use Rattle.wq_base.proofs.Fault.{or_fault-ok, or_its_fault-ok, unless_fault-ok, 
 use Rattle.wq_base.proofs.Named.{named-name}
 use Rattle.wq_clock.specs.Instance.{InstanceData}
 use Rattle.wq_clock.specs.ClockSpec.{SpecData, clock_id, old_clock_id, named_cursor, clock_spec_of}
-use Rattle.wq_clock.specs.Spelling.{IsSpelling}
+use Rattle.wq_clock.specs.Spelling.{IsClockSpelling}
 use Rattle.wq_clock.specs.Law.{TextsSayWhatTheySpell}
 use Rattle.wq_clock.specs.declared.bound.Bound.{Bound}
 use Rattle.wq_clock.specs.declared.bound.Bound.TheVariants.{Fresh}
@@ -35,10 +35,10 @@ use Rattle.wq_query.specs.Field.{field_name, field_named, fields, default_fields
 use Rattle.wq_query.specs.Query.{QueryData, SinceData, at_bound, at_cursor}
 use Rattle.wq_query.specs.Reading.{asks, left_out_keys, has_key_of, has_left_out_key, is_plain_case}
 use Rattle.wq_query.specs.Reading.{expression_of, field_of, fields_in, fields_of, since_of, flag_of}
-use Rattle.wq_query.specs.Reading.{is_whole, has_both, cursor_in, name_in, since_from, program_of}
+use Rattle.wq_query.specs.Reading.{is_whole_or_absent, has_both, cursor_in, cursor_in, since_from, program_name}
 use Rattle.wq_query.specs.Generator.{suffixes_of, paths_in, paths_of}
 use Rattle.wq_query.specs.Grammar.{IsExpression, AreNamed, AreFields, AreSuffixes, ArePaths, IsCursor}
-use Rattle.wq_query.specs.Grammar.{IsSince, IsProgram, IsWrittenBy}
+use Rattle.wq_query.specs.Grammar.{IsSinceKey, IsProgram, IsWrittenBy}
 use Rattle.wq_query.proofs.Paths.{paths-found, paths-read}
 use Rattle.wq_query.specs.Law.{ValuesAskWhatTheyWrite}
 
@@ -206,9 +206,9 @@ bound-no-cursor : (instance : InstanceData) (d : Data) (bound : Bound) → bound
 bound-no-cursor instance (string text) bound e = at (clock_spec_of text) refl
   where
     at : (o : Option SpecData) → clock_spec_of text ≡ o → cursor_in (string text) ≡ None
-    at None is = ap (option_and_then name_in) is
-    at (Some (clock_id other tick)) is = ap (option_and_then name_in) is
-    at (Some old_clock_id) is = ap (option_and_then name_in) is
+    at None is = ap (option_and_then cursor_in) is
+    at (Some (clock_id other tick)) is = ap (option_and_then cursor_in) is
+    at (Some old_clock_id) is = ap (option_and_then cursor_in) is
     at (Some (named_cursor name)) is = cc
 bound-no-cursor instance _ bound e = refl
 
@@ -216,36 +216,36 @@ bound-no-cursor instance _ bound e = refl
 cursor-found : TextsSayWhatTheySpell → (d : Data) (name : List ℕ) → cursor_in d ≡ Some name → IsCursor name d
 cursor-found law (string text) name e = at (clock_spec_of text) refl
   where
-    at : (o : Option SpecData) → clock_spec_of text ≡ o → IsSpelling (named_cursor name) text
+    at : (o : Option SpecData) → clock_spec_of text ≡ o → IsClockSpelling (named_cursor name) text
     at (Some (named_cursor other)) is =
-        subst (λ n. IsSpelling (named_cursor n) text)
-        (same_Some other name (sym (ap (option_and_then name_in) is) ∙ e)) ((law text (named_cursor other)).0 is)
-    at (Some (clock_id other tick)) is = absurd (none_or_some name (sym (ap (option_and_then name_in) is) ∙ e))
-    at (Some old_clock_id) is = absurd (none_or_some name (sym (ap (option_and_then name_in) is) ∙ e))
-    at None is = absurd (none_or_some name (sym (ap (option_and_then name_in) is) ∙ e))
+        subst (λ n. IsClockSpelling (named_cursor n) text)
+        (same_Some other name (sym (ap (option_and_then cursor_in) is) ∙ e)) ((law text (named_cursor other)).0 is)
+    at (Some (clock_id other tick)) is = absurd (none_or_some name (sym (ap (option_and_then cursor_in) is) ∙ e))
+    at (Some old_clock_id) is = absurd (none_or_some name (sym (ap (option_and_then cursor_in) is) ∙ e))
+    at None is = absurd (none_or_some name (sym (ap (option_and_then cursor_in) is) ∙ e))
 cursor-found law _ name e = cc
 
 cursor-reads : TextsSayWhatTheySpell → (d : Data) (name : List ℕ) → IsCursor name d → cursor_in d ≡ Some name
-cursor-reads law (string text) name h = ap (option_and_then name_in) ((law text (named_cursor name)).1 h)
+cursor-reads law (string text) name h = ap (option_and_then cursor_in) ((law text (named_cursor name)).1 h)
 cursor-reads law _ name h = absurd h
 
 since-found : BoundsSayWhatTheyWrite → TextsSayWhatTheySpell
     → (instance : InstanceData) (o : Option Data) (since : SinceData)
-    → since_of instance o ≡ Some since → MatchOption o (since ≡ at_bound Fresh) (IsSince instance since)
+    → since_of instance o ≡ Some since → MatchOption o (since ≡ at_bound Fresh) (IsSinceKey instance since)
 since-found bounds texts instance None since e = sym (same_Some (at_bound Fresh) since e)
 since-found bounds texts instance (Some d) since e = at (cursor_in d) refl e
   where
     at : (o : Option (List ℕ)) → cursor_in d ≡ o → since_from o (result_ok (bound_in instance d)) ≡ Some since
-        → IsSince instance since d
+        → IsSinceKey instance since d
     at (Some name) is f =
-        subst (λ s. IsSince instance s d) (same_Some (at_cursor name) since f) (cursor-found texts d name is)
+        subst (λ s. IsSinceKey instance s d) (same_Some (at_cursor name) since f) (cursor-found texts d name is)
     at None is f = mapped at_bound (result_ok (bound_in instance d)) since f (λ bound some same.
-        subst (λ s. IsSince instance s d) same
+        subst (λ s. IsSinceKey instance s d) same
         ((bounds instance bound d).0 (right (bound_in instance d) bound some)))
 
 since-reads : BoundsSayWhatTheyWrite → TextsSayWhatTheySpell
     → (instance : InstanceData) (o : Option Data) (since : SinceData)
-    → MatchOption o (since ≡ at_bound Fresh) (IsSince instance since) → since_of instance o ≡ Some since
+    → MatchOption o (since ≡ at_bound Fresh) (IsSinceKey instance since) → since_of instance o ≡ Some since
 since-reads bounds texts instance None since h = ap Some (sym h)
 since-reads bounds texts instance (Some d) (at_bound bound) h =
     let is = (bounds instance bound d).1 h in
@@ -255,7 +255,7 @@ since-reads bounds texts instance (Some d) (at_cursor name) h =
     ap (λ o. since_from o (result_ok (bound_in instance d))) (cursor-reads texts d name h)
 
 -- `program`
-program-found : (o : Option Data) (program : Option (List ℕ)) → program_of o ≡ Some program
+program-found : (o : Option Data) (program : Option (List ℕ)) → program_name o ≡ Some program
     → MatchOption o (program ≡ None) (IsProgram program)
 program-found None program e = sym (same_Some None program e)
 program-found (Some (string name)) program e =
@@ -263,9 +263,9 @@ program-found (Some (string name)) program e =
 program-found (Some _) program e = cc
 
 program-reads : (o : Option Data) (program : Option (List ℕ))
-    → MatchOption o (program ≡ None) (IsProgram program) → program_of o ≡ Some program
+    → MatchOption o (program ≡ None) (IsProgram program) → program_name o ≡ Some program
 program-reads None program h = ap Some (sym h)
-program-reads (Some d) (Some name) h = ap (λ v. program_of (Some v)) h
+program-reads (Some d) (Some name) h = ap (λ v. program_name (Some v)) h
 program-reads (Some d) None h = absurd h
 
 -- `empty_on_fresh_instance`
@@ -281,7 +281,7 @@ flag-reads None b h = ap Some (sym h)
 flag-reads (Some d) b h = ap as_bool h
 
 -- `sync_timeout`
-whole-found : NumbersSayWhatTheyWrite → (o : Option Data) → is_whole o ≡ true
+whole-found : NumbersSayWhatTheyWrite → (o : Option Data) → is_whole_or_absent o ≡ true
     → MatchOption o (Unit {0}) (λ value. (n : ℤ) × IsWhole n value)
 whole-found law None e = tt
 whole-found law (Some d) e = at (whole_number_of d) refl e
@@ -291,7 +291,7 @@ whole-found law (Some d) e = at (whole_number_of d) refl e
     at (Some n) is e = (n, (law n d).0 is)
 
 whole-reads : NumbersSayWhatTheyWrite → (o : Option Data)
-    → MatchOption o (Unit {0}) (λ value. (n : ℤ) × IsWhole n value) → is_whole o ≡ true
+    → MatchOption o (Unit {0}) (λ value. (n : ℤ) × IsWhole n value) → is_whole_or_absent o ≡ true
 whole-reads law None h = refl
 whole-reads law (Some d) h = ap is_some ((law h.0 d).1 h.1)
 
@@ -310,7 +310,7 @@ with_keys t fs suffix path since program flag = record {
 
 -- the chain of faults from `sync_timeout` on
 abbrev pub from_whole : Data → QueryData → Result QueryData QueryFault
-from_whole d query = unless_fault WrongValue (is_whole (get (codes "sync_timeout") d)) (Ok query)
+from_whole d query = unless_fault WrongValue (is_whole_or_absent (get (codes "sync_timeout") d)) (Ok query)
 
 -- from `empty_on_fresh_instance` on
 abbrev pub from_flag : Data → ExprData → List Field → Option (List (List ℕ))
@@ -323,7 +323,7 @@ from_flag d t fs suffix path since program =
 abbrev pub from_program : Data → ExprData → List Field → Option (List (List ℕ))
     → Option (List PathGen) → SinceData → Result QueryData QueryFault
 from_program d t fs suffix path since =
-    or_fault WrongValue (program_of (get (codes "program") d)) (λ program.
+    or_fault WrongValue (program_name (get (codes "program") d)) (λ program.
     from_flag d t fs suffix path since program)
 
 -- from `since` on
@@ -370,10 +370,10 @@ found values bounds texts numbers instance query d e =
     or_fault-ok BadGenerator (suffixes_of (get (codes "suffix") d)) (λ suffix. from_path instance d t fs suffix) query e3 (λ suffix ends e4.
     or_fault-ok BadGenerator (paths_of (get (codes "path") d)) (λ path. after_paths instance d t fs suffix path) query e4 (λ path stands e5.
     or_fault-ok BadClockSpec (since_of instance (get (codes "since") d)) (λ since. from_program d t fs suffix path since) query e5 (λ since sets e6.
-    or_fault-ok WrongValue (program_of (get (codes "program") d)) (λ program. from_flag d t fs suffix path since program) query e6 (λ program called e7.
+    or_fault-ok WrongValue (program_name (get (codes "program") d)) (λ program. from_flag d t fs suffix path since program) query e6 (λ program called e7.
     or_fault-ok WrongValue (flag_of (get (codes "empty_on_fresh_instance") d)) (λ flag.
     from_whole d (with_keys t fs suffix path since program flag)) query e7 (λ flag on e8.
-    unless_fault-ok WrongValue (is_whole (get (codes "sync_timeout") d))
+    unless_fault-ok WrongValue (is_whole_or_absent (get (codes "sync_timeout") d))
     (Ok (with_keys t fs suffix path since program flag)) query e8 (λ whole is.
     let parts = neither (has_key_of left_out_keys d) (is_plain_case (get (codes "case_sensitive") d)) none in
     subst (λ q. IsWrittenBy instance q d) (same_Ok _ query is) (record {

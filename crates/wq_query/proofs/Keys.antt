@@ -20,9 +20,9 @@ use Rattle.wq_query.specs.declared.fault.QueryFault.TheVariants.{WrongValue, NoM
 use Rattle.wq_query.specs.Query.{SinceData}
 use Rattle.wq_query.specs.declared.field.Field.{Field}
 use Rattle.wq_query.specs.Generator.{suffixes_of, paths_of}
-use Rattle.wq_query.specs.Outcome.{Gives, GivesFields, GivesProgram}
+use Rattle.wq_query.specs.Outcome.{GivesQuery, GivesFields, GivesProgram}
 use Rattle.wq_query.specs.Reading.{asks, has_both, has_left_out_key, expression_of, fields_in}
-use Rattle.wq_query.specs.Reading.{fields_of, since_of, program_of, flag_of, is_whole}
+use Rattle.wq_query.specs.Reading.{fields_of, since_of, program_name, flag_of, is_whole_or_absent}
 
 -- a query whose keys say this, but for the last
 pub asks_at : (instance : InstanceData) (d : Data) (t : ExprData) (fields : List Field)
@@ -33,9 +33,9 @@ pub asks_at : (instance : InstanceData) (d : Data) (t : ExprData) (fields : List
     → suffixes_of (get (codes "suffix") d) ≡ Some suffix
     → paths_of (get (codes "path") d) ≡ Some path
     → since_of instance (get (codes "since") d) ≡ Some since
-    → program_of (get (codes "program") d) ≡ Some program
+    → program_name (get (codes "program") d) ≡ Some program
     → flag_of (get (codes "empty_on_fresh_instance") d) ≡ Some flag
-    → is_whole (get (codes "sync_timeout") d) ≡ whole
+    → is_whole_or_absent (get (codes "sync_timeout") d) ≡ whole
     → asks instance d ≡ unless_fault WrongValue whole (Ok (record {
       expression = t;
       program = program;
@@ -57,7 +57,7 @@ pub asks_unnamed : (instance : InstanceData) (d : Data) (t : ExprData) (fields :
     → suffixes_of (get (codes "suffix") d) ≡ Some suffix
     → paths_of (get (codes "path") d) ≡ Some path
     → since_of instance (get (codes "since") d) ≡ Some since
-    → GivesProgram (Err fault) (program_of (get (codes "program") d)) → Gives (Err fault) (asks instance d)
+    → GivesProgram (Err fault) (program_name (get (codes "program") d)) → GivesQuery (Err fault) (asks instance d)
 asks_unnamed instance d t fields suffix path since WrongValue none one expression named ends at from is =
     rw (none, one, expression, named, ends, at, from, is) refl
 asks_unnamed instance d t fields suffix path since NoMemory none one expression named ends at from is = tt
@@ -77,7 +77,7 @@ pub asks_unflagged : (instance : InstanceData) (d : Data) (t : ExprData) (fields
     → suffixes_of (get (codes "suffix") d) ≡ Some suffix
     → paths_of (get (codes "path") d) ≡ Some path
     → since_of instance (get (codes "since") d) ≡ Some since
-    → program_of (get (codes "program") d) ≡ Some program
+    → program_name (get (codes "program") d) ≡ Some program
     → flag_of (get (codes "empty_on_fresh_instance") d) ≡ None → asks instance d ≡ Err WrongValue
 asks_unflagged instance d t fields suffix path since program none one expression named ends at from name said =
     rw (none, one, expression, named, ends, at, from, name, said) refl

@@ -16,8 +16,8 @@ use Rattle.wq_term.specs.Text.{without_end_slashes}
 use Rattle.wq_term.proofs.ArgumentGrammar.{mapped, between-found, between-reads, text-reads}
 use Rattle.wq_term.proofs.Slashes.{slashes, drops}
 use Rattle.wq_term.proofs.TermGrammar.{dir-found}
-use Rattle.wq_query.specs.Generator.{depth_of, path_parts, path_of, paths_in}
-use Rattle.wq_query.specs.Grammar.{IsPath, AreListed}
+use Rattle.wq_query.specs.Generator.{path_depth, path_parts, path_of, paths_in}
+use Rattle.wq_query.specs.Grammar.{IsPath, ArePaths}
 
 -- the path of a text and a depth
 abbrev pub path_at : List ℕ × ℤ → PathGen
@@ -37,7 +37,7 @@ dir-key : (o : Option Data) (text : List ℕ) → option_and_then text_of o ≡ 
 dir-key None text e = cc
 dir-key (Some d) text e = dir-found d text e
 
-depth-key : (o : Option Data) (depth : ℤ) → option_and_then depth_of o ≡ Some depth
+depth-key : (o : Option Data) (depth : ℤ) → option_and_then path_depth o ≡ Some depth
     → MatchOption o ⊥ (IsBetween (negsuc 0) (pos max_number) depth)
 depth-key None depth e = cc
 depth-key (Some d) depth e = between-found (negsuc 0) (pos max_number) depth d e
@@ -51,12 +51,12 @@ HasPath p d =
 abbrev pub object_parts : Data → Option (List ℕ × ℤ)
 object_parts d =
     option_zip (option_and_then text_of (get (codes "path") d))
-    (option_and_then depth_of (get (codes "depth") d))
+    (option_and_then path_depth (get (codes "depth") d))
 
 object-found : (d : Data) (p : PathGen) → option_map path_at (object_parts d) ≡ Some p → HasPath p d
 object-found d p e =
     mapped path_at (object_parts d) p e (λ c some is.
-    zipped (option_and_then text_of (get (codes "path") d)) (option_and_then depth_of (get (codes "depth") d)) c some (λ text depth t n pair.
+    zipped (option_and_then text_of (get (codes "path") d)) (option_and_then path_depth (get (codes "depth") d)) c some (λ text depth t n pair.
     subst (λ q. HasPath q d) (ap path_at pair ∙ is)
     (dir-key (get (codes "path") d) text t, depth-key (get (codes "depth") d) depth n)))
 
@@ -67,7 +67,7 @@ dir-said (Some d) dir h =
     (dir ++ slashes h.1.0, (text-reads d (dir ++ slashes h.1.0) h.1.1, drops dir h.1.0 h.0))
 
 depth-said : (o : Option Data) (depth : ℤ)
-    → MatchOption o ⊥ (IsBetween (negsuc 0) (pos max_number) depth) → option_and_then depth_of o ≡ Some depth
+    → MatchOption o ⊥ (IsBetween (negsuc 0) (pos max_number) depth) → option_and_then path_depth o ≡ Some depth
 depth-said None depth h = absurd h
 depth-said (Some d) depth h = between-reads (negsuc 0) depth d h
 
@@ -103,13 +103,13 @@ path-reads (array ds) p h = object-reads (array ds) p h
 path-reads (object ms) p h = object-reads (object ms) p h
 
 -- the paths of a list
-pub paths-found : (ds : Items) (paths : List PathGen) → paths_in ds ≡ Some paths → AreListed paths ds
-paths-found no_items paths e = subst (λ ps. AreListed ps no_items) (same_Some [] paths e) tt
+pub paths-found : (ds : Items) (paths : List PathGen) → paths_in ds ≡ Some paths → ArePaths paths ds
+paths-found no_items paths e = subst (λ ps. ArePaths ps no_items) (same_Some [] paths e) tt
 paths-found (item d ds) paths e =
     with_first-some (path_of d) (paths_in ds) paths e (λ p ps first rest is.
-    subst (λ qs. AreListed qs (item d ds)) is (path-found d p first, paths-found ds ps rest))
+    subst (λ qs. ArePaths qs (item d ds)) is (path-found d p first, paths-found ds ps rest))
 
-pub paths-read : (ds : Items) (paths : List PathGen) → AreListed paths ds → paths_in ds ≡ Some paths
+pub paths-read : (ds : Items) (paths : List PathGen) → ArePaths paths ds → paths_in ds ≡ Some paths
 paths-read no_items [] h = refl
 paths-read (item d ds) (p ∷ ps) h = rw (path-reads d p h.0, paths-read ds ps h.1) refl
 paths-read no_items (p ∷ ps) h = absurd h

@@ -12,14 +12,14 @@ use Rattle.wq_clock.specs.declared.bound.Bound.{Bound}
 use Rattle.wq_gen.specs.Candidate.{is_candidate}
 use Rattle.wq_gen.specs.declared.generators.Generators.{Generators}
 use Rattle.wq_term.specs.Expr.{ExprData, always, means}
-use Rattle.wq_term.specs.Fits.{fits}
+use Rattle.wq_term.specs.Fits.{expr_fits}
 use Rattle.wq_query.specs.Listing.{generators_of, is_fresh, is_listed, is_match, is_meant}
 use Rattle.wq_query.specs.Meaning.{SaysMeaning}
 use Rattle.wq_query.specs.Query.{PlanData}
 
 -- the expression that stands for none keeps the limits
-pub always_fits : fits always ≡ true
-unfolding fits
+pub always_fits : expr_fits always ≡ true
+unfolding expr_fits
 always_fits = refl
 
 -- a program that answers what an expression means says it

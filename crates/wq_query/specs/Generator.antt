@@ -17,15 +17,15 @@ suffixes_of None = Some None
 suffixes_of (Some d) = option_map Some (texts_of d)
 
 -- a depth: a whole number from -1 to 2^62
-abbrev pub depth_of : Data → Option ℤ
-depth_of d = integer_between (negsuc 0) (pos max_number) d
+abbrev pub path_depth : Data → Option ℤ
+path_depth d = integer_between (negsuc 0) (pos max_number) d
 
 -- the text and the depth of a path: of a bare text, without limit, or of an object that has both
 abbrev pub path_parts : Data → Option (List ℕ × ℤ)
 path_parts (string text) = option_map (λ t. (t, negsuc 0)) (text_of (string text))
 path_parts d =
     option_zip (option_and_then text_of (get (codes "path") d))
-    (option_and_then depth_of (get (codes "depth") d))
+    (option_and_then path_depth (get (codes "depth") d))
 
 -- a path, without the slashes at its end
 abbrev pub path_of : Data → Option PathGen

@@ -10,7 +10,7 @@ use Rattle.serde_json.specs.Find.{get}
 use Rattle.wq_base.specs.Limit.{max_number}
 use Rattle.wq_clock.specs.Instance.{InstanceData}
 use Rattle.wq_clock.specs.ClockSpec.{named_cursor}
-use Rattle.wq_clock.specs.Spelling.{IsSpelling}
+use Rattle.wq_clock.specs.Spelling.{IsClockSpelling}
 use Rattle.wq_clock.specs.declared.bound.Bound.TheVariants.{Fresh}
 use Rattle.wq_gen.specs.declared.generators.PathGen.{PathGen}
 use Rattle.wq_term.specs.Limit.{max_depth}
@@ -52,25 +52,25 @@ IsPath p d =
     × MatchOption (get (codes "depth") d) ⊥ (IsBetween (negsuc 0) (pos max_number) p.depth)
 
 -- paths, one behind the other
-abbrev pub AreListed : List PathGen → Items → Type 0
-AreListed [] no_items = Unit {0}
-AreListed (p ∷ ps) (item d ds) = IsPath p d × AreListed ps ds
-AreListed _ _ = ⊥
+abbrev pub ArePaths : List PathGen → Items → Type 0
+ArePaths [] no_items = Unit {0}
+ArePaths (p ∷ ps) (item d ds) = IsPath p d × ArePaths ps ds
+ArePaths _ _ = ⊥
 
 -- a list of paths
 abbrev pub ArePaths : Option (List PathGen) → Data → Type 0
-ArePaths (Some paths) (array ds) = AreListed paths ds
+ArePaths (Some paths) (array ds) = ArePaths paths ds
 ArePaths _ _ = ⊥
 
 -- a cursor: its name, of 1 to 255 bytes, stands behind `n:`
 abbrev pub IsCursor : List ℕ → Data → Type 0
-IsCursor name (string text) = IsSpelling (named_cursor name) text
+IsCursor name (string text) = IsClockSpelling (named_cursor name) text
 IsCursor name _ = ⊥
 
 -- from where changes are asked for: a bound, or a cursor
-abbrev pub IsSince : InstanceData → SinceData → Data → Type 0
-IsSince instance (at_bound bound) d = IsBound instance bound d
-IsSince instance (at_cursor name) d = IsCursor name d
+abbrev pub IsSinceKey : InstanceData → SinceData → Data → Type 0
+IsSinceKey instance (at_bound bound) d = IsBound instance bound d
+IsSinceKey instance (at_cursor name) d = IsCursor name d
 
 -- the name of a program, which is any text
 abbrev pub IsProgram : Option (List ℕ) → Data → Type 0
@@ -102,7 +102,7 @@ pub record IsWrittenBy (instance : InstanceData) (query : QueryData) (d : Data) 
   pub path : MatchOption (get (codes "path") d) (query.path ≡ None) (ArePaths query.path)
   -- nothing is known to the client, or a bound, or a cursor
   pub since : MatchOption (get (codes "since") d)
-      (query.since ≡ at_bound Fresh) (IsSince instance query.since)
+      (query.since ≡ at_bound Fresh) (IsSinceKey instance query.since)
   -- a fresh list has all files, or is empty
   pub empty_on_fresh_instance : MatchOption (get (codes "empty_on_fresh_instance") d)
       (query.empty_on_fresh_instance ≡ false)

@@ -48,12 +48,12 @@ abbrev pub is_listed : PlanData → RecordData → Bool
 is_listed plan r = is_match plan r && (not (is_fresh plan.bound) || r.exists)
 
 -- whether the list is to be empty whatever there is
-abbrev pub is_empty : PlanData → Bool
-is_empty plan = is_fresh plan.bound && (plan.query).empty_on_fresh_instance
+abbrev pub lists_nothing : PlanData → Bool
+lists_nothing plan = is_fresh plan.bound && (plan.query).empty_on_fresh_instance
 
 -- the files that a plan lists of these records
 abbrev pub files_of : PlanData → List RecordData → List RecordData
-files_of plan records = if is_empty plan then [] else filter (is_listed plan) records
+files_of plan records = if lists_nothing plan then [] else filter (is_listed plan) records
 
 -- whether each of these places is one of a record
 abbrev pub AreWithin : List RecordData → List ℕ → Type 0

@@ -14,10 +14,10 @@ use Rattle.wq_query.specs.declared.query.Since.{Since}
 use Rattle.wq_query.specs.Query.{QueryData, SinceData, asked_of, since_data}
 
 -- the result of the code is this answer, or the memory ran out
-abbrev pub Gives : Result Query QueryFault → Result QueryData QueryFault → Type 0
-Gives (Ok query) answer = answer ≡ Ok (asked_of query)
-Gives (Err NoMemory) answer = Unit {0}
-Gives (Err fault) answer = answer ≡ Err fault
+abbrev pub GivesQuery : Result Query QueryFault → Result QueryData QueryFault → Type 0
+GivesQuery (Ok query) answer = answer ≡ Ok (asked_of query)
+GivesQuery (Err NoMemory) answer = Unit {0}
+GivesQuery (Err fault) answer = answer ≡ Err fault
 
 -- the same of an expression
 abbrev pub GivesExpression : Result Expr QueryFault → Result ExprData TermFault → Type 0

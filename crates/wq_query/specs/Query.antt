@@ -18,14 +18,14 @@ pub data SinceData : Type 0 where
   at_cursor : List ℕ → SinceData
 
 -- the bound, where there is no cursor
-abbrev pub bound_of : SinceData → Option Bound
-bound_of (at_bound bound) = Some bound
-bound_of (at_cursor name) = None
+abbrev pub since_bound : SinceData → Option Bound
+since_bound (at_bound bound) = Some bound
+since_bound (at_cursor name) = None
 
 -- the name of the cursor, without `n:`
-abbrev pub cursor_of : SinceData → Option (List ℕ)
-cursor_of (at_bound bound) = None
-cursor_of (at_cursor name) = Some name
+abbrev pub since_cursor : SinceData → Option (List ℕ)
+since_cursor (at_bound bound) = None
+since_cursor (at_cursor name) = Some name
 
 -- which files match: those of an expression, or those that the program of a name answers yes for,
 -- where one is named; what is told of each, from where changes are asked for, with which suffixes

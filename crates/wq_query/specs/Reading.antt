@@ -73,13 +73,13 @@ fields_of (Some (array (item d ds))) = fields_in (item d ds)
 fields_of (Some _) = None
 
 -- the name of a clock spec that is a cursor
-abbrev pub name_in : SpecData → Option (List ℕ)
-name_in (named_cursor name) = Some name
-name_in _ = None
+abbrev pub cursor_in : SpecData → Option (List ℕ)
+cursor_in (named_cursor name) = Some name
+cursor_in _ = None
 
 -- the name of the cursor that a value says
 abbrev pub cursor_in : Data → Option (List ℕ)
-cursor_in (string text) = option_and_then name_in (clock_spec_of text)
+cursor_in (string text) = option_and_then cursor_in (clock_spec_of text)
 cursor_in _ = None
 
 -- the tick of a cursor, where there is one, or else a bound
@@ -93,10 +93,10 @@ since_of instance None = Some (at_bound Fresh)
 since_of instance (Some d) = since_from (cursor_in d) (result_ok (bound_in instance d))
 
 -- the name of the program, which is a text of any length; none where it is not there
-abbrev pub program_of : Option Data → Option (Option (List ℕ))
-program_of None = Some None
-program_of (Some (string name)) = Some (Some name)
-program_of (Some _) = None
+abbrev pub program_name : Option Data → Option (Option (List ℕ))
+program_name None = Some None
+program_name (Some (string name)) = Some (Some name)
+program_name (Some _) = None
 
 -- true or false; false where it is not there
 abbrev pub flag_of : Option Data → Option Bool
@@ -104,9 +104,9 @@ flag_of None = Some false
 flag_of (Some d) = as_bool d
 
 -- whether it is a whole number, or not there
-abbrev pub is_whole : Option Data → Bool
-is_whole None = true
-is_whole (Some d) = is_some (whole_number_of d)
+abbrev pub is_whole_or_absent : Option Data → Bool
+is_whole_or_absent None = true
+is_whole_or_absent (Some d) = is_some (whole_number_of d)
 
 -- what a query object asks at an instance: its faults are looked for in this order
 abbrev pub asks : InstanceData → Data → Result QueryData QueryFault
@@ -118,9 +118,9 @@ asks instance d =
     or_fault BadGenerator (suffixes_of (get (codes "suffix") d)) (λ suffix.
     or_fault BadGenerator (paths_of (get (codes "path") d)) (λ path.
     or_fault BadClockSpec (since_of instance (get (codes "since") d)) (λ since.
-    or_fault WrongValue (program_of (get (codes "program") d)) (λ program.
+    or_fault WrongValue (program_name (get (codes "program") d)) (λ program.
     or_fault WrongValue (flag_of (get (codes "empty_on_fresh_instance") d)) (λ flag.
-    unless_fault WrongValue (is_whole (get (codes "sync_timeout") d)) (
+    unless_fault WrongValue (is_whole_or_absent (get (codes "sync_timeout") d)) (
     Ok (record {
       expression = expression;
       program = program;

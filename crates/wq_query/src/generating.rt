@@ -2,7 +2,7 @@
 ghost use Rattle.std.specs.Prelude.{◌≡◌, option_map};
 ghost use Rattle.serde_json.specs.View.{view as data_of, items_view};
 ghost use Rattle.wq_term.specs.Argument.{all_texts_of, text_of, texts_of};
-ghost use Rattle.wq_query.specs.Generator.{depth_of, path_of, path_parts, paths_in, paths_of};
+ghost use Rattle.wq_query.specs.Generator.{path_depth, path_of, path_parts, paths_in, paths_of};
 ghost use Rattle.wq_query.specs.Generator.{suffixes_of};
 ghost use Rattle.wq_query.specs.Outcome.{GivesGenerator};
 
@@ -108,7 +108,7 @@ fn path_parts(value: &Value) -> Option<(&str, i64)>
 
 /// A depth: a whole number of -1 or more, where -1 is without limit.
 fn depth(value: &Value) -> Option<i64>
-    ensures { result ≡ depth_of (data_of value.now) }
+    ensures { result ≡ path_depth (data_of value.now) }
 {
     let depth = whole_number(value)?;
     if ANY_DEPTH <= depth {

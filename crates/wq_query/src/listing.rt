@@ -2,7 +2,7 @@
 ghost use Rattle.std.specs.Prelude.{◌≡◌, IfOk, filter};
 ghost use Rattle.wq_view.specs.Position.{passes_at, positions_of, records_at};
 ghost use Rattle.wq_query.specs.Listing.{AreWithin, files_of, generators_of};
-ghost use Rattle.wq_query.specs.Listing.{is_empty, is_fresh, is_listed, is_match, is_new};
+ghost use Rattle.wq_query.specs.Listing.{lists_nothing, is_fresh, is_listed, is_match, is_new};
 ghost use Rattle.wq_query.specs.Query.{planned};
 
 use crate::query::Plan;
@@ -100,7 +100,7 @@ pub(crate) fn is_new(bound: Bound, file: &Record) -> bool
 
 /// Whether the plan lists nothing, whatever there is.
 pub(crate) fn is_empty(plan: &Plan) -> bool
-    ensures { result ≡ is_empty (planned plan.now) }
+    ensures { result ≡ lists_nothing (planned plan.now) }
 {
     is_fresh(plan.bound) && plan.query.empty_on_fresh_instance
 }

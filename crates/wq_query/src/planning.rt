@@ -3,10 +3,10 @@ ghost use Rattle.std.specs.Prelude.{◌≡◌, None, IsTrue, option_map};
 ghost use Rattle.serde_json.specs.View.{view as data_of};
 ghost use Rattle.wq_clock.specs.Instance.{instance_data};
 ghost use Rattle.wq_term.specs.Expr.{term_of};
-ghost use Rattle.wq_term.specs.Fits.{fits};
+ghost use Rattle.wq_term.specs.Fits.{expr_fits};
 ghost use Rattle.wq_compile.specs.Meaning.{AnswersMeaning};
-ghost use Rattle.wq_query.specs.Outcome.{Gives};
-ghost use Rattle.wq_query.specs.Query.{asked_of, bound_of, cursor_of, planned};
+ghost use Rattle.wq_query.specs.Outcome.{GivesQuery};
+ghost use Rattle.wq_query.specs.Query.{asked_of, since_bound, since_cursor, planned};
 ghost use Rattle.wq_query.specs.Reading.{asks};
 
 use crate::fault::QueryFault;
@@ -29,7 +29,7 @@ impl Query {
     /// value of `sync_timeout` is tested here, and used by who crawls. A value that is no object
     /// has no keys.
     pub fn read(alloc: Global, value: &Value, instance: &Instance) -> Result<Query, QueryFault>
-        ensures { Gives result (asks (instance_data instance.now) (data_of value.now)) }
+        ensures { GivesQuery result (asks (instance_data instance.now) (data_of value.now)) }
     {
         if reading::has_left_out_key(value) {
             return Err(QueryFault::LeftOutKey);
@@ -67,7 +67,7 @@ impl Query {
     /// Which files the query asks for, where it names no program: where it does, every file.
     pub fn expr(&self) -> &Expr
         ensures value { term_of result.now ≡ (asked_of self.now).expression }
-        ensures limits { IsTrue (fits (term_of result.now)) }
+        ensures limits { IsTrue (expr_fits (term_of result.now)) }
     {
         &self.expr
     }
@@ -85,7 +85,7 @@ impl Query {
     /// The bound that the query sets: fresh where it has no `since`, and none where that is a
     /// cursor.
     pub fn bound(&self) -> Option<Bound>
-        ensures { result ≡ bound_of (asked_of self.now).since }
+        ensures { result ≡ since_bound (asked_of self.now).since }
     {
         match &self.since {
             Since::Bound(bound) => Some(*bound),
@@ -95,7 +95,7 @@ impl Query {
 
     /// The name of the cursor from whose tick the query asks for changes, of 1 to 255 bytes.
     pub fn cursor(&self) -> Option<&str>
-        ensures { option_map (λ name. name.now) result ≡ cursor_of (asked_of self.now).since }
+        ensures { option_map (λ name. name.now) result ≡ since_cursor (asked_of self.now).since }
     {
         match &self.since {
             Since::Bound(_) => None,

@@ -2,7 +2,7 @@
 //! `planning`.
 ghost use Rattle.std.specs.Prelude.{◌≡◌, IsTrue, Some, None};
 ghost use Rattle.wq_term.specs.Expr.{term_of};
-ghost use Rattle.wq_term.specs.Fits.{fits};
+ghost use Rattle.wq_term.specs.Fits.{expr_fits};
 ghost use Rattle.wq_query.specs.Meaning.{SaysMeaning};
 
 use crate::field::Field;
@@ -33,7 +33,7 @@ pub struct Query {
     /// Its suffixes and its paths. Their bound is the one of the plan, once there is one.
     pub(crate) generators: Generators,
     pub(crate) empty_on_fresh_instance: bool,
-    ghost limits: { IsTrue (fits (term_of expr)) },
+    ghost limits: { IsTrue (expr_fits (term_of expr)) },
 }
 
 /// A query with the bound from which its files are candidates, and the program that says which of

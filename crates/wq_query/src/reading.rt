@@ -3,11 +3,11 @@ ghost use Rattle.std.specs.Prelude.{◌≡◌, map, option_map, IfOk, IsTrue};
 ghost use Rattle.serde_json.specs.View.{view as data_of, items_view};
 ghost use Rattle.wq_clock.specs.Instance.{instance_data};
 ghost use Rattle.wq_term.specs.Expr.{always, term_of};
-ghost use Rattle.wq_term.specs.Fits.{fits};
+ghost use Rattle.wq_term.specs.Fits.{expr_fits};
 ghost use Rattle.wq_query.specs.Outcome.{GivesExpression, GivesFields, GivesProgram, GivesSince};
 ghost use Rattle.wq_query.specs.Reading.{has_both, has_key_of, has_left_out_key, is_plain_case};
 ghost use Rattle.wq_query.specs.Reading.{expression_of, field_of, fields_in, fields_of, since_of};
-ghost use Rattle.wq_query.specs.Reading.{cursor_in, flag_of, is_whole, program_of};
+ghost use Rattle.wq_query.specs.Reading.{cursor_in, flag_of, is_whole_or_absent, program_name};
 
 use crate::fault::QueryFault;
 use crate::field::Field;
@@ -62,7 +62,7 @@ pub(crate) fn expression(
 ) -> Result<Expr, QueryFault>
     ensures read { GivesExpression result (expression_of (instance_data instance.now)
         (option_map (λ v. data_of v.now) value.entry)) }
-    ensures limits { IfOk result (λ expr. IsTrue (fits (term_of expr))) }
+    ensures limits { IfOk result (λ expr. IsTrue (expr_fits (term_of expr))) }
 {
     let Some(value) = value else {
         return Ok(every_file());
@@ -114,7 +114,7 @@ fn cursor(value: &Value) -> Option<&str>
 
 /// The name of the program, if the key is there: a text of any length.
 pub(crate) fn program(alloc: Global, value: Option<&Value>) -> Result<Option<Text>, QueryFault>
-    ensures { GivesProgram result (program_of (option_map (λ v. data_of v.now) value.entry)) }
+    ensures { GivesProgram result (program_name (option_map (λ v. data_of v.now) value.entry)) }
 {
     match value {
         None => Ok(None),
@@ -142,7 +142,7 @@ pub(crate) fn flag(value: Option<&Value>) -> Option<bool>
 
 /// Whether a key that is there is a whole number from -2^62 to 2^62.
 pub(crate) fn is_whole(value: Option<&Value>) -> bool
-    ensures { result ≡ is_whole (option_map (λ v. data_of v.now) value.entry) }
+    ensures { result ≡ is_whole_or_absent (option_map (λ v. data_of v.now) value.entry) }
 {
     match value {
         None => true,

@@ -4,7 +4,7 @@ use Rattle.std.specs.List.{list_any}
 use Rattle.std.specs.Str.{bytes_eq}
 use Rattle.std.proofs.Common.{zero, suc, slice_get}
 use Rattle.std.proofs.lemmas.Slice.Eq.{bytes_eq-Decides}
-use Rattle.wq_registry.specs.Named.{Named, names, under, put, put_at, without}
+use Rattle.wq_registry.specs.ByName.{ByName, names, under, put, put_at, without}
 use Rattle.wq_registry.specs.Change.{Change, putting, removing, changed_by, made, says_of, later, last_said, takes_out, brings_in, brought_in, LastChangeCounts, NamesStandInOrder, PlacesAreNames}
 
 -- texts that are compared as equal are one
@@ -24,13 +24,13 @@ turned a b h = by (bytes_eq b a) refl
     by false e = refl
 
 -- each name stands once
-abbrev pub Once : {A : Type 0} → Named A → Type 0
+abbrev pub Once : {A : Type 0} → ByName A → Type 0
 Once [] = Unit {0}
 Once (x ∷ xs) = (under x.0 xs ≡ None) × Once xs
 
 module _ {A : Type 0} where
   -- another name keeps what it has
-  pub put-other : (name n : List ℕ) (a : A) (xs : Named A) → bytes_eq name n ≡ false → under name (put n a xs) ≡ under name xs
+  pub put-other : (name n : List ℕ) (a : A) (xs : ByName A) → bytes_eq name n ≡ false → under name (put n a xs) ≡ under name xs
   put-other name n a [] h = rw h refl
   put-other name n a (x ∷ xs) h = by (bytes_eq n x.0) refl (put-other name n a xs h)
     where
@@ -41,7 +41,7 @@ module _ {A : Type 0} where
       by false differs rest = ap (cond (bytes_eq name x.0) (Some x.1)) rest
 
   -- the name has what is put
-  pub put-same : (n : List ℕ) (a : A) (xs : Named A) → under n (put n a xs) ≡ Some a
+  pub put-same : (n : List ℕ) (a : A) (xs : ByName A) → under n (put n a xs) ≡ Some a
   put-same n a [] = rw (is_itself n) refl
   put-same n a (x ∷ xs) = by (bytes_eq n x.0) refl (put-same n a xs)
     where
@@ -50,7 +50,7 @@ module _ {A : Type 0} where
       by false differs rest = rw differs rest
 
   -- a name that is not taken out keeps what it has
-  pub without-other : (name n : List ℕ) (xs : Named A) → bytes_eq name n ≡ false → under name (without n xs) ≡ under name xs
+  pub without-other : (name n : List ℕ) (xs : ByName A) → bytes_eq name n ≡ false → under name (without n xs) ≡ under name xs
   without-other name n [] h = refl
   without-other name n (x ∷ xs) h = by (bytes_eq n x.0) refl (without-other name n xs h)
     where
@@ -61,7 +61,7 @@ module _ {A : Type 0} where
       by false differs rest = ap (cond (bytes_eq name x.0) (Some x.1)) rest
 
   -- a name that stands once and is taken out has nothing
-  pub without-same : (n : List ℕ) (xs : Named A) → Once xs → under n (without n xs) ≡ None
+  pub without-same : (n : List ℕ) (xs : ByName A) → Once xs → under n (without n xs) ≡ None
   without-same n [] h = refl
   without-same n (x ∷ xs) h = by (bytes_eq n x.0) refl (without-same n xs h.1)
     where
@@ -70,7 +70,7 @@ module _ {A : Type 0} where
       by false differs rest = rw differs rest
 
   -- putting leaves each name once
-  pub once-put : (n : List ℕ) (a : A) (xs : Named A) → Once xs → Once (put n a xs)
+  pub once-put : (n : List ℕ) (a : A) (xs : ByName A) → Once xs → Once (put n a xs)
   once-put n a [] h = (refl, tt)
   once-put n a (x ∷ xs) h = by (bytes_eq n x.0) refl (once-put n a xs h.1)
     where
@@ -79,7 +79,7 @@ module _ {A : Type 0} where
       by false differs rest = (put-other x.0 n a xs (turned n x.0 differs) ∙ h.0, rest)
 
   -- so does taking out
-  pub once-without : (n : List ℕ) (xs : Named A) → Once xs → Once (without n xs)
+  pub once-without : (n : List ℕ) (xs : ByName A) → Once xs → Once (without n xs)
   once-without n [] h = h
   once-without n (x ∷ xs) h = by (bytes_eq n x.0) refl (once-without n xs h.1)
     where
@@ -88,12 +88,12 @@ module _ {A : Type 0} where
       by false differs rest = (without-other x.0 n xs (turned n x.0 differs) ∙ h.0, rest)
 
   -- and each change
-  once-changed : (c : Change A) (xs : Named A) → Once xs → Once (changed_by c xs)
+  once-changed : (c : Change A) (xs : ByName A) → Once xs → Once (changed_by c xs)
   once-changed (putting n a) xs h = once-put n a xs h
   once-changed (removing n) xs h = once-without n xs h
 
   -- after a change a name has what the change says, and else what it had
-  step : (name : List ℕ) (c : Change A) (xs : Named A) → Once xs → under name (changed_by c xs) ≡ later (says_of name c) (under name xs)
+  step : (name : List ℕ) (c : Change A) (xs : ByName A) → Once xs → under name (changed_by c xs) ≡ later (says_of name c) (under name xs)
   step name (putting n a) xs h = by (bytes_eq name n) refl
     where
       by : (b : Bool) → bytes_eq name n ≡ b → under name (put n a xs) ≡ later (cond b (Some (Some a)) None) (under name xs)
@@ -106,7 +106,7 @@ module _ {A : Type 0} where
       by false differs = without-other name n xs differs
 
   -- after changes a name has what the last one says
-  pub under-made : (name : List ℕ) (cs : List (Change A)) (xs : Named A) → Once xs → under name (made cs xs) ≡ last_said name cs (under name xs)
+  pub under-made : (name : List ℕ) (cs : List (Change A)) (xs : ByName A) → Once xs → under name (made cs xs) ≡ last_said name cs (under name xs)
   under-made name [] xs h = refl
   under-made name (c ∷ cs) xs h = under-made name cs (changed_by c xs) (once-changed c xs h) ∙ ap (last_said name cs) (step name c xs h)
 
@@ -136,7 +136,7 @@ module _ {A : Type 0} where
   last_said-push name (b ∷ before) c o = last_said-push name before c (later (says_of name b) o)
 
   -- putting under a name that is there keeps the names
-  names-put-there : (n : List ℕ) (a : A) (xs : Named A) → is_some (under n xs) ≡ true → names (put n a xs) ≡ names xs
+  names-put-there : (n : List ℕ) (a : A) (xs : ByName A) → is_some (under n xs) ≡ true → names (put n a xs) ≡ names xs
   names-put-there n a [] h = absurd (true≢false (sym h))
   names-put-there n a (x ∷ xs) h = by (bytes_eq n x.0) h (names-put-there n a xs)
     where
@@ -145,7 +145,7 @@ module _ {A : Type 0} where
       by false h rest = ap (λ ns. x.0 ∷ ns) (rest h)
 
   -- a new name stands last
-  names-put-new : (n : List ℕ) (a : A) (xs : Named A) → is_some (under n xs) ≡ false → names (put n a xs) ≡ names xs ++ n ∷ []
+  names-put-new : (n : List ℕ) (a : A) (xs : ByName A) → is_some (under n xs) ≡ false → names (put n a xs) ≡ names xs ++ n ∷ []
   names-put-new n a [] h = refl
   names-put-new n a (x ∷ xs) h = by (bytes_eq n x.0) h (names-put-new n a xs)
     where
@@ -155,7 +155,7 @@ module _ {A : Type 0} where
 
   module _ (n : List ℕ) (goes : List ℕ → Bool) where
     -- a name that is not there is none of the names
-    filter-missing : (xs : Named A) → under n xs ≡ None → filter (λ m. not (bytes_eq m n || goes m)) (names xs) ≡ filter (λ m. not (goes m)) (names xs)
+    filter-missing : (xs : ByName A) → under n xs ≡ None → filter (λ m. not (bytes_eq m n || goes m)) (names xs) ≡ filter (λ m. not (goes m)) (names xs)
     filter-missing [] h = refl
     filter-missing (x ∷ xs) h = by (bytes_eq n x.0) refl h (filter-missing xs)
       where
@@ -167,7 +167,7 @@ module _ {A : Type 0} where
             ∙ ap (λ ns. cond (not (goes x.0)) (x.0 ∷ ns) ns) (rest h)
 
     -- the names without one are those that are not it
-    filter-without : (xs : Named A) → Once xs → filter (λ m. not (goes m)) (names (without n xs)) ≡ filter (λ m. not (bytes_eq m n || goes m)) (names xs)
+    filter-without : (xs : ByName A) → Once xs → filter (λ m. not (goes m)) (names (without n xs)) ≡ filter (λ m. not (bytes_eq m n || goes m)) (names xs)
     filter-without [] h = refl
     filter-without (x ∷ xs) h = by (bytes_eq n x.0) refl (filter-without xs h.1)
       where
@@ -187,7 +187,7 @@ module _ {A : Type 0} where
   stays after n = not (list_any (takes_out n) after)
 
   -- one change leaves those that stay, and the one that it brings in for good
-  names-step : (before : List (Change A)) (c : Change A) (after : List (Change A)) (xs : Named A) → Once xs → ((n : List ℕ) → last_said n before None ≡ under n xs) → filter (stays after) (names (changed_by c xs)) ≡ filter (stays (c ∷ after)) (names xs) ++ brings_in before c after
+  names-step : (before : List (Change A)) (c : Change A) (after : List (Change A)) (xs : ByName A) → Once xs → ((n : List ℕ) → last_said n before None ≡ under n xs) → filter (stays after) (names (changed_by c xs)) ≡ filter (stays (c ∷ after)) (names xs) ++ brings_in before c after
   names-step before (putting n a) after xs once is = by (is_some (under n xs)) refl
     where
       last : (b : Bool) → cond (not b) (n ∷ []) [] ≡ cond b [] (n ∷ [])
@@ -209,7 +209,7 @@ module _ {A : Type 0} where
       ∙ sym (append-nil (filter (stays (removing n ∷ after)) (names xs)))
 
   -- changes leave the names that stay, and those that they bring in for good
-  names-made : (before after : List (Change A)) (xs : Named A) → Once xs → ((n : List ℕ) → last_said n before None ≡ under n xs) → names (made after xs) ≡ filter (stays after) (names xs) ++ brought_in before after
+  names-made : (before after : List (Change A)) (xs : ByName A) → Once xs → ((n : List ℕ) → last_said n before None ≡ under n xs) → names (made after xs) ≡ filter (stays after) (names xs) ++ brought_in before after
   names-made before [] xs once is = sym (filter-all (names xs)) ∙ sym (append-nil (filter (λ n. true) (names xs)))
   names-made before (c ∷ after) xs once is =
       names-made (before ++ c ∷ []) after (changed_by c xs) (once-changed c xs once) (λ n. last_said-push n before c None ∙ ap (later (says_of n c)) (is n) ∙ sym (step n c xs once))
@@ -222,7 +222,7 @@ names_stand_in_order changes = names-made [] changes [] tt (λ n. refl)
 
 module _ {A : Type 0} where
   -- a name at a place has something
-  named_there : (k : ℕ) (name : List ℕ) (xs : Named A) → slice_get (names xs) k ≡ Some name → is_some (under name xs) ≡ true
+  named_there : (k : ℕ) (name : List ℕ) (xs : ByName A) → slice_get (names xs) k ≡ Some name → is_some (under name xs) ≡ true
   named_there k name [] h = let no : None ≡ Some name = h in cc
   named_there zero name (x ∷ xs) h =
       let same : x.0 ≡ name = cc in
@@ -234,7 +234,7 @@ module _ {A : Type 0} where
       by false rest = rest
 
   -- what is put at the place of a name is put under it
-  put_place : (k : ℕ) (name : List ℕ) (a : A) (xs : Named A) → Once xs → slice_get (names xs) k ≡ Some name → put_at k a xs ≡ put name a xs
+  put_place : (k : ℕ) (name : List ℕ) (a : A) (xs : ByName A) → Once xs → slice_get (names xs) k ≡ Some name → put_at k a xs ≡ put name a xs
   put_place k name a [] once h = let no : None ≡ Some name = h in cc
   put_place zero name a (x ∷ xs) once h =
       let same : x.0 ≡ name = cc in
@@ -248,7 +248,7 @@ module _ {A : Type 0} where
       by false differs rest = ap (λ ys. x ∷ ys) rest
 
   -- changes leave each name once
-  once-made : (cs : List (Change A)) (xs : Named A) → Once xs → Once (made cs xs)
+  once-made : (cs : List (Change A)) (xs : ByName A) → Once xs → Once (made cs xs)
   once-made [] xs once = once
   once-made (c ∷ cs) xs once = once-made cs (changed_by c xs) (once-changed c xs once)
 

@@ -12,7 +12,7 @@ use Rattle.std.specs.Borrow.{GName}
 use borrow.Follows.Closed.{read_of}
 use mathlib.Core.Option.{Option as Perhaps}
 use Rattle.indexmap.specs.IndexMap.{insert_entry, set_value_at}
-use Rattle.wq_registry.specs.Named.{Named, under, put, put_at, names, values, without, has_no_place}
+use Rattle.wq_registry.specs.ByName.{ByName, under, put, put_at, names, values, without, has_no_place}
 use Rattle.wq_registry.specs.Entry.{by_bytes, unshared}
 
 module _ {A Z : Type 0} (name : List ℕ) where
@@ -57,7 +57,7 @@ same_loan name each none = λ j. read_of name (λ x. each x j) (none j)
 
 module _ {A Z : Type 0} (name : List ℕ) where
   -- the things themselves stand under the same names
-  pub under-unshared : (xs : Named (Arc A Z)) → under name (unshared xs) ≡ option_map (λ a. a.value) (under name xs)
+  pub under-unshared : (xs : ByName (Arc A Z)) → under name (unshared xs) ≡ option_map (λ a. a.value) (under name xs)
   under-unshared [] = refl
   under-unshared (x ∷ xs) =
       elim (bytes_eq name x.0) as (λ b. cond b (Some x.1.value) (under name (unshared xs)) ≡ option_map (λ a. a.value) (cond b (Some x.1) (under name xs))) [
@@ -66,7 +66,7 @@ module _ {A Z : Type 0} (name : List ℕ) where
       ]
 
   -- and so when one is put
-  pub put-unshared : (a : Arc A Z) (xs : Named (Arc A Z)) → unshared (put name a xs) ≡ put name a.value (unshared xs)
+  pub put-unshared : (a : Arc A Z) (xs : ByName (Arc A Z)) → unshared (put name a xs) ≡ put name a.value (unshared xs)
   put-unshared a [] = refl
   put-unshared a (x ∷ xs) =
       elim (bytes_eq name x.0) as (λ b. unshared (cond b ((x.0, a) ∷ xs) (x ∷ put name a xs)) ≡ cond b ((x.0, a.value) ∷ unshared xs) ((x.0, x.1.value) ∷ put name a.value (unshared xs))) [
@@ -75,7 +75,7 @@ module _ {A Z : Type 0} (name : List ℕ) where
       ]
 
   -- and when one is taken out
-  pub without-unshared : (xs : Named (Arc A Z)) → unshared (without name xs) ≡ without name (unshared xs)
+  pub without-unshared : (xs : ByName (Arc A Z)) → unshared (without name xs) ≡ without name (unshared xs)
   without-unshared [] = refl
   without-unshared (x ∷ xs) =
       elim (bytes_eq name x.0) as (λ b. unshared (cond b xs (x ∷ without name xs)) ≡ cond b (unshared xs) ((x.0, x.1.value) ∷ without name (unshared xs))) [
@@ -84,7 +84,7 @@ module _ {A Z : Type 0} (name : List ℕ) where
       ]
 
   -- one is there or not alike
-  pub there-unshared : (xs : Named (Arc A Z)) → is_some (under name (unshared xs)) ≡ is_some (under name xs)
+  pub there-unshared : (xs : ByName (Arc A Z)) → is_some (under name (unshared xs)) ≡ is_some (under name xs)
   there-unshared xs = ap is_some (under-unshared xs) ∙ by (under name xs)
     where
       by : (o : Option (Arc A Z)) → is_some (option_map (λ a. a.value) o) ≡ is_some o
@@ -92,7 +92,7 @@ module _ {A Z : Type 0} (name : List ℕ) where
       by (Some a) = refl
 
   -- and one more has a place or not
-  pub no_place-unshared : (limit : ℕ) (xs : Named (Arc A Z)) → has_no_place limit name (unshared xs) ≡ has_no_place limit name xs
+  pub no_place-unshared : (limit : ℕ) (xs : ByName (Arc A Z)) → has_no_place limit name (unshared xs) ≡ has_no_place limit name xs
   no_place-unshared limit xs =
       ap (λ b. not b && nat_le limit (length (unshared xs))) (there-unshared xs)
       ∙ ap (λ n. not (is_some (under name xs)) && nat_le limit n) (length-map xs (λ x. (x.0, x.1.value)))
@@ -108,7 +108,7 @@ same_names [] = refl
 same_names (e ∷ es) = ap (λ xs. string_bytes e.0 ∷ xs) (same_names es)
 
 -- the things themselves have the names
-pub names-unshared : {A Z : Type 0} (xs : Named (Arc A Z)) → names (unshared xs) ≡ names xs
+pub names-unshared : {A Z : Type 0} (xs : ByName (Arc A Z)) → names (unshared xs) ≡ names xs
 names-unshared [] = refl
 names-unshared (x ∷ xs) = ap (λ ys. x.0 ∷ ys) (names-unshared xs)
 
@@ -156,7 +156,7 @@ module _ {A Z : Type 0} (name : List ℕ) where
   nothing_there es (Some k) there = tt
 
 -- past the end nothing is put
-pub put_past : {A : Type 0} (k : ℕ) (v : A) (xs : Named A) → slice_get (values xs) k ≡ None → put_at k v xs ≡ xs
+pub put_past : {A : Type 0} (k : ℕ) (v : A) (xs : ByName A) → slice_get (values xs) k ≡ None → put_at k v xs ≡ xs
 put_past k v [] h = refl
 put_past zero v (x ∷ xs) h = let no : Some x.1 ≡ None = h in cc
 put_past (suc k) v (x ∷ xs) h = ap (λ ys. x ∷ ys) (put_past k v xs h)

@@ -3,9 +3,9 @@ use Rattle.std.proofs.Common.{◌≡◌, ℕ, Bool, true, false, ◌||◌, cond,
 use Rattle.std.specs.List.{list_any}
 use Rattle.std.specs.Str.{bytes_eq}
 use Rattle.std.proofs.lemmas.Bool.Decides.{nat_tests}
-use Rattle.wq_registry.specs.Named.{Named, under, put, without}
+use Rattle.wq_registry.specs.ByName.{ByName, under, put, without}
 use Rattle.wq_registry.specs.Root.{larger}
-use Rattle.wq_registry.specs.Use.{Use, at_tick, unsetting, used_by, used, unsets, gives, given_since, greatest, TheGreatestTickCounts}
+use Rattle.wq_registry.specs.Use.{Use, at_tick, unsetting, used_by, used, unsets, tick_given, given_since, greatest_tick, TheGreatestTickCounts}
 use Rattle.wq_registry.proofs.Changes.{Once, same_text, put-same, put-other, without-same, without-other, once-put, once-without}
 
 -- the larger of two ticks is their maximum
@@ -32,28 +32,28 @@ first_or_last (Some a) (Some m) t = ap Some (ap (λ n. max n m) (larger_is_max a
     turned a t m = omega arith
 
 -- uses leave each name once
-once-used : (u : Use) (xs : Named ℕ) → Once xs → Once (used_by u xs)
+once-used : (u : Use) (xs : ByName ℕ) → Once xs → Once (used_by u xs)
 once-used (at_tick name tick) xs h = once-put name (larger (under name xs) tick) xs h
 once-used (unsetting name) xs h = once-without name xs h
 
 -- one use, where none of the later ones unsets the cursor
-step : (name : List ℕ) (u : Use) (xs : Named ℕ) (ticks : List ℕ) → Once xs → both (under name (used_by u xs)) (greatest ticks) ≡ both (cond (unsets name u) None (under name xs)) (greatest (gives name u ++ ticks))
+step : (name : List ℕ) (u : Use) (xs : ByName ℕ) (ticks : List ℕ) → Once xs → both (under name (used_by u xs)) (greatest_tick ticks) ≡ both (cond (unsets name u) None (under name xs)) (greatest_tick (tick_given name u ++ ticks))
 step name (at_tick n tick) xs ticks h = by (bytes_eq name n) refl
   where
-    by : (b : Bool) → bytes_eq name n ≡ b → both (under name (put n (larger (under n xs) tick) xs)) (greatest ticks) ≡ both (under name xs) (greatest (cond b (tick ∷ []) [] ++ ticks))
+    by : (b : Bool) → bytes_eq name n ≡ b → both (under name (put n (larger (under n xs) tick) xs)) (greatest_tick ticks) ≡ both (under name xs) (greatest_tick (cond b (tick ∷ []) [] ++ ticks))
     by true same =
         let e = same_text name n same in
-        ap (λ o. both o (greatest ticks)) (subst (λ m. under m (put n (larger (under n xs) tick) xs) ≡ Some (larger (under m xs) tick)) (sym e) (put-same n (larger (under n xs) tick) xs))
-        ∙ first_or_last (under name xs) (greatest ticks) tick
-    by false differs = ap (λ o. both o (greatest ticks)) (put-other name n (larger (under n xs) tick) xs differs)
+        ap (λ o. both o (greatest_tick ticks)) (subst (λ m. under m (put n (larger (under n xs) tick) xs) ≡ Some (larger (under m xs) tick)) (sym e) (put-same n (larger (under n xs) tick) xs))
+        ∙ first_or_last (under name xs) (greatest_tick ticks) tick
+    by false differs = ap (λ o. both o (greatest_tick ticks)) (put-other name n (larger (under n xs) tick) xs differs)
 step name (unsetting n) xs ticks h = by (bytes_eq name n) refl
   where
-    by : (b : Bool) → bytes_eq name n ≡ b → both (under name (without n xs)) (greatest ticks) ≡ both (cond b None (under name xs)) (greatest ticks)
-    by true same = ap (λ o. both o (greatest ticks)) (subst (λ m. under m (without n xs) ≡ None) (sym (same_text name n same)) (without-same n xs h))
-    by false differs = ap (λ o. both o (greatest ticks)) (without-other name n xs differs)
+    by : (b : Bool) → bytes_eq name n ≡ b → both (under name (without n xs)) (greatest_tick ticks) ≡ both (cond b None (under name xs)) (greatest_tick ticks)
+    by true same = ap (λ o. both o (greatest_tick ticks)) (subst (λ m. under m (without n xs) ≡ None) (sym (same_text name n same)) (without-same n xs h))
+    by false differs = ap (λ o. both o (greatest_tick ticks)) (without-other name n xs differs)
 
 -- after uses a cursor has the greatest tick, counted with the one that it had
-under-used : (name : List ℕ) (us : List Use) (xs : Named ℕ) → Once xs → under name (used us xs) ≡ both (cond (list_any (unsets name) us) None (under name xs)) (greatest (given_since name us))
+under-used : (name : List ℕ) (us : List Use) (xs : ByName ℕ) → Once xs → under name (used us xs) ≡ both (cond (list_any (unsets name) us) None (under name xs)) (greatest_tick (given_since name us))
 under-used name [] xs h = refl
 under-used name (u ∷ us) xs h = under-used name us (used_by u xs) (once-used u xs h) ∙ by (list_any (unsets name) us)
   where
@@ -65,11 +65,11 @@ under-used name (u ∷ us) xs h = under-used name us (used_by u xs) (once-used u
     alone true = refl
     alone false = refl
 
-    by : (b : Bool) → both (cond b None (under name (used_by u xs))) (greatest (given_since name us)) ≡ both (cond (unsets name u || b) None (under name xs)) (greatest (cond b (given_since name us) (gives name u ++ given_since name us)))
-    by true = ap (λ o. both o (greatest (given_since name us))) (sym (later (unsets name u)))
+    by : (b : Bool) → both (cond b None (under name (used_by u xs))) (greatest_tick (given_since name us)) ≡ both (cond (unsets name u || b) None (under name xs)) (greatest_tick (cond b (given_since name us) (tick_given name u ++ given_since name us)))
+    by true = ap (λ o. both o (greatest_tick (given_since name us))) (sym (later (unsets name u)))
     by false =
         step name u xs (given_since name us) h
-        ∙ ap (λ o. both o (greatest (gives name u ++ given_since name us))) (sym (alone (unsets name u)))
+        ∙ ap (λ o. both o (greatest_tick (tick_given name u ++ given_since name us))) (sym (alone (unsets name u)))
 
 -- with no tick before, those that came count
 nothing_before : (o : Option ℕ) → both None o ≡ o
@@ -85,5 +85,5 @@ none_either_way false = refl
 pub the_greatest_tick_counts : TheGreatestTickCounts
 the_greatest_tick_counts uses name =
     under-used name uses [] tt
-    ∙ ap (λ o. both o (greatest (given_since name uses))) (none_either_way (list_any (unsets name) uses))
-    ∙ nothing_before (greatest (given_since name uses))
+    ∙ ap (λ o. both o (greatest_tick (given_since name uses))) (none_either_way (list_any (unsets name) uses))
+    ∙ nothing_before (greatest_tick (given_since name uses))

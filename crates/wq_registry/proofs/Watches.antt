@@ -4,7 +4,7 @@ use Rattle.std.proofs.lemmas.Bool.{and_parts, or_parts, eqb-true, eq-eqb}
 use Rattle.std.specs.List.{list_any, flat_map}
 use Rattle.std.specs.Str.{bytes_eq}
 use Rattle.wq_registry.specs.Change.{Change, putting, removing, made, changed_by}
-use Rattle.wq_registry.specs.Named.{Named}
+use Rattle.wq_registry.specs.ByName.{ByName}
 use Rattle.wq_registry.specs.Root.{RootData, numbered, changed, is_newer, without_number, without_text, new_root, with_cursor, without_cursor, with_trigger, without_trigger, cursors_in, triggers_in}
 use Rattle.wq_registry.specs.Shelf.{ShelfData, blank}
 use Rattle.wq_registry.specs.Use.{Use, at_tick, unsetting, used, used_by}
@@ -285,12 +285,12 @@ module _ {T : Type 0} where
         by false false h = ap (run (flat_map (uses root) (since_added root (after c s) cs))) (part-off root c s h)
 
 -- uses, one list after another
-used-append : (us vs : List Use) (xs : Named ℕ) → used (us ++ vs) xs ≡ used vs (used us xs)
+used-append : (us vs : List Use) (xs : ByName ℕ) → used (us ++ vs) xs ≡ used vs (used us xs)
 used-append [] vs xs = refl
 used-append (u ∷ us) vs xs = used-append us vs (used_by u xs)
 
 -- changes, one list after another
-made-append : {A : Type 0} (us vs : List (Change A)) (xs : Named A) → made (us ++ vs) xs ≡ made vs (made us xs)
+made-append : {A : Type 0} (us vs : List (Change A)) (xs : ByName A) → made (us ++ vs) xs ≡ made vs (made us xs)
 made-append [] vs xs = refl
 made-append (u ∷ us) vs xs = made-append us vs (changed_by u xs)
 
@@ -323,7 +323,7 @@ cursors_are_made {T} calls sockname root =
     kept (cursors_in {T = T}) [] cursor_use used (λ b. refl) used-append refl (λ x new. new.0) cursors-effect root calls (blank sockname) tt
     ∙ ap (used (flat_map (cursor_use root) (since_added root (blank sockname) calls))) (nothing (is_interrupted root (blank sockname) calls))
   where
-    nothing : (b : Bool) → cond {A = Named ℕ} b [] [] ≡ []
+    nothing : (b : Bool) → cond {A = ByName ℕ} b [] [] ≡ []
     nothing true = refl
     nothing false = refl
 
@@ -333,6 +333,6 @@ triggers_are_made {T} calls sockname root =
     kept (triggers_in {T = T}) [] trigger_change made (λ b. refl) made-append refl (λ x new. new.1) triggers-effect root calls (blank sockname) tt
     ∙ ap (made (flat_map (trigger_change root) (since_added root (blank sockname) calls))) (nothing (is_interrupted root (blank sockname) calls))
   where
-    nothing : (b : Bool) → cond {A = Named T} b [] [] ≡ []
+    nothing : (b : Bool) → cond {A = ByName T} b [] [] ≡ []
     nothing true = refl
     nothing false = refl

@@ -4,7 +4,7 @@ use Rattle.std.specs.Prelude.{ℕ, ◌≡◌, Bool, false, List, [], ◌∷◌, 
 use Rattle.std.specs.Prelude.{◌||◌, if◌then◌else◌}
 use Rattle.std.specs.List.{list_any, slice_get}
 use Rattle.std.specs.Str.{bytes_eq}
-use Rattle.wq_registry.specs.Named.{Named, names, under, put, put_at, without}
+use Rattle.wq_registry.specs.ByName.{ByName, names, under, put, put_at, without}
 
 -- a change: a thing is put under a name, or taken out
 pub data Change (A : Type 0) : Type 0 where
@@ -13,12 +13,12 @@ pub data Change (A : Type 0) : Type 0 where
 
 module _ {A : Type 0} where
   -- the things after a change
-  abbrev pub changed_by : Change A → Named A → Named A
+  abbrev pub changed_by : Change A → ByName A → ByName A
   changed_by (putting name a) xs = put name a xs
   changed_by (removing name) xs = without name xs
 
   -- the things after changes, one after the other
-  abbrev pub made : List (Change A) → Named A → Named A
+  abbrev pub made : List (Change A) → ByName A → ByName A
   made [] xs = xs
   made (c ∷ cs) xs = made cs (changed_by c xs)
 

@@ -4,12 +4,12 @@ use Rattle.std.specs.Prelude.{List, map}
 use Rattle.std.specs.declared.string.String.{String}
 use Rattle.std.specs.declared.sync.Arc.{Arc}
 use Rattle.std.specs.String.{string_bytes}
-use Rattle.wq_registry.specs.Named.{Named}
+use Rattle.wq_registry.specs.ByName.{ByName}
 
 -- the names as their bytes
-abbrev pub by_bytes : {A Z : Type 0} → List (String Z × A) → Named A
+abbrev pub by_bytes : {A Z : Type 0} → List (String Z × A) → ByName A
 by_bytes es = map (λ e. (string_bytes e.0, e.1)) es
 
 -- the things themselves, where they are shared
-abbrev pub unshared : {A Z : Type 0} → Named (Arc A Z) → Named A
+abbrev pub unshared : {A Z : Type 0} → ByName (Arc A Z) → ByName A
 unshared xs = map (λ x. (x.0, x.1.value)) xs

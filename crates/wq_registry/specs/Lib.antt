@@ -1,5 +1,5 @@
 pub mod Limit
-pub mod Named
+pub mod ByName
 pub mod Entry
 pub mod Root
 pub mod Shelf

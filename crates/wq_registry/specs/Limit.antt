@@ -6,10 +6,6 @@ use Rattle.std.specs.Prelude.{ℕ}
 abbrev pub max_programs : ℕ
 max_programs = 256
 
--- how many roots
-abbrev pub max_roots : ℕ
-max_roots = 16
-
 -- how many cursors a root may have
 abbrev pub max_cursors : ℕ
 max_cursors = 256

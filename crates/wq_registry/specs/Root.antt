@@ -4,14 +4,14 @@ use Rattle.std.specs.Prelude.{ℕ, Bool, List, [], ◌∷◌, ◌++◌, Option, 
 use Rattle.std.specs.Prelude.{filter, ◌&&◌, ◌||◌, if◌then◌else◌}
 use Rattle.std.specs.List.{find, list_any}
 use Rattle.std.specs.Str.{bytes_eq}
-use Rattle.wq_registry.specs.Named.{Named, under, put, put_at, without}
+use Rattle.wq_registry.specs.ByName.{ByName, under, put, put_at, without}
 
 -- a root: its text, the number of this watch of it, its cursors with their ticks, its triggers
 pub record RootData (T : Type 0) : Type 0 where
   pub text : List ℕ
   pub number : ℕ
-  pub cursors : Named ℕ
-  pub triggers : Named T
+  pub cursors : ByName ℕ
+  pub triggers : ByName T
 
 -- the tick of a cursor that is used at a tick: the larger of the old one and this
 abbrev pub larger : Option ℕ → ℕ → ℕ
@@ -79,11 +79,11 @@ module _ {T : Type 0} where
   with_trigger_at k trigger r = record r { triggers = put_at k trigger r.triggers }
 
   -- the cursors of a root that may be missing
-  abbrev pub cursors_in : Option (RootData T) → Named ℕ
+  abbrev pub cursors_in : Option (RootData T) → ByName ℕ
   cursors_in None = []
   cursors_in (Some r) = r.cursors
 
   -- its triggers
-  abbrev pub triggers_in : Option (RootData T) → Named T
+  abbrev pub triggers_in : Option (RootData T) → ByName T
   triggers_in None = []
   triggers_in (Some r) = r.triggers

@@ -4,15 +4,15 @@
 use Rattle.std.specs.Prelude.{ℕ, Bool, List, [], length, is_some, not, ◌&&◌, nat_le}
 use Rattle.std.specs.List.{list_any}
 use Rattle.wq_code.specs.declared.raw.Raw.{Raw}
-use Rattle.wq_registry.specs.Limit.{max_roots}
-use Rattle.wq_registry.specs.Named.{Named, put, without}
+use Rattle.wq_base.specs.Limit.{max_roots}
+use Rattle.wq_registry.specs.ByName.{ByName, put, without}
 use Rattle.wq_registry.specs.Root.{RootData, numbered, called, changed, without_number, with_root}
 use Rattle.wq_registry.specs.Root.{is_newer, with_cursor, without_cursor, cursors_in}
 use Rattle.wq_registry.specs.Root.{with_trigger, with_trigger_at, without_trigger, triggers_in}
 
 -- a shelf: its programs, its roots, and the name of the server's socket
 pub record ShelfData (T : Type 0) : Type 0 where
-  pub programs : Named Raw
+  pub programs : ByName Raw
   pub roots : List (RootData T)
   pub sockname : List ℕ
 
@@ -69,9 +69,9 @@ module _ {T : Type 0} where
   trigger_changed root k trigger s = root_changed root (with_trigger_at k trigger) s
 
   -- the cursors of a root; none where it is not there
-  abbrev pub cursors_of : ℕ → ShelfData T → Named ℕ
+  abbrev pub cursors_of : ℕ → ShelfData T → ByName ℕ
   cursors_of root s = cursors_in (numbered root s.roots)
 
   -- its triggers
-  abbrev pub triggers_of : ℕ → ShelfData T → Named T
+  abbrev pub triggers_of : ℕ → ShelfData T → ByName T
   triggers_of root s = triggers_in (numbered root s.roots)

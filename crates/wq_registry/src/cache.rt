@@ -4,7 +4,7 @@ ghost use Rattle.serde_json.specs.View.{view as data_of};
 ghost use Rattle.wq_compile.specs.Large.{is_too_large};
 ghost use Rattle.wq_compile.specs.Meaning.{AnswersMeaning};
 ghost use Rattle.wq_term.specs.Expr.{term_of};
-ghost use Rattle.wq_term.specs.Fits.{fits};
+ghost use Rattle.wq_term.specs.Fits.{expr_fits};
 ghost use Rattle.wq_term.specs.Limit.{max_depth};
 ghost use Rattle.wq_term.specs.Reading.{reads_as};
 ghost use Rattle.wq_registry.specs.Kept.{StandsFor, instance_at};
@@ -139,7 +139,7 @@ fn size() -> NonZeroUsize {
 /// # Errors
 /// Those of [`compile`].
 pub fn compile_shared(alloc: Global, expr: &Expr) -> Result<Arc<Program>, CompileFault>
-    requires { IsTrue (fits (term_of expr.now)) }
+    requires { IsTrue (expr_fits (term_of expr.now)) }
 
     ensures meaning { IfOk result (λ program. AnswersMeaning program.value (term_of expr.now)) }
     ensures large { IsErrOf result CompileFault.TooLarge

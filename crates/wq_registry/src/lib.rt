@@ -1,6 +1,6 @@
-//! The shelf: what a server keeps for all its clients beside the views of its roots. Programs under
-//! their names; the roots that are watched, each with its cursors and triggers; and a cache of the
-//! programs of expressions.
+//! The registry, which the rest of the project calls the shelf: what a server keeps for all its
+//! clients beside the views of its roots. Programs under their names; the roots that are watched,
+//! each with its cursors and triggers; and a cache of the programs of expressions.
 //!
 //! What each call makes of a shelf stands in `specs/Shelf.antt`, and what a list of calls comes to
 //! in `specs/History.antt`. What a client is answered, and what a trigger is, is not said here.
@@ -22,4 +22,4 @@ pub use law::{
     programs_are_made, the_greatest_tick_counts, triggers_are_made,
 };
 pub use root::{MAX_CURSORS, MAX_TRIGGERS, Root};
-pub use shelf::{MAX_PROGRAMS, MAX_ROOTS, Shelf};
+pub use shelf::{MAX_PROGRAMS, Shelf};

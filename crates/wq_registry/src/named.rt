@@ -4,7 +4,7 @@ ghost use Rattle.std.specs.Prelude.{◌≡◌, [], length, map, option_copied, o
 ghost use Rattle.std.specs.Prelude.{None, string_bytes, IfNone, IfSome, IsOk, IsSome, IfOk, OnOk, OnErr};
 ghost use Rattle.std.specs.Option.{option_copied_mut};
 ghost use Rattle.std.specs.Borrow.{sem};
-ghost use Rattle.wq_registry.specs.Named.{has_no_place, names, put, put_at, under, values, without};
+ghost use Rattle.wq_registry.specs.ByName.{has_no_place, names, put, put_at, under, values, without};
 ghost use Rattle.wq_registry.specs.Lending.{LendsAt};
 
 use indexmap::IndexMap;
@@ -15,12 +15,12 @@ use std::mem;
 
 /// Things under names. A name that is put again keeps its place.
 #[derive(Drop)]
-pub(crate) struct Named<V> {
+pub(crate) struct ByName<V> {
     entries: IndexMap<String, V>,
 }
 
-impl<V> Model for Named<V> {
-    ghost use Rattle.wq_registry.specs.Named.{Named as NamedData};
+impl<V> Model for ByName<V> {
+    ghost use Rattle.wq_registry.specs.ByName.{ByName as NamedData};
     ghost use Rattle.wq_registry.specs.Entry.{by_bytes};
 
     ghost Value = { NamedData V };
@@ -28,12 +28,12 @@ impl<V> Model for Named<V> {
     ghost view = { λ n. by_bytes n.entries.entries };
 }
 
-impl<V> Named<V> {
+impl<V> ByName<V> {
     /// No names.
-    pub(crate) fn new(alloc: Global) -> Named<V>
+    pub(crate) fn new(alloc: Global) -> ByName<V>
         ensures { result ≡ [] }
     {
-        Named {
+        ByName {
             entries: IndexMap::new(alloc),
         }
     }
@@ -84,7 +84,7 @@ impl<V> Named<V> {
     }
 }
 
-impl<V: Drop> Named<V> {
+impl<V: Drop> ByName<V> {
     /// Puts a thing under a name, and gives back what stood there. Where something did, this takes
     /// no memory.
     pub(crate) fn put(

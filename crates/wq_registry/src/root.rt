@@ -4,14 +4,14 @@ ghost use Rattle.std.specs.Prelude.{IsOk, IsSome, OnErr, OnOk};
 ghost use Rattle.std.specs.Option.{option_copied_mut};
 ghost use Rattle.std.specs.Borrow.{sem};
 ghost use Rattle.wq_registry.specs.Limit.{max_cursors, max_triggers};
-ghost use Rattle.wq_registry.specs.Named.{has_no_place, under, values};
+ghost use Rattle.wq_registry.specs.ByName.{has_no_place, under, values};
 ghost use Rattle.wq_registry.specs.Refusal.{Refuses};
 ghost use Rattle.wq_registry.specs.Root.{is_newer, larger, new_root, with_cursor, without_cursor};
 ghost use Rattle.wq_registry.specs.Root.{with_trigger, without_trigger};
 ghost use Rattle.wq_registry.specs.Lending.{LendsTrigger};
 
 use crate::fault::ShelfFault;
-use crate::named::Named;
+use crate::named::ByName;
 use std::alloc::{AllocError, Global};
 use std::marker::Model;
 
@@ -26,8 +26,8 @@ pub const MAX_TRIGGERS: usize = 64;
 pub struct Root<T> {
     text: String,
     number: u64,
-    cursors: Named<u64>,
-    triggers: Named<T>,
+    cursors: ByName<u64>,
+    triggers: ByName<T>,
 }
 
 impl<T> Model for Root<T> {
@@ -53,8 +53,8 @@ impl<T> Root<T> {
         Ok(Root {
             text,
             number,
-            cursors: Named::new(alloc),
-            triggers: Named::new(alloc),
+            cursors: ByName::new(alloc),
+            triggers: ByName::new(alloc),
         })
     }
 

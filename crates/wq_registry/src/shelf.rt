@@ -6,7 +6,7 @@ ghost use Rattle.std.specs.Option.{option_copied_mut};
 ghost use Rattle.std.specs.Borrow.{sem};
 ghost use Rattle.std.specs.List.{list_any};
 ghost use Rattle.wq_registry.specs.Limit.{max_cursors, max_programs, max_triggers};
-ghost use Rattle.wq_registry.specs.Named.{has_no_place, names, under, values};
+ghost use Rattle.wq_registry.specs.ByName.{has_no_place, names, under, values};
 ghost use Rattle.wq_registry.specs.Refusal.{Refuses};
 ghost use Rattle.wq_registry.specs.Root.{called, is_newer, numbered};
 ghost use Rattle.wq_registry.specs.Loan.{LendsCache, LendsRootAt, LendsRootOf, LendsTriggerOf};
@@ -17,26 +17,24 @@ ghost use Rattle.wq_registry.specs.Shelf.{with_program, without_program};
 
 use crate::cache::Cache;
 use crate::fault::ShelfFault;
-use crate::named::Named;
+use crate::named::ByName;
 use crate::root::Root;
 use crate::roots;
 use indexmap::map::Keys;
 use std::alloc::{AllocError, Global};
 use std::marker::Model;
 use std::sync::Arc;
+use wq_base::MAX_ROOTS;
 use wq_verify::Program;
 
 /// How many programs a shelf may have.
 pub const MAX_PROGRAMS: usize = 256;
 
-/// How many roots.
-pub const MAX_ROOTS: usize = 16;
-
 /// What a server keeps for all its clients beside the views of its roots. `T` is what it keeps of a
 /// trigger.
 #[derive(Drop)]
 pub struct Shelf<T> {
-    programs: Named<Arc<Program>>,
+    programs: ByName<Arc<Program>>,
     roots: Vec<Root<T>>,
     sockname: String,
     cache: Cache,
@@ -63,7 +61,7 @@ impl<T> Shelf<T> {
         ensures { result ≡ blank (string_bytes sockname) }
     {
         Shelf {
-            programs: Named::new(alloc),
+            programs: ByName::new(alloc),
             roots: Vec::new(alloc),
             sockname,
             cache,

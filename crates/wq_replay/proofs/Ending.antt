@@ -1,12 +1,12 @@
 -- How the playing of a script goes on, and how it ends.
 use Rattle.std.proofs.Common.{◌≡◌, ◌≢◌, ℕ, zero, suc, ◌+◌, ◌<◌, ◌≤◌, List, [], ◌∷◌, length, Option, Some, None, Result, Ok, Err, IsErr, IsErrAnd, IfSome, Bool, true, false, refl, sym, ap, subst, ◌∙◌, arith, inl, inr}
 use Rattle.std.proofs.lemmas.Bool.{lt-leb}
-use Rattle.wq_replay.specs.Fault.{fault_at, fault_of}
+use Rattle.wq_replay.specs.Fault.{step_fault, taking_fault}
 use Rattle.wq_replay.specs.Limit.{max_script, max_script_line}
 use Rattle.wq_replay.specs.Line.{lines_of}
-use Rattle.wq_replay.specs.Replay.{Does, Ends, EndsReading, FirstLines, Shuts, StopsWithin, StopsWriting}
+use Rattle.wq_replay.specs.Replay.{DoesLine, Ends, EndsReading, FirstLines, Shuts, StopsWithin, StopsWriting}
 use Rattle.wq_replay.specs.Stage.{StageData, Turn, drafts, lists, hears, malformed, start, turn_of}
-use Rattle.wq_replay.specs.Step.{IsAt, Takes}
+use Rattle.wq_replay.specs.Step.{IsAt, TakesTurn}
 use Rattle.wq_replay.specs.Taken.{BeginsWith, TakesLine}
 use Rattle.wq_replay.specs.declared.fault.ReplayFault.TheVariants.{TooLong, Read, Memory as OutOfMemory}
 use Rattle.wq_replay.specs.declared.fault.StepFault.{StepFault}
@@ -71,7 +71,7 @@ ends_reading (Some bytes) left before now rest size n code (at, rest_bytes, coun
 -- the same, by the fault of the taking
 pub ends_taking : (script left before now rest : Option (List ℕ)) (size n : ℕ) (code : Stage) (fault : TakeFault)
     → Holds script left before now size n code → IfSome left (λ bytes. StopsWithin bytes rest)
-    → IfSome script (λ bytes. Ends bytes before now rest (Err (fault_of fault)))
+    → IfSome script (λ bytes. Ends bytes before now rest (Err (taking_fault fault)))
 ends_taking None left before now rest size n code fault holds stops = tt
 ends_taking (Some bytes) left before now rest size n code NotRead holds stops =
     ends_reading (Some bytes) left before now rest size n code holds stops
@@ -98,7 +98,7 @@ first_is at bytes line left (inr (long, whole, later, is, longer)) = (
 )
 
 -- what a step does is no malformed line's
-goes_well : (at : StageData) (turn : Turn) (now later : Option (List ℕ)) (next : Stage) → Takes at turn now later (Ok true) next → turn ≢ malformed
+goes_well : (at : StageData) (turn : Turn) (now later : Option (List ℕ)) (next : Stage) → TakesTurn at turn now later (Ok true) next → turn ≢ malformed
 goes_well at malformed now later next (written, after, appends, does, stands) = absurd does
 goes_well at (drafts draft) now later next takes = λ h. cc
 goes_well at (lists crawls tree) now later next takes = λ h. cc
@@ -113,7 +113,7 @@ shuts_well at (hears client event) now later ends = λ h. cc
 
 -- a step of a taken line, at the place where the script stands
 abbrev pub Stepped : Stage → Option (List ℕ) → Option (List ℕ) → List ℕ → Result Bool StepFault → Stage → Type 0
-Stepped code now later line result next = (at : StageData) → IsAt code at → Takes at (turn_of at line) now later result next
+Stepped code now later line result next = (at : StageData) → IsAt code at → TakesTurn at (turn_of at line) now later result next
 
 -- the step of a text that is equal to the line, with a result that is equal to another
 pub stepped_as : (code next : Stage) (now later : Option (List ℕ)) (text line : List ℕ) (result said : Result Bool StepFault)
@@ -143,7 +143,7 @@ goes_on (Some bytes) left before now later rest size n (suc taken) code next lin
       subst (FirstLines bytes before later (suc count) step.1) behind
           (first_then bytes before now later count at step.1 whole.0 step.0 whole.1
           (subst (FirstLines bytes before now count at) whole.2 first)
-          (subst (λ turn. Does at turn step.0 step.1) whole.3 step.3) step.2 (step.4).world.roots.lawful),
+          (subst (λ turn. DoesLine at turn step.0 step.1) whole.3 step.3) step.2 (step.4).world.roots.lawful),
     )
 
 -- by a line the server ends
@@ -172,7 +172,7 @@ ends_server (Some bytes) left before now later rest size n (suc taken) code next
 pub ends_stepping : (script left before now later rest : Option (List ℕ)) (size n taken : ℕ) (code next : Stage) (line : List ℕ)
     (after : Option (List ℕ)) (fault : StepFault)
     → Holds script left before now size n code → 0 < taken → IfSome left (λ bytes. TakesLine bytes taken line rest)
-    → Stepped code now later line (Err fault) next → IfSome script (λ bytes. Ends bytes before later after (Err (fault_at n fault)))
+    → Stepped code now later line (Err fault) next → IfSome script (λ bytes. Ends bytes before later after (Err (step_fault n fault)))
 ends_stepping None left before now later rest size n taken code next line after fault holds some takes steps = tt
 ends_stepping (Some bytes) left before now later rest size n zero code next line after fault holds some takes steps = absurd (omega arith)
 ends_stepping (Some bytes) left before now later rest size n (suc taken) code next line after Malformed (at, rest_bytes, count, is, numbered, stands, sized, first) some takes steps =
@@ -213,8 +213,8 @@ ends_stepping (Some bytes) left before now later rest size n (suc taken) code ne
 
 -- a result that hands on the fault of a taking
 pub ends_handed : (script before now rest : Option (List ℕ)) (fault : TakeFault) (result : Result (Unit {0}) ReplayFault)
-    → IsErr result × IsErrAnd result (λ handed. handed ≡ fault_of fault)
-    → IfSome script (λ bytes. Ends bytes before now rest (Err (fault_of fault)))
+    → IsErr result × IsErrAnd result (λ handed. handed ≡ taking_fault fault)
+    → IfSome script (λ bytes. Ends bytes before now rest (Err (taking_fault fault)))
     → IfSome script (λ bytes. Ends bytes before now rest result)
 ends_handed script before now rest fault (Ok done) hands ends = absurd hands.1
 ends_handed script before now rest fault (Err handed) hands ends =

@@ -7,7 +7,7 @@ use Rattle.std.proofs.lemmas.List.Elements.{All-nil, All-cons, All-append}
 use Rattle.std.specs.Io.KnownBytes.{Consumes, Keeps}
 use Rattle.wq_base.specs.Byte.{newline}
 use Rattle.wq_replay.specs.Replay.{StopsWithin}
-use Rattle.wq_replay.specs.Taken.{is_last, kept_of, max_kept, stops}
+use Rattle.wq_replay.specs.Taken.{is_last_line, kept_line, max_kept, stops_within}
 use Rattle.wq_replay.proofs.Parts.{kept_front}
 
 -- no newline stands among some bytes
@@ -15,24 +15,24 @@ abbrev pub NoNewline : List ℕ → Type 0
 NoNewline = All (λ byte. byte ≢ newline)
 
 -- what is kept of some bytes has no newline where their first line does not stop within them
-kept_inside : (room : ℕ) (bytes : List ℕ) → stops room bytes ≡ false → NoNewline (kept_of room bytes)
+kept_inside : (room : ℕ) (bytes : List ℕ) → stops_within room bytes ≡ false → NoNewline (kept_line room bytes)
 kept_inside zero bytes none = absurd (false≢true (sym none))
 kept_inside (suc room) [] none = All-nil (λ byte. byte ≢ newline)
 kept_inside (suc room) (x ∷ xs) none =
-    let parts = or_parts (x == newline) (stops room xs) none in
-    subst NoNewline (sym (ap (λ b. if b then x ∷ [] else x ∷ kept_of room xs) parts.0))
-    (All-cons (λ byte. byte ≢ newline) x (kept_of room xs) (eqb-false x newline parts.0) (kept_inside room xs parts.1))
+    let parts = or_parts (x == newline) (stops_within room xs) none in
+    subst NoNewline (sym (ap (λ b. if b then x ∷ [] else x ∷ kept_line room xs) parts.0))
+    (All-cons (λ byte. byte ≢ newline) x (kept_line room xs) (eqb-false x newline parts.0) (kept_inside room xs parts.1))
 
 -- so a part that is not the last of a line stops within the line
 pub part_within : (known rest : Option (List ℕ)) (before shown : List ℕ) (count : ℕ) (last : Bool)
-    → Consumes known rest (take count shown) → count ≡ length (kept_of (max_kept - length before) shown)
-    → last ≡ is_last (max_kept - length before) shown → last ≡ false → IfSome known (λ bytes. StopsWithin bytes rest)
+    → Consumes known rest (take count shown) → count ≡ length (kept_line (max_kept - length before) shown)
+    → last ≡ is_last_line (max_kept - length before) shown → last ≡ false → IfSome known (λ bytes. StopsWithin bytes rest)
 part_within None rest before shown count last took counted lasts more = tt
 part_within (Some bytes) None before shown count last took counted lasts more = absurd took
 part_within (Some bytes) (Some left) before shown count last took counted lasts more =
     let room = max_kept - length before in
-    let open' = or_parts (stops room shown) (length shown == 0) (sym lasts ∙ more) in
-    let part : take count shown ≡ kept_of room shown = ap (λ n. take n shown) counted ∙ kept_front room shown in
+    let open' = or_parts (stops_within room shown) (length shown == 0) (sym lasts ∙ more) in
+    let part : take count shown ≡ kept_line room shown = ap (λ n. take n shown) counted ∙ kept_front room shown in
     (take count shown, left, refl, took, subst NoNewline (sym part) (kept_inside room shown open'.0))
 
 -- a reader that was left within a line, and then within what was left of it

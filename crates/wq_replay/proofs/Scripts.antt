@@ -1,7 +1,7 @@
 -- What the lines of a script do is one run of its world.
 use Rattle.std.proofs.Common.{◌≡◌, ℕ, List, [], ◌∷◌, ◌++◌, refl, sym, ap, subst, ◌∙◌}
 use Rattle.std.proofs.lemmas.List.{append_assoc}
-use Rattle.wq_replay.specs.Replay.{Does, Plays, crawled, sent_line, sent_lines}
+use Rattle.wq_replay.specs.Replay.{DoesLine, Plays, crawled, sent_line, sent_lines}
 use Rattle.wq_replay.specs.Stage.{StageData, Turn, drafts, lists, hears, malformed, turn_of}
 use Rattle.wq_replay.specs.World.{HappeningData, Runs, SentData}
 use Rattle.wq_replay.proofs.Worlds.{runs_go_on}
@@ -19,7 +19,7 @@ sent_then (one ∷ first) later =
     ∙ sym (append_assoc (sent_line one.client one.text) (sent_lines first) (sent_lines later))
 
 -- what a line does is a run
-turn_runs : (stage after : StageData) (turn : Turn) (written : List ℕ) → Does stage turn written after → RunsTo stage written after
+turn_runs : (stage after : StageData) (turn : Turn) (written : List ℕ) → DoesLine stage turn written after → RunsTo stage written after
 turn_runs stage after (drafts draft) written (none, is) = ([], [], (refl, ap (λ s. s.world) is), none)
 turn_runs stage after (lists crawls tree) written (world, runs, none, is) =
     (crawled crawls tree, [], subst (Runs stage.world (crawled crawls tree) []) (sym (ap (λ s. s.world) is)) runs, none)

@@ -12,7 +12,7 @@ use Rattle.wq_session.specs.declared.crawl.CrawlFault.{CrawlFault}
 use Rattle.wq_session.specs.declared.refusal.Refusal.TheVariants.{NoMemory}
 use Rattle.wq_view.specs.Listing.{PassData}
 use Rattle.wq_replay.specs.Accepted.{AcceptsAt, AcceptsOf, AcceptsUnless, RunsWith, ShelvesAreCalls}
-use Rattle.wq_replay.specs.World.{AnswersAt, Crawls, CrawlsAt, Does, GetsAt, GetsFor, HappeningData, crawl, opening, asked, OpensAt, Runs, SentData, Starts, WorldData, ending, fault_for, looked, new_world, number_in, shows}
+use Rattle.wq_replay.specs.World.{AnswersInWorld, Crawls, CrawlsAt, Does, GetsAt, GetsFor, HappeningData, crawl, watching, asked, WatchesAt, Runs, SentData, Starts, WorldData, ending, fault_for, looked, new_world, number_in, shows}
 
 -- a crawl leaves the shelf
 at_number : (number : Option ℕ) (world : WorldData) (root : List ℕ) (pass : PassData) (after : WorldData)
@@ -27,14 +27,14 @@ crawls : (world : WorldData) (root : List ℕ) (seen : Result PassData CrawlFaul
 crawls world root (Ok pass) after (table, is, goes) = at_number (number_in root table) world root pass after goes
 crawls world root (Err fault) after is = ap (λ w. w.shelf) is
 
--- and so does an opening
+-- and so does a watching
 starts : (number : ℕ) (world : WorldData) (root : List ℕ) (seen : Result PassData CrawlFault) (after : WorldData)
     → Starts number world root seen after → after.shelf ≡ world.shelf
 starts number world root (Ok pass) after is = ap (λ w. w.shelf) is
 starts number world root (Err fault) after is = ap (λ w. w.shelf) is
 
 opens : (shown : Bool) (table : TableData) (world : WorldData) (root : List ℕ) (seen : Result PassData CrawlFault) (after : WorldData)
-    → OpensAt shown table world root seen after → after.shelf ≡ world.shelf
+    → WatchesAt shown table world root seen after → after.shelf ≡ world.shelf
 opens true table world root seen after is = ap (λ w. w.shelf) is
 opens false table world root seen after (inl (full, is)) = ap (λ w. w.shelf) is
 opens false table world root seen after (inr (room, goes)) = starts (table.given + 1) world root seen after goes
@@ -62,7 +62,7 @@ module _ (answers_are_calls : AnswersAreCalls) where
   does : (world : WorldData) (happening : HappeningData) (sent : List SentData) (after : WorldData) → Does world happening sent after
       → (calls : List CallNow) × AcceptsOf world happening sent calls × (after.shelf ≡ after_all calls world.shelf)
   does world (crawl root seen) sent after (none, goes) = ([], refl, crawls world root seen after goes)
-  does world (opening root seen) sent after (none, (table, is, goes)) = ([], refl, opens (shows root table) table world root seen after goes)
+  does world (watching root seen) sent after (none, (table, is, goes)) = ([], refl, opens (shows root table) table world root seen after goes)
   does world (asked client ask) sent after (out, (table, is, gets), same) =
       let it = gets_for (fault_for (need_of ask) table world.refused) table world ask out after gets in
       (it.0, (out, (table, is, it.1), same), it.2)

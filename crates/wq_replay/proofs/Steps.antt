@@ -13,7 +13,7 @@ use Rattle.wq_replay.specs.Replay.{IsHeard, crawled, needed, sent_lines, shuts}
 use Rattle.wq_replay.specs.Sending.{Sends}
 use Rattle.wq_replay.specs.Stage.{DraftData, StageData, drafts, lists, hears, malformed, turn_at_end}
 use Rattle.wq_replay.specs.Stands.{Stands}
-use Rattle.wq_replay.specs.Step.{IsAt, Takes, draft_data}
+use Rattle.wq_replay.specs.Step.{IsAt, TakesTurn, draft_data}
 use Rattle.wq_replay.specs.World.{WorldData, HappeningData, SentData, Runs, asked, crawl, root_text}
 use Rattle.wq_replay.specs.declared.fault.StepFault.{StepFault}
 use Rattle.wq_replay.specs.declared.fault.StepFault.TheVariants.{Malformed, Write, NoMemory}
@@ -32,7 +32,7 @@ rows_are crawls second rows others is = ap (λ all. Some (draft_with crawls seco
 -- a listing is open behind a line
 pub draft_open : (at : StageData) (draft : DraftData) (code : Stage) (known : Option (List ℕ))
     → Stands at.world code.world → at.tree ≡ code.tree → Some draft ≡ option_map draft_data code.draft
-    → Takes at (drafts draft) known known (Ok true) code
+    → TakesTurn at (drafts draft) known known (Ok true) code
 draft_open at draft code known stands tree drafted = (
   [],
   record at { draft = Some draft },
@@ -58,9 +58,9 @@ ends_right draft none bad = let h : lists draft.crawls (listing_of draft.rows dr
 pub listed_now : (at : StageData) (draft : DraftData) (tree : PassData) (world : WorldData) (code : Stage) (known : Option (List ℕ))
     → listing_fault draft.rows draft.second ≡ None → tree ≡ listing_of draft.rows draft.second
     → Runs at.world (crawled draft.crawls tree) [] world → Stands world code.world → tree ≡ code.tree
-    → None ≡ option_map draft_data code.draft → Takes at (turn_at_end draft) known known (Ok true) code
+    → None ≡ option_map draft_data code.draft → TakesTurn at (turn_at_end draft) known known (Ok true) code
 listed_now at draft tree world code known none is runs stands listed closed =
-    subst (λ turn. Takes at turn known known (Ok true) code) (sym (end_well draft none ∙ ap (lists draft.crawls) (sym is))) (
+    subst (λ turn. TakesTurn at turn known known (Ok true) code) (sym (end_well draft none ∙ ap (lists draft.crawls) (sym is))) (
       [],
       record { world = world; tree = tree; draft = None },
       appends_none known,
@@ -88,10 +88,10 @@ crawled_runs before after tree crawls said is runs = subst (λ b. Runs before (c
 
 -- memory ran out before a client was heard
 pub unready : (at : StageData) (client : ℤ) (event : Event) (known : Option (List ℕ)) (result : Result Bool StepFault) (code : Stage)
-    → IsErr result × IsErrAnd result (λ fault. fault ≡ NoMemory) → Takes at (hears client event) known known result code
+    → IsErr result × IsErrAnd result (λ fault. fault ≡ NoMemory) → TakesTurn at (hears client event) known known result code
 unready at client event known (Ok goes_on) code hands = absurd hands.1
 unready at client event known (Err fault) code hands =
-    subst (λ f. Takes at (hears client event) known known (Err f) code) (sym hands.1) ((λ h. cc), appends_none known)
+    subst (λ f. TakesTurn at (hears client event) known known (Err f) code) (sym hands.1) ((λ h. cc), appends_none known)
 
 -- a client was heard, where its ask and what that needs first were played
 pub heard_of : (at : StageData) (client : ℤ) (event : Event) (ask : Ask) (tree : PassData) (happenings : List HappeningData)
@@ -118,10 +118,10 @@ shuts_so false said = absurd (false≢true said)
 pub heard : (at : StageData) (client : ℤ) (event : Event) (sent : List SentData) (world : WorldData)
     (before after : Option (List ℕ)) (result : Result Bool StepFault) (code : Stage)
     → IsHeard at client event sent world → IsAt code (record at { world = world }) → Sends sent before after result
-    → Takes at (hears client event) before after result code
+    → TakesTurn at (hears client event) before after result code
 heard at client event sent world before after (Ok goes_on) code heard_so is (said, appends) = by goes_on said
   where
-    by : (goes_on : Bool) → goes_on ≡ not (shuts sent) → Takes at (hears client event) before after (Ok goes_on) code
+    by : (goes_on : Bool) → goes_on ≡ not (shuts sent) → TakesTurn at (hears client event) before after (Ok goes_on) code
     by true said = (sent_lines sent, record at { world = world }, appends, (sent, world, heard_so, shuts_not (shuts sent) said, refl, refl), is)
     by false said = (sent, world, heard_so, shuts_so (shuts sent) said, appends)
 heard at client event sent world before after (Err Malformed) code heard_so is sends = absurd sends

@@ -3,7 +3,7 @@ use Rattle.std.proofs.Common.{◌≡◌, ◌+◌, ℕ, true, false, List, [], �
 use Rattle.std.proofs.lemmas.List.{append-nil, append_assoc}
 use Rattle.wq_clock.specs.Instance.{InstanceData}
 use Rattle.wq_live.specs.Table.{TableData, IsTableOf}
-use Rattle.wq_session.specs.Answer.{Answers, MayRefuse}
+use Rattle.wq_session.specs.Answer.{AnswersAsk, MayRefuse}
 use Rattle.wq_session.specs.Crawl.{crawl_refusal}
 use Rattle.wq_session.specs.Need.{NeedData, need_of}
 use Rattle.wq_session.specs.Out.{OutData}
@@ -21,7 +21,7 @@ use Rattle.wq_replay.specs.declared.happening.Happening.{Happening}
 use Rattle.wq_replay.specs.declared.sent.Sent.{Sent}
 use Rattle.wq_replay.specs.declared.world.World.{World}
 use Rattle.wq_clock.specs.Run.{RunData, instance_of}
-use Rattle.wq_replay.specs.World.{AnswersAt, Crawls, CrawlsAt, Does, EndsAt, Gets, GetsAt, GetsFor, HappeningData, IsFull, Opens, OpensAt, OpensNew, RefusedData, Runs, SentData, Starts, WorldData, at_end, ending, fault_for, looked, number_in, shows, unrefused}
+use Rattle.wq_replay.specs.World.{AnswersInWorld, Crawls, CrawlsAt, Does, EndsAt, Gets, GetsAt, GetsFor, HappeningData, IsFull, Watches, WatchesAt, WatchesNew, RefusedData, Runs, SentData, Starts, WorldData, at_end, ending, fault_for, looked, number_in, shows, unrefused}
 
 some_same : {X : Type 0} {x y : X} → Some x ≡ Some y → x ≡ y
 some_same h = cc h
@@ -54,24 +54,24 @@ pub crawls_shown : (before after : WorldData) (root : List ℕ) (pass : PassData
 crawls_shown before after root pass table number is some crawls =
     (table, is, subst (λ n. CrawlsAt n before root pass after) (sym some) crawls)
 
--- an opening of a root that is shown
+-- a watching of a root that is shown
 pub opens_shown : (before : WorldData) (root : List ℕ) (seen : Result PassData CrawlFault) (table : TableData)
-    → IsTableOf before.events table → shows root table ≡ true → Opens before root seen (unrefused before)
+    → IsTableOf before.events table → shows root table ≡ true → Watches before root seen (unrefused before)
 opens_shown before root seen table is shown =
-    (table, is, subst (λ b. OpensAt b table before root seen (unrefused before)) (sym shown) refl)
+    (table, is, subst (λ b. WatchesAt b table before root seen (unrefused before)) (sym shown) refl)
 
--- an opening of a root that is not shown
+-- a watching of a root that is not shown
 pub opens_new : (before after : WorldData) (root : List ℕ) (seen : Result PassData CrawlFault) (table : TableData)
-    → IsTableOf before.events table → shows root table ≡ false → OpensNew table before root seen after → Opens before root seen after
+    → IsTableOf before.events table → shows root table ≡ false → WatchesNew table before root seen after → Watches before root seen after
 opens_new before after root seen table is new opens =
-    (table, is, subst (λ b. OpensAt b table before root seen after) (sym new) opens)
+    (table, is, subst (λ b. WatchesAt b table before root seen after) (sym new) opens)
 
--- an opening by which a root starts with a pass
+-- a watching by which a root starts with a pass
 pub opens_start : (before : WorldData) (root : List ℕ) (pass : PassData) (seen : Result PassData CrawlFault) (table : TableData)
     (result : Result (Unit {0}) AllocError) (Then : WorldData → Type 0) → IsTableOf before.events table → shows root table ≡ false
     → (IsFull table → ⊥) → seen ≡ Ok pass
     → OnOk result ((after : WorldData) × Starts (table.given + 1) before root (Ok pass) after × Then after)
-    → OnOk result ((after : WorldData) × Opens before root seen after × Then after)
+    → OnOk result ((after : WorldData) × Watches before root seen after × Then after)
 opens_start before root pass seen table (Err error) Then is new room same starts = tt
 opens_start before root pass seen table (Ok done) Then is new room same (after, starts, holds) = (
   after,
@@ -86,7 +86,7 @@ pub fault_is : (said need : NeedData) (table : TableData) (taken worlds : Option
 fault_is said need table taken worlds got is same stands =
     ap (fault_for need table) stands ∙ ap (λ n. fault_for n table taken) (sym same) ∙ sym is
 
--- an ask whose crawl or opening was refused
+-- an ask whose crawl or watching was refused
 pub gets_refused : (before : WorldData) (ask : Ask) (out : OutData) (table : TableData) (fault : CrawlFault) (refusal : Refusal)
     → IsTableOf before.events table → fault_for (need_of ask) table before.refused ≡ Some fault → refusal ≡ crawl_refusal fault
     → MayRefuse refusal out → Gets before ask out (unrefused before)
@@ -109,7 +109,7 @@ gets_ended before after ask out table number is none ends gets = (
 -- any other ask
 pub gets_looked : (before after : WorldData) (ask : Ask) (out : OutData) (table : TableData) → IsTableOf before.events table
     → fault_for (need_of ask) table before.refused ≡ None → ending (need_of ask) table ≡ None
-    → AnswersAt (looked (need_of ask) before.run table) before ask out after → Gets before ask out after
+    → AnswersInWorld (looked (need_of ask) before.run table) before ask out after → Gets before ask out after
 gets_looked before after ask out table is none ends gets = (
   table,
   is,
@@ -118,9 +118,9 @@ gets_looked before after ask out table is none ends gets = (
 
 -- an answer that is found in the code's values
 pub answers_at : (ask : Ask) (out : OutData) (at said : Option AtData) (from mine shelf : ShelfNow) → at ≡ said → mine ≡ from
-    → Answers ask at from out shelf → Answers ask said mine out shelf
+    → AnswersAsk ask at from out shelf → AnswersAsk ask said mine out shelf
 answers_at ask out at said from mine shelf same stands answers =
-    subst (λ s. Answers ask said s out shelf) (sym stands) (subst (λ a. Answers ask a from out shelf) same answers)
+    subst (λ s. AnswersAsk ask said s out shelf) (sym stands) (subst (λ a. AnswersAsk ask a from out shelf) same answers)
 
 -- the root that an ask ends, which is found in the code's values
 pub ends_none : (mine : RunData) (said need : NeedData) (table : TableData) → None ≡ option_map (instance_of mine) (ending said table)

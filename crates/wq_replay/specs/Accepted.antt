@@ -14,7 +14,7 @@ use Rattle.wq_session.specs.Out.{OutData}
 use Rattle.wq_session.specs.declared.ask.Ask.{Ask}
 use Rattle.wq_session.specs.declared.crawl.CrawlFault.{CrawlFault}
 use Rattle.wq_session.specs.declared.refusal.Refusal.TheVariants.{NoMemory}
-use Rattle.wq_replay.specs.World.{WorldData, HappeningData, crawl, opening, asked, SentData}
+use Rattle.wq_replay.specs.World.{WorldData, HappeningData, crawl, watching, asked, SentData}
 use Rattle.wq_replay.specs.World.{Does, Runs, at_end, ending, fault_for, looked, new_world, root_text}
 use Rattle.wq_replay.specs.World.{sent_to}
 
@@ -28,7 +28,7 @@ AcceptsAt (Some number) table world ask out calls =
     Accepts ask (Some (at_end world.run number)) world.shelf out calls
     ⊎ (MayRefuse NoMemory out × (calls ≡ []))
 
--- these calls were accepted of an ask: none, where its crawl or opening was refused
+-- these calls were accepted of an ask: none, where its crawl or watching was refused
 abbrev pub AcceptsUnless : Option CrawlFault → TableData → WorldData → Ask → OutData → List CallNow
     → Type 0
 AcceptsUnless (Some fault) table world ask out calls =
@@ -44,7 +44,7 @@ AcceptsFor world ask out calls = (table : TableData) × IsTableOf world.events t
 -- these calls were accepted of what happened
 abbrev pub AcceptsOf : WorldData → HappeningData → List SentData → List CallNow → Type 0
 AcceptsOf world (crawl root seen) sent calls = calls ≡ []
-AcceptsOf world (opening root seen) sent calls = calls ≡ []
+AcceptsOf world (watching root seen) sent calls = calls ≡ []
 AcceptsOf world (asked client ask) sent calls =
     (out : OutData) × AcceptsFor world ask out calls × (sent ≡ sent_to client out)
 

@@ -9,12 +9,12 @@ use Rattle.wq_replay.specs.declared.fault.TakeFault.{TakeFault}
 use Rattle.wq_replay.specs.declared.fault.TakeFault.TheVariants.{Read as NotRead, NoMemory as NotKept}
 
 -- a step at the line of this number
-abbrev pub fault_at : ℕ → StepFault → ReplayFault
-fault_at number Malformed = Line number
-fault_at number NotWritten = Write
-fault_at number NoMemory = Memory
+abbrev pub step_fault : ℕ → StepFault → ReplayFault
+step_fault number Malformed = Line number
+step_fault number NotWritten = Write
+step_fault number NoMemory = Memory
 
 -- the taking of a line
-abbrev pub fault_of : TakeFault → ReplayFault
-fault_of NotRead = Read
-fault_of NotKept = Memory
+abbrev pub taking_fault : TakeFault → ReplayFault
+taking_fault NotRead = Read
+taking_fault NotKept = Memory

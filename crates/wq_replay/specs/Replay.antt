@@ -7,8 +7,8 @@ use Rattle.std.specs.List.{list_any}
 use Rattle.std.specs.Io.KnownBytes.{Appends}
 use Rattle.wq_base.specs.Byte.{newline}
 use Rattle.wq_stream.specs.declared.event.Event.{Event}
-use Rattle.wq_live.specs.Event.{IsLawful}
-use Rattle.wq_session.specs.Need.{NeedData, crawl as crawl_of, opening as opening_of, need_of}
+use Rattle.wq_live.specs.Event.{IsLawfulList}
+use Rattle.wq_session.specs.Need.{NeedData, crawl as crawl_of, watch as watch_of, need_of}
 use Rattle.wq_session.specs.Reading.{Asks}
 use Rattle.wq_session.specs.declared.ask.Ask.{Ask}
 use Rattle.wq_session.specs.declared.crawl.CrawlFault.{CrawlFault}
@@ -17,7 +17,7 @@ use Rattle.wq_view.specs.Listing.{PassData}
 use Rattle.wq_replay.specs.Limit.{max_script}
 use Rattle.wq_replay.specs.Line.{lines_of}
 use Rattle.wq_replay.specs.Stage.{StageData, Turn, drafts, lists, hears, malformed, start, turn_of}
-use Rattle.wq_replay.specs.World.{WorldData, HappeningData, crawl, opening, asked, SentData, Runs}
+use Rattle.wq_replay.specs.World.{WorldData, HappeningData, crawl, watching, asked, SentData, Runs}
 use Rattle.wq_replay.specs.World.{root_text}
 use Rattle.wq_replay.specs.declared.fault.ReplayFault.{ReplayFault}
 use Rattle.wq_replay.specs.declared.fault.ReplayFault.TheVariants.{Line, TooLong, Read, Write, Memory}
@@ -40,13 +40,13 @@ abbrev pub crawled : Bool → PassData → List HappeningData
 crawled crawls tree = if crawls then crawl root_text (Ok tree) ∷ [] else []
 
 -- what a root lists, where `/r` lists this: `/r` that; another root cannot be read
-abbrev pub listed : PassData → List ℕ → Result PassData CrawlFault
-listed tree root = if bytes_eq root root_text then Ok tree else Err Unreadable
+abbrev pub listed_root : PassData → List ℕ → Result PassData CrawlFault
+listed_root tree root = if bytes_eq root root_text then Ok tree else Err Unreadable
 
--- what happens before an ask, where `/r` lists this: the crawl or the opening that it needs, if any
+-- what happens before an ask, where `/r` lists this: the crawl or the watching that it needs, if any
 abbrev pub needed : PassData → NeedData → List HappeningData
-needed tree (crawl_of root) = crawl root (listed tree root) ∷ []
-needed tree (opening_of root) = opening root (listed tree root) ∷ []
+needed tree (crawl_of root) = crawl root (listed_root tree root) ∷ []
+needed tree (watch_of root) = watching root (listed_root tree root) ∷ []
 needed tree _ = []
 
 -- a client is heard: this is sent, and the world is another then
@@ -58,22 +58,22 @@ pub record IsHeard (stage : StageData) (client : ℤ) (event : Event) (sent : Li
 
 -- what a line does takes the script from a stage to the next, with this written, and the server
 -- goes on; a malformed line leads nowhere
-abbrev pub Does : StageData → Turn → List ℕ → StageData → Type 0
-Does stage (drafts draft) written after =
+abbrev pub DoesLine : StageData → Turn → List ℕ → StageData → Type 0
+DoesLine stage (drafts draft) written after =
     (written ≡ []) × (after ≡ record stage { draft = Some draft })
-Does stage (lists crawls tree) written after =
+DoesLine stage (lists crawls tree) written after =
     (world : WorldData) × Runs stage.world (crawled crawls tree) [] world
     × (written ≡ []) × (after ≡ record { world = world; tree = tree; draft = None })
-Does stage (hears client event) written after =
+DoesLine stage (hears client event) written after =
     (sent : List SentData) × (world : WorldData) × IsHeard stage client event sent world
     × (shuts sent ≡ false) × (written ≡ sent_lines sent) × (after ≡ record stage { world = world })
-Does stage malformed written after = ⊥
+DoesLine stage malformed written after = ⊥
 
 -- these lines take the script in turn from a stage to another, with this written
 abbrev pub Plays : StageData → List (List ℕ) → List ℕ → StageData → Type 0
 Plays stage [] written after = (written ≡ []) × (after ≡ stage)
 Plays stage (line ∷ lines) written after = (next : StageData) × (first later : List ℕ)
-    × Does stage (turn_of stage line) first next × (written ≡ first ++ later)
+    × DoesLine stage (turn_of stage line) first next × (written ≡ first ++ later)
     × Plays next lines later after
 
 -- what the lines of a script do is one run of its world, and each reply of that run is written
@@ -92,7 +92,7 @@ pub record FirstLines (script : List ℕ) (before after : Option (List ℕ)) (co
   pub count_is : length first ≡ count
   pub plays : Plays start first written at
   pub appends : Appends before after written
-  pub lawful : IsLawful (at.world).events
+  pub lawful : IsLawfulList (at.world).events
 
 -- a front of some bytes was written
 abbrev pub AppendsFront : Option (List ℕ) → Option (List ℕ) → List ℕ → Type 0

@@ -45,9 +45,9 @@ abbrev pub number_then : List ℕ → Option (ℤ × List ℕ)
 number_then text = option_and_then number_before (first_word text)
 
 -- the kind that a word names: it is the letter of one
-abbrev pub kind_of : List ℕ → Option Kind
-kind_of (letter ∷ []) = kind_with letter
-kind_of _ = None
+abbrev pub kind_of_word : List ℕ → Option Kind
+kind_of_word (letter ∷ []) = kind_with letter
+kind_of_word _ = None
 
 -- the row of a kind and a size, from its modification time and its name
 abbrev pub row_from : Kind → ℤ → ℤ × List ℕ → LineData
@@ -85,7 +85,7 @@ line_worded (word, rest) =
     else if bytes_eq word (codes "tree") then option_map tree (signed_of rest)
     else if bytes_eq word (codes "ask") then ask_of rest
     else if bytes_eq word (codes "leave") then option_and_then leave_from (signed_of rest)
-    else option_and_then (λ kind. row_of kind rest) (kind_of word)
+    else option_and_then (λ kind. row_of kind rest) (kind_of_word word)
 
 -- what a line says, unless it is malformed
 abbrev pub line_of : List ℕ → Option LineData

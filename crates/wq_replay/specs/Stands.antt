@@ -7,15 +7,15 @@ use Rattle.wq_session.specs.declared.crawl.CrawlFault.{CrawlFault}
 use Rattle.wq_view.specs.Listing.{PassData}
 use Rattle.wq_clock.specs.Run.{run_data}
 use Rattle.wq_replay.specs.World.{RefusedData, WorldData, Runs}
-use Rattle.wq_replay.specs.World.{HappeningData, crawl, opening, asked, SentData}
+use Rattle.wq_replay.specs.World.{HappeningData, crawl, watching, asked, SentData}
 use Rattle.wq_replay.specs.declared.happening.Happening.{Happening}
-use Rattle.wq_replay.specs.declared.happening.Happening.TheVariants.{Crawl, Open, Asked}
+use Rattle.wq_replay.specs.declared.happening.Happening.TheVariants.{Crawl, Watch, Asked}
 use Rattle.wq_replay.specs.declared.refused.Refused.{Refused}
 use Rattle.wq_clock.specs.declared.run.Run.{Run}
 use Rattle.wq_replay.specs.declared.sent.Sent.{Sent}
 use Rattle.wq_replay.specs.declared.world.World.{World}
 
--- a crawl or an opening that was refused
+-- a crawl or a watching that was refused
 abbrev pub refused_data : Refused → RefusedData
 refused_data refused = record { root = refused.root; fault = refused.fault }
 
@@ -35,7 +35,7 @@ crawl_data (Err fault) = Err fault
 -- what happens
 abbrev pub happening_data : Happening → HappeningData
 happening_data (Crawl root seen) = crawl root (crawl_data seen)
-happening_data (Open root seen) = opening root (crawl_data seen)
+happening_data (Watch root seen) = watching root (crawl_data seen)
 happening_data (Asked client ask) = asked client ask
 
 -- the text of a reply, and nothing where there is none

@@ -2,7 +2,7 @@
 -- It is this server's own.
 use Rattle.std.specs.Prelude.{◌≡◌, ◌≢◌, ℕ, Bool, true, false, List, [], Option, option_map, Result, Ok, Err}
 use Rattle.std.specs.Io.KnownBytes.{Appends}
-use Rattle.wq_replay.specs.Replay.{Does, Shuts, StopsWriting}
+use Rattle.wq_replay.specs.Replay.{DoesLine, Shuts, StopsWriting}
 use Rattle.wq_replay.specs.Stage.{DraftData, StageData, Turn, malformed}
 use Rattle.wq_replay.specs.Stands.{Stands}
 use Rattle.wq_replay.specs.declared.fault.StepFault.{StepFault}
@@ -24,11 +24,11 @@ pub record IsAt (code : Stage) (stage : StageData) : Type 0 where
 -- what a turn at a stage came to: it was taken, with this written and the code where it leads; or
 -- it ends the server; or the line is malformed, or its reply was not written whole, or memory ran
 -- out before anything
-abbrev pub Takes : StageData → Turn → Option (List ℕ) → Option (List ℕ)
+abbrev pub TakesTurn : StageData → Turn → Option (List ℕ) → Option (List ℕ)
     → Result Bool StepFault → Stage → Type 0
-Takes at turn before after (Ok true) code = (written : List ℕ) × (next : StageData)
-    × Appends before after written × Does at turn written next × IsAt code next
-Takes at turn before after (Ok false) code = Shuts at turn before after
-Takes at turn before after (Err Malformed) code = (turn ≡ malformed) × Appends before after []
-Takes at turn before after (Err Write) code = StopsWriting at turn before after
-Takes at turn before after (Err NoMemory) code = (turn ≢ malformed) × Appends before after []
+TakesTurn at turn before after (Ok true) code = (written : List ℕ) × (next : StageData)
+    × Appends before after written × DoesLine at turn written next × IsAt code next
+TakesTurn at turn before after (Ok false) code = Shuts at turn before after
+TakesTurn at turn before after (Err Malformed) code = (turn ≡ malformed) × Appends before after []
+TakesTurn at turn before after (Err Write) code = StopsWriting at turn before after
+TakesTurn at turn before after (Err NoMemory) code = (turn ≢ malformed) × Appends before after []

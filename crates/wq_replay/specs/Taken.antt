@@ -11,29 +11,29 @@ abbrev pub max_kept : ℕ
 max_kept = max_script_line + 1
 
 -- what is kept of the first line of some bytes, with room for so many: the line, or a front of it
-abbrev pub kept_of : ℕ → List ℕ → List ℕ
-kept_of room bytes = take_through newline (take room bytes)
+abbrev pub kept_line : ℕ → List ℕ → List ℕ
+kept_line room bytes = take_through newline (take room bytes)
 
 -- the first line of some bytes stops within them: at its newline, or where there is no more room
-abbrev pub stops : ℕ → List ℕ → Bool
-stops zero bytes = true
-stops (suc room) [] = false
-stops (suc room) (byte ∷ bytes) = byte == newline || stops room bytes
+abbrev pub stops_within : ℕ → List ℕ → Bool
+stops_within zero bytes = true
+stops_within (suc room) [] = false
+stops_within (suc room) (byte ∷ bytes) = byte == newline || stops_within room bytes
 
 -- nothing is taken behind these bytes: the line stops within them, or there are none
-abbrev pub is_last : ℕ → List ℕ → Bool
-is_last room bytes = stops room bytes || length bytes == 0
+abbrev pub is_last_line : ℕ → List ℕ → Bool
+is_last_line room bytes = stops_within room bytes || length bytes == 0
 
 -- a front of these bytes was taken behind what was taken before; if the line stops there, that is
 -- all that is kept of it, and else as much is still to come
 abbrev pub TakesPart : List ℕ → List ℕ → Bool → List ℕ → Option (List ℕ) → Type 0
 TakesPart bytes before true after rest =
     (left : List ℕ) × (rest ≡ Some left) × (before ++ bytes ≡ after ++ left)
-    × (before ++ kept_of (max_kept - length before) bytes ≡ after)
+    × (before ++ kept_line (max_kept - length before) bytes ≡ after)
 TakesPart bytes before false after rest =
     (left : List ℕ) × (rest ≡ Some left) × (before ++ bytes ≡ after ++ left)
-    × (before ++ kept_of (max_kept - length before) bytes
-    ≡ after ++ kept_of (max_kept - length after) left)
+    × (before ++ kept_line (max_kept - length before) bytes
+    ≡ after ++ kept_line (max_kept - length after) left)
 
 -- some bytes begin with this line, and those are behind it; or both are too long
 abbrev pub BeginsWith : List ℕ → List ℕ → List ℕ → Type 0

@@ -3,17 +3,16 @@
 -- (`sync_timeout`), of `watch` and of `watch-del`; the rest is this server's own.
 use Rattle.std.specs.Prelude.{◌≡◌, ◌⊎◌, ◌<◌, ◌+◌, ℕ, ℤ, Bool, true, false, List, [], ◌∷◌, ◌++◌, find}
 use Rattle.std.specs.Prelude.{length, codes, bytes_eq, is_some, if◌then◌else◌, Option, Some, None, option_map, Result, Ok, Err}
-use Rattle.wq_base.specs.Limit.{max_number}
+use Rattle.wq_base.specs.Limit.{max_number, max_roots}
 use Rattle.wq_clock.specs.Run.{RunData, instance_of}
 use Rattle.wq_live.specs.Event.{passes_over, start_events}
-use Rattle.wq_live.specs.Limit.{max_roots}
 use Rattle.wq_live.specs.Table.{RootView, TableData, IsTableOf, IsNews, IsNoNews, has_text}
 use Rattle.wq_live.specs.declared.event.RootEvent.{RootEvent}
 use Rattle.wq_live.specs.declared.event.RootEvent.TheVariants.{Started, Passed, Ended}
 use Rattle.wq_registry.specs.Shelf.{blank, root_added}
-use Rattle.wq_session.specs.Answer.{Answers, MayRefuse}
+use Rattle.wq_session.specs.Answer.{AnswersAsk, MayRefuse}
 use Rattle.wq_session.specs.Crawl.{crawl_refusal}
-use Rattle.wq_session.specs.Need.{NeedData, look, crawl as crawl_of, opening as opening_of, retire, need_of}
+use Rattle.wq_session.specs.Need.{NeedData, look, crawl as crawl_of, watch as watch_of, unwatch, need_of}
 use Rattle.wq_session.specs.Out.{OutData}
 use Rattle.wq_session.specs.Query.{AtData, ShelfNow}
 use Rattle.wq_session.specs.declared.ask.Ask.{Ask}
@@ -23,7 +22,7 @@ use Rattle.wq_session.specs.declared.refusal.Refusal.TheVariants.{NoMemory}
 use Rattle.wq_view.specs.Limit.{max_tick}
 use Rattle.wq_view.specs.Listing.{PassData}
 
--- a crawl or an opening of a root that was refused
+-- a crawl or a watching of a root that was refused
 pub record RefusedData : Type 0 where
   pub root : List ℕ
   pub fault : CrawlFault
@@ -41,7 +40,7 @@ pub data HappeningData : Type 0 where
   -- a root is crawled: what it lists, or why it could not be
   crawl : (root : List ℕ) → Result PassData CrawlFault → HappeningData
   -- a root is opened, unless it is shown: what it lists, or why it could not be
-  opening : (root : List ℕ) → Result PassData CrawlFault → HappeningData
+  watching : (root : List ℕ) → Result PassData CrawlFault → HappeningData
   -- a client asks, or leaves
   asked : (client : ℤ) → Ask → HappeningData
 
@@ -67,7 +66,7 @@ new_world run sockname = record {
   refused = None;
 }
 
--- the world after a crawl or an opening that was refused
+-- the world after a crawl or a watching that was refused
 abbrev pub refusing : List ℕ → CrawlFault → WorldData → WorldData
 refusing root fault world = record world { refused = Some (record { root = root; fault = fault }) }
 
@@ -76,8 +75,8 @@ abbrev pub unrefused : WorldData → WorldData
 unrefused world = record world { refused = None }
 
 -- the world with these events behind the others
-abbrev pub adding : List RootEvent → WorldData → WorldData
-adding events world = record world { events = world.events ++ events }
+abbrev pub with_events : List RootEvent → WorldData → WorldData
+with_events events world = record world { events = world.events ++ events }
 
 -- the root of a text, if it is shown
 abbrev pub root_in : List ℕ → TableData → Option RootView
@@ -99,7 +98,7 @@ CrawlsAt None world root pass after = after ≡ unrefused world
 CrawlsAt (Some number) world root pass after =
     (IsNoNews world.events number pass × (after ≡ unrefused world))
     ⊎ (IsNews world.events number pass × (length (passes_over number world.events) < max_tick)
-    × (after ≡ unrefused (adding (Passed number pass ∷ []) world)))
+    × (after ≡ unrefused (with_events (Passed number pass ∷ []) world)))
     ⊎ (IsNews world.events number pass × (length (passes_over number world.events) ≡ max_tick)
     × (after ≡ refusing root TicksSpent world))
 
@@ -113,43 +112,43 @@ Crawls world root (Err fault) after = after ≡ refusing root fault world
 abbrev pub IsFull : TableData → Type 0
 IsFull table = (length table.roots ≡ max_roots) ⊎ (table.given ≡ max_number)
 
--- a root starts under the next number, by an opening that listed this; or the opening is refused
+-- a root starts under the next number, by a watching that listed this; or the watching is refused
 abbrev pub Starts : ℕ → WorldData → List ℕ → Result PassData CrawlFault → WorldData → Type 0
 Starts number world root (Ok pass) after =
-    after ≡ unrefused (adding (start_events number root pass) world)
+    after ≡ unrefused (with_events (start_events number root pass) world)
 Starts number world root (Err fault) after = after ≡ refusing root fault world
 
--- an opening of a root that is not shown
-abbrev pub OpensNew : TableData → WorldData → List ℕ → Result PassData CrawlFault → WorldData → Type 0
-OpensNew table world root seen after =
+-- a watching of a root that is not shown
+abbrev pub WatchesNew : TableData → WorldData → List ℕ → Result PassData CrawlFault → WorldData → Type 0
+WatchesNew table world root seen after =
     (IsFull table × (after ≡ refusing root TooManyRoots world))
     ⊎ ((IsFull table → ⊥) × Starts (table.given + 1) world root seen after)
 
--- an opening of a root: one that is shown stays as it is
-abbrev pub OpensAt : Bool → TableData → WorldData → List ℕ → Result PassData CrawlFault → WorldData → Type 0
-OpensAt true table world root seen after = after ≡ unrefused world
-OpensAt false table world root seen after = OpensNew table world root seen after
+-- a watching of a root: one that is shown stays as it is
+abbrev pub WatchesAt : Bool → TableData → WorldData → List ℕ → Result PassData CrawlFault → WorldData → Type 0
+WatchesAt true table world root seen after = after ≡ unrefused world
+WatchesAt false table world root seen after = WatchesNew table world root seen after
 
--- an opening of a root
-abbrev pub Opens : WorldData → List ℕ → Result PassData CrawlFault → WorldData → Type 0
-Opens world root seen after = (table : TableData) × IsTableOf world.events table
-    × OpensAt (shows root table) table world root seen after
+-- a watching of a root
+abbrev pub Watches : WorldData → List ℕ → Result PassData CrawlFault → WorldData → Type 0
+Watches world root seen after = (table : TableData) × IsTableOf world.events table
+    × WatchesAt (shows root table) table world root seen after
 
--- why the crawl or the opening of this root was refused that came last, if it was
-abbrev pub fault_of : List ℕ → Option RefusedData → Option CrawlFault
-fault_of root None = None
-fault_of root (Some refused) = if bytes_eq refused.root root then Some refused.fault else None
+-- why the crawl or the watching of this root was refused that came last, if it was
+abbrev pub refused_fault : List ℕ → Option RefusedData → Option CrawlFault
+refused_fault root None = None
+refused_fault root (Some refused) = if bytes_eq refused.root root then Some refused.fault else None
 
--- why the crawl that an ask needs was refused, where its root is shown; or the opening, where it is
+-- why the crawl that an ask needs was refused, where its root is shown; or the watching, where it is
 -- not
 abbrev pub fault_for : NeedData → TableData → Option RefusedData → Option CrawlFault
-fault_for (crawl_of root) table refused = if shows root table then fault_of root refused else None
-fault_for (opening_of root) table refused = if shows root table then None else fault_of root refused
+fault_for (crawl_of root) table refused = if shows root table then refused_fault root refused else None
+fault_for (watch_of root) table refused = if shows root table then None else refused_fault root refused
 fault_for _ table refused = None
 
 -- the number of the root that an ask ends, if it is shown
 abbrev pub ending : NeedData → TableData → Option ℕ
-ending (retire root) table = number_in root table
+ending (unwatch root) table = number_in root table
 ending _ table = None
 
 -- a root as it is looked at
@@ -166,28 +165,28 @@ at_end run number =
 abbrev pub looked : NeedData → RunData → TableData → Option AtData
 looked (look root) run table = option_map (at_root run) (root_in root table)
 looked (crawl_of root) run table = option_map (at_root run) (root_in root table)
-looked (opening_of root) run table = option_map (at_root run) (root_in root table)
+looked (watch_of root) run table = option_map (at_root run) (root_in root table)
 looked _ run table = None
 
 -- an answer at what is looked at, and at what all clients share
-abbrev pub AnswersAt : Option AtData → WorldData → Ask → OutData → WorldData → Type 0
-AnswersAt at world ask out after = (shelf : ShelfNow) × Answers ask at world.shelf out shelf
+abbrev pub AnswersInWorld : Option AtData → WorldData → Ask → OutData → WorldData → Type 0
+AnswersInWorld at world ask out after = (shelf : ShelfNow) × AnswersAsk ask at world.shelf out shelf
     × (after ≡ record world { shelf = shelf; refused = None })
 
 -- the answer to an ask that ends the root of this number: that ends first, unless memory runs out
 -- over it
 abbrev pub EndsAt : ℕ → WorldData → Ask → OutData → WorldData → Type 0
 EndsAt number world ask out after =
-    AnswersAt (Some (at_end world.run number)) (adding (Ended number ∷ []) world) ask out after
+    AnswersInWorld (Some (at_end world.run number)) (with_events (Ended number ∷ []) world) ask out after
     ⊎ (MayRefuse NoMemory out × (after ≡ unrefused world))
 
 -- the answer to an ask that ends this root, or none
 abbrev pub GetsAt : Option ℕ → TableData → WorldData → Ask → OutData → WorldData → Type 0
 GetsAt None table world ask out after =
-    AnswersAt (looked (need_of ask) world.run table) world ask out after
+    AnswersInWorld (looked (need_of ask) world.run table) world ask out after
 GetsAt (Some number) table world ask out after = EndsAt number world ask out after
 
--- what an ask gets: that its crawl or opening was refused, or its answer
+-- what an ask gets: that its crawl or watching was refused, or its answer
 abbrev pub GetsFor : Option CrawlFault → TableData → WorldData → Ask → OutData → WorldData → Type 0
 GetsFor (Some fault) table world ask out after =
     MayRefuse (crawl_refusal fault) out × (after ≡ unrefused world)
@@ -211,7 +210,7 @@ sent_to client out = sent_for client out.shuts out.reply
 -- something happens: this is sent, and the world is another then
 abbrev pub Does : WorldData → HappeningData → List SentData → WorldData → Type 0
 Does world (crawl root seen) sent after = (sent ≡ []) × Crawls world root seen after
-Does world (opening root seen) sent after = (sent ≡ []) × Opens world root seen after
+Does world (watching root seen) sent after = (sent ≡ []) × Watches world root seen after
 Does world (asked client ask) sent after =
     (out : OutData) × Gets world ask out after × (sent ≡ sent_to client out)
 

@@ -1,6 +1,6 @@
 //! Why a replay ends before its script does, and the parts of that: a step, and the taking of a line.
 ghost use Rattle.std.specs.Prelude.{◌≡◌};
-ghost use Rattle.wq_replay.specs.Fault.{fault_at};
+ghost use Rattle.wq_replay.specs.Fault.{step_fault};
 
 use std::alloc::{AllocError, AllocFailed};
 use thiserror::Error;
@@ -48,7 +48,7 @@ pub(crate) enum TakeFault {
 impl StepFault {
     /// The end of a replay at the line of this number.
     pub(crate) fn at(self, number: u64) -> ReplayFault
-        ensures { result ≡ fault_at number self }
+        ensures { result ≡ step_fault number self }
     {
         match self {
             StepFault::Malformed => ReplayFault::Line(number),
@@ -60,9 +60,9 @@ impl StepFault {
 
 impl From<TakeFault> for ReplayFault {
     ghost use Rattle.std.specs.Prelude.{◌≡◌};
-    ghost use Rattle.wq_replay.specs.Fault.{fault_of};
+    ghost use Rattle.wq_replay.specs.Fault.{taking_fault};
 
-    ghost from_gives = { λ fault end. end ≡ fault_of fault };
+    ghost from_gives = { λ fault end. end ≡ taking_fault fault };
 
     fn from(fault: TakeFault) -> ReplayFault {
         match fault {

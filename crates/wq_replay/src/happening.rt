@@ -13,7 +13,7 @@ pub enum Happening<'a> {
         seen: Result<&'a Pass, CrawlFault>,
     },
     /// A root that is not shown is to be: what it lists, or why it could not be read. One that is shown stays so.
-    Open {
+    Watch {
         root: Text,
         seen: Result<&'a Pass, CrawlFault>,
     },

@@ -3,7 +3,7 @@
 ghost use Rattle.std.specs.Prelude.{◌≡◌, ◌++◌, ◌∷◌, [], IfOk, map, option_to_list};
 ghost use Rattle.wq_session.specs.Need.{need_of};
 ghost use Rattle.wq_session.specs.Needed.{need_data};
-ghost use Rattle.wq_replay.specs.Replay.{listed, needed};
+ghost use Rattle.wq_replay.specs.Replay.{listed_root, needed};
 ghost use Rattle.wq_replay.specs.Stands.{crawl_data, happening_data};
 ghost use Rattle.wq_replay.specs.World.{asked};
 
@@ -32,7 +32,7 @@ pub(crate) fn happenings(
     Ok(happenings)
 }
 
-/// The crawl or the opening that an ask needs, if it needs one.
+/// The crawl or the watching that an ask needs, if it needs one.
 fn needed<'a>(
     alloc: Global,
     tree: &'a Pass,
@@ -46,7 +46,7 @@ fn needed<'a>(
             root: text(alloc, name)?,
             seen: listed(tree, name),
         })),
-        Need::Open(name) => Ok(Some(Happening::Open {
+        Need::Watch(name) => Ok(Some(Happening::Watch {
             root: text(alloc, name)?,
             seen: listed(tree, name),
         })),
@@ -63,7 +63,7 @@ pub(crate) fn text(alloc: Global, text: &str) -> Result<Text, AllocError>
 
 /// What is listed of a root: of `/r` the tree that a script has set. No other root can be read.
 fn listed<'a>(tree: &'a Pass, root: &str) -> Result<&'a Pass, CrawlFault>
-    ensures { crawl_data result ≡ listed tree.now root.now }
+    ensures { crawl_data result ≡ listed_root tree.now root.now }
 {
     if root == ROOT {
         Ok(tree)

@@ -7,12 +7,12 @@ ghost use Rattle.wq_session.specs.Needed.{need_data};
 ghost use Rattle.wq_session.specs.Work.{at_data};
 ghost use Rattle.wq_clock.specs.Run.{instance_of, run_data};
 ghost use Rattle.wq_replay.specs.Stands.{refused_data};
-ghost use Rattle.wq_replay.specs.World.{IsFull, at_root, ending, fault_for, fault_of, looked, number_in, root_in, shows};
+ghost use Rattle.wq_replay.specs.World.{IsFull, at_root, ending, fault_for, refused_fault, looked, number_in, root_in, shows};
 
 use crate::refused::Refused;
-use wq_base::MAX_NUMBER;
+use wq_base::{MAX_NUMBER, MAX_ROOTS};
 use wq_clock::{Instance, Run};
-use wq_live::{MAX_ROOTS, RootTable};
+use wq_live::RootTable;
 use wq_session::{At, CrawlFault, Need};
 
 /// Whether the root of this text is shown.
@@ -29,7 +29,7 @@ pub(crate) fn is_full(table: &RootTable) -> bool
     table.len() == MAX_ROOTS || table.given() == MAX_NUMBER
 }
 
-/// Why the crawl or the opening was refused that an ask needs, if it needs one and that was refused.
+/// Why the crawl or the watching was refused that an ask needs, if it needs one and that was refused.
 pub(crate) fn fault_for(
     need: Need<'_>,
     table: &RootTable,
@@ -39,14 +39,14 @@ pub(crate) fn fault_for(
 {
     match need {
         Need::Crawl(root) if shows(table, root) => fault_of(root, refused),
-        Need::Open(root) if !shows(table, root) => fault_of(root, refused),
+        Need::Watch(root) if !shows(table, root) => fault_of(root, refused),
         _ => None,
     }
 }
 
 /// Why this root could not be crawled or opened.
 fn fault_of(root: &str, refused: Option<Refused>) -> Option<CrawlFault>
-    ensures { result ≡ fault_of root.now (option_map refused_data refused) }
+    ensures { result ≡ refused_fault root.now (option_map refused_data refused) }
 {
     let refused = refused?;
     if refused.root.as_str() == root {
@@ -62,7 +62,7 @@ pub(crate) fn ending(need: Need<'_>, run: Run, table: &RootTable) -> Option<Inst
         ≡ option_map (instance_of (run_data run)) (ending (need_data need.entry) table.now) }
 {
     match need {
-        Need::Retire(root) => shown(run, table, root),
+        Need::Unwatch(root) => shown(run, table, root),
         _ => None,
     }
 }
@@ -97,8 +97,8 @@ pub(crate) fn looked<'a>(need: Need<'_>, run: Run, table: &'a RootTable) -> Opti
         ≡ looked (need_data need.entry) (run_data run) table.now }
 {
     match need {
-        Need::None | Need::Retire(_) => None,
-        Need::Look(root) | Need::Crawl(root) | Need::Open(root) => at_root(run, table, root),
+        Need::None | Need::Unwatch(_) => None,
+        Need::Look(root) | Need::Crawl(root) | Need::Watch(root) => at_root(run, table, root),
     }
 }
 

@@ -10,7 +10,7 @@ ghost use Rattle.wq_session.specs.Need.{need_of};
 ghost use Rattle.wq_view.specs.Listing.{listing_of};
 ghost use Rattle.wq_clock.specs.Run.{instance_of, run_data};
 ghost use Rattle.wq_replay.specs.Stands.{Leads, Stands, crawl_data, happening_data, sent_data, sent_list};
-ghost use Rattle.wq_replay.specs.World.{AnswersAt, Crawls, Does, EndsAt, Gets, HappeningData, IsFull, Opens, Runs, SentData, Starts};
+ghost use Rattle.wq_replay.specs.World.{AnswersInWorld, Crawls, Does, EndsAt, Gets, HappeningData, IsFull, Watches, Runs, SentData, Starts};
 ghost use Rattle.wq_replay.specs.World.{WorldData, looked, new_world, root_text, sent_to, shows};
 
 use crate::happening::Happening;
@@ -52,7 +52,7 @@ impl World {
 
     /// Lets this happen, one after the other, and gives what is sent.
     ///
-    /// An ask that needs a crawl of a root, or has to open it, is to come directly behind that. Where that was refused,
+    /// An ask that needs a crawl of a root, or has to watch it, is to come directly behind that. Where that was refused,
     /// so is the ask.
     ///
     /// # Errors
@@ -118,8 +118,8 @@ impl World {
                 self.crawl(root, seen)?;
                 Ok(None)
             }
-            Happening::Open { root, seen } => {
-                self.open(root, seen)?;
+            Happening::Watch { root, seen } => {
+                self.watch(root, seen)?;
                 Ok(None)
             }
             Happening::Asked { client, ask } => {
@@ -169,9 +169,9 @@ impl World {
     }
 
     /// A root that is not shown is opened, and lists this, or could not be read.
-    fn open(&mut self, root: Text, seen: Result<&Pass, CrawlFault>) -> Result<(), AllocError>
+    fn watch(&mut self, root: Text, seen: Result<&Pass, CrawlFault>) -> Result<(), AllocError>
         ensures { (before : WorldData) → Stands before self.old → OnOk result (
-            (after : WorldData) × Opens before root (crawl_data seen.entry) after
+            (after : WorldData) × Watches before root (crawl_data seen.entry) after
             × Stands after self.new) }
     {
         if shows(&self.table, root.as_str()) {
@@ -210,7 +210,7 @@ impl World {
         }
     }
 
-    /// What an ask gets. One that needs a crawl of a root, or has to open it, is to come directly behind that.
+    /// What an ask gets. One that needs a crawl of a root, or has to watch it, is to come directly behind that.
     fn answer(&mut self, alloc: Global, ask: Ask) -> Out
         ensures { (before : WorldData) → Stands before self.old
             → (after : WorldData) × Gets before ask result after × Stands after self.new }
@@ -251,7 +251,7 @@ impl World {
         requires followed { self.old.refused ≡ None }
         ensures { (before : WorldData) → Stands before self.old
             → (after : WorldData)
-            × AnswersAt (looked (need_of ask) before.run self.old.table) before ask result after
+            × AnswersInWorld (looked (need_of ask) before.run self.old.table) before ask result after
             × Stands after self.new }
     {
         let at = looked(ask.need(), self.run, &self.table);

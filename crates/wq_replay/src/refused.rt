@@ -1,4 +1,4 @@
-//! A crawl or an opening that was refused.
+//! A crawl or a watching that was refused.
 
 use wq_base::Text;
 use wq_session::CrawlFault;

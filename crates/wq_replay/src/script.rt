@@ -1,6 +1,6 @@
 //! The lines of a script, each as what it says. What they do is left to `step`.
 ghost use Rattle.std.specs.Prelude.{◌≡◌, option_map};
-ghost use Rattle.wq_replay.specs.Script.{ask_of, first_word, is_client, kind_of, leave_from, line_of, number_then, row_of};
+ghost use Rattle.wq_replay.specs.Script.{ask_of, first_word, is_client, kind_of_word, leave_from, line_of, number_then, row_of};
 ghost use Rattle.wq_replay.specs.LineData.{line_data};
 
 use memchr::memchr;
@@ -134,7 +134,7 @@ fn number_then(text: &[u8]) -> Option<(i64, &[u8])>
 
 /// The kind that a word names by its letter.
 fn kind(word: &[u8]) -> Option<Kind>
-    ensures { result ≡ kind_of word.now }
+    ensures { result ≡ kind_of_word word.now }
 {
     match word {
         [letter] => Kind::from_letter(*letter),

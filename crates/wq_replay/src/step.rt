@@ -7,7 +7,7 @@ ghost use Rattle.wq_replay.specs.LineData.{line_data, seen_data};
 ghost use Rattle.wq_replay.specs.Replay.{crawled};
 ghost use Rattle.wq_replay.specs.Stage.{StageData, drafts, empty_draft, hears, turn_at_end, turn_inside, turn_of, turn_outside};
 ghost use Rattle.wq_replay.specs.Stands.{Stands};
-ghost use Rattle.wq_replay.specs.Step.{IsAt, Takes, draft_data};
+ghost use Rattle.wq_replay.specs.Step.{IsAt, TakesTurn, draft_data};
 ghost use Rattle.wq_replay.specs.World.{Runs, WorldData};
 
 use crate::fault::StepFault;
@@ -23,8 +23,8 @@ use std::alloc::{AllocError, Global};
 use std::io::Write;
 use std::sync::ArcSlice;
 use wq_base::Table;
-use wq_stream::{Event, MAX_LINE};
 use wq_session::{Ask, Refusal};
+use wq_stream::{Event, MAX_LINE};
 use wq_view::{Pass, Seen};
 
 /// Does what a line of a script says, and tells whether the server goes on.
@@ -35,7 +35,7 @@ pub(crate) fn step<W: Write>(
     text: &[u8],
 ) -> Result<bool, StepFault>
     ensures { (at : StageData) → IsAt stage.old at
-        → Takes at (turn_of at text.now)
+        → TakesTurn at (turn_of at text.now)
         (W.contents writer.old) (W.contents writer.new) result stage.new }
 {
     if text.len() > MAX_SCRIPT_LINE {
@@ -59,7 +59,7 @@ fn step_outside<W: Write>(
 ) -> Result<bool, StepFault>
     requires { stage.old.draft ≡ None }
     ensures { (at : StageData) → IsAt stage.old at
-        → Takes at (turn_outside (line_data line.entry))
+        → TakesTurn at (turn_outside (line_data line.entry))
         (W.contents writer.old) (W.contents writer.new) result stage.new }
 {
     match line {
@@ -77,7 +77,7 @@ fn step_outside<W: Write>(
 /// Begins a listing; the server goes on.
 fn begin(alloc: Global, stage: &mut Stage, crawls: bool, second: i64) -> bool
     ensures { (at : StageData) → IsAt stage.old at → (known : Option (List ℕ))
-        → Takes at (drafts (empty_draft crawls second)) known known (Ok result) stage.new }
+        → TakesTurn at (drafts (empty_draft crawls second)) known known (Ok result) stage.new }
 {
     stage.draft = Some(Draft {
         crawls,
@@ -97,7 +97,7 @@ fn step_inside(
     requires { stage.old.draft ≡ None }
     ensures { (at : StageData) → Stands at.world stage.old.world → at.tree ≡ stage.old.tree
         → at.draft ≡ Some (draft_data draft) → (known : Option (List ℕ))
-        → Takes at (turn_inside (draft_data draft) (line_data line.entry))
+        → TakesTurn at (turn_inside (draft_data draft) (line_data line.entry))
         known known result stage.new }
 {
     match line {
@@ -127,7 +127,7 @@ fn seen(alloc: Global, row: RowLine<'_>) -> Result<Seen, AllocError>
 fn end_listing(alloc: Global, stage: &mut Stage, draft: Draft) -> Result<bool, StepFault>
     requires { stage.old.draft ≡ None }
     ensures { (at : StageData) → Stands at.world stage.old.world → (known : Option (List ℕ))
-        → Takes at (turn_at_end (draft_data draft)) known known result stage.new }
+        → TakesTurn at (turn_at_end (draft_data draft)) known known result stage.new }
 {
     let crawls = draft.crawls;
     let Ok(tree) = Pass::new(draft.rows, draft.second) else {
@@ -189,7 +189,7 @@ fn hear<W: Write>(
     ask: Ask,
 ) -> Result<bool, StepFault>
     ensures { (at : StageData) → IsAt stage.old at → (event : Event) → Asks event ask
-        → Takes at (hears client event)
+        → TakesTurn at (hears client event)
         (W.contents writer.old) (W.contents writer.new) result stage.new }
 {
     let happenings = happenings(alloc, &stage.tree, client, ask)?;

@@ -4,7 +4,7 @@ ghost use Rattle.std.specs.Prelude.{◌≡◌, ◌≤◌, true, false, [], lengt
 ghost use Rattle.std.specs.Io.BufRead.{strip_last};
 ghost use Rattle.std.specs.Io.KnownBytes.{Keeps};
 ghost use Rattle.wq_replay.specs.Replay.{StopsWithin};
-ghost use Rattle.wq_replay.specs.Taken.{TakesLine, TakesPart, is_last, kept_of, max_kept};
+ghost use Rattle.wq_replay.specs.Taken.{TakesLine, TakesPart, is_last_line, kept_line, max_kept};
 
 use crate::fault::TakeFault;
 use memchr::memchr;
@@ -74,8 +74,8 @@ fn take_part<R: BufRead>(reader: &mut R, line: &mut Vec<u8>) -> Result<bool, Tak
 
 /// How many of the bytes that are shown are taken for the line, and whether nothing is taken after them.
 fn part(shown: &[u8], room: usize) -> (usize, bool)
-    ensures count { result.0 ≡ length (kept_of room shown.now) }
-    ensures last { result.1 ≡ is_last room shown.now }
+    ensures count { result.0 ≡ length (kept_line room shown.now) }
+    ensures last { result.1 ≡ is_last_line room shown.now }
 {
     let front = &shown[..room.min(shown.len())];
     match memchr(b'\n', front) {

@@ -13,7 +13,7 @@ pub struct World {
     /// The roots that are shown, with their views.
     pub(crate) table: RootTable,
     pub(crate) shelf: Shelf<()>,
-    /// The crawl or the opening that came last, if it was refused and nothing followed it.
+    /// The crawl or the watching that came last, if it was refused and nothing followed it.
     pub(crate) refused: Option<Refused>,
     /// Whether memory ran out over a list of what was sent.
     pub(crate) spent: bool,

@@ -2,16 +2,16 @@
 use Rattle.std.proofs.Common.{◌≡◌, ℕ, List, Option, Some, None, Result, Ok, Err, refl, sym, ap, subst}
 use Rattle.wq_clock.specs.Instance.{InstanceData}
 use Rattle.wq_live.specs.declared.event.RootEvent.{RootEvent}
-use Rattle.wq_session.specs.Need.{NeedData, none, look, crawl, opening, retire, need_of}
+use Rattle.wq_session.specs.Need.{NeedData, none, look, crawl, watch, unwatch, need_of}
 use Rattle.wq_session.specs.Out.{OutData}
 use Rattle.wq_session.specs.Query.{AtData, ShelfNow}
 use Rattle.wq_session.specs.declared.ask.Ask.{Ask}
 use Rattle.wq_session.specs.declared.crawl.CrawlFault.{CrawlFault}
-use Rattle.wq_serve.specs.Answering.{AnswersAfter, AnswersEnd, IfRetires, Sees, SeesFirst, SeesNumber, known}
+use Rattle.wq_serve.specs.Answering.{AnswersAfter, AnswersEnd, IfUnwatches, SeesNeeded, SeesFirst, SeesNumber, known}
 use Rattle.wq_serve.specs.Desk.{AnswersAt}
 use Rattle.wq_serve.specs.Ready.{HearsFirst, KnownData, ReadyData, Readies, ended_by}
 use Rattle.wq_serve.specs.Crawl.{CrawlerData, tells}
-use Rattle.wq_serve.specs.Roots.{RootRequestData, Gives, passing, showing, ending}
+use Rattle.wq_serve.specs.Roots.{RootRequestData, RootsGive, passing, showing, ending}
 use Rattle.wq_serve.specs.Serving.{IsAnswered, Replies}
 use Rattle.wq_clock.specs.declared.run.Run.{Run}
 
@@ -26,14 +26,14 @@ module _ (run : Run) (ask : Ask) (seen after : List RootEvent) (shelf left : Opt
   gets_by_look given root need (at, sees, answers) = (
     Ok at,
     subst (λ n. Readies run n (known given seen) (Ok at) (known given after)) need
-        (at, (refl, subst (λ n. Sees run n seen at after) (sym need) sees), refl),
+        (at, (refl, subst (λ n. SeesNeeded run n seen at after) (sym need) sees), refl),
     answers,
   )
 
   -- an ask for which the roots are asked first
   heard_first : (root : List ℕ) (request : RootRequestData) (told : Result (Option (List RootEvent)) CrawlFault) (given later : Option CrawlerData)
-      → ((heard : List RootEvent) (at : Option AtData) → Sees run (need_of ask) heard at after → Sees run (look root) heard at after)
-      → Gives given request told later → AnswersAfter run ask told seen shelf out after left
+      → ((heard : List RootEvent) (at : Option AtData) → SeesNeeded run (need_of ask) heard at after → SeesNeeded run (look root) heard at after)
+      → RootsGive given request told later → AnswersAfter run ask told seen shelf out after left
       → (ready : ReadyData) × HearsFirst run root request (known given seen) ready (known later after) × Replies ready ask shelf out left
   heard_first root request (Ok told) given later shown gives (heard, learns, (at, sees, answers)) =
       (Ok at, (Ok told, known later heard, (gives, learns), (at, (refl, shown heard at sees), refl)), answers)
@@ -42,45 +42,45 @@ module _ (run : Run) (ask : Ask) (seen after : List RootEvent) (shelf left : Opt
 
   -- an ask that needs a crawl
   pub gets_by_crawl : (root : List ℕ) (told : Result (Option (List RootEvent)) CrawlFault) (given later : Option CrawlerData)
-      → crawl root ≡ need_of ask → Gives given (passing root) told later → AnswersAfter run ask told seen shelf out after left
+      → crawl root ≡ need_of ask → RootsGive given (passing root) told later → AnswersAfter run ask told seen shelf out after left
       → IsAnswered run ask (known given seen) shelf out (known later after) left
   gets_by_crawl root told given later need gives answers =
-      let it = heard_first root (passing root) told given later (λ heard at sees. subst (λ n. Sees run n heard at after) (sym need) sees) gives answers in
+      let it = heard_first root (passing root) told given later (λ heard at sees. subst (λ n. SeesNeeded run n heard at after) (sym need) sees) gives answers in
       (it.0, subst (λ n. Readies run n (known given seen) it.0 (known later after)) need it.1, it.2)
 
   -- an ask that needs that a root is opened
-  pub gets_by_open : (root : List ℕ) (told : Result (Option (List RootEvent)) CrawlFault) (given later : Option CrawlerData)
-      → opening root ≡ need_of ask → Gives given (showing root) told later → AnswersAfter run ask told seen shelf out after left
+  pub gets_by_watch : (root : List ℕ) (told : Result (Option (List RootEvent)) CrawlFault) (given later : Option CrawlerData)
+      → watch root ≡ need_of ask → RootsGive given (showing root) told later → AnswersAfter run ask told seen shelf out after left
       → IsAnswered run ask (known given seen) shelf out (known later after) left
-  gets_by_open root told given later need gives answers =
-      let it = heard_first root (showing root) told given later (λ heard at sees. subst (λ n. Sees run n heard at after) (sym need) sees) gives answers in
+  gets_by_watch root told given later need gives answers =
+      let it = heard_first root (showing root) told given later (λ heard at sees. subst (λ n. SeesNeeded run n heard at after) (sym need) sees) gives answers in
       (it.0, subst (λ n. Readies run n (known given seen) it.0 (known later after)) need it.1, it.2)
 
   -- what holds where a root is to be retired
-  if_retires : (P : Type 0) (need : NeedData) → ((root : List ℕ) → need ≡ retire root → P) → IfRetires need P
+  if_retires : (P : Type 0) (need : NeedData) → ((root : List ℕ) → need ≡ unwatch root → P) → IfUnwatches need P
   if_retires P none by = tt
   if_retires P (look root) by = tt
   if_retires P (crawl root) by = tt
-  if_retires P (opening root) by = tt
-  if_retires P (retire root) by = by root refl
+  if_retires P (watch root) by = tt
+  if_retires P (unwatch root) by = by root refl
 
   -- an ask that needs the end of a root that is not shown
   pub gets_no_end : (given : Option CrawlerData) → SeesNumber run (need_of ask) seen None after → AnswersAt shelf ask None out left
-      → IfRetires (need_of ask) (IsAnswered run ask (known given seen) shelf out (known given after) left)
+      → IfUnwatches (need_of ask) (IsAnswered run ask (known given seen) shelf out (known given after) left)
   gets_no_end given (Some at, sees, is) answers = absurd cc
   gets_no_end given (None, sees, is) answers =
       if_retires (IsAnswered run ask (known given seen) shelf out (known given after) left) (need_of ask) (λ root need. (
         Ok None,
         subst (λ n. Readies run n (known given seen) (Ok None) (known given after)) (sym need)
-            (None, known given after, (refl, subst (λ n. Sees run n seen None after) need sees), (refl, refl)),
+            (None, known given after, (refl, subst (λ n. SeesNeeded run n seen None after) need sees), (refl, refl)),
         answers,
       ))
 
   -- the end of a root that was looked at
   retires_it : (at : AtData) (looked : List RootEvent) (told : Result (List RootEvent) CrawlFault) (given later : Option CrawlerData) (root : List ℕ)
-      → Sees run (retire root) seen (Some at) looked → Gives given (ending (at.instance).root) (tells told) later
+      → SeesNeeded run (unwatch root) seen (Some at) looked → RootsGive given (ending (at.instance).root) (tells told) later
       → AnswersEnd at.instance ask told looked shelf out after left
-      → (ready : ReadyData) × Readies run (retire root) (known given seen) ready (known later after) × Replies ready ask shelf out left
+      → (ready : ReadyData) × Readies run (unwatch root) (known given seen) ready (known later after) × Replies ready ask shelf out left
   retires_it at looked (Ok told) given later root sees gives (learns, answers) =
       (ended_by at (Ok told), (Some at, known given looked, (refl, sees), (Ok told, (gives, learns), refl)), answers)
   retires_it at looked (Err fault) given later root sees gives (refuses, same, kept) =
@@ -88,14 +88,14 @@ module _ (run : Run) (ask : Ask) (seen after : List RootEvent) (shelf left : Opt
 
   -- an ask that needs the end of a root that is shown
   pub gets_by_end : (instance : InstanceData) (looked : List RootEvent) (told : Result (List RootEvent) CrawlFault) (given later : Option CrawlerData)
-      → SeesNumber run (need_of ask) seen (Some instance) looked → Gives given (ending instance.root) (tells told) later
+      → SeesNumber run (need_of ask) seen (Some instance) looked → RootsGive given (ending instance.root) (tells told) later
       → AnswersEnd instance ask told looked shelf out after left
-      → IfRetires (need_of ask) (IsAnswered run ask (known given seen) shelf out (known later after) left)
+      → IfUnwatches (need_of ask) (IsAnswered run ask (known given seen) shelf out (known later after) left)
   gets_by_end instance looked told given later (None, sees, is) gives answers = absurd cc
   gets_by_end instance looked told given later (Some at, sees, is) gives answers =
       let same : instance ≡ at.instance = cc is in
       if_retires (IsAnswered run ask (known given seen) shelf out (known later after) left) (need_of ask) (λ root need.
-      let it = retires_it at looked told given later root (subst (λ n. Sees run n seen (Some at) looked) need sees)
-      (subst (λ (i : InstanceData). Gives given (ending i.root) (tells told) later) same gives)
+      let it = retires_it at looked told given later root (subst (λ n. SeesNeeded run n seen (Some at) looked) need sees)
+      (subst (λ (i : InstanceData). RootsGive given (ending i.root) (tells told) later) same gives)
       (subst (λ i. AnswersEnd i ask told looked shelf out after left) same answers) in
       (it.0, subst (λ n. Readies run n (known given seen) it.0 (known later after)) (sym need) it.1, it.2))

@@ -3,11 +3,11 @@ use Rattle.std.proofs.Common.{◌≡◌, ℕ, List, [], ◌∷◌, ◌++◌, Opt
 use Rattle.wq_registry.specs.History.{after_all, unsets_cursor}
 use Rattle.wq_registry.specs.Shelf.{blank, cursor_unset}
 use Rattle.wq_session.specs.Accepted.{AnswersAreCalls, CallNow}
-use Rattle.wq_session.specs.Answer.{Takes, finished, settled}
+use Rattle.wq_session.specs.Answer.{TakesAsk, finished, settled}
 use Rattle.wq_session.specs.Begun.{WorkData, says, evaluates}
 use Rattle.wq_session.specs.Query.{AtData, ShelfNow}
 use Rattle.wq_session.specs.declared.ask.Ask.{Ask}
-use Rattle.wq_serve.specs.Reached.{TurnData, takes, unsets, Turns, LeadsTo, IsReached, ReachedByCalls}
+use Rattle.wq_serve.specs.Reached.{TurnData, takes, unsets, Turns, LeadsToShelf, IsReached, ReachedByCalls}
 use Rattle.wq_serve.proofs.Held.{none_unset}
 
 -- a shelf on which nothing stands
@@ -17,7 +17,7 @@ blank_reached sockname = (sockname, [], refl)
 
 -- an ask is taken
 pub take_reached : (ask : Ask) (at : Option AtData) (shelf left : ShelfNow) (work : WorkData)
-    → Takes ask at shelf work left → IsReached shelf → IsReached left
+    → TakesAsk ask at shelf work left → IsReached shelf → IsReached left
 unfolding IsReached
 take_reached ask at shelf left work taken (sockname, turns, led) = (sockname, takes ask at work ∷ turns, (shelf, led, taken))
 
@@ -45,7 +45,7 @@ module _ (answers_are_calls : AnswersAreCalls) where
       (it.0, it.2)
   calls (unsets root name) before after is = (unsets_cursor root name ∷ [], is)
 
-  all_calls : (sockname : List ℕ) (turns : List TurnData) (shelf : ShelfNow) → LeadsTo sockname turns shelf
+  all_calls : (sockname : List ℕ) (turns : List TurnData) (shelf : ShelfNow) → LeadsToShelf sockname turns shelf
       → (calls : List CallNow) × (shelf ≡ after_all calls (blank sockname))
   all_calls sockname [] shelf is = ([], is)
   all_calls sockname (last ∷ earlier) shelf (before, led, turned) =

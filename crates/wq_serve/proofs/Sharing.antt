@@ -6,7 +6,7 @@ use Rattle.wq_view.specs.History.{last_stats}
 use Rattle.wq_view.specs.Listing.{PassData}
 use Rattle.wq_session.specs.declared.crawl.CrawlFault.{CrawlFault}
 use Rattle.wq_serve.specs.Crawl.{CrawledAt, CrawledOnce, CrawlerData, Shared}
-use Rattle.wq_serve.specs.Roots.{Gives, passing}
+use Rattle.wq_serve.specs.Roots.{RootsGive, passing}
 
 -- a crawler with this list, whose tree and clock show nothing
 abbrev plain : List RootEvent → CrawlerData
@@ -23,7 +23,7 @@ shared_at text number before after (Ok told) (same, kept) = (same, same_again nu
 shared_at text number before after (Err fault) (lacking, kept) = (refl, inr (same_again number before.events, (tt, tt), inr (lacking, (λ wants. wants.0.1 refl))))
 
 pub once_gives : (text : List ℕ) (asked : ℕ) (last : ℕ → Option ℕ) (before after : CrawlerData) (result : Result (Option (List RootEvent)) CrawlFault)
-    → CrawledOnce text asked last before result after → Gives None (passing text) result None
+    → CrawledOnce text asked last before result after → RootsGive None (passing text) result None
 once_gives text asked last before after result (inl crawled) = (before, after, crawled, refl)
 once_gives text asked last before after result (inr (number, begun, answer, shown, is, since, told, shared)) = (
   plain before.events,

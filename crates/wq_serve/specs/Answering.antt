@@ -6,7 +6,7 @@ use Rattle.wq_clock.specs.Instance.{InstanceData}
 use Rattle.wq_live.specs.declared.event.RootEvent.{RootEvent}
 use Rattle.wq_session.specs.Answer.{MayRefuse}
 use Rattle.wq_session.specs.Crawl.{crawl_refusal}
-use Rattle.wq_session.specs.Need.{NeedData, none, look, crawl, opening, retire, need_of}
+use Rattle.wq_session.specs.Need.{NeedData, none, look, crawl, watch, unwatch, need_of}
 use Rattle.wq_session.specs.Out.{OutData}
 use Rattle.wq_session.specs.Query.{AtData, ShelfNow}
 use Rattle.wq_session.specs.declared.ask.Ask.{Ask}
@@ -26,19 +26,19 @@ abbrev pub ShowsNeeded : Run → NeedData → List RootEvent → Option AtData �
 ShowsNeeded run none events at = at ≡ None
 ShowsNeeded run (look root) events at = ShowsAt run root events at
 ShowsNeeded run (crawl root) events at = ShowsAt run root events at
-ShowsNeeded run (opening root) events at = ShowsAt run root events at
-ShowsNeeded run (retire root) events at = ShowsAt run root events at
+ShowsNeeded run (watch root) events at = ShowsAt run root events at
+ShowsNeeded run (unwatch root) events at = ShowsAt run root events at
 
 -- the root that an ask needs is looked at, or the look is refused
-abbrev pub Sees : Run → NeedData → List RootEvent → Option AtData → List RootEvent → Type 0
-Sees run need before at after =
+abbrev pub SeesNeeded : Run → NeedData → List RootEvent → Option AtData → List RootEvent → Type 0
+SeesNeeded run need before at after =
     (IsPrefix before after × ShowsNeeded run need after at) ⊎ ((after ≡ before) × (at ≡ None))
 
 -- the root is looked at, and the ask is answered at it
 abbrev pub SeesFirst : Run → Ask → List RootEvent → Option ShelfNow → OutData → List RootEvent
     → Option ShelfNow → Type 0
 SeesFirst run ask before shelf out after left =
-    (at : Option AtData) × Sees run (need_of ask) before at after × AnswersAt shelf ask at out left
+    (at : Option AtData) × SeesNeeded run (need_of ask) before at after × AnswersAt shelf ask at out left
 
 -- the roots told this, and then the root is looked at, and the ask is answered
 abbrev pub AnswersAfter : Run → Ask → Result (Option (List RootEvent)) CrawlFault → List RootEvent
@@ -53,7 +53,7 @@ AnswersAfter run ask (Err fault) before shelf out after left =
 abbrev pub SeesNumber : Run → NeedData → List RootEvent → Option InstanceData → List RootEvent
     → Type 0
 SeesNumber run need before instance after =
-    (at : Option AtData) × Sees run need before at after
+    (at : Option AtData) × SeesNeeded run need before at after
     × (instance ≡ option_map (λ at. at.instance) at)
 
 -- the end of a root of this number was told, or refused, and then the ask is answered
@@ -66,6 +66,6 @@ AnswersEnd instance ask (Err fault) before shelf out after left =
     MayRefuse (crawl_refusal fault) out × (after ≡ before) × (left ≡ shelf)
 
 -- this holds where an ask needs that a root is retired
-abbrev pub IfRetires : NeedData → Type 0 → Type 0
-IfRetires (retire root) fact = fact
-IfRetires _ fact = Unit {0}
+abbrev pub IfUnwatches : NeedData → Type 0 → Type 0
+IfUnwatches (unwatch root) fact = fact
+IfUnwatches _ fact = Unit {0}

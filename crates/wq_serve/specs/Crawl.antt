@@ -1,11 +1,11 @@
--- What crawling, opening and retiring a root make of the one list of events of all roots, and why
+-- What crawling, watch and retiring a root make of the one list of events of all roots, and why
 -- they are refused.
 -- No public document is behind it.
 use Rattle.std.specs.Prelude.{◌≡◌, ◌≤◌, ◌⊎◌, ◌+◌, true, false, ℕ, ℤ, refl}
 use Rattle.std.specs.Prelude.{List, [], ◌∷◌, ◌++◌, length}
 use Rattle.std.specs.Prelude.{Option, Some, None, IsSome, Result, Ok, Err, option_map}
 use Rattle.std.specs.Coded.{Coded, code_by, coded×, coded_ℕ, coded_ℤ, coded_option}
-use Rattle.wq_base.specs.Limit.{max_number}
+use Rattle.wq_base.specs.Limit.{max_number, max_roots}
 use Rattle.wq_view.specs.Listing.{PassData, listing_fault, listing_of}
 use Rattle.wq_view.specs.Seen.{SeenData}
 use Rattle.wq_view.specs.declared.listing.PassFault.{PassFault}
@@ -13,9 +13,8 @@ use Rattle.wq_view.specs.declared.listing.PassFault.TheVariants.{BadName, NameTw
 use Rattle.wq_view.specs.declared.listing.PassFault.TheVariants.{OutOfRange}
 use Rattle.wq_view.specs.declared.listing.PassFault.TheVariants.{NoMemory as NoPassMemory}
 use Rattle.wq_live.specs.Device.{Gave}
-use Rattle.wq_live.specs.Event.{is_shown, root_named, shown, start_events, started}
-use Rattle.wq_live.specs.Front.{events_code}
-use Rattle.wq_live.specs.Limit.{max_roots}
+use Rattle.wq_live.specs.Event.{is_shown, shown_root, shown, start_events, started}
+use Rattle.wq_live.specs.Log.{events_code}
 use Rattle.wq_live.specs.Table.{IsNews, IsNoNews, WantsForTicks}
 use Rattle.wq_live.specs.Tree.{IsCounted, ListedData, Lists, listed_code}
 use Rattle.wq_live.specs.declared.event.RootEvent.{RootEvent}
@@ -73,7 +72,7 @@ IsFull events = (length (shown events) ≡ max_roots) ⊎ (length (started event
 
 -- the number of the root of this text, where it is shown
 abbrev pub number_of : List ℕ → List RootEvent → Option ℕ
-number_of text events = option_map (λ root. root.number) (root_named text events)
+number_of text events = option_map (λ root. root.number) (shown_root text events)
 
 -- a pass over the root of this number is added, unless it tells nothing
 abbrev pub Passes : List RootEvent → ℕ → PassData → List RootEvent → Type 0
@@ -166,21 +165,21 @@ BeganIfRoom text before result after =
     ⊎ ((IsFull before.events → ⊥) × Began text before result after)
 
 -- a root was opened: of one that is shown the list is told, and any other was started
-abbrev pub Opened : List ℕ → CrawlerData → Result (List RootEvent) CrawlFault → CrawlerData
+abbrev pub Watched : List ℕ → CrawlerData → Result (List RootEvent) CrawlFault → CrawlerData
     → Type 0
-Opened text before result after =
+Watched text before result after =
     (IsSome (number_of text before.events) × Shared before result after)
     ⊎ ((number_of text before.events ≡ None) × BeganIfRoom text before result after)
 
 -- a root was retired by its number: its end is added where it is shown, and the list is told; where
 -- it is refused, nothing is added
-abbrev pub Retired : ℕ → CrawlerData → Result (List RootEvent) CrawlFault → CrawlerData → Type 0
-Retired number before (Ok told) after =
+abbrev pub Unwatched : ℕ → CrawlerData → Result (List RootEvent) CrawlFault → CrawlerData → Type 0
+Unwatched number before (Ok told) after =
     (told ≡ after.events)
     × (((is_shown before.events number ≡ false) × (after ≡ before))
     ⊎ ((is_shown before.events number ≡ true)
     × (after ≡ record before { events = before.events ++ Ended number ∷ [] })))
-Retired number before (Err fault) after = (fault ≡ NoMemory) × (after ≡ before)
+Unwatched number before (Err fault) after = (fault ≡ NoMemory) × (after ≡ before)
 
 -- a root was crawled for a thread that had read this count of crawls: by a crawl; or by none, where
 -- its last crawl began at this count or a later one: then the list is told as it is

@@ -2,7 +2,7 @@
 -- No public document is behind it.
 use Rattle.std.specs.Prelude.{◌≡◌, Option, Some, None, option_map}
 use Rattle.wq_registry.specs.Shelf.{cursor_unset}
-use Rattle.wq_session.specs.Answer.{Answers, Takes}
+use Rattle.wq_session.specs.Answer.{AnswersAsk, TakesAsk}
 use Rattle.wq_session.specs.Begun.{WorkData}
 use Rattle.wq_session.specs.Out.{OutData}
 use Rattle.wq_session.specs.Query.{AtData, ShelfNow}
@@ -12,11 +12,11 @@ use Rattle.wq_serve.specs.Reached.{IsReached}
 
 -- an ask is taken at a shelf: at the one that is shown, and what it leaves is then shown; or, where
 -- none is shown, at some shelf to which leads what sessions did
-abbrev pub Holds : Option ShelfNow → Ask → Option AtData → WorkData → Option ShelfNow → Type 0
-Holds (Some shelf) ask at work after =
-    (left : ShelfNow) × Takes ask at shelf work left × (after ≡ Some left)
-Holds None ask at work after =
-    (shelf : ShelfNow) × (left : ShelfNow) × IsReached shelf × Takes ask at shelf work left × (after ≡ None)
+abbrev pub HoldsShelf : Option ShelfNow → Ask → Option AtData → WorkData → Option ShelfNow → Type 0
+HoldsShelf (Some shelf) ask at work after =
+    (left : ShelfNow) × TakesAsk ask at shelf work left × (after ≡ Some left)
+HoldsShelf None ask at work after =
+    (shelf : ShelfNow) × (left : ShelfNow) × IsReached shelf × TakesAsk ask at shelf work left × (after ≡ None)
 
 -- a cursor is unset on the shelf, if one is shown
 abbrev pub Unsets : Option ShelfNow → Cursor → Option ShelfNow → Type 0
@@ -26,6 +26,6 @@ Unsets shelf cursor after = after ≡ option_map (cursor_unset cursor.root curso
 -- where none is shown, at some shelf to which leads what sessions did
 abbrev pub AnswersAt : Option ShelfNow → Ask → Option AtData → OutData → Option ShelfNow → Type 0
 AnswersAt (Some shelf) ask at out after =
-    (left : ShelfNow) × Answers ask at shelf out left × (after ≡ Some left)
+    (left : ShelfNow) × AnswersAsk ask at shelf out left × (after ≡ Some left)
 AnswersAt None ask at out after =
-    (shelf : ShelfNow) × (left : ShelfNow) × IsReached shelf × Answers ask at shelf out left × (after ≡ None)
+    (shelf : ShelfNow) × (left : ShelfNow) × IsReached shelf × AnswersAsk ask at shelf out left × (after ≡ None)

@@ -4,7 +4,7 @@ use Rattle.std.specs.Prelude.{◌≡◌, ℕ, List, [], ◌∷◌, Option}
 use Rattle.wq_registry.specs.History.{after_all}
 use Rattle.wq_registry.specs.Shelf.{blank, cursor_unset}
 use Rattle.wq_session.specs.Accepted.{CallNow}
-use Rattle.wq_session.specs.Answer.{Takes}
+use Rattle.wq_session.specs.Answer.{TakesAsk}
 use Rattle.wq_session.specs.Begun.{WorkData}
 use Rattle.wq_session.specs.Query.{AtData, ShelfNow}
 use Rattle.wq_session.specs.declared.ask.Ask.{Ask}
@@ -17,19 +17,19 @@ pub data TurnData : Type 0 where
 
 -- one of them leads from a shelf to another
 abbrev pub Turns : TurnData → ShelfNow → ShelfNow → Type 0
-Turns (takes ask at work) before after = Takes ask at before work after
+Turns (takes ask at work) before after = TakesAsk ask at before work after
 Turns (unsets root name) before after = after ≡ cursor_unset root name before
 
 -- they lead to the shelf, one after the other, from one on which nothing stands; the last is said
 -- first
-abbrev pub LeadsTo : List ℕ → List TurnData → ShelfNow → Type 0
-LeadsTo sockname [] shelf = shelf ≡ blank sockname
-LeadsTo sockname (last ∷ earlier) shelf =
-    (before : ShelfNow) × LeadsTo sockname earlier before × Turns last before shelf
+abbrev pub LeadsToShelf : List ℕ → List TurnData → ShelfNow → Type 0
+LeadsToShelf sockname [] shelf = shelf ≡ blank sockname
+LeadsToShelf sockname (last ∷ earlier) shelf =
+    (before : ShelfNow) × LeadsToShelf sockname earlier before × Turns last before shelf
 
 -- what sessions did leads to the shelf
 unfoldable pub IsReached : ShelfNow → Type 0
-IsReached shelf = (sockname : List ℕ) × (turns : List TurnData) × LeadsTo sockname turns shelf
+IsReached shelf = (sockname : List ℕ) × (turns : List TurnData) × LeadsToShelf sockname turns shelf
 
 -- so accepted calls lead there
 abbrev pub ReachedByCalls : Type 0

@@ -5,11 +5,11 @@ use Rattle.std.specs.Prelude.{◌≡◌, ◌⊎◌, [], List, ℕ, Option, Some,
 use mathlib.Core.List.{IsPrefix}
 use Rattle.wq_clock.specs.Instance.{InstanceData}
 use Rattle.wq_live.specs.declared.event.RootEvent.{RootEvent}
-use Rattle.wq_session.specs.Need.{NeedData, none, look, crawl, opening, retire}
+use Rattle.wq_session.specs.Need.{NeedData, none, look, crawl, watch, unwatch}
 use Rattle.wq_session.specs.Query.{AtData}
 use Rattle.wq_session.specs.declared.crawl.CrawlFault.{CrawlFault}
 use Rattle.wq_serve.specs.Crawl.{CrawlerData, tells}
-use Rattle.wq_serve.specs.Roots.{RootRequestData, Gives, passing, showing, ending}
+use Rattle.wq_serve.specs.Roots.{RootRequestData, RootsGive, passing, showing, ending}
 use Rattle.wq_serve.specs.Run.{ShowsAt}
 use Rattle.wq_clock.specs.declared.run.Run.{Run}
 
@@ -35,7 +35,7 @@ Learns before (Err fault) after = after ≡ before
 abbrev pub Hears : KnownData → RootRequestData → Result (Option (List RootEvent)) CrawlFault
     → KnownData → Type 0
 Hears before request told after =
-    Gives before.roots request told after.roots × Learns before.seen told after.seen
+    RootsGive before.roots request told after.roots × Learns before.seen told after.seen
 
 -- a root is looked at, in a list that begins with all that was known; or the look is refused, and
 -- nothing is looked at
@@ -68,9 +68,9 @@ ended_by at (Ok told) = Ok (Some (ended at.instance))
 ended_by at (Err fault) = Err fault
 
 -- a root that was looked at is retired; nothing is, where none was
-abbrev pub Retires : Option AtData → KnownData → ReadyData → KnownData → Type 0
-Retires None before ready after = (ready ≡ Ok None) × (after ≡ before)
-Retires (Some at) before ready after =
+abbrev pub Unwatches : Option AtData → KnownData → ReadyData → KnownData → Type 0
+Unwatches None before ready after = (ready ≡ Ok None) × (after ≡ before)
+Unwatches (Some at) before ready after =
     (told : Result (List RootEvent) CrawlFault)
     × Hears before (ending (at.instance).root) (tells told) after × (ready ≡ ended_by at told)
 
@@ -80,8 +80,8 @@ Readies run none before ready after = (ready ≡ Ok None) × (after ≡ before)
 Readies run (look root) before ready after =
     (at : Option AtData) × Looks run root before at after × (ready ≡ Ok at)
 Readies run (crawl root) before ready after = HearsFirst run root (passing root) before ready after
-Readies run (opening root) before ready after =
+Readies run (watch root) before ready after =
     HearsFirst run root (showing root) before ready after
-Readies run (retire root) before ready after =
+Readies run (unwatch root) before ready after =
     (at : Option AtData) × (seen : KnownData) × Looks run root before at seen
-    × Retires at seen ready after
+    × Unwatches at seen ready after

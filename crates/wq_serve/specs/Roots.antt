@@ -3,7 +3,7 @@
 use Rattle.std.specs.Prelude.{◌≡◌, ℕ, List, Option, Some, None, Result}
 use Rattle.wq_live.specs.declared.event.RootEvent.{RootEvent}
 use Rattle.wq_session.specs.declared.crawl.CrawlFault.{CrawlFault}
-use Rattle.wq_serve.specs.Crawl.{CrawlerData, Crawled, Opened, Retired, tells}
+use Rattle.wq_serve.specs.Crawl.{CrawlerData, Crawled, Watched, Unwatched, tells}
 
 -- what a session asks of the roots
 pub data RootRequestData : Type 0 where
@@ -21,17 +21,17 @@ abbrev pub Fulfils : RootRequestData → CrawlerData → Result (Option (List Ro
 Fulfils (passing root) before told after = Crawled root before told after
 Fulfils (showing root) before told after =
     (answer : Result (List RootEvent) CrawlFault) × (told ≡ tells answer)
-    × Opened root before answer after
+    × Watched root before answer after
 Fulfils (ending number) before told after =
     (answer : Result (List RootEvent) CrawlFault) × (told ≡ tells answer)
-    × Retired number before answer after
+    × Unwatched number before answer after
 
 -- the roots do what a session asks, and answer this: by the crawler that is shown, and what it is
 -- then is shown; or by some crawler, where none is shown
-abbrev pub Gives : Option CrawlerData → RootRequestData
+abbrev pub RootsGive : Option CrawlerData → RootRequestData
     → Result (Option (List RootEvent)) CrawlFault → Option CrawlerData → Type 0
-Gives (Some before) request told after =
+RootsGive (Some before) request told after =
     (left : CrawlerData) × Fulfils request before told left × (after ≡ Some left)
-Gives None request told after =
+RootsGive None request told after =
     (before : CrawlerData) × (left : CrawlerData) × Fulfils request before told left
     × (after ≡ None)

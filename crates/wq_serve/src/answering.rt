@@ -1,10 +1,10 @@
 //! The answer to an ask: what it needs is done, its root is looked at, and the shelf is held.
 ghost use Rattle.std.specs.Prelude.{◌≡◌, Ok, Some, option_map};
 ghost use Rattle.wq_clock.specs.Instance.{instance_data};
-ghost use Rattle.wq_serve.specs.Answering.{AnswersAfter, AnswersEnd, IfRetires, SeesFirst, known};
+ghost use Rattle.wq_serve.specs.Answering.{AnswersAfter, AnswersEnd, IfUnwatches, SeesFirst, known};
 ghost use Rattle.wq_serve.specs.Desk.{AnswersAt};
 ghost use Rattle.wq_serve.specs.Ready.{Learns};
-ghost use Rattle.wq_serve.specs.Roots.{Gives, showing};
+ghost use Rattle.wq_serve.specs.Roots.{RootsGive, showing};
 ghost use Rattle.wq_serve.specs.Serving.{IsAnswered};
 ghost use Rattle.wq_session.specs.Answer.{MayRefuse};
 ghost use Rattle.wq_session.specs.Crawl.{crawl_refusal};
@@ -47,19 +47,19 @@ pub(crate) fn answer<N: Named, R: Roots<N>, D: Desk>(
             let told = roots.crawl(root);
             learn_and_hold(client, ask, seat, told, desk)
         }
-        Need::Open(root) => {
-            let told = open(roots, root);
+        Need::Watch(root) => {
+            let told = watch(roots, root);
             learn_and_hold(client, ask, seat, told, desk)
         }
-        Need::Retire(_) => retire_and_hold(client, ask, seat, roots, desk),
+        Need::Unwatch(_) => unwatch_and_hold(client, ask, seat, roots, desk),
     }
 }
 
-/// Opens a root.
-fn open<N: Named, R: Roots<N>>(roots: &mut R, root: &str) -> Result<Option<Told<N>>, CrawlFault>
-    ensures { Gives (R.crawler roots.old) (showing root.now) result (R.crawler roots.new) }
+/// Watches a root.
+fn watch<N: Named, R: Roots<N>>(roots: &mut R, root: &str) -> Result<Option<Told<N>>, CrawlFault>
+    ensures { RootsGive (R.crawler roots.old) (showing root.now) result (R.crawler roots.new) }
 {
-    match roots.open(root) {
+    match roots.watch(root) {
         Ok(told) => Ok(Some(told)),
         Err(fault) => Err(fault),
     }
@@ -119,15 +119,15 @@ fn learn_and_hold<N: Named, D: Desk>(
     }
 }
 
-/// Retires the root that an ask needs, if it is shown, and answers the ask at its number.
-fn retire_and_hold<N: Named, R: Roots<N>, D: Desk>(
+/// Unwatches the root that an ask needs, if it is shown, and answers the ask at its number.
+fn unwatch_and_hold<N: Named, R: Roots<N>, D: Desk>(
     client: &mut Client,
     ask: Ask,
     seat: Seat<N>,
     roots: &mut R,
     desk: &mut D,
 ) -> (Seat<N>, Out)
-    ensures gets { IfRetires (need_of ask) (IsAnswered client.old.run ask (known (R.crawler roots.old) seat)
+    ensures gets { IfUnwatches (need_of ask) (IsAnswered client.old.run ask (known (R.crawler roots.old) seat)
         (D.shelf desk.old) result.1 (known (R.crawler roots.new) result.0) (D.shelf desk.new)) }
     ensures run { client.new.run ≡ client.old.run }
 {
@@ -135,7 +135,7 @@ fn retire_and_hold<N: Named, R: Roots<N>, D: Desk>(
     match instance {
         None => (seat, hold(client, ask, None, desk)),
         Some(instance) => {
-            let told = roots.retire(instance.root);
+            let told = roots.unwatch(instance.root);
             hold_at_end(client, ask, seat, instance, told, desk)
         }
     }

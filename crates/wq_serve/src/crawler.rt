@@ -3,14 +3,14 @@
 ghost use Rattle.std.specs.Prelude.{◌≡◌, ◌≢◌, ◌⊎◌, ◌↔◌, Err, IfErr, IfOk, IsTrue, MatchResult, None};
 ghost use Rattle.wq_live.specs.Tree.{IsCounted, Lists, rows_given};
 ghost use Rattle.wq_serve.specs.Crawl.{Began, Crawled, CrawledAt, IsFull, IsNoPassOver, IsNotTakenIn, IsPassOver};
-ghost use Rattle.wq_serve.specs.Crawl.{Opened, Passes, Retired, Shared, number_of, with_start};
+ghost use Rattle.wq_serve.specs.Crawl.{Watched, Passes, Unwatched, Shared, number_of, with_start};
 
 use crate::faults::{no_pass, not_listed};
 use std::alloc::AllocError;
 use std::marker::Model;
 use std::sync::Wait;
-use wq_base::MAX_NUMBER;
-use wq_live::{MAX_ROOTS, Named, Publisher, Seat, StartFault, Told, Tree, TreeFault};
+use wq_base::{MAX_NUMBER, MAX_ROOTS};
+use wq_live::{Named, Publisher, Seat, StartFault, Told, Tree, TreeFault};
 use wq_session::CrawlFault;
 use wq_view::{Pass, Seen, ViewFault};
 
@@ -104,8 +104,8 @@ impl<N: Named, R: Wait + Drop, T: Tree + Drop, S: Seconds + Drop> Crawler<N, R, 
     ///
     /// A root that is not shown is refused before it is listed where no more can be started. One that is shown is
     /// refused for want of memory alone. What is refused leaves the list.
-    pub fn open(&mut self, root: &str) -> Result<Told<N>, CrawlFault>
-        ensures { Opened root.now self.old result self.new }
+    pub fn watch(&mut self, root: &str) -> Result<Told<N>, CrawlFault>
+        ensures { Watched root.now self.old result self.new }
     {
         if self.publisher.find(root).is_some() {
             return self.told();
@@ -119,10 +119,10 @@ impl<N: Named, R: Wait + Drop, T: Tree + Drop, S: Seconds + Drop> Crawler<N, R, 
     /// Publishes the end of the root of this number, if it is shown, and tells the list.
     ///
     /// What is refused leaves the list.
-    pub fn retire(&mut self, number: u64) -> Result<Told<N>, CrawlFault>
-        ensures { Retired number self.old result self.new }
+    pub fn unwatch(&mut self, number: u64) -> Result<Told<N>, CrawlFault>
+        ensures { Unwatched number self.old result self.new }
     {
-        match self.publisher.retire(number) {
+        match self.publisher.end(number) {
             Ok(told) => Ok(told),
             Err(_) => Err(CrawlFault::NoMemory),
         }

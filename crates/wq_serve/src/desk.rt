@@ -1,6 +1,6 @@
 //! Where a session finds the shelf.
 ghost use Rattle.std.specs.Prelude.{option_map};
-ghost use Rattle.wq_serve.specs.Desk.{Holds, Unsets};
+ghost use Rattle.wq_serve.specs.Desk.{HoldsShelf, Unsets};
 ghost use Rattle.wq_session.specs.Work.{at_data, work_data};
 
 use std::alloc::Global;
@@ -19,7 +19,7 @@ pub trait Desk {
 
     /// Takes an ask ([`Session::take`]) at the shelf as it stands.
     fn hold(&mut self, alloc: Global, session: &mut Session, ask: Ask, at: Option<At<'_>>) -> Work
-        ensures { Holds (shelf self.old) ask (option_map at_data at.entry) (work_data result)
+        ensures { HoldsShelf (shelf self.old) ask (option_map at_data at.entry) (work_data result)
             (shelf self.new) };
 
     /// Unsets a cursor ([`Shelf::unset_cursor`]) on the shelf as it stands.

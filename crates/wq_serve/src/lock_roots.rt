@@ -30,15 +30,15 @@ impl<N: Named, R: Wait + Drop, T: Tree + Drop, S: Seconds + Drop> Roots<N>
 
     ghost crawler = { λ _. None };
 
-    fn open(&mut self, root: &str) -> Result<Told<N>, CrawlFault> {
-        self.crawler.open(&self.rt, root)
+    fn watch(&mut self, root: &str) -> Result<Told<N>, CrawlFault> {
+        self.crawler.watch(&self.rt, root)
     }
 
     fn crawl(&mut self, root: &str) -> Result<Option<Told<N>>, CrawlFault> {
         self.crawler.crawl(&self.rt, root)
     }
 
-    fn retire(&mut self, number: u64) -> Result<Told<N>, CrawlFault> {
-        self.crawler.retire(&self.rt, number)
+    fn unwatch(&mut self, number: u64) -> Result<Told<N>, CrawlFault> {
+        self.crawler.unwatch(&self.rt, number)
     }
 }

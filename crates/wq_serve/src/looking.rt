@@ -17,7 +17,7 @@ pub(crate) fn look_for<'a, N: Named>(run: Run, ask: &Ask, look: &'a Look<N>) -> 
 {
     match ask.need() {
         Need::None => None,
-        Need::Look(root) | Need::Crawl(root) | Need::Open(root) | Need::Retire(root) => {
+        Need::Look(root) | Need::Crawl(root) | Need::Watch(root) | Need::Unwatch(root) => {
             root_at(run, root, look)
         }
     }

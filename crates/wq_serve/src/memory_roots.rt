@@ -20,15 +20,15 @@ impl<N: Named, R: Wait + Drop, T: Tree + Drop, S: Seconds + Drop> Roots<N>
 
     ghost crawler = { λ r. Some r.crawler };
 
-    fn open(&mut self, root: &str) -> Result<Told<N>, CrawlFault> {
-        self.crawler.open(root)
+    fn watch(&mut self, root: &str) -> Result<Told<N>, CrawlFault> {
+        self.crawler.watch(root)
     }
 
     fn crawl(&mut self, root: &str) -> Result<Option<Told<N>>, CrawlFault> {
         self.crawler.crawl(root)
     }
 
-    fn retire(&mut self, number: u64) -> Result<Told<N>, CrawlFault> {
-        self.crawler.retire(number)
+    fn unwatch(&mut self, number: u64) -> Result<Told<N>, CrawlFault> {
+        self.crawler.unwatch(number)
     }
 }

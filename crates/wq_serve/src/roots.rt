@@ -1,6 +1,6 @@
 //! What crawls, opens and retires roots for a session.
 ghost use Rattle.wq_serve.specs.Crawl.{tells};
-ghost use Rattle.wq_serve.specs.Roots.{Gives, ending, passing, showing};
+ghost use Rattle.wq_serve.specs.Roots.{RootsGive, ending, passing, showing};
 
 use wq_live::{Named, Told};
 use wq_session::CrawlFault;
@@ -16,14 +16,14 @@ pub trait Roots<N: Named> {
     ghost crawler: { Self → Option CrawlerData };
 
     /// Finds the root of this text, or lists it and starts it, and tells the list of events.
-    fn open(&mut self, root: &str) -> Result<Told<N>, CrawlFault>
-        ensures { Gives (crawler self.old) (showing root.now) (tells result) (crawler self.new) };
+    fn watch(&mut self, root: &str) -> Result<Told<N>, CrawlFault>
+        ensures { RootsGive (crawler self.old) (showing root.now) (tells result) (crawler self.new) };
 
     /// Crawls the root of this text and publishes the pass, and tells the list of events; none where it is not shown.
     fn crawl(&mut self, root: &str) -> Result<Option<Told<N>>, CrawlFault>
-        ensures { Gives (crawler self.old) (passing root.now) result (crawler self.new) };
+        ensures { RootsGive (crawler self.old) (passing root.now) result (crawler self.new) };
 
     /// Publishes the end of the root of this number, if it is shown, and tells the list of events.
-    fn retire(&mut self, number: u64) -> Result<Told<N>, CrawlFault>
-        ensures { Gives (crawler self.old) (ending number) (tells result) (crawler self.new) };
+    fn unwatch(&mut self, number: u64) -> Result<Told<N>, CrawlFault>
+        ensures { RootsGive (crawler self.old) (ending number) (tells result) (crawler self.new) };
 }

@@ -4,7 +4,7 @@ ghost use Rattle.std.specs.Option.{option_map_or};
 ghost use Rattle.lru.specs.LruCache.{lru_cache, put_entries};
 ghost use Rattle.std.specs.Map.{lookup};
 ghost use Rattle.wq_serve.specs.Crawl.{CrawledAt, CrawledOnce, tells};
-ghost use Rattle.wq_serve.specs.Roots.{Gives, ending, passing, showing};
+ghost use Rattle.wq_serve.specs.Roots.{RootsGive, ending, passing, showing};
 
 use crate::crawler::{Crawler, Seconds};
 use lru::LruCache;
@@ -12,7 +12,8 @@ use std::alloc::{AllocError, Global};
 use std::num::NonZeroUsize;
 use std::sync::atomic::{AtomicU64, Ordering};
 use std::sync::{Mutex, Wait};
-use wq_live::{MAX_ROOTS, Named, Told, Tree};
+use wq_base::MAX_ROOTS;
+use wq_live::{Named, Told, Tree};
 use wq_session::CrawlFault;
 
 /// A crawler that threads share. Each call waits until it has the crawler for itself.
@@ -50,24 +51,24 @@ impl<N: Named, R: Wait + Drop, T: Tree + Drop, S: Seconds + Drop> SharedCrawler<
     ///
     /// Where another thread crawled the root meanwhile, and began after this was called, the list is told as it is.
     pub fn crawl(&self, rt: &R, root: &str) -> Result<Option<Told<N>>, CrawlFault>
-        ensures { Gives None (passing root.now) result None }
+        ensures { RootsGive None (passing root.now) result None }
     {
         let asked = self.begun.load(Ordering::SeqCst);
         self.crawls.lock(rt).crawl(&self.begun, asked, root)
     }
 
     /// Finds the root of this text, or lists it and starts it, and tells the list of events.
-    pub fn open(&self, rt: &R, root: &str) -> Result<Told<N>, CrawlFault>
-        ensures { Gives None (showing root.now) (tells result) None }
+    pub fn watch(&self, rt: &R, root: &str) -> Result<Told<N>, CrawlFault>
+        ensures { RootsGive None (showing root.now) (tells result) None }
     {
-        self.crawls.lock(rt).crawler.open(root)
+        self.crawls.lock(rt).crawler.watch(root)
     }
 
     /// Publishes the end of the root of this number, if it is shown, and tells the list of events.
-    pub fn retire(&self, rt: &R, number: u64) -> Result<Told<N>, CrawlFault>
-        ensures { Gives None (ending number) (tells result) None }
+    pub fn unwatch(&self, rt: &R, number: u64) -> Result<Told<N>, CrawlFault>
+        ensures { RootsGive None (ending number) (tells result) None }
     {
-        self.crawls.lock(rt).crawler.retire(number)
+        self.crawls.lock(rt).crawler.unwatch(number)
     }
 
     /// Lets go of the views that only what was published before the last time has ([`Crawler::let_go`]).

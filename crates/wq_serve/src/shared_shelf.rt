@@ -2,7 +2,7 @@
 ghost use Rattle.std.specs.Prelude.{◌≡◌, option_map, string_bytes};
 ghost use Rattle.wq_registry.specs.Shelf.{blank, cursor_unset};
 ghost use Rattle.wq_serve.specs.Reached.{IsReached, ReachedByCalls};
-ghost use Rattle.wq_session.specs.Answer.{Takes};
+ghost use Rattle.wq_session.specs.Answer.{TakesAsk};
 ghost use Rattle.wq_session.specs.Work.{at_data, work_data};
 
 use std::alloc::Global;
@@ -61,7 +61,7 @@ impl SharedShelf {
         at: Option<At<'_>>,
     ) -> Work
         ensures reached { IsReached self.old }
-        ensures taken { Takes ask (option_map at_data at.entry) self.old (work_data result) self.new }
+        ensures taken { TakesAsk ask (option_map at_data at.entry) self.old (work_data result) self.new }
     {
         session.take(alloc, ask, at, &mut self.shelf)
     }

@@ -7,17 +7,17 @@ use Rattle.wq_query.specs.Query.{QueryData, PlanData, SinceData, at_bound, at_cu
 use Rattle.wq_query.specs.Reading.{asks as queries}
 use Rattle.wq_query.specs.declared.fault.QueryFault.{QueryFault}
 use Rattle.wq_registry.specs.Limit.{max_programs}
-use Rattle.wq_registry.specs.Named.{has_no_place}
+use Rattle.wq_registry.specs.ByName.{has_no_place}
 use Rattle.wq_registry.specs.Shelf.{root_has_no_place}
 use Rattle.wq_registry.specs.History.{after_all}
 use Rattle.wq_session.specs.Accepted.{CallNow, Accepts, AnswersAreCalls, calls_of, cursor_calls, query_calls, unset_calls}
-use Rattle.wq_session.specs.Answer.{AnswerData, finished, without}
+use Rattle.wq_session.specs.Answer.{AnswerData, finished, without_cursor}
 use Rattle.wq_session.specs.Begun.{BegunData, evaluates, begun_query, or_refused, tried}
 use Rattle.wq_session.specs.Out.{runs_out}
 use Rattle.wq_session.specs.Query.{AtData, ShelfNow, is_watched, has_place, moved_cursor, plan_at, program_for, used_at}
 use Rattle.wq_session.specs.Root.{root_named}
 use Rattle.wq_session.specs.declared.ask.Ask.{Ask}
-use Rattle.wq_session.specs.declared.ask.Ask.TheVariants.{Refused, Watch, ListRoots, DeleteRoot}
+use Rattle.wq_session.specs.declared.ask.Ask.TheVariants.{Refused, Watch, ListRoots, Unwatch}
 use Rattle.wq_session.specs.declared.ask.Ask.TheVariants.{Query as AsksQuery, Clock, Version}
 use Rattle.wq_session.specs.declared.ask.Ask.TheVariants.{SocketName, ShutDown, AddProgram, ListPrograms}
 use Rattle.wq_session.specs.declared.ask.Ask.TheVariants.{DeleteProgram, Leave, Nothing}
@@ -72,9 +72,9 @@ leads (Watch root) (Some at) shelf =
     (calls_of (Watch root) (Some at)) shelf _ refl
 leads ListRoots None shelf = refl
 leads ListRoots (Some at) shelf = refl
-leads (DeleteRoot root) None shelf = tt
-leads (DeleteRoot root) (Some at) shelf =
-    where_watched at shelf (is_watched root at shelf) (calls_of (DeleteRoot root) (Some at)) _ refl
+leads (Unwatch root) None shelf = tt
+leads (Unwatch root) (Some at) shelf =
+    where_watched at shelf (is_watched root at shelf) (calls_of (Unwatch root) (Some at)) _ refl
 leads (AsksQuery root q) None shelf = tt
 leads (AsksQuery root q) (Some at) shelf =
     where_watched at shelf (is_watched root at shelf) (query_calls at (queries at.instance (data_of q))) _
@@ -101,7 +101,7 @@ leads Nothing (Some at) shelf = refl
 
 -- calls one after the other
 one_more : (calls : List CallNow) (cursor : Option Cursor) (shelf : ShelfNow)
-    → after_all (calls ++ unset_calls cursor) shelf ≡ without cursor (after_all calls shelf)
+    → after_all (calls ++ unset_calls cursor) shelf ≡ without_cursor cursor (after_all calls shelf)
 one_more [] None shelf = refl
 one_more [] (Some cursor) shelf = refl
 one_more (c ∷ cs) cursor shelf = one_more cs cursor _
@@ -118,11 +118,11 @@ module _ (ask : Ask) (at : Option AtData) (shelf : ShelfNow) where
   unfinished : (r : Result BegunData Refusal) → tried ask at shelf ≡ r → Leads (calls_of ask at) shelf r
       → (plan : PlanData) (cursor : Option Cursor) → (or_refused r shelf).work ≡ evaluates plan cursor
       → (calls : List CallNow) × Accepts ask at shelf (runs_out None) calls
-      × (without cursor (or_refused r shelf).shelf ≡ after_all calls shelf)
+      × (without_cursor cursor (or_refused r shelf).shelf ≡ after_all calls shelf)
   unfinished (Ok b) is so plan cursor work = (
     calls_of ask at ++ unset_calls cursor,
     inr (inr (inr (b, plan, cursor, is, work, refl, refl))),
-    ap (without cursor) so ∙ sym (one_more (calls_of ask at) cursor shelf),
+    ap (without_cursor cursor) so ∙ sym (one_more (calls_of ask at) cursor shelf),
   )
   unfinished (Err refusal) is so plan cursor work = absurd (cc work)
 

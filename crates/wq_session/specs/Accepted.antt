@@ -7,13 +7,13 @@ use Rattle.wq_query.specs.Reading.{asks as queries}
 use Rattle.wq_query.specs.declared.fault.QueryFault.{QueryFault}
 use Rattle.wq_registry.specs.History.{Call, adds_program, removes_program, adds_root, removes_root}
 use Rattle.wq_registry.specs.History.{uses_cursor, unsets_cursor, after_all}
-use Rattle.wq_session.specs.Answer.{Answers, finished}
+use Rattle.wq_session.specs.Answer.{AnswersAsk, finished}
 use Rattle.wq_session.specs.Begun.{BegunData, evaluates, takes_memory, tried}
 use Rattle.wq_session.specs.Out.{OutData, refuses, runs_out}
 use Rattle.wq_session.specs.Query.{AtData, ShelfNow}
 use Rattle.wq_session.specs.Root.{root_named}
 use Rattle.wq_session.specs.declared.ask.Ask.{Ask}
-use Rattle.wq_session.specs.declared.ask.Ask.TheVariants.{Watch, DeleteRoot, AddProgram, DeleteProgram}
+use Rattle.wq_session.specs.declared.ask.Ask.TheVariants.{Watch, Unwatch, AddProgram, DeleteProgram}
 use Rattle.wq_session.specs.declared.ask.Ask.TheVariants.{Query as AsksQuery}
 use Rattle.wq_session.specs.declared.cursor.Cursor.{Cursor}
 use Rattle.wq_session.specs.declared.refusal.Refusal.{Refusal}
@@ -35,7 +35,7 @@ query_calls at (Err fault) = []
 -- the calls of an ask at a root that is looked at
 abbrev pub root_calls : Ask → AtData → List CallNow
 root_calls (Watch root) at = adds_root (root_named root) (at.instance).root ∷ []
-root_calls (DeleteRoot root) at = removes_root (at.instance).root ∷ []
+root_calls (Unwatch root) at = removes_root (at.instance).root ∷ []
 root_calls (AsksQuery root q) at = query_calls at (queries at.instance (data_of q))
 root_calls _ at = []
 
@@ -72,5 +72,5 @@ Accepts ask at shelf out calls =
 -- what an answer leaves of the shelf is what the calls come to that were accepted of the ask
 abbrev pub AnswersAreCalls : Type 0
 AnswersAreCalls = (ask : Ask) (at : Option AtData) (shelf : ShelfNow) (out : OutData)
-    (after : ShelfNow) → Answers ask at shelf out after
+    (after : ShelfNow) → AnswersAsk ask at shelf out after
     → (calls : List CallNow) × Accepts ask at shelf out calls × (after ≡ after_all calls shelf)

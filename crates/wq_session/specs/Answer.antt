@@ -51,8 +51,8 @@ answer ask at shelf = record {
 
 -- what was begun of an ask: the work and the shelf are those of the answer; or memory ran out, and
 -- nothing changed
-abbrev pub Takes : Ask → Option AtData → ShelfNow → WorkData → ShelfNow → Type 0
-Takes ask at shelf work after =
+abbrev pub TakesAsk : Ask → Option AtData → ShelfNow → WorkData → ShelfNow → Type 0
+TakesAsk ask at shelf work after =
     (begun ask at shelf ≡ record { work = work; shelf = after })
     ⊎ ((takes_memory ask ≡ true) × (work ≡ says (runs_out None)) × (after ≡ shelf))
 
@@ -72,17 +72,17 @@ CanFinish (evaluates plan cursor) None = ⊥
 CanFinish (evaluates plan cursor) (Some at) = Unit {0}
 
 -- the shelf without a cursor, if there is one
-abbrev pub without : Option Cursor → ShelfNow → ShelfNow
-without None shelf = shelf
-without (Some cursor) shelf = cursor_unset cursor.root cursor.name shelf
+abbrev pub without_cursor : Option Cursor → ShelfNow → ShelfNow
+without_cursor None shelf = shelf
+without_cursor (Some cursor) shelf = cursor_unset cursor.root cursor.name shelf
 
 -- what an ask was answered: its answer; or that memory ran out, before anything changed, or when the
 -- files were listed: then the cursor is unset which the answer would have moved
-abbrev pub Answers : Ask → Option AtData → ShelfNow → OutData → ShelfNow → Type 0
-Answers ask at shelf out after =
+abbrev pub AnswersAsk : Ask → Option AtData → ShelfNow → OutData → ShelfNow → Type 0
+AnswersAsk ask at shelf out after =
     (answer ask at shelf ≡ record { out = out; shelf = after })
     ⊎ ((takes_memory ask ≡ true) × (out ≡ runs_out None) × (after ≡ shelf))
     ⊎ ((plan : PlanData) × (cursor : Option Cursor)
     × ((begun ask at shelf).work ≡ evaluates plan cursor)
     × (out ≡ runs_out None)
-    × (after ≡ without cursor (begun ask at shelf).shelf))
+    × (after ≡ without_cursor cursor (begun ask at shelf).shelf))

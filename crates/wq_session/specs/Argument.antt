@@ -7,7 +7,7 @@ use Rattle.std.specs.Option.{option_map_or}
 use Rattle.serde_json.specs.Data.{Data, string, object, Items, no_items, item}
 use Rattle.serde_json.specs.Find.{get}
 use Rattle.wq_term.specs.Argument.{whole_number_of}
-use Rattle.wq_session.specs.Limit.{max_name_length}
+use Rattle.wq_session.specs.Limit.{max_program_name}
 
 -- what stands behind the first item
 abbrev pub behind : Items → Items
@@ -56,4 +56,4 @@ two_texts _ = None
 
 -- whether a text may be the name of a program
 abbrev pub is_name : List ℕ → Bool
-is_name name = nat_le 1 (length name) && nat_le (length name) max_name_length
+is_name name = nat_le 1 (length name) && nat_le (length name) max_program_name

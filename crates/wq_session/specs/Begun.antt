@@ -10,7 +10,7 @@ use Rattle.wq_code.specs.declared.raw.Raw.{Raw}
 use Rattle.wq_query.specs.Query.{QueryData, PlanData}
 use Rattle.wq_query.specs.Reading.{asks as queries}
 use Rattle.wq_registry.specs.Limit.{max_programs}
-use Rattle.wq_registry.specs.Named.{has_no_place, names, under}
+use Rattle.wq_registry.specs.ByName.{has_no_place, names, under}
 use Rattle.wq_registry.specs.Shelf.{root_added, root_has_no_place, root_removed}
 use Rattle.wq_registry.specs.Shelf.{with_program, without_program}
 use Rattle.wq_session.specs.Out.{OutData, refuses, replies, shuts_with, silence}
@@ -19,10 +19,10 @@ use Rattle.wq_session.specs.Query.{used_at, moved_cursor, plan_at}
 use Rattle.wq_session.specs.Refusal.{ends_session}
 use Rattle.wq_session.specs.Reply.{clock_data, version_data, socket_data, shutdown_data}
 use Rattle.wq_session.specs.Reply.{added_data, programs_data, deleted_data}
-use Rattle.wq_session.specs.Reply.{root_deleted_data, roots_data, texts_of, watch_data}
+use Rattle.wq_session.specs.Reply.{root_deleted_data, roots_data, root_texts, watch_data}
 use Rattle.wq_session.specs.Root.{root_named}
 use Rattle.wq_session.specs.declared.ask.Ask.{Ask}
-use Rattle.wq_session.specs.declared.ask.Ask.TheVariants.{Refused, Watch, ListRoots, DeleteRoot}
+use Rattle.wq_session.specs.declared.ask.Ask.TheVariants.{Refused, Watch, ListRoots, Unwatch}
 use Rattle.wq_session.specs.declared.ask.Ask.TheVariants.{Query as AsksQuery, Clock, Version}
 use Rattle.wq_session.specs.declared.ask.Ask.TheVariants.{SocketName, ShutDown, AddProgram, ListPrograms}
 use Rattle.wq_session.specs.declared.ask.Ask.TheVariants.{DeleteProgram, Leave, Nothing}
@@ -77,8 +77,8 @@ try_watch root at shelf =
     })))
 
 -- `watch-del`
-abbrev pub try_delete_root : List ℕ → Option AtData → ShelfNow → Result BegunData Refusal
-try_delete_root root at shelf =
+abbrev pub try_unwatch : List ℕ → Option AtData → ShelfNow → Result BegunData Refusal
+try_unwatch root at shelf =
     or_fault NotWatched (watched root at shelf) (λ at.
     Ok (record {
       work = says (replies (root_deleted_data (root_named root)));
@@ -112,8 +112,8 @@ deleting name shelf = record {
 abbrev pub tried : Ask → Option AtData → ShelfNow → Result BegunData Refusal
 tried (Refused refusal) at shelf = Err refusal
 tried (Watch root) at shelf = try_watch root at shelf
-tried ListRoots at shelf = Ok (saying (replies (roots_data (texts_of shelf.roots))) shelf)
-tried (DeleteRoot root) at shelf = try_delete_root root at shelf
+tried ListRoots at shelf = Ok (saying (replies (roots_data (root_texts shelf.roots))) shelf)
+tried (Unwatch root) at shelf = try_unwatch root at shelf
 tried (AsksQuery root q) at shelf = try_query root (data_of q) at shelf
 tried (Clock root crawl) at shelf = try_clock root at shelf
 tried Version at shelf = Ok (saying (replies version_data) shelf)

@@ -4,7 +4,7 @@ use Rattle.std.specs.Prelude.{ℕ, List, [], ◌∷◌, codes, Option}
 use Rattle.wq_base.specs.Table.{named}
 use Rattle.wq_session.specs.declared.command.Command.{Command}
 use Rattle.wq_session.specs.declared.command.Command.TheVariants.{Watch, WatchProject, ListRoots}
-use Rattle.wq_session.specs.declared.command.Command.TheVariants.{DeleteRoot}
+use Rattle.wq_session.specs.declared.command.Command.TheVariants.{Unwatch}
 use Rattle.wq_session.specs.declared.command.Command.TheVariants.{Query, Clock, Version, SocketName}
 use Rattle.wq_session.specs.declared.command.Command.TheVariants.{ShutDown, AddProgram, ListPrograms}
 use Rattle.wq_session.specs.declared.command.Command.TheVariants.{DeleteProgram}
@@ -12,7 +12,7 @@ use Rattle.wq_session.specs.declared.command.Command.TheVariants.{DeleteProgram}
 -- every command
 abbrev pub all_commands : List Command
 all_commands =
-    Watch ∷ WatchProject ∷ ListRoots ∷ DeleteRoot ∷ Query ∷ Clock ∷ Version ∷ SocketName ∷ ShutDown
+    Watch ∷ WatchProject ∷ ListRoots ∷ Unwatch ∷ Query ∷ Clock ∷ Version ∷ SocketName ∷ ShutDown
     ∷ AddProgram ∷ ListPrograms ∷ DeleteProgram ∷ []
 
 -- the name of a command
@@ -20,7 +20,7 @@ abbrev pub command_name : Command → List ℕ
 command_name Watch = codes "watch"
 command_name WatchProject = codes "watch-project"
 command_name ListRoots = codes "watch-list"
-command_name DeleteRoot = codes "watch-del"
+command_name Unwatch = codes "watch-del"
 command_name Query = codes "query"
 command_name Clock = codes "clock"
 command_name Version = codes "version"

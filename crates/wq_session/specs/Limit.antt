@@ -7,5 +7,5 @@ abbrev pub max_root_length : ℕ
 max_root_length = 4096
 
 -- the most bytes of the name of a program
-abbrev pub max_name_length : ℕ
-max_name_length = 255
+abbrev pub max_program_name : ℕ
+max_program_name = 255

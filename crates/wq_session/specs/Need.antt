@@ -11,7 +11,7 @@ use Rattle.serde_json.specs.View.{view as data_of}
 use Rattle.wq_term.specs.Argument.{whole_number_of}
 use Rattle.wq_session.specs.Root.{root_named}
 use Rattle.wq_session.specs.declared.ask.Ask.{Ask}
-use Rattle.wq_session.specs.declared.ask.Ask.TheVariants.{Watch, DeleteRoot, Query, Clock}
+use Rattle.wq_session.specs.declared.ask.Ask.TheVariants.{Watch, Unwatch, Query, Clock}
 
 -- what is needed first
 pub data NeedData : Type 0 where
@@ -22,9 +22,9 @@ pub data NeedData : Type 0 where
   -- a crawl of a root, and then its view
   crawl : (root : List ℕ) → NeedData
   -- a root is listed and shown, unless it is shown; and then its view
-  opening : (root : List ℕ) → NeedData
+  watch : (root : List ℕ) → NeedData
   -- a look at a root, which is then shown no more
-  retire : (root : List ℕ) → NeedData
+  unwatch : (root : List ℕ) → NeedData
 
 -- whether a query is answered after a crawl: unless it says 0, or no whole number
 abbrev pub synchronises : Option Data → Bool
@@ -38,8 +38,8 @@ seen false root = look root
 
 -- what an ask needs
 abbrev pub need_of : Ask → NeedData
-need_of (Watch root) = opening (root_named root)
-need_of (DeleteRoot root) = retire (root_named root)
+need_of (Watch root) = watch (root_named root)
+need_of (Unwatch root) = unwatch (root_named root)
 need_of (Query root query) =
     seen (synchronises (get (codes "sync_timeout") (data_of query))) (root_named root)
 need_of (Clock root first) = seen first (root_named root)

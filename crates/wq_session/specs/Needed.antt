@@ -1,13 +1,13 @@
 -- What the needs of the code stand for.
 -- No public document is behind it.
-use Rattle.wq_session.specs.Need.{NeedData, none, look, crawl, opening, retire}
+use Rattle.wq_session.specs.Need.{NeedData, none, look, crawl, watch, unwatch}
 use Rattle.wq_session.specs.declared.needs.Need.{Need as NeedNow}
-use Rattle.wq_session.specs.declared.needs.Need.TheVariants.{None, Look, Crawl, Open, Retire}
+use Rattle.wq_session.specs.declared.needs.Need.TheVariants.{None, Look, Crawl, Watch, Unwatch}
 
 -- the need
 abbrev pub need_data : NeedNow → NeedData
 need_data None = none
 need_data (Look root) = look root.now
 need_data (Crawl root) = crawl root.now
-need_data (Open root) = opening root.now
-need_data (Retire root) = retire root.now
+need_data (Watch root) = watch root.now
+need_data (Unwatch root) = unwatch root.now

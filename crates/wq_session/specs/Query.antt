@@ -11,7 +11,7 @@ use Rattle.wq_code.specs.declared.raw.Raw.{Raw}
 use Rattle.wq_compile.specs.Large.{is_too_large}
 use Rattle.wq_query.specs.Query.{QueryData, PlanData, SinceData, at_bound, at_cursor}
 use Rattle.wq_registry.specs.Limit.{max_cursors}
-use Rattle.wq_registry.specs.Named.{has_no_place, under}
+use Rattle.wq_registry.specs.ByName.{has_no_place, under}
 use Rattle.wq_registry.specs.Root.{called}
 use Rattle.wq_registry.specs.Shelf.{ShelfData, cursor_used, cursors_of}
 use Rattle.wq_view.specs.View.{ViewData}

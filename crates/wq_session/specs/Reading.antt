@@ -23,7 +23,7 @@ use Rattle.wq_session.specs.Root.{is_absolute}
 use Rattle.wq_session.specs.declared.ask.Ask.{Ask}
 use Rattle.wq_session.specs.declared.ask.Ask.TheVariants.{Refused, Watch as AsksWatch}
 use Rattle.wq_session.specs.declared.ask.Ask.TheVariants.{ListRoots as AsksListRoots}
-use Rattle.wq_session.specs.declared.ask.Ask.TheVariants.{DeleteRoot as AsksDeleteRoot}
+use Rattle.wq_session.specs.declared.ask.Ask.TheVariants.{Unwatch as AsksUnwatch}
 use Rattle.wq_session.specs.declared.ask.Ask.TheVariants.{Query as AsksQuery, Clock as AsksClock}
 use Rattle.wq_session.specs.declared.ask.Ask.TheVariants.{Version as AsksVersion}
 use Rattle.wq_session.specs.declared.ask.Ask.TheVariants.{SocketName as AsksSocketName}
@@ -34,7 +34,7 @@ use Rattle.wq_session.specs.declared.ask.Ask.TheVariants.{DeleteProgram as AsksD
 use Rattle.wq_session.specs.declared.ask.Ask.TheVariants.{Leave, Nothing}
 use Rattle.wq_session.specs.declared.command.Command.{Command}
 use Rattle.wq_session.specs.declared.command.Command.TheVariants.{Watch, WatchProject, ListRoots}
-use Rattle.wq_session.specs.declared.command.Command.TheVariants.{DeleteRoot}
+use Rattle.wq_session.specs.declared.command.Command.TheVariants.{Unwatch}
 use Rattle.wq_session.specs.declared.command.Command.TheVariants.{Query, Clock, Version, SocketName}
 use Rattle.wq_session.specs.declared.command.Command.TheVariants.{ShutDown, AddProgram, ListPrograms}
 use Rattle.wq_session.specs.declared.command.Command.TheVariants.{DeleteProgram}
@@ -86,8 +86,8 @@ request_of Watch arguments = or_fault WrongArguments (one_text arguments) watchi
 request_of WatchProject arguments = or_fault WrongArguments (one_text arguments) watching
 request_of ListRoots arguments =
     unless_fault WrongArguments (are_none arguments) (Ok (complete AsksListRoots))
-request_of DeleteRoot arguments =
-    or_fault WrongArguments (one_text arguments) (λ root. Ok (complete (AsksDeleteRoot root)))
+request_of Unwatch arguments =
+    or_fault WrongArguments (one_text arguments) (λ root. Ok (complete (AsksUnwatch root)))
 request_of Query arguments =
     or_fault WrongArguments (query_arguments arguments) (λ (root, d). Ok (queries root d))
 request_of Clock arguments =

@@ -1,8 +1,8 @@
 -- The texts by which lines of clients are refused, each with its number. They are this server's own.
 use Rattle.std.specs.Prelude.{ℕ, Bool, true, false, List, ◌++◌, codes}
 use Rattle.std.specs.Fmt.{decimal}
-use Rattle.wq_code.specs.FileFault.{number_of as file_number}
-use Rattle.wq_verify.specs.ProgramFault.{number_of as program_number}
+use Rattle.wq_code.specs.FileFault.{file_fault_number as file_number}
+use Rattle.wq_verify.specs.ProgramFault.{program_fault_number as program_number}
 use Rattle.wq_term.specs.declared.fault.TermFault.{TermFault}
 use Rattle.wq_term.specs.declared.fault.TermFault.TheVariants.{UnknownTerm, WrongArguments as WrongTermArguments, TooDeep}
 use Rattle.wq_term.specs.declared.fault.TermFault.TheVariants.{BadClockSpec as BadTermClockSpec, CursorInTerm}

@@ -27,8 +27,8 @@ watch_data root =
     (member (codes "watcher") (string (codes "poll")) no_members)))
 
 -- the texts of roots
-abbrev pub texts_of : List (RootData (Unit {0})) → List (List ℕ)
-texts_of roots = map (λ r. r.text) roots
+abbrev pub root_texts : List (RootData (Unit {0})) → List (List ℕ)
+root_texts roots = map (λ r. r.text) roots
 
 -- the roots that are watched
 abbrev pub roots_data : List (List ℕ) → Data

@@ -8,7 +8,7 @@ use Rattle.wq_code.specs.declared.raw.Raw.{Raw}
 use Rattle.wq_compile.specs.Large.{is_too_large}
 use Rattle.wq_compile.specs.Meaning.{AnswersMeaning}
 use Rattle.wq_query.specs.Query.{QueryData, SinceData}
-use Rattle.wq_registry.specs.Named.{under}
+use Rattle.wq_registry.specs.ByName.{under}
 use Rattle.wq_session.specs.Query.{AtData, ShelfNow, program_for, bound_at, has_place, used_at}
 use Rattle.wq_session.specs.declared.refusal.Refusal.{Refusal}
 use Rattle.wq_session.specs.declared.refusal.Refusal.TheVariants.{NoSuchProgram, ProgramTooLarge}

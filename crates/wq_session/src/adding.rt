@@ -17,7 +17,7 @@ use wq_code::{FileFault, decode};
 use wq_verify::{ProgramFault, verify};
 
 /// How many bytes the name of a program may have.
-const MAX_NAME: usize = 255;
+const MAX_PROGRAM_NAME: usize = 255;
 
 /// That the program of a base64 text is kept under a name.
 pub(crate) fn adding(alloc: Global, name: Text, text: &Text) -> Result<Ask, Refusal>
@@ -35,7 +35,7 @@ pub(crate) fn is_name(name: &Text) -> bool
     ensures { result ≡ is_name name.now }
 {
     let length = name.as_bytes().len();
-    1 <= length && length <= MAX_NAME
+    1 <= length && length <= MAX_PROGRAM_NAME
 }
 
 /// The bytes that a base64 text stands for.

@@ -15,7 +15,7 @@ pub enum Ask {
     /// The roots that are watched.
     ListRoots,
     /// That a root is watched no more.
-    DeleteRoot { root: Text },
+    Unwatch { root: Text },
     /// Which files of a root there are, and which of them changed, as the object says.
     Query { root: Text, query: Value },
     /// The clock of a root, and whether the root is crawled first.

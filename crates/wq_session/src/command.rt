@@ -12,7 +12,7 @@ pub(crate) enum Command {
     /// The roots that are watched.
     ListRoots,
     /// A root is watched no more.
-    DeleteRoot,
+    Unwatch,
     /// Which files there are, and which of them changed.
     Query,
     /// Which pass was the last.
@@ -40,7 +40,7 @@ impl Command {
             "watch" => Some(Command::Watch),
             "watch-project" => Some(Command::WatchProject),
             "watch-list" => Some(Command::ListRoots),
-            "watch-del" => Some(Command::DeleteRoot),
+            "watch-del" => Some(Command::Unwatch),
             "query" => Some(Command::Query),
             "clock" => Some(Command::Clock),
             "version" => Some(Command::Version),

@@ -24,8 +24,8 @@ impl Ask {
                 seen(crawl, root)
             }
             Ask::Clock { root, crawl } => seen(*crawl, root),
-            Ask::Watch { root } => Need::Open(root_named(root.as_str())),
-            Ask::DeleteRoot { root } => Need::Retire(root_named(root.as_str())),
+            Ask::Watch { root } => Need::Watch(root_named(root.as_str())),
+            Ask::Unwatch { root } => Need::Unwatch(root_named(root.as_str())),
             _ => Need::None,
         }
     }

@@ -10,7 +10,7 @@ pub enum Need<'a> {
     /// A crawl of this root, and then a look at its view.
     Crawl(&'a str),
     /// A look at the view of this root, which is listed and shown first where it is not shown.
-    Open(&'a str),
+    Watch(&'a str),
     /// A look at this root, which is then shown no more. Of the look its number alone is used.
-    Retire(&'a str),
+    Unwatch(&'a str),
 }

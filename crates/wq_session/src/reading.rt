@@ -88,8 +88,8 @@ impl Command {
                 None => Err(Refusal::WrongArguments),
             },
             Command::ListRoots => unless_wrong(are_none(&words), Ask::ListRoots),
-            Command::DeleteRoot => match one_text(words) {
-                Some(root) => Ok(Ask::DeleteRoot { root }),
+            Command::Unwatch => match one_text(words) {
+                Some(root) => Ok(Ask::Unwatch { root }),
                 None => Err(Refusal::WrongArguments),
             },
             Command::Query => match query_arguments(words) {

@@ -4,10 +4,10 @@ ghost use Rattle.serde_json.specs.View.{view as data_of};
 ghost use Rattle.serde_json.specs.Data.{string};
 ghost use Rattle.serde_json.specs.Written.{compact_text};
 ghost use Rattle.wq_clock.specs.Instance.{instance_data};
-ghost use Rattle.wq_registry.specs.Named.{names};
+ghost use Rattle.wq_registry.specs.ByName.{names};
 ghost use Rattle.wq_session.specs.Reply.{added_data, clock_data, deleted_data, error_data};
 ghost use Rattle.wq_session.specs.Reply.{programs_data, socket_data};
-ghost use Rattle.wq_session.specs.Reply.{root_deleted_data, roots_data, texts_of, watch_data};
+ghost use Rattle.wq_session.specs.Reply.{root_deleted_data, roots_data, root_texts, watch_data};
 ghost use Rattle.wq_session.specs.Query.{ShelfNow};
 ghost use Rattle.wq_session.specs.Work.{IsReply};
 
@@ -50,7 +50,7 @@ fn watch_value(alloc: Global, root: &str) -> Result<Value, AllocError>
 
 /// The roots that are watched, by their texts.
 pub(crate) fn roots(alloc: Global, roots: &[Root<()>]) -> Result<Vec<u8>, AllocError>
-    ensures { IfOk result (λ text. text.items ≡ compact_text (roots_data (texts_of roots.now))) }
+    ensures { IfOk result (λ text. text.items ≡ compact_text (roots_data (root_texts roots.now))) }
 {
     let value = roots_value(alloc, roots)?;
     value.to_vec(alloc)
@@ -58,7 +58,7 @@ pub(crate) fn roots(alloc: Global, roots: &[Root<()>]) -> Result<Vec<u8>, AllocE
 
 /// The same as a value.
 fn roots_value(alloc: Global, roots: &[Root<()>]) -> Result<Value, AllocError>
-    ensures { IfOk result (λ value. data_of value ≡ roots_data (texts_of roots.now)) }
+    ensures { IfOk result (λ value. data_of value ≡ roots_data (root_texts roots.now)) }
 {
     let texts = Value::Array(texts(alloc, roots)?);
     json!(in alloc; { "roots": texts, "version": VERSION })
@@ -66,7 +66,7 @@ fn roots_value(alloc: Global, roots: &[Root<()>]) -> Result<Value, AllocError>
 
 /// The texts as values.
 fn texts(alloc: Global, roots: &[Root<()>]) -> Result<Vec<Value>, AllocError>
-    ensures { IfOk result (λ values. map data_of values.items ≡ map string (texts_of roots.now)) }
+    ensures { IfOk result (λ values. map data_of values.items ≡ map string (root_texts roots.now)) }
 {
     let mut values = Vec::new(alloc);
     for root in roots {
@@ -76,14 +76,14 @@ fn texts(alloc: Global, roots: &[Root<()>]) -> Result<Vec<Value>, AllocError>
 }
 
 /// That a root is watched no more.
-pub(crate) fn root_deleted(alloc: Global, root: &str) -> Result<Vec<u8>, AllocError>
+pub(crate) fn unwatched(alloc: Global, root: &str) -> Result<Vec<u8>, AllocError>
     ensures { IfOk result (λ text. text.items ≡ compact_text (root_deleted_data root.now)) }
 {
-    root_deleted_value(alloc, root)?.to_vec(alloc)
+    unwatched_value(alloc, root)?.to_vec(alloc)
 }
 
 /// The same as a value.
-fn root_deleted_value(alloc: Global, root: &str) -> Result<Value, AllocError>
+fn unwatched_value(alloc: Global, root: &str) -> Result<Value, AllocError>
     ensures { IfOk result (IsReply (root_deleted_data root.now)) }
 {
     json!(in alloc; { "root": root, "version": VERSION, "watch-del": true })

@@ -1,7 +1,7 @@
 //! A session's step: the part of an answer that needs what all clients share, the part that needs only the view, and
 //! what is to be unset where memory did not suffice for that one.
 ghost use Rattle.std.specs.Prelude.{◌≡◌, option_map};
-ghost use Rattle.wq_session.specs.Answer.{Answers, CanFinish, Finishes, Takes, settled};
+ghost use Rattle.wq_session.specs.Answer.{AnswersAsk, CanFinish, Finishes, TakesAsk, settled};
 ghost use Rattle.wq_session.specs.Work.{at_data, work_data};
 
 use crate::ask::Ask;
@@ -38,7 +38,7 @@ impl Session {
         at: Option<At<'_>>,
         shelf: &mut Shelf<()>,
     ) -> Work
-        ensures { Takes ask (option_map at_data at.entry) shelf.old (work_data result) shelf.new }
+        ensures { TakesAsk ask (option_map at_data at.entry) shelf.old (work_data result) shelf.new }
     {
         begin(alloc, ask, at, shelf)
     }
@@ -55,7 +55,7 @@ impl Session {
     /// The answer whole: [`take`](Session::take), [`finish`](Work::finish), [`settle`](Session::settle), and the cursor
     /// unset that it names.
     pub fn on(&mut self, alloc: Global, ask: Ask, at: Option<At<'_>>, shelf: &mut Shelf<()>) -> Out
-        ensures { Answers ask (option_map at_data at.entry) shelf.old result shelf.new }
+        ensures { AnswersAsk ask (option_map at_data at.entry) shelf.old result shelf.new }
     {
         let work = self.take(alloc, ask, at, shelf);
         let mut out = work.finish(alloc, at);

@@ -1,13 +1,13 @@
 //! The part of an answer for which the shelf is held.
 ghost use Rattle.std.specs.Prelude.{◌≡◌, Ok, false, is_none, option_map, true, IfErr, IfSome};
-ghost use Rattle.wq_session.specs.Answer.{Takes};
+ghost use Rattle.wq_session.specs.Answer.{TakesAsk};
 ghost use Rattle.wq_session.specs.Begun.{saying, takes_memory, tried, try_add, try_clock, deleting};
 ghost use Rattle.wq_session.specs.Out.{replies};
 ghost use Rattle.wq_session.specs.Query.{watched};
 ghost use Rattle.wq_session.specs.Refusal.{ends_session};
 ghost use Rattle.wq_session.specs.Reply.{programs_data, socket_data};
 ghost use Rattle.wq_session.specs.Work.{Begins, at_data, work_data};
-ghost use Rattle.wq_registry.specs.Named.{names};
+ghost use Rattle.wq_registry.specs.ByName.{names};
 ghost use Rattle.wq_registry.specs.Root.{numbered};
 
 use crate::ask::Ask;
@@ -17,7 +17,7 @@ use crate::querying::try_query;
 use crate::refusal::Refusal;
 use crate::replies;
 use crate::root::root_named;
-use crate::watching::{tell_roots, try_delete_root, try_watch};
+use crate::watching::{tell_roots, try_unwatch, try_watch};
 use crate::work::Work;
 use std::alloc::Global;
 use wq_base::Text;
@@ -26,7 +26,7 @@ use wq_verify::Program;
 
 /// What is begun of an ask.
 pub(crate) fn begin(alloc: Global, ask: Ask, at: Option<At<'_>>, shelf: &mut Shelf<()>) -> Work
-    ensures { Takes ask (option_map at_data at.entry) shelf.old (work_data result) shelf.new }
+    ensures { TakesAsk ask (option_map at_data at.entry) shelf.old (work_data result) shelf.new }
 {
     match tried(alloc, ask, at, shelf) {
         Ok(work) => work,
@@ -50,7 +50,7 @@ fn tried(
         Ask::Refused(refusal) => Err(refusal),
         Ask::Watch { root } => try_watch(alloc, &root, at, shelf),
         Ask::ListRoots => tell_roots(alloc, shelf),
-        Ask::DeleteRoot { root } => try_delete_root(alloc, &root, at, shelf),
+        Ask::Unwatch { root } => try_unwatch(alloc, &root, at, shelf),
         Ask::Query { root, query } => try_query(alloc, &root, &query, at, shelf),
         Ask::Clock { root, .. } => try_clock(alloc, &root, at, shelf),
         Ask::Version => Ok(Work::Says(Out::version())),

@@ -1,9 +1,9 @@
 //! The commands that watch roots: the part for which the shelf is held.
 ghost use Rattle.std.specs.Prelude.{◌≡◌, ◌⊎◌, Ok, false, option_map, true, IfErr, OnErr, OnOk};
 ghost use Rattle.wq_registry.specs.Shelf.{root_added, root_has_no_place};
-ghost use Rattle.wq_session.specs.Begun.{saying, try_delete_root, try_watch};
+ghost use Rattle.wq_session.specs.Begun.{saying, try_unwatch, try_watch};
 ghost use Rattle.wq_session.specs.Out.{replies};
-ghost use Rattle.wq_session.specs.Reply.{roots_data, texts_of};
+ghost use Rattle.wq_session.specs.Reply.{roots_data, root_texts};
 ghost use Rattle.wq_session.specs.Work.{Begins, at_data};
 ghost use Rattle.wq_session.specs.declared.refusal.Refusal.TheVariants.{NoMemory, TooManyRoots};
 
@@ -55,7 +55,7 @@ fn put_root(root: &str, number: u64, shelf: &mut Shelf<()>) -> Result<(), Refusa
 
 /// `watch-list`
 pub(crate) fn tell_roots(alloc: Global, shelf: &Shelf<()>) -> Result<Work, Refusal>
-    ensures { Begins (Ok (saying (replies (roots_data (texts_of shelf.now.roots))) shelf.now))
+    ensures { Begins (Ok (saying (replies (roots_data (root_texts shelf.now.roots))) shelf.now))
         shelf.now result shelf.now }
 {
     let text = replies::roots(alloc, shelf.roots())?;
@@ -63,19 +63,19 @@ pub(crate) fn tell_roots(alloc: Global, shelf: &Shelf<()>) -> Result<Work, Refus
 }
 
 /// `watch-del`. The reply is made first, so that the root stays where memory runs out.
-pub(crate) fn try_delete_root(
+pub(crate) fn try_unwatch(
     alloc: Global,
     root: &Text,
     at: Option<At<'_>>,
     shelf: &mut Shelf<()>,
 ) -> Result<Work, Refusal>
-    ensures { Begins (try_delete_root root.now (option_map at_data at.entry) shelf.old) shelf.old
+    ensures { Begins (try_unwatch root.now (option_map at_data at.entry) shelf.old) shelf.old
         result shelf.new }
 {
     let Some(at) = watched(root, at, shelf) else {
         return Err(Refusal::NotWatched);
     };
-    let text = replies::root_deleted(alloc, root_named(root.as_str()))?;
+    let text = replies::unwatched(alloc, root_named(root.as_str()))?;
     shelf.remove_root(at.instance.root);
     Ok(Work::Says(Out::of_text(text)))
 }

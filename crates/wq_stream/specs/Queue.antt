@@ -28,7 +28,7 @@ Puts event old true new = (old.is_closed ≡ false) × (new ≡ with_event event
 Puts event old false new = new ≡ closed
 
 -- what was taken: of a closed queue the end; of an open one the first event, where one waits
-abbrev pub Takes : QueueData → Option Event → QueueData → Type 0
-Takes old (Some event) new = (new.is_closed ≡ old.is_closed)
+abbrev pub TakesFirst : QueueData → Option Event → QueueData → Type 0
+TakesFirst old (Some event) new = (new.is_closed ≡ old.is_closed)
     × (old.is_closed ≡ true → event ≡ End) × (old.is_closed ≡ false → old.events ≡ event ∷ new.events)
-Takes old None new = (old.is_closed ≡ false) × (old.events ≡ []) × (new ≡ old)
+TakesFirst old None new = (old.is_closed ≡ false) × (old.events ≡ []) × (new ≡ old)

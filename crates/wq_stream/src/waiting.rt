@@ -1,6 +1,6 @@
 //! The events that wait for a session, in a queue of some length. Who waits for whom is not said here.
 ghost use Rattle.std.specs.Prelude.{◌≡◌, ◌↔◌, IfOk, IsTrue, [], false, length as count_of};
-ghost use Rattle.wq_stream.specs.Queue.{Puts, Takes, closed, most_waiting};
+ghost use Rattle.wq_stream.specs.Queue.{Puts, TakesFirst, closed, most_waiting};
 
 use crate::event::Event;
 use std::alloc::{AllocError, Global};
@@ -76,7 +76,7 @@ impl Waiting {
 
     /// Takes the first event, or the end of a session where the queue is closed.
     pub fn take(&mut self) -> Option<Event>
-        ensures { Takes self.old result self.new }
+        ensures { TakesFirst self.old result self.new }
     {
         if self.is_closed {
             return Some(Event::End);

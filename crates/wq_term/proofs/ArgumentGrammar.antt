@@ -32,15 +32,15 @@ use Rattle.wq_term.specs.declared.expr.Scope.{Scope}
 use Rattle.wq_term.specs.declared.expr.Scope.TheVariants.{Basename, Wholename}
 use Rattle.wq_term.specs.declared.expr.Depth.{Depth}
 use Rattle.wq_term.specs.declared.expr.Depth.TheVariants.{Is}
-use Rattle.wq_term.specs.declared.reading.word.Field.{Field}
-use Rattle.wq_term.specs.declared.reading.word.Field.TheVariants.{Oclock, Cclock, Mtime}
+use Rattle.wq_term.specs.declared.reading.word.SinceField.{SinceField}
+use Rattle.wq_term.specs.declared.reading.word.SinceField.TheVariants.{Oclock, Cclock, Mtime}
 use Rattle.wq_term.specs.declared.fault.TermFault.TheVariants.{BadClockSpec, CursorInTerm}
-use Rattle.wq_term.specs.Limit.{max_text_length}
+use Rattle.wq_term.specs.Limit.{max_term_text}
 use Rattle.wq_term.specs.Word.{kind_name, kinds, kind_named, scope_name, scopes, scope_named}
-use Rattle.wq_term.specs.Word.{relation_name, relations, relation_named, field_name, fields}
-use Rattle.wq_term.specs.Word.{field_named}
+use Rattle.wq_term.specs.Word.{relation_name, relations, relation_named, since_field_name, since_fields}
+use Rattle.wq_term.specs.Word.{since_field_named}
 use Rattle.wq_term.specs.Argument.{text_of, all_texts_of, texts_of, integer_between}
-use Rattle.wq_term.specs.Argument.{whole_number_of, second_of, kind_of, scope_of, field_of}
+use Rattle.wq_term.specs.Argument.{whole_number_of, epoch_second, kind_of_letter, scope_of, since_field_of}
 use Rattle.wq_term.specs.Argument.{relation_of, comparison_of, depth_argument, bound_in}
 use Rattle.wq_term.specs.ArgumentGrammar.{IsText, AreListed, AreTexts, IsBetween, IsKind}
 use Rattle.wq_term.specs.ArgumentGrammar.{IsComparison, IsDepth, IsBound}
@@ -70,7 +70,7 @@ mapped f (Some x) y e goal = goal x refl (same_Some (f x) y e)
 pub text-found : (d : Data) (text : List ℕ) → text_of d ≡ Some text → IsText text d
 text-found (string s) text e =
     let p = cond_some _ _ _ e in
-    (ap string p.1, subst (λ t. length t ≤ max_text_length) p.1 (leb-true _ _ p.0))
+    (ap string p.1, subst (λ t. length t ≤ max_term_text) p.1 (leb-true _ _ p.0))
 text-found _ text e = cc
 
 -- and a text written so is read
@@ -159,15 +159,15 @@ scope-reads Basename = refl
 scope-reads Wholename = refl
 
 -- a field of `since`
-pub field-found : (d : Data) (field : Field) → field_of d ≡ Some field
-    → d ≡ string (field_name field)
-unfolding field_named
-field-found (string w) field e = ap string (named-name field_name fields w field e)
+pub field-found : (d : Data) (field : SinceField) → since_field_of d ≡ Some field
+    → d ≡ string (since_field_name field)
+unfolding since_field_named
+field-found (string w) field e = ap string (named-name since_field_name since_fields w field e)
 field-found _ field e = cc
 
 -- and a field written so is read
-pub field-reads : (field : Field) → field_of (string (field_name field)) ≡ Some field
-unfolding field_named
+pub field-reads : (field : SinceField) → since_field_of (string (since_field_name field)) ≡ Some field
+unfolding since_field_named
 field-reads Oclock = refl
 field-reads Cclock = refl
 field-reads Mtime = refl
@@ -191,7 +191,7 @@ relation-reads Lt = refl
 relation-reads Le = refl
 
 -- a kind
-pub kind-found : (d : Data) (kind : Kind) → kind_of d ≡ Some kind → IsKind kind d
+pub kind-found : (d : Data) (kind : Kind) → kind_of_letter d ≡ Some kind → IsKind kind d
 unfolding kind_named
 kind-found (string w) kind e =
     let is : w ≡ kind_name kind = named-name kind_name kinds w kind e in (
@@ -215,8 +215,8 @@ known_kind Door e = refl
 known_kind Unknown e = absurd (e refl)
 
 -- and a kind written so is read
-pub kind-reads : (kind : Kind) (d : Data) → IsKind kind d → kind_of d ≡ Some kind
-kind-reads kind d h = subst (λ x. kind_of x ≡ Some kind) (sym h.0) (known_kind kind h.1)
+pub kind-reads : (kind : Kind) (d : Data) → IsKind kind d → kind_of_letter d ≡ Some kind
+kind-reads kind d h = subst (λ x. kind_of_letter x ≡ Some kind) (sym h.0) (known_kind kind h.1)
 
 -- both of a pair
 both_some : {A B : Type 0} (a : Option A) (b : Option B) (x : A) (y : B)
@@ -266,7 +266,7 @@ bound-found law instance (string text) bound e =
     or_fault-ok CursorInTerm (bound_of spec instance) (λ b. Ok b) bound e' (λ b sets is.
     (spec, ((law text spec).0 says, sets ∙ ap Some (same_Ok b bound is)))))
 bound-found law instance (number n) bound e =
-    or_fault-ok BadClockSpec (second_of (number n)) (λ second. Ok (Second second)) bound e (λ second some is.
+    or_fault-ok BadClockSpec (epoch_second (number n)) (λ second. Ok (Second second)) bound e (λ second some is.
     subst (λ b. IsBound instance b (number n)) (same_Ok (Second second) bound is) (between-found _ _ second (number n) some))
 bound-found law instance _ bound e = cc
 

@@ -17,7 +17,7 @@ use Rattle.wq_term.specs.declared.head.Head.{Head}
 use Rattle.wq_term.specs.declared.head.Head.TheVariants.{True, False, Exists, Empty, KindIs, Name}
 use Rattle.wq_term.specs.declared.head.Head.TheVariants.{Iname, Match, Imatch, Suffix, Size, Since}
 use Rattle.wq_term.specs.declared.head.Head.TheVariants.{Dirname, Idirname, Not, AllOf, AnyOf}
-use Rattle.wq_term.specs.Argument.{parts_of}
+use Rattle.wq_term.specs.Argument.{term_parts}
 use Rattle.wq_term.specs.Expr.{ExprData, always, never, exists, empty, kind_is, name_is, matches}
 use Rattle.wq_term.specs.Expr.{suffix_is, size_is, since, below, negation, all_of, any_of}
 use Rattle.wq_term.specs.Expr.{ExprsData, no_terms, term, depth_of, greatest_depth}
@@ -66,7 +66,7 @@ head-found text head e = named-name head_name heads text head e
 
 -- a name with arguments is a term of them
 parts-found : (head : Head) (Arguments : Items → Type 0) (d : Data) (p : List ℕ × Items)
-    → ◌≡◌ {A = Option (List ℕ × Items)} (parts_of d) (Some p)
+    → ◌≡◌ {A = Option (List ℕ × Items)} (term_parts d) (Some p)
     → p.0 ≡ head_name head → Arguments p.1 → IsTerm head Arguments d
 parts-found head Arguments (string s) p e named h =
     let is = same_Some {A = List ℕ × Items} (s, no_items) p e in
@@ -188,7 +188,7 @@ pub found : TextsSayWhatTheySpell → (instance : InstanceData) (levels : ℕ) (
 unfolding reads_as
 found law instance zero d t e = cc
 found law instance (suc levels) d t e =
-    or_fault-ok WrongArguments (parts_of d) (λ (p : List ℕ × Items). or_fault UnknownTerm (head_named p.0) (λ head. read_named instance (reads_as instance levels) head p.1)) t e (λ p parts e'.
+    or_fault-ok WrongArguments (term_parts d) (λ (p : List ℕ × Items). or_fault UnknownTerm (head_named p.0) (λ head. read_named instance (reads_as instance levels) head p.1)) t e (λ p parts e'.
     or_fault-ok UnknownTerm (head_named p.0) (λ head. read_named instance (reads_as instance levels) head p.1) t e' (λ head named e''.
     let h = named-found law instance levels (reads_as instance levels) (found law instance levels) head p.1 t e'' in
     (h.0 d (parts-found head (λ es. es ≡ p.1) d p parts (head-found p.0 head named) refl), h.1)))

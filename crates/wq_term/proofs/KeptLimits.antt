@@ -10,7 +10,7 @@ use Rattle.wq_clock.specs.Instance.{InstanceData}
 use Rattle.wq_clock.specs.ClockSpec.{SpecData, clock_id, old_clock_id, named_cursor}
 use Rattle.wq_clock.specs.Bound.{bound_of}
 use Rattle.wq_clock.specs.Law.{TextsSayWhatTheySpell}
-use Rattle.wq_clock.specs.Spelling.{IsSpelling}
+use Rattle.wq_clock.specs.Spelling.{IsClockSpelling}
 use Rattle.wq_clock.specs.declared.bound.Bound.{Bound}
 use Rattle.wq_clock.specs.declared.bound.Bound.TheVariants.{Fresh, Tick, Second}
 use Rattle.wq_base.specs.declared.compare.Relation.{Relation}
@@ -28,7 +28,7 @@ use Rattle.wq_term.specs.Expr.{ExprData, always, never, exists, empty, kind_is, 
 use Rattle.wq_term.specs.Expr.{suffix_is, size_is, since, below, negation, all_of, any_of}
 use Rattle.wq_term.specs.Expr.{ExprsData, no_terms, term}
 use Rattle.wq_term.specs.Fits.{is_text, is_whole, bound_fits, depth_fits, since_fits, keeps_limits}
-use Rattle.wq_term.specs.Fits.{all_keep_limits, fits}
+use Rattle.wq_term.specs.Fits.{all_keep_limits, expr_fits}
 use Rattle.wq_term.specs.Grammar.{IsTerm, IsOnly, IsOneOrTwo, IsSince, IsWrittenBy, AreWrittenBy}
 use Rattle.wq_term.specs.Law.{ReadExpressionsFit}
 use Rattle.wq_term.specs.Limit.{max_depth}
@@ -105,7 +105,7 @@ ticks-fit false tick bound le e = subst (λ b. bound_fits b ≡ true) (same_Some
 
 -- so is a bound of a clock spec
 spec-fits : (spec : SpecData) (text : List ℕ) (instance : InstanceData) (bound : Bound)
-    → IsSpelling spec text → bound_of spec instance ≡ Some bound → bound_fits bound ≡ true
+    → IsClockSpelling spec text → bound_of spec instance ≡ Some bound → bound_fits bound ≡ true
 spec-fits (clock_id other tick) text instance bound h e = ticks-fit _ tick bound h.1 e
 spec-fits old_clock_id text instance bound h e =
     subst (λ b. bound_fits b ≡ true) (same_Some Fresh bound e) refl
@@ -191,7 +191,7 @@ mutual
 
 -- so what is read keeps them, and is no deeper than it may be
 pub read_fit : TextsSayWhatTheySpell → ReadExpressionsFit
-unfolding fits
+unfolding expr_fits
 read_fit law instance t d e =
     let h = found law instance max_depth d t e in
     and_from _ _ (le-leb _ _ h.1) (keeps instance t d h.0)

@@ -17,14 +17,14 @@ use Rattle.wq_term.specs.declared.expr.Scope.TheVariants.{Basename}
 use Rattle.wq_term.specs.declared.expr.Since.{Since as SinceData}
 use Rattle.wq_term.specs.declared.expr.Since.TheVariants.{Observed, Created, Modified}
 use Rattle.wq_term.specs.declared.fault.TermFault.TheVariants.{WrongArguments, BadClockSpec}
-use Rattle.wq_term.specs.declared.reading.word.Field.{Field}
-use Rattle.wq_term.specs.declared.reading.word.Field.TheVariants.{Oclock, Cclock, Mtime}
-use Rattle.wq_term.specs.Argument.{text_of, texts_of, kind_of, scope_of, field_of, comparison_of}
-use Rattle.wq_term.specs.Argument.{depth_argument, bound_in, second_of}
+use Rattle.wq_term.specs.declared.reading.word.SinceField.{SinceField}
+use Rattle.wq_term.specs.declared.reading.word.SinceField.TheVariants.{Oclock, Cclock, Mtime}
+use Rattle.wq_term.specs.Argument.{text_of, texts_of, kind_of_letter, scope_of, since_field_of, comparison_of}
+use Rattle.wq_term.specs.Argument.{depth_argument, bound_in, epoch_second}
 use Rattle.wq_term.specs.PatternArgument.{plain_flags, flags_of, is_folded}
 use Rattle.wq_term.specs.NameFit.{scope_with}
 use Rattle.wq_term.specs.Text.{without_end_slashes}
-use Rattle.wq_term.specs.Word.{scope_name, field_name}
+use Rattle.wq_term.specs.Word.{scope_name, since_field_name}
 use Rattle.wq_term.specs.Expr.{ExprData, kind_is, name_is, matches, suffix_is, size_is, since}
 use Rattle.wq_term.specs.Expr.{below}
 use Rattle.wq_term.specs.Reading.{read_plain, read_kind, name_in, read_name, match_with, read_match}
@@ -57,7 +57,7 @@ plain_term-reads u (item d ds) h = absurd h
 pub type-found : {P : Type 0} (ds : Items) (t : ExprData) → read_kind ds ≡ Ok t
     → ((kind : Kind) → kind_is kind ≡ t → IsOnly (IsKind kind) ds → P) → P
 type-found (item d no_items) t e goal =
-    or_fault-ok WrongArguments (kind_of d) (λ kind. Ok (kind_is kind)) t e (λ kind some is.
+    or_fault-ok WrongArguments (kind_of_letter d) (λ kind. Ok (kind_is kind)) t e (λ kind some is.
     goal kind (same_Ok _ t is) (kind-found d kind some))
 type-found _ t e goal = cc
 
@@ -161,8 +161,8 @@ dirname-reads case (item d (item f no_items)) dir depth h =
 dirname-reads case _ dir depth h = absurd h
 
 -- a point that is the first argument
-placed : (field : Field) (Point : Data → Type 0) (d : Data) → Point d → (ds : Items)
-    → IsOneOrTwo (λ x. x ≡ d) (field ≡ Oclock) (IsWord (field_name field)) ds
+placed : (field : SinceField) (Point : Data → Type 0) (d : Data) → Point d → (ds : Items)
+    → IsOneOrTwo (λ x. x ≡ d) (field ≡ Oclock) (IsWord (since_field_name field)) ds
     → IsSinceBy field Point ds
 placed field Point d point (item x no_items) h = (subst Point (sym h.0) point, h.1)
 placed field Point d point (item x (item f no_items)) h = (subst Point (sym h.0) point, h.1)
@@ -170,10 +170,10 @@ placed field Point d point _ h = absurd h
 
 -- what `since` says by its field
 by-found : {P : Type 0} → TextsSayWhatTheySpell
-    → (instance : InstanceData) (d : Data) (field : Field) (t : ExprData)
+    → (instance : InstanceData) (d : Data) (field : SinceField) (t : ExprData)
     → since_by instance d field ≡ Ok t
     → ((point : SinceData) → since point ≡ t
-    → ((ds : Items) → IsOneOrTwo (λ x. x ≡ d) (field ≡ Oclock) (IsWord (field_name field)) ds → IsSince instance point ds)
+    → ((ds : Items) → IsOneOrTwo (λ x. x ≡ d) (field ≡ Oclock) (IsWord (since_field_name field)) ds → IsSince instance point ds)
     → P) → P
 by-found law instance d Oclock t e goal =
     or_own_fault-ok (bound_in instance d) (λ bound. Ok (since (Observed bound))) t e (λ bound some is.
@@ -182,7 +182,7 @@ by-found law instance d Cclock t e goal =
     or_own_fault-ok (bound_in instance d) (λ bound. Ok (since (Created bound))) t e (λ bound some is.
     goal (Created bound) (same_Ok _ t is) (placed Cclock (IsBound instance bound) d (bound-found law instance d bound some)))
 by-found law instance d Mtime t e goal =
-    or_fault-ok BadClockSpec (second_of d) (λ second. Ok (since (Modified second))) t e (λ second some is.
+    or_fault-ok BadClockSpec (epoch_second d) (λ second. Ok (since (Modified second))) t e (λ second some is.
     goal (Modified second) (same_Ok _ t is) (placed Mtime (IsSecond second) d (between-found _ _ second d some)))
 
 -- `since`
@@ -193,13 +193,13 @@ pub since-found : {P : Type 0} → TextsSayWhatTheySpell
 since-found law instance (item d no_items) t e goal =
     by-found law instance d Oclock t e (λ point is at. goal point is (at (item d no_items) (refl, refl)))
 since-found law instance (item d (item f no_items)) t e goal =
-    or_fault-ok WrongArguments (field_of f) (λ field. since_by instance d field) t e (λ field named e'.
+    or_fault-ok WrongArguments (since_field_of f) (λ field. since_by instance d field) t e (λ field named e'.
     by-found law instance d field t e' (λ point is at.
     goal point is (at (item d (item f no_items)) (refl, field-found f field named))))
 since-found law instance _ t e goal = cc
 
 -- a field and what it says
-by-reads : (instance : InstanceData) (Point : Data → Type 0) (field : Field) (t : ExprData) (ds : Items)
+by-reads : (instance : InstanceData) (Point : Data → Type 0) (field : SinceField) (t : ExprData) (ds : Items)
     → ((d : Data) → Point d → since_by instance d field ≡ Ok t) → IsSinceBy field Point ds
     → read_since instance ds ≡ Ok t
 by-reads instance Point field t (item d no_items) says h =

@@ -12,7 +12,7 @@ use Rattle.wq_base.specs.Byte.{is_slash}
 use Rattle.wq_view.specs.Name.{is_valid_name}
 use Rattle.wq_term.specs.declared.expr.Scope.{Scope}
 use Rattle.wq_term.specs.declared.expr.Scope.TheVariants.{Basename, Wholename}
-use Rattle.wq_term.specs.Text.{part_of}
+use Rattle.wq_term.specs.Text.{scope_part}
 use Rattle.wq_term.specs.declared.fault.TermFault.{TermFault}
 use Rattle.wq_base.specs.Fault.{with_first}
 use Rattle.wq_base.proofs.Fault.{before, before-push, before-none}
@@ -26,7 +26,7 @@ name_is_short name h = grind (arith, nat_tests, and_parts)
 
 -- and so has each part of it that a scope asks for
 pub part_is_short : (scope : Scope) (name : List ℕ) → IsTrue (is_valid_name name)
-    → length (part_of scope name) ≤ MAX_NAME
+    → length (scope_part scope name) ≤ MAX_NAME
 part_is_short Wholename name h = name_is_short name h
 part_is_short Basename name h =
     let short = name_is_short name h in

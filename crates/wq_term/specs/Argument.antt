@@ -18,21 +18,21 @@ use Rattle.wq_base.specs.declared.compare.Relation.{Relation}
 use Rattle.wq_term.specs.declared.expr.Scope.{Scope}
 use Rattle.wq_term.specs.declared.expr.Depth.{Depth}
 use Rattle.wq_term.specs.declared.expr.Depth.TheVariants.{Is}
-use Rattle.wq_term.specs.declared.reading.word.Field.{Field}
+use Rattle.wq_term.specs.declared.reading.word.SinceField.{SinceField}
 use Rattle.wq_term.specs.declared.fault.TermFault.{TermFault}
 use Rattle.wq_term.specs.declared.fault.TermFault.TheVariants.{BadClockSpec, CursorInTerm}
-use Rattle.wq_term.specs.Limit.{max_text_length}
-use Rattle.wq_term.specs.Word.{kind_named, scope_named, relation_named, field_named}
+use Rattle.wq_term.specs.Limit.{max_term_text}
+use Rattle.wq_term.specs.Word.{kind_named, scope_named, relation_named, since_field_named}
 
 -- a name and what stands behind it: an array headed by a text, or the bare text with nothing behind
-abbrev pub parts_of : Data → Option (List ℕ × Items)
-parts_of (string name) = Some (name, no_items)
-parts_of (array (item (string name) arguments)) = Some (name, arguments)
-parts_of _ = None
+abbrev pub term_parts : Data → Option (List ℕ × Items)
+term_parts (string name) = Some (name, no_items)
+term_parts (array (item (string name) arguments)) = Some (name, arguments)
+term_parts _ = None
 
 -- a text of at most 4,096 bytes
 abbrev pub text_of : Data → Option (List ℕ)
-text_of (string text) = if nat_le (length text) max_text_length then Some text else None
+text_of (string text) = if nat_le (length text) max_term_text then Some text else None
 text_of _ = None
 
 -- the texts of a list, unless one of its items is none
@@ -56,13 +56,13 @@ abbrev pub whole_number_of : Data → Option ℤ
 whole_number_of d = integer_between (neg_ℤ (pos max_number)) (pos max_number) d
 
 -- a second of the Unix epoch, from 0 to 2^62
-abbrev pub second_of : Data → Option ℤ
-second_of d = integer_between (pos 0) (pos max_number) d
+abbrev pub epoch_second : Data → Option ℤ
+epoch_second d = integer_between (pos 0) (pos max_number) d
 
 -- the kind of a letter
-abbrev pub kind_of : Data → Option Kind
-kind_of (string letter) = kind_named letter
-kind_of _ = None
+abbrev pub kind_of_letter : Data → Option Kind
+kind_of_letter (string letter) = kind_named letter
+kind_of_letter _ = None
 
 -- a scope
 abbrev pub scope_of : Data → Option Scope
@@ -70,9 +70,9 @@ scope_of (string word) = scope_named word
 scope_of _ = None
 
 -- a field of `since`
-abbrev pub field_of : Data → Option Field
-field_of (string word) = field_named word
-field_of _ = None
+abbrev pub since_field_of : Data → Option SinceField
+since_field_of (string word) = since_field_named word
+since_field_of _ = None
 
 -- a relation
 abbrev pub relation_of : Data → Option Relation
@@ -97,4 +97,4 @@ abbrev pub bound_in : InstanceData → Data → Result Bound TermFault
 bound_in instance (string text) =
     or_fault BadClockSpec (clock_spec_of text) (λ spec.
     or_fault CursorInTerm (bound_of spec instance) (λ bound. Ok bound))
-bound_in instance d = or_fault BadClockSpec (second_of d) (λ second. Ok (Second second))
+bound_in instance d = or_fault BadClockSpec (epoch_second d) (λ second. Ok (Second second))

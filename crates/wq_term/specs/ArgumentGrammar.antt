@@ -10,7 +10,7 @@ use Rattle.wq_base.specs.Byte.{is_slash}
 use Rattle.wq_base.specs.Limit.{max_number}
 use Rattle.wq_clock.specs.Instance.{InstanceData}
 use Rattle.wq_clock.specs.ClockSpec.{SpecData}
-use Rattle.wq_clock.specs.Spelling.{IsSpelling}
+use Rattle.wq_clock.specs.Spelling.{IsClockSpelling}
 use Rattle.wq_clock.specs.Bound.{bound_of}
 use Rattle.wq_clock.specs.declared.bound.Bound.{Bound}
 use Rattle.wq_clock.specs.declared.bound.Bound.TheVariants.{Second}
@@ -23,7 +23,7 @@ use Rattle.wq_term.specs.declared.expr.Depth.{Depth}
 use Rattle.wq_term.specs.declared.expr.Depth.TheVariants.{Is}
 use Rattle.wq_base.specs.declared.compare.Relation.{Relation}
 use Rattle.wq_term.specs.declared.expr.Scope.TheVariants.{Basename}
-use Rattle.wq_term.specs.Limit.{max_text_length}
+use Rattle.wq_term.specs.Limit.{max_term_text}
 use Rattle.wq_term.specs.Word.{kind_name, scope_name, relation_name}
 use Rattle.wq_term.specs.NameFit.{scope_with}
 
@@ -33,7 +33,7 @@ IsWord word d = d ≡ string word
 
 -- a text of at most 4,096 bytes
 abbrev pub IsText : List ℕ → Data → Type 0
-IsText text d = (d ≡ string text) × (length text ≤ max_text_length)
+IsText text d = (d ≡ string text) × (length text ≤ max_term_text)
 
 -- texts, one behind the other
 abbrev pub AreListed : List (List ℕ) → Items → Type 0
@@ -82,7 +82,7 @@ IsDirectory dir d =
 -- a bound by a spelling of a clock spec that sets it at this instance, or as a second
 abbrev pub IsBound : InstanceData → Bound → Data → Type 0
 IsBound instance bound (string text) =
-    (spec : SpecData) × (IsSpelling spec text × (bound_of spec instance ≡ Some bound))
+    (spec : SpecData) × (IsClockSpelling spec text × (bound_of spec instance ≡ Some bound))
 IsBound instance (Second second) d = IsSecond second d
 IsBound instance _ _ = ⊥
 

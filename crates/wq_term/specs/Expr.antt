@@ -18,7 +18,7 @@ use Rattle.wq_term.specs.declared.expr.Expr.{Expr, fold-Expr}
 use Rattle.wq_term.specs.declared.expr.Expr.TheOpen.{Expr-F}
 use Rattle.wq_base.specs.Compare.{compares}
 use Rattle.wq_term.specs.Number.{is_since}
-use Rattle.wq_term.specs.Text.{is_named, has_suffix, is_below}
+use Rattle.wq_term.specs.Text.{is_named, has_suffix, lies_below}
 use Rattle.wq_term.specs.NameFit.{name_fits}
 
 -- an expression without where it lies in memory
@@ -61,7 +61,7 @@ abbrev mutual
   means (suffix_is texts) r = has_suffix texts r.name
   means (size_is relation n) r = r.exists && compares relation r.size n
   means (since bound) r = is_since bound r
-  means (below case dir depth) r = is_below case dir depth r.name
+  means (below case dir depth) r = lies_below case dir depth r.name
   means (negation t) r = not (means t r)
   means (all_of ts) r = every ts r
   means (any_of ts) r = some ts r

@@ -10,13 +10,13 @@ use Rattle.wq_term.specs.declared.expr.Depth.TheVariants.{Any, Is}
 use Rattle.wq_term.specs.declared.expr.Since.{Since}
 use Rattle.wq_term.specs.declared.expr.Since.TheVariants.{Observed, Created, Modified}
 use Rattle.wq_glob.specs.Limit.{max_pattern_length}
-use Rattle.wq_term.specs.Limit.{max_depth, max_text_length}
+use Rattle.wq_term.specs.Limit.{max_depth, max_term_text}
 use Rattle.wq_term.specs.Expr.{ExprData, name_is, matches, suffix_is, size_is, since, below, negation}
 use Rattle.wq_term.specs.Expr.{all_of, any_of, ExprsData, no_terms, term, depth_of}
 
 -- a text of at most 4,096 bytes
 abbrev pub is_text : List ℕ → Bool
-is_text text = nat_le (length text) max_text_length
+is_text text = nat_le (length text) max_term_text
 
 -- a whole number, from -2^62 to 2^62
 abbrev pub is_whole : ℤ → Bool
@@ -63,5 +63,5 @@ abbrev mutual
   all_keep_limits (term t ts) = keeps_limits t && all_keep_limits ts
 
 -- an expression is at most 64 terms deep, and its texts and numbers keep their limits
-unfoldable pub fits : ExprData → Bool
-fits t = nat_le (depth_of t) max_depth && keeps_limits t
+unfoldable pub expr_fits : ExprData → Bool
+expr_fits t = nat_le (depth_of t) max_depth && keeps_limits t

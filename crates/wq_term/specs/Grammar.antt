@@ -14,13 +14,13 @@ use Rattle.wq_term.specs.declared.head.Head.TheVariants.{True, False, Exists, Em
 use Rattle.wq_term.specs.declared.head.Head.TheVariants.{Name, Iname, Match, Imatch, Suffix}
 use Rattle.wq_term.specs.declared.head.Head.TheVariants.{Size, Since, Dirname, Idirname}
 use Rattle.wq_term.specs.declared.head.Head.TheVariants.{Not, AllOf, AnyOf}
-use Rattle.wq_term.specs.declared.reading.word.Field.{Field}
-use Rattle.wq_term.specs.declared.reading.word.Field.TheVariants.{Oclock, Cclock, Mtime}
+use Rattle.wq_term.specs.declared.reading.word.SinceField.{SinceField}
+use Rattle.wq_term.specs.declared.reading.word.SinceField.TheVariants.{Oclock, Cclock, Mtime}
 use Rattle.wq_term.specs.Expr.{ExprData, always, never, exists, empty, kind_is, name_is, matches}
 use Rattle.wq_term.specs.Expr.{suffix_is, size_is, since, below, negation, all_of, any_of}
 use Rattle.wq_term.specs.Expr.{ExprsData, no_terms, term}
 use Rattle.wq_term.specs.Head.{head_name}
-use Rattle.wq_term.specs.Word.{scope_name, field_name}
+use Rattle.wq_term.specs.Word.{scope_name, since_field_name}
 use Rattle.wq_term.specs.ArgumentGrammar.{IsWord, AreTexts, IsSecond, IsKind, IsComparison, IsDepth}
 use Rattle.wq_term.specs.ArgumentGrammar.{IsDirectory, IsBound, IsPattern}
 
@@ -52,8 +52,8 @@ in_case Exact exact folded = exact
 in_case Folded exact folded = folded
 
 -- the arguments of `since` with this field: a point, and the field, which is `oclock` by default
-abbrev pub IsSinceBy : Field → (Data → Type 0) → Items → Type 0
-IsSinceBy field Point ds = IsOneOrTwo Point (field ≡ Oclock) (IsWord (field_name field)) ds
+abbrev pub IsSinceBy : SinceField → (Data → Type 0) → Items → Type 0
+IsSinceBy field Point ds = IsOneOrTwo Point (field ≡ Oclock) (IsWord (since_field_name field)) ds
 
 -- the arguments of `since`
 abbrev pub IsSince : InstanceData → SinceData → Items → Type 0

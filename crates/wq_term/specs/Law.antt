@@ -8,7 +8,7 @@ use Rattle.wq_term.specs.Limit.{max_depth}
 use Rattle.wq_term.specs.Argument.{bound_in, whole_number_of}
 use Rattle.wq_term.specs.ArgumentGrammar.{IsBound, IsWhole}
 use Rattle.wq_term.specs.Expr.{ExprData, depth_of}
-use Rattle.wq_term.specs.Fits.{fits}
+use Rattle.wq_term.specs.Fits.{expr_fits}
 use Rattle.wq_term.specs.Reading.{reads_as}
 use Rattle.wq_term.specs.Grammar.{IsWrittenBy}
 
@@ -26,7 +26,7 @@ ReadExpressionsAreShallow = (instance : InstanceData) (t : ExprData) (d : Data)
 -- and its texts and numbers keep their limits
 abbrev pub ReadExpressionsFit : Type 0
 ReadExpressionsFit = (instance : InstanceData) (t : ExprData) (d : Data)
-    → reads_as instance max_depth d ≡ Ok t → fits t ≡ true
+    → reads_as instance max_depth d ≡ Ok t → expr_fits t ≡ true
 
 -- a value is read as a bound exactly where the grammar has it as a writing of that bound
 abbrev pub BoundsSayWhatTheyWrite : Type 0

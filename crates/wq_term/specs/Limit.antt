@@ -7,5 +7,5 @@ abbrev pub max_depth : ℕ
 max_depth = 64
 
 -- the most bytes of a text in `name`, `suffix` and `dirname`
-abbrev pub max_text_length : ℕ
-max_text_length = 4096
+abbrev pub max_term_text : ℕ
+max_term_text = 4096

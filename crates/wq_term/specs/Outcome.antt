@@ -15,8 +15,8 @@ GivesAs see (Err NoMemory) answer = Unit {0}
 GivesAs see (Err fault) answer = answer ≡ Err fault
 
 -- the same of an expression
-abbrev pub Gives : Result Expr TermFault → Answer → Type 0
-Gives = GivesAs term_of
+abbrev pub GivesExpr : Result Expr TermFault → Answer → Type 0
+GivesExpr = GivesAs term_of
 
 -- the same of a list of expressions
 abbrev pub GivesAll : Result (Vec Expr Global) TermFault → Result ExprsData TermFault → Type 0

@@ -21,11 +21,11 @@ use Rattle.wq_term.specs.declared.head.Head.TheVariants.{True, False, Exists, Em
 use Rattle.wq_term.specs.declared.head.Head.TheVariants.{Name, Iname, Match, Imatch, Suffix}
 use Rattle.wq_term.specs.declared.head.Head.TheVariants.{Size, Since, Dirname, Idirname}
 use Rattle.wq_term.specs.declared.head.Head.TheVariants.{Not, AllOf, AnyOf}
-use Rattle.wq_term.specs.declared.reading.word.Field.{Field}
-use Rattle.wq_term.specs.declared.reading.word.Field.TheVariants.{Oclock, Cclock, Mtime}
+use Rattle.wq_term.specs.declared.reading.word.SinceField.{SinceField}
+use Rattle.wq_term.specs.declared.reading.word.SinceField.TheVariants.{Oclock, Cclock, Mtime}
 use Rattle.wq_term.specs.Head.{head_named}
-use Rattle.wq_term.specs.Argument.{parts_of, text_of, texts_of, second_of, bound_in}
-use Rattle.wq_term.specs.Argument.{kind_of, scope_of, field_of, comparison_of, depth_argument}
+use Rattle.wq_term.specs.Argument.{term_parts, text_of, texts_of, epoch_second, bound_in}
+use Rattle.wq_term.specs.Argument.{kind_of_letter, scope_of, since_field_of, comparison_of, depth_argument}
 use Rattle.wq_term.specs.PatternArgument.{plain_flags, flags_of}
 use Rattle.wq_term.specs.Text.{without_end_slashes}
 use Rattle.wq_term.specs.Expr.{ExprData, always, never, exists, empty, kind_is, name_is, matches}
@@ -44,7 +44,7 @@ read_plain t _ = Err WrongArguments
 -- `type` of one letter
 abbrev pub read_kind : Items → Answer
 read_kind (item letter no_items) =
-    or_fault WrongArguments (kind_of letter) (λ kind. Ok (kind_is kind))
+    or_fault WrongArguments (kind_of_letter letter) (λ kind. Ok (kind_is kind))
 read_kind _ = Err WrongArguments
 
 -- `name` and `iname` of this scope and a text or texts
@@ -101,19 +101,19 @@ read_dirname case (item dir (item d no_items)) =
 read_dirname case _ = Err WrongArguments
 
 -- `since` by this field: `mtime` takes a second alone, and the others any clock spec
-abbrev pub since_by : InstanceData → Data → Field → Answer
+abbrev pub since_by : InstanceData → Data → SinceField → Answer
 since_by instance spec Oclock =
     or_own_fault (bound_in instance spec) (λ bound. Ok (since (Observed bound)))
 since_by instance spec Cclock =
     or_own_fault (bound_in instance spec) (λ bound. Ok (since (Created bound)))
 since_by instance spec Mtime =
-    or_fault BadClockSpec (second_of spec) (λ second. Ok (since (Modified second)))
+    or_fault BadClockSpec (epoch_second spec) (λ second. Ok (since (Modified second)))
 
 -- the same with the field behind the clock spec, `oclock` where none is given
 abbrev pub read_since : InstanceData → Items → Answer
 read_since instance (item spec no_items) = since_by instance spec Oclock
 read_since instance (item spec (item d no_items)) =
-    or_fault WrongArguments (field_of d) (λ field. since_by instance spec field)
+    or_fault WrongArguments (since_field_of d) (λ field. since_by instance spec field)
 read_since instance _ = Err WrongArguments
 
 -- `not` of one term
@@ -151,6 +151,6 @@ read_named instance read AnyOf ds = or_own_fault (read_all read ds) (λ ts. Ok (
 unfoldable pub reads_as : InstanceData → ℕ → Data → Answer
 reads_as instance zero d = Err TooDeep
 reads_as instance (suc levels) d =
-    or_fault WrongArguments (parts_of d) (λ (name, arguments).
+    or_fault WrongArguments (term_parts d) (λ (name, arguments).
     or_fault UnknownTerm (head_named name) (λ head.
     read_named instance (reads_as instance levels) head arguments))

@@ -15,13 +15,13 @@ use Rattle.wq_term.specs.declared.expr.Depth.{Depth}
 use Rattle.wq_term.specs.declared.expr.Depth.TheVariants.{Any, Is}
 
 -- the part of a name that a scope asks for
-abbrev pub part_of : Scope → List ℕ → List ℕ
-part_of Basename name = basename_of name
-part_of Wholename name = name
+abbrev pub scope_part : Scope → List ℕ → List ℕ
+scope_part Basename name = basename_of name
+scope_part Wholename name = name
 
 -- whether that part of a name is one of these texts
 abbrev pub is_named : Case → Scope → List (List ℕ) → List ℕ → Bool
-is_named case scope texts name = list_any (λ text. same_text case text (part_of scope name)) texts
+is_named case scope texts name = list_any (λ text. same_text case text (scope_part scope name)) texts
 
 -- whether the suffix of a name is one of these texts
 abbrev pub has_suffix : List (List ℕ) → List ℕ → Bool
@@ -37,5 +37,5 @@ has_depth Any rest = true
 has_depth (Is relation depth) rest = compares relation (pos (count_by is_slash rest)) depth
 
 -- whether a name lies strictly below a directory, so deep
-abbrev pub is_below : Case → List ℕ → Depth → List ℕ → Bool
-is_below case dir depth name = option_map_or (has_depth depth) (rest_below case dir name) false
+abbrev pub lies_below : Case → List ℕ → Depth → List ℕ → Bool
+lies_below case dir depth name = option_map_or (has_depth depth) (rest_below case dir name) false

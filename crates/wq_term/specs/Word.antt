@@ -10,8 +10,8 @@ use Rattle.wq_base.specs.declared.compare.Relation.{Relation}
 use Rattle.wq_base.specs.declared.compare.Relation.TheVariants.{Eq, Ne, Gt, Ge, Lt, Le}
 use Rattle.wq_term.specs.declared.expr.Scope.{Scope}
 use Rattle.wq_term.specs.declared.expr.Scope.TheVariants.{Basename, Wholename}
-use Rattle.wq_term.specs.declared.reading.word.Field.{Field}
-use Rattle.wq_term.specs.declared.reading.word.Field.TheVariants.{Oclock, Cclock, Mtime}
+use Rattle.wq_term.specs.declared.reading.word.SinceField.{SinceField}
+use Rattle.wq_term.specs.declared.reading.word.SinceField.TheVariants.{Oclock, Cclock, Mtime}
 
 -- the name of a kind in `type`: its letter
 abbrev pub kind_name : Kind → List ℕ
@@ -56,15 +56,15 @@ unfoldable pub relation_named : List ℕ → Option Relation
 relation_named word = named relation_name relations word
 
 -- the name of what `since` compares
-abbrev pub field_name : Field → List ℕ
-field_name Oclock = codes "oclock"
-field_name Cclock = codes "cclock"
-field_name Mtime = codes "mtime"
+abbrev pub since_field_name : SinceField → List ℕ
+since_field_name Oclock = codes "oclock"
+since_field_name Cclock = codes "cclock"
+since_field_name Mtime = codes "mtime"
 
 -- all that `since` compares
-abbrev pub fields : List Field
-fields = Oclock ∷ Cclock ∷ Mtime ∷ []
+abbrev pub since_fields : List SinceField
+since_fields = Oclock ∷ Cclock ∷ Mtime ∷ []
 
 -- what `since` compares, by the word that names it
-unfoldable pub field_named : List ℕ → Option Field
-field_named word = named field_name fields word
+unfoldable pub since_field_named : List ℕ → Option SinceField
+since_field_named word = named since_field_name since_fields word

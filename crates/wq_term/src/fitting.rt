@@ -2,22 +2,22 @@
 ghost use Rattle.std.specs.Prelude.{◌≡◌, ◌&&◌, map, nat_le};
 ghost use Rattle.std.specs.List.{list_all};
 ghost use Rattle.wq_term.specs.Expr.{depth_of, greatest_depth, term_of, terms_of, texts_in};
-ghost use Rattle.wq_term.specs.Fits.{all_keep_limits, bound_fits, depth_fits, fits, is_second};
+ghost use Rattle.wq_term.specs.Fits.{all_keep_limits, bound_fits, depth_fits, expr_fits, is_second};
 ghost use Rattle.wq_term.specs.Fits.{is_text, is_whole, keeps_limits, since_fits};
 
 use crate::expr::{Depth, Expr, Since};
-use crate::reading::{MAX_DEPTH, MAX_TEXT};
+use crate::reading::{MAX_DEPTH, MAX_TERM_TEXT};
 use wq_base::{MAX_NUMBER, MAX_SIGNED};
 use wq_clock::Bound;
 use wq_glob::MAX_PATTERN;
 
 impl Expr {
     /// Whether the expression keeps the limits of those that are read: at most [`MAX_DEPTH`] terms
-    /// inside one another, texts of at most [`MAX_TEXT`] bytes, patterns of 255, numbers from -2^62 to 2^62, and
+    /// inside one another, texts of at most [`MAX_TERM_TEXT`] bytes, patterns of 255, numbers from -2^62 to 2^62, and
     /// seconds and ticks from 0 to 2^62.
-    #[tactic(auto, unfolding(crate::specs::Fits::fits))]
+    #[tactic(auto, unfolding(crate::specs::Fits::expr_fits))]
     pub fn fits(&self) -> bool
-        ensures { result ≡ fits (term_of self.now) }
+        ensures { result ≡ expr_fits (term_of self.now) }
     {
         fits_in(self, MAX_DEPTH)
     }
@@ -80,7 +80,7 @@ fn are_texts(texts: &[Vec<u8>]) -> bool
 fn is_text(text: &[u8]) -> bool
     ensures { result ≡ is_text text.now }
 {
-    text.len() <= MAX_TEXT
+    text.len() <= MAX_TERM_TEXT
 }
 
 /// Whether the number of a depth is a whole number of the server.

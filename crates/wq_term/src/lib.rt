@@ -20,6 +20,6 @@ pub use law::{
 };
 pub use meaning::holds;
 pub use reading::{
-    MAX_DEPTH, MAX_TEXT, read_bound, read_expr, text, whole_number, without_end_slashes,
+    MAX_DEPTH, MAX_TERM_TEXT, read_bound, read_expr, text, whole_number, without_end_slashes,
 };
 pub use wq_base::{Case, Relation};

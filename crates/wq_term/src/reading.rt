@@ -3,8 +3,8 @@
 ghost use Rattle.std.specs.Prelude.{◌≡◌, IfOk, IsTrue};
 ghost use Rattle.serde_json.specs.View.{view as data_of, items_view};
 ghost use Rattle.wq_clock.specs.Instance.{instance_data};
-ghost use Rattle.wq_term.specs.Outcome.{Gives, GivesAll};
-ghost use Rattle.wq_term.specs.Fits.{fits};
+ghost use Rattle.wq_term.specs.Outcome.{GivesExpr, GivesAll};
+ghost use Rattle.wq_term.specs.Fits.{expr_fits};
 ghost use Rattle.wq_term.specs.Limit.{max_depth};
 ghost use Rattle.wq_term.specs.Reading.{read_plain, read_negation, read_all, read_named, reads_as};
 ghost use Rattle.wq_term.specs.Expr.{term_of};
@@ -20,7 +20,7 @@ use crate::fault::TermFault;
 use crate::head::Head;
 use crate::law::read_expressions_fit;
 use argument::parts;
-pub use argument::{MAX_TEXT, text, whole_number, without_end_slashes};
+pub use argument::{MAX_TERM_TEXT, text, whole_number, without_end_slashes};
 pub use number::read_bound;
 use serde_json::Value;
 use std::alloc::Global;
@@ -36,9 +36,9 @@ pub const MAX_DEPTH: u32 = 64;
 /// array of it alone. The first fault refuses the value: see [`TermFault`]. Which values are read is
 /// also said as a grammar: see [`values_say_what_they_write`](crate::values_say_what_they_write).
 pub fn read_expr(alloc: Global, value: &Value, instance: &Instance) -> Result<Expr, TermFault>
-    ensures read { Gives result
+    ensures read { GivesExpr result
         (reads_as (instance_data instance.now) max_depth (data_of value.now)) }
-    ensures limits { IfOk result (λ expr. IsTrue (fits (term_of expr))) }
+    ensures limits { IfOk result (λ expr. IsTrue (expr_fits (term_of expr))) }
 {
     read_expressions_fit();
     read_term(alloc, value, instance, MAX_DEPTH)
@@ -53,7 +53,7 @@ fn read_term(
     instance: &Instance,
     levels: u32,
 ) -> Result<Expr, TermFault>
-    ensures { Gives result (reads_as (instance_data instance.now) levels (data_of value.now)) }
+    ensures { GivesExpr result (reads_as (instance_data instance.now) levels (data_of value.now)) }
 {
     if levels == 0 {
         return Err(TermFault::TooDeep);
@@ -76,7 +76,7 @@ fn read_named(
     instance: &Instance,
     levels: u32,
 ) -> Result<Expr, TermFault>
-    ensures { Gives result (read_named (instance_data instance.now)
+    ensures { GivesExpr result (read_named (instance_data instance.now)
         (reads_as (instance_data instance.now) levels) head (items_view arguments.now)) }
 {
     match head {
@@ -109,7 +109,7 @@ fn read_negation(
     instance: &Instance,
     levels: u32,
 ) -> Result<Expr, TermFault>
-    ensures { Gives result (read_negation (reads_as (instance_data instance.now) levels)
+    ensures { GivesExpr result (read_negation (reads_as (instance_data instance.now) levels)
         (items_view arguments.now)) }
 {
     let [term] = arguments else {
@@ -140,7 +140,7 @@ fn read_all(
 /// A term that has no arguments.
 #[tactic(auto, using(crate::proofs::Arguments::not_plain))]
 fn read_plain(term: Expr, arguments: &[Value]) -> Result<Expr, TermFault>
-    ensures { Gives result (read_plain (term_of term) (items_view arguments.now)) }
+    ensures { GivesExpr result (read_plain (term_of term) (items_view arguments.now)) }
 {
     if arguments.is_empty() {
         Ok(term)

@@ -6,7 +6,7 @@ use std::alloc::{AllocError, Global};
 use std::process::Abort;
 use std::sync::ArcSlice;
 use std::test::Fail;
-use wq_view::{Kind, MAX_ROWS, Name, Pass, PassFault, Record, Seen, View};
+use wq_view::{Kind, MAX_LISTING_ROWS, Name, Pass, PassFault, Record, Seen, View};
 
 /// A pass that sees one file of this name, which it shares.
 fn sharing_pass(alloc: Global, name: &ArcSlice<u8>, size: i64) -> Result<Pass, Fail> {
@@ -111,7 +111,7 @@ fn a_view_is_empty_before_any_file(rt: HostRuntime) -> Result<(), Fail> {
 
 /// A million rows whose names fall from `1999999` to `1000000`, so that the pass has to sort them.
 fn falling_rows(alloc: Global) -> Result<Vec<Seen>, AllocError> {
-    let mut rows = Vec::with_capacity(alloc, MAX_ROWS)?;
+    let mut rows = Vec::with_capacity(alloc, MAX_LISTING_ROWS)?;
     for number in (1_000_000..2_000_000u32).rev() {
         let mut name = Buffer::new();
         rows.push(file(alloc, name.format(number).as_bytes(), 1)?)?;

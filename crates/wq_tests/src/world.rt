@@ -8,15 +8,15 @@ use std::test::Fail;
 use wq_base::{Table, Text};
 use wq_clock::Run;
 use wq_replay::{Happening, Sent, World};
-use wq_stream::Event;
 use wq_session::{Ask, CrawlFault};
+use wq_stream::Event;
 use wq_view::Pass;
 
 /// What happens. A root and a client's line are texts, and what a root lists is one of the trees below.
 #[derive(Clone, Copy)]
 enum Step {
     Crawl(&'static str, Result<usize, CrawlFault>),
-    Open(&'static str, Result<usize, CrawlFault>),
+    Watch(&'static str, Result<usize, CrawlFault>),
     Line(i64, &'static str),
     /// A line that is too long, by which the client's session ends.
     Long(i64),
@@ -81,7 +81,7 @@ fn happening<'a>(
 ) -> Result<Happening<'a>, AllocError> {
     match step {
         Step::Crawl(root, tree) => crawl(alloc, root, seen(trees, tree)),
-        Step::Open(root, tree) => open(alloc, root, seen(trees, tree)),
+        Step::Watch(root, tree) => watch(alloc, root, seen(trees, tree)),
         Step::Line(client, line) => Ok(asked(alloc, client, line_event(alloc, line)?)),
         Step::Long(client) => Ok(asked(alloc, client, Event::Long)),
         Step::End(client) => Ok(asked(alloc, client, Event::End)),
@@ -97,13 +97,13 @@ fn crawl<'a>(
     Ok(Happening::Crawl { root, seen })
 }
 
-fn open<'a>(
+fn watch<'a>(
     alloc: Global,
     root: &str,
     seen: Result<&'a Pass, CrawlFault>,
 ) -> Result<Happening<'a>, AllocError> {
     let root = Text::from_string(String::from_str(alloc, root)?);
-    Ok(Happening::Open { root, seen })
+    Ok(Happening::Watch { root, seen })
 }
 
 fn asked<'a>(alloc: Global, client: i64, event: Event) -> Happening<'a> {
@@ -256,7 +256,7 @@ fn a_line_behind_the_end_of_a_session_begins_another(rt: HostRuntime) -> Result<
     )
 }
 
-/// A root is opened once, under the next number; a watch finds it, or is refused as its opening was.
+/// A root is started once, under the next number; a watch finds it, or is refused as its start was.
 #[test]
 fn a_root_is_opened_for_its_watch(rt: HostRuntime) -> Result<(), Fail> {
     let watch = r#"["watch","/q/"]"#;
@@ -265,11 +265,11 @@ fn a_root_is_opened_for_its_watch(rt: HostRuntime) -> Result<(), Fail> {
         rt.alloc(),
         &[
             Step::Line(1, watch),
-            Step::Open("/q", Err(CrawlFault::Unreadable)),
+            Step::Watch("/q", Err(CrawlFault::Unreadable)),
             Step::Line(1, watch),
-            Step::Open("/q", Ok(A)),
+            Step::Watch("/q", Ok(A)),
             Step::Line(1, watch),
-            Step::Open("/q", Err(CrawlFault::Unreadable)),
+            Step::Watch("/q", Err(CrawlFault::Unreadable)),
             Step::Line(2, watch),
             Step::Line(1, r#"["clock","/q"]"#),
             Step::Line(1, r#"["watch-list"]"#),
@@ -297,7 +297,7 @@ fn a_root_is_deleted_and_watched_again(rt: HostRuntime) -> Result<(), Fail> {
             Step::Crawl("/r", Ok(B)),
             Step::Line(1, NAMES),
             Step::Line(1, r#"["watch-del","/r"]"#),
-            Step::Open("/r", Ok(B)),
+            Step::Watch("/r", Ok(B)),
             Step::Line(1, r#"["watch","/r"]"#),
             Step::Line(1, NAMES_AT_ONCE),
         ],
@@ -318,25 +318,25 @@ fn sixteen_roots_are_shown(rt: HostRuntime) -> Result<(), Fail> {
         &rt,
         rt.alloc(),
         &[
-            Step::Open("/1", Ok(NONE)),
-            Step::Open("/2", Ok(NONE)),
-            Step::Open("/3", Ok(NONE)),
-            Step::Open("/4", Ok(NONE)),
-            Step::Open("/5", Ok(NONE)),
-            Step::Open("/6", Ok(NONE)),
-            Step::Open("/7", Ok(NONE)),
-            Step::Open("/8", Ok(NONE)),
-            Step::Open("/9", Ok(NONE)),
-            Step::Open("/a", Ok(NONE)),
-            Step::Open("/b", Ok(NONE)),
-            Step::Open("/c", Ok(NONE)),
-            Step::Open("/d", Ok(NONE)),
-            Step::Open("/e", Ok(NONE)),
-            Step::Open("/f", Ok(NONE)),
-            Step::Open("/q", Err(CrawlFault::Unreadable)),
+            Step::Watch("/1", Ok(NONE)),
+            Step::Watch("/2", Ok(NONE)),
+            Step::Watch("/3", Ok(NONE)),
+            Step::Watch("/4", Ok(NONE)),
+            Step::Watch("/5", Ok(NONE)),
+            Step::Watch("/6", Ok(NONE)),
+            Step::Watch("/7", Ok(NONE)),
+            Step::Watch("/8", Ok(NONE)),
+            Step::Watch("/9", Ok(NONE)),
+            Step::Watch("/a", Ok(NONE)),
+            Step::Watch("/b", Ok(NONE)),
+            Step::Watch("/c", Ok(NONE)),
+            Step::Watch("/d", Ok(NONE)),
+            Step::Watch("/e", Ok(NONE)),
+            Step::Watch("/f", Ok(NONE)),
+            Step::Watch("/q", Err(CrawlFault::Unreadable)),
             Step::Line(1, r#"["watch","/q"]"#),
             Step::Line(1, r#"["watch-del","/r"]"#),
-            Step::Open("/q", Ok(NONE)),
+            Step::Watch("/q", Ok(NONE)),
             Step::Line(1, r#"["watch","/q"]"#),
             Step::Line(1, r#"["clock","/q"]"#),
         ],

@@ -24,13 +24,13 @@ use Rattle.wq_code.specs.declared.flow.Flow.TheVariants.{Next, To, Fork, Stop}
 use Rattle.wq_code.specs.declared.operation.CellKind.TheVariants as cell
 use Rattle.wq_code.specs.declared.operation.Op.{Op}
 use Rattle.wq_code.specs.declared.operation.Op.TheVariants.{Flag, Number, Text, WholeName, BaseName, Suffix, Size, Mtime, Oclock, Cclock, Osec, Csec, Kind, Exists, Compare, Equal, Depth, OneOf, Match, Not, And, Or, Drop, Jump, JumpIfNot, JumpIf, Return}
-use Rattle.wq_code.specs.declared.signature.Need.{Need}
-use Rattle.wq_code.specs.declared.signature.Need.TheVariants as need
+use Rattle.wq_code.specs.declared.signature.CellNeed.{CellNeed}
+use Rattle.wq_code.specs.declared.signature.CellNeed.TheVariants as need
 use Rattle.wq_code.specs.declared.raw.Raw.{Raw}
-use Rattle.wq_verify.specs.Kinds.{Kinds, Lists, all_meet, kinds_after, leads}
+use Rattle.wq_verify.specs.Kinds.{Kinds, KnownKinds, all_meet, kinds_after, leads}
 use Rattle.wq_verify.specs.Fault.{stops}
 use Rattle.wq_verify.specs.Typing.{IsWell}
-use Rattle.wq_verify.specs.Budget.{longest_len, cost}
+use Rattle.wq_verify.specs.Budget.{longest_len, most_cost}
 use Rattle.wq_verify.specs.Law.{StepsGoWell, RunsBeginWell}
 use Rattle.wq_verify.proofs.Tests.{stops-Return, stops-true}
 use Rattle.wq_verify.specs.Run.{kinds_in, AreNarrow, HasWidth, IsFit, GoesWell}
@@ -38,7 +38,7 @@ use Rattle.wq_verify.specs.Run.{kinds_in, AreNarrow, HasWidth, IsFit, GoesWell}
 -- ---- operands
 
 -- the stack has these kinds in front
-abbrev Meets : List Need → List Cell → Type 0
+abbrev Meets : List CellNeed → List Cell → Type 0
 Meets needs cells = (length needs ≤ length (kinds_in cells)) × (all_meet needs (kinds_in cells) ≡ true)
 
 abbrev HasFlag : List Cell → Type 0
@@ -50,28 +50,28 @@ HasNumber cells = (x : ℤ) × (rest : List Cell) × (cells ≡ number x ∷ res
 abbrev HasText : List Cell → Type 0
 HasText cells = (x : List ℕ) × (rest : List Cell) × (cells ≡ text x ∷ rest)
 
-abbrev flag_need : Need
+abbrev flag_need : CellNeed
 flag_need = need.Cell cell.Flag
 
-abbrev number_need : Need
+abbrev number_need : CellNeed
 number_need = need.Cell cell.Number
 
-abbrev text_need : Need
+abbrev text_need : CellNeed
 text_need = need.Cell cell.Text
 
-one_flag : (needs : List Need) (cells : List Cell) → Meets (flag_need ∷ needs) cells → HasFlag cells
+one_flag : (needs : List CellNeed) (cells : List Cell) → Meets (flag_need ∷ needs) cells → HasFlag cells
 one_flag needs [] h = absurd (omega (arith, h.0))
 one_flag needs (flag x ∷ rest) h = (x, rest, refl)
 one_flag needs (number x ∷ rest) h = absurd (let e = h.1 in cc)
 one_flag needs (text x ∷ rest) h = absurd (let e = h.1 in cc)
 
-one_number : (needs : List Need) (cells : List Cell) → Meets (number_need ∷ needs) cells → HasNumber cells
+one_number : (needs : List CellNeed) (cells : List Cell) → Meets (number_need ∷ needs) cells → HasNumber cells
 one_number needs [] h = absurd (omega (arith, h.0))
 one_number needs (flag x ∷ rest) h = absurd (let e = h.1 in cc)
 one_number needs (number x ∷ rest) h = (x, rest, refl)
 one_number needs (text x ∷ rest) h = absurd (let e = h.1 in cc)
 
-one_text : (needs : List Need) (cells : List Cell) → Meets (text_need ∷ needs) cells → HasText cells
+one_text : (needs : List CellNeed) (cells : List Cell) → Meets (text_need ∷ needs) cells → HasText cells
 one_text needs [] h = absurd (omega (arith, h.0))
 one_text needs (flag x ∷ rest) h = absurd (let e = h.1 in cc)
 one_text needs (number x ∷ rest) h = absurd (let e = h.1 in cc)
@@ -231,7 +231,7 @@ pattern_paid width p (text x ∷ cells) n =
     mul-le-mul_left (length (atoms_of p) + 1) (omega (arith, n.0))
 
 -- an instruction is charged at most its cost
-charged : (raw : Raw) (width : ℕ) (op : Op) (cells : List Cell) → AreNarrow width cells → charge raw op cells ≤ cost raw width op
+charged : (raw : Raw) (width : ℕ) (op : Op) (cells : List Cell) → AreNarrow width cells → charge raw op cells ≤ most_cost raw width op
 charged raw width (Match place) cells n = by (slice_get raw.patterns place)
   where
     by : (o : Option PatternData) → 1 + option_map_or (λ p. pattern_cost p cells) o 0 ≤ 1 + option_map_or (Rattle.wq_verify.specs.Budget.pattern_cost width) o 0
@@ -297,7 +297,7 @@ only_flag (number x ∷ rest) e = absurd cc
 only_flag (text x ∷ rest) e = absurd cc
 
 -- the state after an instruction that does not end the program
-goes : (raw : Raw) (lists : Lists) (item : Item) (width place : ℕ) (cells : List Cell) (steps : ℕ) (op : Op)
+goes : (raw : Raw) (lists : KnownKinds) (item : Item) (width place : ℕ) (cells : List Cell) (steps : ℕ) (op : Op)
     → HasWidth raw item width → IsFit raw lists width place cells steps → IsWell raw lists place op (kinds_in cells)
     → stops (flow op) ≡ false
     → GoesWell raw lists width place (go_on (flow op) place (cells_after raw item op cells) (steps + charge raw op cells))
@@ -305,8 +305,8 @@ goes raw lists item width place cells steps op w fit well s =
     let l = leaves raw item width op cells s w (well.operands.enough, well.operands.right) well.named fit.narrow in
     let to : ℕ = place_after (flow op) place l.after in
     let n = well.next to (led (flow op) place l.after s) in
-    let paid = sum_later (cost raw width) raw.code (place + 1) to (omega (arith, n.later)) in
-    let more = sum_more_at (cost raw width) raw.code place op well.there in
+    let paid = sum_later (most_cost raw width) raw.code (place + 1) to (omega (arith, n.later)) in
+    let more = sum_more_at (most_cost raw width) raw.code place op well.there in
     let fee = charged raw width op cells fit.narrow in
     let result : GoesWell raw lists width place (Running to l.after (steps + charge raw op cells)) = (
       n.later,
@@ -322,18 +322,18 @@ goes raw lists item width place cells steps op w fit well s =
     ∙ goes_on (flow op) place l.after (steps + charge raw op cells) s)) result
 
 -- the answer of an instruction that ends the program
-ends : (raw : Raw) (lists : Lists) (item : Item) (width place : ℕ) (cells : List Cell) (steps : ℕ)
+ends : (raw : Raw) (lists : KnownKinds) (item : Item) (width place : ℕ) (cells : List Cell) (steps : ℕ)
     → IsFit raw lists width place cells steps → IsWell raw lists place Return (kinds_in cells)
     → GoesWell raw lists width place (go_on Stop place (cells_after raw item Return cells) (steps + charge raw Return cells))
 unfolding cells_after
 ends raw lists item width place cells steps fit well =
     let f = only_flag cells (well.operands.alone refl) in
-    let more = sum_more_at (cost raw width) raw.code place Return well.there in
-    let all = sum_by-take-le (cost raw width) raw.code (place + 1) in
-    let paid : steps + 1 ≤ sum_by (cost raw width) raw.code = omega (arith, fit.paid, more, all) in
+    let more = sum_more_at (most_cost raw width) raw.code place Return well.there in
+    let all = sum_by-take-le (most_cost raw width) raw.code (place + 1) in
+    let paid : steps + 1 ≤ sum_by (most_cost raw width) raw.code = omega (arith, fit.paid, more, all) in
     subst (λ (c : List Cell). GoesWell raw lists width place (answer_of c (steps + 1))) (sym f.1) paid
 
-goes_or_ends : (raw : Raw) (lists : Lists) (item : Item) (width place : ℕ) (cells : List Cell) (steps : ℕ) (op : Op)
+goes_or_ends : (raw : Raw) (lists : KnownKinds) (item : Item) (width place : ℕ) (cells : List Cell) (steps : ℕ) (op : Op)
     → HasWidth raw item width → IsFit raw lists width place cells steps → IsWell raw lists place op (kinds_in cells)
     → (b : Bool) → stops (flow op) ≡ b
     → GoesWell raw lists width place (go_on (flow op) place (cells_after raw item op cells) (steps + charge raw op cells))

@@ -18,17 +18,17 @@ width_of raw name_len = max name_len (longest_len raw.texts)
 
 -- the most that a pattern can cost on a text of this width: a cell for each atom and one more, at
 -- each byte and once more
-abbrev pub pattern_cost : ℕ → PatternData → ℕ
-pattern_cost width p = (length (atoms_of p) + 1) * (width + 1)
+abbrev pub most_pattern_cost : ℕ → PatternData → ℕ
+most_pattern_cost width p = (length (atoms_of p) + 1) * (width + 1)
 
 -- the most that an instruction can cost with texts of this width: 1; for `Match` the cost of its
 -- pattern more, for `OneOf` the entries of its list
-abbrev pub cost : Raw → ℕ → Op → ℕ
-cost raw width (Match place) =
-    1 + option_map_or (pattern_cost width) (slice_get raw.patterns place) 0
-cost raw width (OneOf _ place) = 1 + option_map_or length (slice_get raw.lists place) 0
-cost raw width _ = 1
+abbrev pub most_cost : Raw → ℕ → Op → ℕ
+most_cost raw width (Match place) =
+    1 + option_map_or (most_pattern_cost width) (slice_get raw.patterns place) 0
+most_cost raw width (OneOf _ place) = 1 + option_map_or length (slice_get raw.lists place) 0
+most_cost raw width _ = 1
 
 -- what the instructions can cost together, each counted once, whether a run meets it or not
 unfoldable pub budget_of : Raw → ℕ → ℕ
-budget_of raw name_len = sum_by (cost raw (width_of raw name_len)) raw.code
+budget_of raw name_len = sum_by (most_cost raw (width_of raw name_len)) raw.code

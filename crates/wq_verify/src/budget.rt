@@ -1,9 +1,9 @@
 //! What a program can cost at most.
 ghost use Rattle.std.specs.Prelude.{◌≡◌, ◌≤◌, IsTrue, length, slice_get};
 ghost use Rattle.std.specs.Option.{option_map_or};
-ghost use Rattle.wq_code.specs.Fits.{fits};
-ghost use Rattle.wq_verify.specs.Limit.{max_name_length};
-ghost use Rattle.wq_verify.specs.Budget.{cost, pattern_cost, longest_len, width_of, budget_of};
+ghost use Rattle.wq_code.specs.Fits.{raw_fits};
+ghost use Rattle.wq_verify.specs.Limit.{max_file_name};
+ghost use Rattle.wq_verify.specs.Budget.{most_cost, most_pattern_cost, longest_len, width_of, budget_of};
 
 use crate::program::Program;
 use wq_code::{Op, Raw, Table};
@@ -23,19 +23,19 @@ fn longest_len(texts: &[Table<u8>]) -> usize
 
 /// The most bytes that a text on the stack can have.
 fn width_of(raw: &Raw, name_len: u64) -> u64
-    requires limits { IsTrue (fits raw.now) }
-    requires short { name_len ≤ max_name_length }
+    requires limits { IsTrue (raw_fits raw.now) }
+    requires short { name_len ≤ max_file_name }
     ensures value { result ≡ width_of raw.now name_len }
-    ensures low { result ≤ max_name_length }
+    ensures low { result ≤ max_file_name }
 {
     name_len.max(longest_len(raw.texts.as_slice()) as u64)
 }
 
 /// The most that a pattern can cost on texts of this width.
 fn pattern_cost(raw: &Raw, width: u64, place: u16) -> u64
-    requires { width ≤ max_name_length }
+    requires { width ≤ max_file_name }
     ensures value { result ≡
-        option_map_or (pattern_cost width) (slice_get raw.now.patterns place) 0 }
+        option_map_or (most_pattern_cost width) (slice_get raw.now.patterns place) 0 }
     ensures low { result ≤ 1048832 }
 {
     match raw.patterns.as_slice().get(place as usize) {
@@ -46,7 +46,7 @@ fn pattern_cost(raw: &Raw, width: u64, place: u16) -> u64
 
 /// How many entries a list has.
 fn list_cost(raw: &Raw, place: u16) -> u64
-    requires { IsTrue (fits raw.now) }
+    requires { IsTrue (raw_fits raw.now) }
     ensures value { result ≡ option_map_or length (slice_get raw.now.lists place) 0 }
     ensures low { result ≤ 65535 }
 {
@@ -58,9 +58,9 @@ fn list_cost(raw: &Raw, place: u16) -> u64
 
 /// The most that an instruction can cost with texts of this width.
 fn cost(raw: &Raw, width: u64, op: Op) -> u64
-    requires limits { IsTrue (fits raw.now) }
-    requires narrow { width ≤ max_name_length }
-    ensures value { result ≡ cost raw.now width op }
+    requires limits { IsTrue (raw_fits raw.now) }
+    requires narrow { width ≤ max_file_name }
+    ensures value { result ≡ most_cost raw.now width op }
     ensures low { result ≤ 1048833 }
 {
     match op {
@@ -77,7 +77,7 @@ impl Program {
     /// memory.
     #[tactic(auto, unfolding(crate::specs::Budget::budget_of))]
     pub fn budget(&self, name_len: u64) -> u64
-        requires { name_len ≤ max_name_length }
+        requires { name_len ≤ max_file_name }
         ensures { result ≡ budget_of self.now name_len }
     {
         let raw = self.raw();

@@ -15,7 +15,7 @@ mod rule;
 mod shape;
 mod stack;
 
-pub use fault::{ProgramFault, Refusal};
+pub use fault::{ProgramFault, Rejection};
 pub use law::{
     fronts_are_unique, fronts_grow, runs_begin_well, steps_go_well, valid_are_accepted,
     valid_are_typed,

@@ -13,7 +13,7 @@ use Rattle.wq_view.specs.declared.listing.PassFault.TheVariants.{BadName, NameTw
 use Rattle.wq_view.specs.Name.{is_valid_name}
 use Rattle.wq_view.specs.Seen.{SeenData, stat_of, is_in_range, is_lawful_row, is_count}
 use Rattle.wq_view.specs.Listing.{names_of, row_fault, listing_fault}
-use Rattle.wq_view.specs.Limit.{max_rows}
+use Rattle.wq_view.specs.Limit.{max_listing_rows}
 use Rattle.wq_view.proofs.NameOrder.{names_total, both_true}
 
 -- a name of the list is among the names before, or stands twice in it
@@ -119,11 +119,11 @@ fault_at_unlawful rows at row r lawful bound here unlawful tells =
     ∙ rw (clash_is r (names_of (take at rows)) tells) (chosen r (own_fault row))
 
 -- past the tests of the whole, a listing's fault is that of its rows
-pub fault_of_rows : (rows : List SeenData) (second : ℤ) → nat_lt max_rows (length rows) ≡ false → is_count second ≡ true → listing_fault rows second ≡ row_fault [] rows
+pub fault_of_rows : (rows : List SeenData) (second : ℤ) → nat_lt max_listing_rows (length rows) ≡ false → is_count second ≡ true → listing_fault rows second ≡ row_fault [] rows
 fault_of_rows rows second short in_range = rw (short, in_range) refl
 
 -- the fault of lawful rows of which r says whether their names are distinct
-pub fault_when_lawful : (rows : List SeenData) (second : ℤ) (r : Bool) → length rows ≤ max_rows → is_count second ≡ true → list_all is_lawful_row rows ≡ true → IsTrue r ↔ IsDistinct bytes_eq (names_of rows) → listing_fault rows second ≡ if r then None else Some NameTwice
+pub fault_when_lawful : (rows : List SeenData) (second : ℤ) (r : Bool) → length rows ≤ max_listing_rows → is_count second ≡ true → list_all is_lawful_row rows ≡ true → IsTrue r ↔ IsDistinct bytes_eq (names_of rows) → listing_fault rows second ≡ if r then None else Some NameTwice
 fault_when_lawful rows second r short in_range lawful tells =
-    let short_test : nat_lt max_rows (length rows) ≡ false = grind (arith, nat_tests) in
+    let short_test : nat_lt max_listing_rows (length rows) ≡ false = grind (arith, nat_tests) in
     fault_of_rows rows second short_test in_range ∙ fault_of_lawful rows r lawful tells

@@ -12,7 +12,7 @@ use Rattle.std.proofs.lemmas.Map.Keys.{IsDistinct-IsPermutation}
 use Rattle.std.proofs.lemmas.Option.{same_Some}
 use Rattle.wq_view.specs.Seen.{SeenData, Stat, stat_of, entry_of, is_lawful_row, is_count}
 use Rattle.wq_view.specs.Listing.{name_cmp, names_of, IsPass}
-use Rattle.wq_view.specs.Limit.{max_rows}
+use Rattle.wq_view.specs.Limit.{max_listing_rows}
 use Rattle.wq_view.proofs.NameOrder.{names_total, names_exact, same_name}
 use Rattle.wq_view.proofs.Faults.{same_name_flips}
 
@@ -74,7 +74,7 @@ lawful_moved : (old new : List SeenData) → IsPermutation old new → list_all 
 lawful_moved old new moved lawful = list_all-from_AllPass is_lawful_row new (All-permutation (λ row. is_lawful_row row ≡ true) old new moved (AllPass-from_list_all is_lawful_row old lawful))
 
 -- lawful rows in order are those of a pass
-pub is_pass : (old new : List SeenData) (second : ℤ) → IsPermutation old new → length old ≤ max_rows → list_all is_lawful_row old ≡ true → is_count second ≡ true → is_sorted name_cmp (map entry_of new) ≡ true → IsPass new second
+pub is_pass : (old new : List SeenData) (second : ℤ) → IsPermutation old new → length old ≤ max_listing_rows → list_all is_lawful_row old ≡ true → is_count second ≡ true → is_sorted name_cmp (map entry_of new) ≡ true → IsPass new second
 is_pass old new second moved short lawful in_range sorted = record {
   rise = sorted;
   lawful = lawful_moved old new moved lawful;

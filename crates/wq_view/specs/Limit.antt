@@ -4,12 +4,12 @@ use Rattle.std.specs.Prelude.{ℕ}
 use Rattle.wq_base.specs.Limit.{max_number}
 
 -- the most bytes of a name
-abbrev pub max_name_length : ℕ
-max_name_length = 4096
+abbrev pub max_name : ℕ
+max_name = 4096
 
 -- the most rows of a listing
-abbrev pub max_rows : ℕ
-max_rows = 1000000
+abbrev pub max_listing_rows : ℕ
+max_listing_rows = 1000000
 
 -- the last tick of a view
 abbrev pub max_tick : ℕ

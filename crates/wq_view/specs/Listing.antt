@@ -9,7 +9,7 @@ use Rattle.std.specs.Cmp.Lexicographic.{slice_cmp}
 use Rattle.std.specs.FinMap.{FinMap, code, from_entries, is_sorted}
 use Rattle.wq_view.specs.declared.listing.PassFault.{PassFault}
 use Rattle.wq_view.specs.declared.listing.PassFault.TheVariants.{BadName, NameTwice, TooManyRows, OutOfRange}
-use Rattle.wq_view.specs.Limit.{max_rows}
+use Rattle.wq_view.specs.Limit.{max_listing_rows}
 use Rattle.wq_view.specs.Name.{is_valid_name}
 use Rattle.wq_view.specs.Seen.{SeenData, Stat, stat_code, stat_of, entry_of, is_count, is_in_range, is_lawful_row}
 
@@ -46,7 +46,7 @@ row_fault before (row ∷ rows) =
 -- the first fault of a listing: of its length, of its second, and then of its rows
 abbrev pub listing_fault : List SeenData → ℤ → Option PassFault
 listing_fault rows second =
-    if nat_lt max_rows (length rows) then Some TooManyRows
+    if nat_lt max_listing_rows (length rows) then Some TooManyRows
     else if not (is_count second) then Some OutOfRange
     else row_fault [] rows
 
@@ -58,5 +58,5 @@ names_of = map (λ row. row.name)
 pub record IsPass (rows : List SeenData) (at : ℤ) : Type 0 where
   pub rise : IsTrue (is_sorted name_cmp (map entry_of rows))
   pub lawful : IsTrue (list_all is_lawful_row rows)
-  pub count : length rows ≤ max_rows
+  pub count : length rows ≤ max_listing_rows
   pub second : IsTrue (is_count at)

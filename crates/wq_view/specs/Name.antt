@@ -4,7 +4,7 @@ use Rattle.std.specs.Prelude.{ℕ, Bool, ◌==◌, nat_le, not, ◌&&◌, List, 
 use Rattle.std.specs.Str.{is_utf8}
 use Rattle.std.specs.List.{list_any, list_all, slice_split}
 use Rattle.wq_base.specs.Byte.{is_slash}
-use Rattle.wq_view.specs.Limit.{max_name_length}
+use Rattle.wq_view.specs.Limit.{max_name}
 
 -- a part between slashes that names something: not empty, not `.` and not `..`
 abbrev pub is_plain_part : List ℕ → Bool
@@ -15,6 +15,6 @@ is_plain_part part =
 -- between slashes is plain
 unfoldable pub is_valid_name : List ℕ → Bool
 is_valid_name bytes =
-    nat_le 1 (length bytes) && nat_le (length bytes) max_name_length
+    nat_le 1 (length bytes) && nat_le (length bytes) max_name
     && not (list_any (λ b. b == 0) bytes)
     && list_all is_plain_part (slice_split is_slash bytes) && is_utf8 bytes

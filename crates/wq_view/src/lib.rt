@@ -27,7 +27,7 @@ pub use file_record::Record;
 pub use kind::Kind;
 pub use known::Known;
 pub use law::{history_has_one_view, kept_positions_filter, positions_are_there, positions_filter};
-pub use limit::{MAX_RECORDS, MAX_ROWS, MAX_TICK};
+pub use limit::{MAX_LISTING_ROWS, MAX_RECORDS, MAX_TICK};
 pub use listing::{Pass, PassFault, Seen};
 pub use name::{MAX_NAME, Name, is_valid_name};
 pub use view::{View, ViewFault};

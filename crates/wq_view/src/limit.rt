@@ -6,7 +6,7 @@ use wq_base::MAX_NUMBER;
 pub const MAX_TICK: u64 = MAX_NUMBER;
 
 /// How many rows a pass may list.
-pub const MAX_ROWS: usize = 1_000_000;
+pub const MAX_LISTING_ROWS: usize = 1_000_000;
 
 /// How many records a view may keep, so that a position fits 32 bits.
 pub const MAX_RECORDS: usize = 4_294_967_295;

@@ -8,7 +8,7 @@ ghost use Rattle.wq_view.specs.Listing.{name_cmp, names_of, listing_of, listing_
 
 use crate::kind::Kind;
 use crate::known::Known;
-use crate::limit::MAX_ROWS;
+use crate::limit::MAX_LISTING_ROWS;
 use crate::name::is_valid_name;
 use crate::view::View;
 use std::marker::Model;
@@ -112,7 +112,7 @@ impl Pass {
             (λ fault. listing_fault rows.items second ≡ Some fault) }
         ensures pass { IfOk result (λ pass. pass ≡ listing_of rows.items second) }
     {
-        if rows.len() > MAX_ROWS {
+        if rows.len() > MAX_LISTING_ROWS {
             return Err(PassFault::TooManyRows);
         }
         match first_unlawful(&rows, known) {
@@ -125,7 +125,7 @@ impl Pass {
     /// The pass that these rows make, none of which has a fault of its own: what is left to test is the second, and then
     /// whether a name stands twice.
     fn of_lawful(mut rows: Vec<Seen>, second: i64) -> Result<Pass, PassFault>
-        requires few { length rows.items ≤ MAX_ROWS }
+        requires few { length rows.items ≤ MAX_LISTING_ROWS }
         requires lawful { IsTrue (list_all is_lawful_row rows.items) }
         ensures fault { MatchResult result
             (λ _. listing_fault rows.items second ≡ None)
@@ -146,7 +146,7 @@ impl Pass {
         ensures entries { entries self.now.stats ≡ map entry_of result.now }
         ensures rise { IsTrue (is_sorted name_cmp (map entry_of result.now)) }
         ensures lawful { IsTrue (list_all is_lawful_row result.now) }
-        ensures count { length result.now ≤ MAX_ROWS }
+        ensures count { length result.now ≤ MAX_LISTING_ROWS }
     {
         &self.rows
     }

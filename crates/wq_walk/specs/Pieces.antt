@@ -18,8 +18,8 @@ abbrev pub IsSharedOut : List Piece → Type 0
 IsSharedOut pieces = (name : List ℕ) → pieces_with name pieces ≡ 1
 
 -- whether a name is below a cut; below none there is no name
-abbrev pub is_below : List ℕ → Option (Bor (List ℕ)) → Bool
-is_below name cut = option_map_or (λ cut. is_lt (name_cmp name cut.now)) cut false
+abbrev pub is_below_cut : List ℕ → Option (Bor (List ℕ)) → Bool
+is_below_cut name cut = option_map_or (λ cut. is_lt (name_cmp name cut.now)) cut false
 
 -- whether a name is behind a cut; where there is none each is
 abbrev pub is_behind : List ℕ → Option (Bor (List ℕ)) → Bool
@@ -28,4 +28,4 @@ is_behind name cut = option_map_or (λ cut. is_lt (name_cmp cut.now name)) cut t
 -- pieces that share out the names below a cut: each is in exactly one of them, and no other name is
 abbrev pub IsSharedOutBelow : Option (Bor (List ℕ)) → List Piece → Type 0
 IsSharedOutBelow cut pieces = (name : List ℕ) →
-    pieces_with name pieces ≡ cond (is_below name cut) 1 0
+    pieces_with name pieces ≡ cond (is_below_cut name cut) 1 0

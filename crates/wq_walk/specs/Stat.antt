@@ -7,8 +7,8 @@ use Rattle.wq_view.specs.declared.kind.Kind.{Kind}
 use Rattle.wq_view.specs.declared.kind.Kind.TheVariants.{File, Dir, Link, Unknown}
 
 -- the kind of a file with this type in its mode: a regular file, a directory, a link, and else unknown
-abbrev pub kind_with : ℕ → Kind
-kind_with type_bits =
+abbrev pub kind_of_mode : ℕ → Kind
+kind_of_mode type_bits =
     if type_bits == 0o100000 then File
     else if type_bits == 0o040000 then Dir
     else if type_bits == 0o120000 then Link

@@ -15,7 +15,7 @@ use crate::walk::rows_in;
 use std::alloc::{AllocError, Global};
 use std::thread::{Threads, join};
 use wq_live::TreeFault;
-use wq_view::{MAX_ROWS, Record, Seen};
+use wq_view::{MAX_LISTING_ROWS, Record, Seen};
 
 /// The end of a list of pieces from which a thread takes them.
 #[derive(Clone, Copy)]
@@ -194,7 +194,7 @@ fn with_rows(mut first: Vec<Seen>, mut rest: Vec<Seen>) -> Result<Vec<Seen>, Tre
     ensures lawful { IfOk result (λ rows. IsTrue (list_all is_lawful_row rows.items)) }
     ensures few { IfOk result (λ rows. length rows.items ≤ 1000000) }
 {
-    if first.len() + rest.len() > MAX_ROWS {
+    if first.len() + rest.len() > MAX_LISTING_ROWS {
         return Err(TreeFault::TooManyRows);
     }
     first.append(&mut rest).map_err(AllocError::from)?;

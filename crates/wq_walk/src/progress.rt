@@ -5,7 +5,7 @@ ghost use Rattle.wq_live.specs.declared.tree.TreeFault.TheVariants.{TooManyRows}
 use crate::rows::Rows;
 use std::sync::atomic::{AtomicUsize, Ordering};
 use wq_live::TreeFault;
-use wq_view::MAX_ROWS;
+use wq_view::MAX_LISTING_ROWS;
 
 /// How many rows of a piece are counted at once, so that no row costs a step on memory that the other thread writes too. What
 /// does not fill a batch yet is not counted: so a walk may hold up to this many rows more for each piece.
@@ -53,7 +53,7 @@ impl Progress {
             return Ok(());
         }
         let counted = self.counted.fetch_add(BATCH, Ordering::Relaxed);
-        if counted.saturating_add(BATCH) > MAX_ROWS {
+        if counted.saturating_add(BATCH) > MAX_LISTING_ROWS {
             return Err(TreeFault::TooManyRows);
         }
         Ok(())

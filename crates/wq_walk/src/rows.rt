@@ -8,7 +8,7 @@ ghost use Rattle.wq_walk.specs.Part.{IsListing, is_row_in};
 use crate::part::Part;
 use std::alloc::{AllocError, Global};
 use wq_live::TreeFault;
-use wq_view::{MAX_ROWS, Seen};
+use wq_view::{MAX_LISTING_ROWS, Seen};
 
 /// At most 1,000,000 rows of a part, each of which a pass takes.
 #[derive(Drop)]
@@ -56,7 +56,7 @@ impl<'a> Rows<'a> {
         ensures many { IfErr result (λ fault. fault ≡ TooManyRows
             → length self.old.rows.items ≡ 1000000) }
     {
-        if self.rows.len() >= MAX_ROWS {
+        if self.rows.len() >= MAX_LISTING_ROWS {
             return Err(TreeFault::TooManyRows);
         }
         self.rows.push(row).map_err(AllocError::from)?;

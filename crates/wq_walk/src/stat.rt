@@ -2,7 +2,7 @@
 ghost use Rattle.std.specs.Prelude.{◌≡◌, IsTrue};
 ghost use Rattle.std.specs.Fs.{file_type, metadata_len};
 ghost use Rattle.wq_view.specs.Seen.{is_count, is_time};
-ghost use Rattle.wq_walk.specs.Stat.{kind_with, milliseconds_of, nearest_size};
+ghost use Rattle.wq_walk.specs.Stat.{kind_of_mode, milliseconds_of, nearest_size};
 
 use std::fs::Metadata;
 use std::os::unix::fs::MetadataExt;
@@ -30,7 +30,7 @@ pub(crate) struct Stat {
 /// What a listing says of a file, of which the system says this. A size or a time out of range is brought to the
 /// nearest bound.
 pub(crate) fn stat_of(metadata: &Metadata) -> Stat
-    ensures kind { result.kind ≡ kind_with (file_type metadata.now).bits }
+    ensures kind { result.kind ≡ kind_of_mode (file_type metadata.now).bits }
     ensures size { result.size ≡ nearest_size (metadata_len metadata.now) }
 {
     Stat {
@@ -42,7 +42,7 @@ pub(crate) fn stat_of(metadata: &Metadata) -> Stat
 
 /// The kind of a file.
 fn kind_of(metadata: &Metadata) -> Kind
-    ensures { result ≡ kind_with (file_type metadata.now).bits }
+    ensures { result ≡ kind_of_mode (file_type metadata.now).bits }
 {
     if metadata.is_file() {
         Kind::File

@@ -1,7 +1,7 @@
 //! Whether the name of a file fits a pattern.
 ghost use Rattle.std.specs.Prelude.{◌≡◌, ◌≤◌, length};
 ghost use Rattle.wq_term.specs.NameFit.{name_fits, scope_with};
-ghost use Rattle.wq_term.specs.Text.{part_of};
+ghost use Rattle.wq_term.specs.Text.{scope_part};
 
 use crate::expr::Scope;
 use crate::meaning::text::part_of;

@@ -1,8 +1,8 @@
 //! How the texts of a term stand to the name of a file.
 ghost use Rattle.std.specs.Prelude.{◌≡◌, ◌≤◌, length};
 ghost use Rattle.wq_term.specs.Expr.{texts_in};
-ghost use Rattle.wq_term.specs.Text.{part_of, is_named, has_suffix};
-ghost use Rattle.wq_term.specs.Text.{has_depth, is_below};
+ghost use Rattle.wq_term.specs.Text.{scope_part, is_named, has_suffix};
+ghost use Rattle.wq_term.specs.Text.{has_depth, lies_below};
 
 use crate::expr::{Depth, Scope};
 use wq_base::{Case, is_suffix, rest_below, slashes};
@@ -37,7 +37,7 @@ pub(super) fn has_suffix(texts: &[Vec<u8>], file: &Record) -> bool
 /// Whether the file lies strictly below the directory, so deep.
 #[tactic(auto, using(crate::proofs::Texts::name_is_short))]
 pub(super) fn is_below(case: Case, dir: &[u8], depth: Depth, file: &Record) -> bool
-    ensures { result ≡ is_below case dir.now depth file.now.name }
+    ensures { result ≡ lies_below case dir.now depth file.now.name }
 {
     match rest_below(case, dir, file.name.as_bytes()) {
         Some(rest) => has_depth(depth, rest),
@@ -47,7 +47,7 @@ pub(super) fn is_below(case: Case, dir: &[u8], depth: Depth, file: &Record) -> b
 
 /// The part of the file's name that the scope asks for.
 pub(super) fn part_of(scope: Scope, file: &Record) -> &[u8]
-    ensures value { result.now ≡ part_of scope file.now.name }
+    ensures value { result.now ≡ scope_part scope file.now.name }
     ensures short { length result.now ≤ MAX_NAME }
 {
     match scope {

@@ -4,8 +4,8 @@ ghost use Rattle.std.specs.Prelude.{◌≡◌, ◌-◌, length, ok_or, option_ma
 ghost use Rattle.std.specs.List.{suffix_len};
 ghost use Rattle.serde_json.specs.View.{view as data_of, items_view};
 ghost use Rattle.wq_base.specs.Byte.{is_slash};
-ghost use Rattle.wq_term.specs.Argument.{parts_of, text_of, all_texts_of, texts_of};
-ghost use Rattle.wq_term.specs.Argument.{whole_number_of, second_of, scope_of, relation_of};
+ghost use Rattle.wq_term.specs.Argument.{term_parts, text_of, all_texts_of, texts_of};
+ghost use Rattle.wq_term.specs.Argument.{whole_number_of, epoch_second, scope_of, relation_of};
 ghost use Rattle.wq_term.specs.Argument.{comparison_of};
 ghost use Rattle.wq_term.specs.Outcome.{GivesAs, GivesTexts};
 ghost use Rattle.wq_term.specs.Text.{without_end_slashes};
@@ -20,12 +20,12 @@ use wq_base::{MAX_SIGNED, Relation};
 use wq_clock::Bound;
 
 /// The most bytes of a text in `name`, `suffix` and `dirname`, as it is given.
-pub const MAX_TEXT: usize = 4096;
+pub const MAX_TERM_TEXT: usize = 4096;
 
 /// A name and what stands behind it.
 pub(super) fn parts(value: &Value) -> Option<(&str, &[Value])>
     ensures { option_map (λ p. (p.0.now, items_view p.1.now)) result
-        ≡ parts_of (data_of value.now) }
+        ≡ term_parts (data_of value.now) }
 {
     match value {
         Value::String(name) => Some((name.as_str(), &[])),
@@ -42,7 +42,7 @@ pub fn text(value: &Value) -> Option<&str>
     ensures { option_map (λ text. text.now) result ≡ text_of (data_of value.now) }
 {
     match value {
-        Value::String(text) if text.len() <= MAX_TEXT => Some(text.as_str()),
+        Value::String(text) if text.len() <= MAX_TERM_TEXT => Some(text.as_str()),
         _ => None,
     }
 }
@@ -114,7 +114,7 @@ pub fn whole_number(value: &Value) -> Option<i64>
 
 /// A second of the Unix epoch, from 0 to 2^62.
 pub(super) fn second(value: &Value) -> Option<i64>
-    ensures { result ≡ second_of (data_of value.now) }
+    ensures { result ≡ epoch_second (data_of value.now) }
 {
     let second = value.as_i64()?;
     if Bound::second(second).is_some() {

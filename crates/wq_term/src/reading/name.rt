@@ -1,8 +1,8 @@
 //! Reading the terms over the kind and the name of a file: `type`, `name`, `suffix` and `dirname`.
 ghost use Rattle.std.specs.Prelude.{◌≡◌};
 ghost use Rattle.serde_json.specs.View.{view as data_of, items_view};
-ghost use Rattle.wq_term.specs.Argument.{depth_argument, kind_of};
-ghost use Rattle.wq_term.specs.Outcome.{Gives};
+ghost use Rattle.wq_term.specs.Argument.{depth_argument, kind_of_letter};
+ghost use Rattle.wq_term.specs.Outcome.{GivesExpr};
 ghost use Rattle.wq_term.specs.Reading.{below_at, name_in, read_dirname, read_kind, read_name};
 ghost use Rattle.wq_term.specs.Reading.{read_suffix};
 
@@ -18,7 +18,7 @@ use wq_view::Kind;
 /// `type` of one letter.
 #[tactic(auto, using(crate::proofs::Arguments::no_kind))]
 pub(super) fn read_kind(arguments: &[Value]) -> Result<Expr, TermFault>
-    ensures { Gives result (read_kind (items_view arguments.now)) }
+    ensures { GivesExpr result (read_kind (items_view arguments.now)) }
 {
     let [letter] = arguments else {
         return Err(TermFault::WrongArguments);
@@ -31,7 +31,7 @@ pub(super) fn read_kind(arguments: &[Value]) -> Result<Expr, TermFault>
 
 /// The kind of a letter.
 fn kind(letter: &Value) -> Option<Kind>
-    ensures { result ≡ kind_of (data_of letter.now) }
+    ensures { result ≡ kind_of_letter (data_of letter.now) }
 {
     letter.as_str().and_then(kind_named)
 }
@@ -39,7 +39,7 @@ fn kind(letter: &Value) -> Option<Kind>
 /// `name` and `iname` of a text or texts, and a scope.
 #[tactic(auto, using(crate::proofs::Arguments::no_name))]
 pub(super) fn read_name(alloc: Global, case: Case, arguments: &[Value]) -> Result<Expr, TermFault>
-    ensures { Gives result (read_name case (items_view arguments.now)) }
+    ensures { GivesExpr result (read_name case (items_view arguments.now)) }
 {
     match arguments {
         [texts] => name_in(alloc, case, Scope::Basename, texts),
@@ -53,7 +53,7 @@ pub(super) fn read_name(alloc: Global, case: Case, arguments: &[Value]) -> Resul
 
 /// `name` and `iname` of this scope and a text or texts.
 fn name_in(alloc: Global, case: Case, scope: Scope, texts: &Value) -> Result<Expr, TermFault>
-    ensures { Gives result (name_in case scope (data_of texts.now)) }
+    ensures { GivesExpr result (name_in case scope (data_of texts.now)) }
 {
     let texts = read_texts(alloc, texts)?;
     Ok(Expr::Name { case, scope, texts })
@@ -62,7 +62,7 @@ fn name_in(alloc: Global, case: Case, scope: Scope, texts: &Value) -> Result<Exp
 /// `suffix` of a text or texts.
 #[tactic(auto, using(crate::proofs::Arguments::no_suffix))]
 pub(super) fn read_suffix(alloc: Global, arguments: &[Value]) -> Result<Expr, TermFault>
-    ensures { Gives result (read_suffix (items_view arguments.now)) }
+    ensures { GivesExpr result (read_suffix (items_view arguments.now)) }
 {
     let [texts] = arguments else {
         return Err(TermFault::WrongArguments);
@@ -76,7 +76,7 @@ pub(super) fn read_dirname(
     case: Case,
     arguments: &[Value],
 ) -> Result<Expr, TermFault>
-    ensures { Gives result (read_dirname case (items_view arguments.now)) }
+    ensures { GivesExpr result (read_dirname case (items_view arguments.now)) }
 {
     match arguments {
         [dir] => below_at(alloc, case, Depth::Any, dir),
@@ -90,7 +90,7 @@ pub(super) fn read_dirname(
 
 /// `dirname` and `idirname` of this depth and a directory.
 fn below_at(alloc: Global, case: Case, depth: Depth, dir: &Value) -> Result<Expr, TermFault>
-    ensures { Gives result (below_at case depth (data_of dir.now)) }
+    ensures { GivesExpr result (below_at case depth (data_of dir.now)) }
 {
     let Some(dir) = text(dir) else {
         return Err(TermFault::WrongArguments);

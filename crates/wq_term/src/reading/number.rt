@@ -3,20 +3,20 @@ ghost use Rattle.std.specs.Prelude.{◌≡◌};
 ghost use Rattle.serde_json.specs.Data.{string};
 ghost use Rattle.serde_json.specs.View.{view as data_of, items_view};
 ghost use Rattle.wq_clock.specs.Instance.{instance_data};
-ghost use Rattle.wq_term.specs.Argument.{bound_in, field_of};
-ghost use Rattle.wq_term.specs.Outcome.{Gives};
+ghost use Rattle.wq_term.specs.Argument.{bound_in, since_field_of};
+ghost use Rattle.wq_term.specs.Outcome.{GivesExpr};
 ghost use Rattle.wq_term.specs.Reading.{read_since, read_size, since_by};
 
 use crate::expr::{Expr, Since};
 use crate::fault::TermFault;
 use crate::reading::argument::{comparison, second};
-use crate::reading::word::{Field, field_named};
+use crate::reading::word::{SinceField, field_named};
 use serde_json::Value;
 use wq_clock::{Bound, Instance, parse, resolve};
 
 /// `size` of a relation and a number.
 pub(super) fn read_size(arguments: &[Value]) -> Result<Expr, TermFault>
-    ensures { Gives result (read_size (items_view arguments.now)) }
+    ensures { GivesExpr result (read_size (items_view arguments.now)) }
 {
     match comparison(arguments) {
         Some((relation, number)) => Ok(Expr::Size(relation, number)),
@@ -26,10 +26,10 @@ pub(super) fn read_size(arguments: &[Value]) -> Result<Expr, TermFault>
 
 /// `since` of a clock spec and a field.
 pub(super) fn read_since(arguments: &[Value], instance: &Instance) -> Result<Expr, TermFault>
-    ensures { Gives result (read_since (instance_data instance.now) (items_view arguments.now)) }
+    ensures { GivesExpr result (read_since (instance_data instance.now) (items_view arguments.now)) }
 {
     match arguments {
-        [spec] => since_by(Field::Oclock, spec, instance),
+        [spec] => since_by(SinceField::Oclock, spec, instance),
         [spec, word] => match field(word) {
             Some(field) => since_by(field, spec, instance),
             None => Err(TermFault::WrongArguments),
@@ -39,20 +39,20 @@ pub(super) fn read_since(arguments: &[Value], instance: &Instance) -> Result<Exp
 }
 
 /// `since` by this field.
-fn since_by(field: Field, spec: &Value, instance: &Instance) -> Result<Expr, TermFault>
-    ensures { Gives result (since_by (instance_data instance.now) (data_of spec.now) field) }
+fn since_by(field: SinceField, spec: &Value, instance: &Instance) -> Result<Expr, TermFault>
+    ensures { GivesExpr result (since_by (instance_data instance.now) (data_of spec.now) field) }
 {
     let since = match field {
-        Field::Oclock => Since::Observed(read_bound(spec, instance)?),
-        Field::Cclock => Since::Created(read_bound(spec, instance)?),
-        Field::Mtime => Since::Modified(second(spec).ok_or(TermFault::BadClockSpec)?),
+        SinceField::Oclock => Since::Observed(read_bound(spec, instance)?),
+        SinceField::Cclock => Since::Created(read_bound(spec, instance)?),
+        SinceField::Mtime => Since::Modified(second(spec).ok_or(TermFault::BadClockSpec)?),
     };
     Ok(Expr::Since(since))
 }
 
 /// A field of `since`.
-fn field(value: &Value) -> Option<Field>
-    ensures { result ≡ field_of (data_of value.now) }
+fn field(value: &Value) -> Option<SinceField>
+    ensures { result ≡ since_field_of (data_of value.now) }
 {
     value.as_str().and_then(field_named)
 }

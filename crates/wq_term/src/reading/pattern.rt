@@ -2,7 +2,7 @@
 //! in `wq_glob`.
 ghost use Rattle.std.specs.Prelude.{◌≡◌};
 ghost use Rattle.serde_json.specs.View.{view as data_of, items_view, members_view};
-ghost use Rattle.wq_term.specs.Outcome.{Gives};
+ghost use Rattle.wq_term.specs.Outcome.{GivesExpr};
 ghost use Rattle.wq_term.specs.PatternArgument.{are_flags, flags_of, is_flag, is_set, plain_flags};
 ghost use Rattle.wq_term.specs.Reading.{match_with, read_match};
 
@@ -16,7 +16,7 @@ use wq_glob::{Flags, Pattern, PatternFault};
 
 /// `match` and `imatch` of a pattern, a scope and flags.
 pub(super) fn read_match(alloc: Global, case: Case, arguments: &[Value]) -> Result<Expr, TermFault>
-    ensures { Gives result (read_match case (items_view arguments.now)) }
+    ensures { GivesExpr result (read_match case (items_view arguments.now)) }
 {
     match arguments {
         [pattern] => match_with(alloc, pattern, plain_flags(case, Scope::Basename)),
@@ -39,7 +39,7 @@ pub(super) fn read_match(alloc: Global, case: Case, arguments: &[Value]) -> Resu
 
 /// `match` and `imatch` of a pattern with these flags.
 fn match_with(alloc: Global, pattern: &Value, flags: Flags) -> Result<Expr, TermFault>
-    ensures { Gives result (match_with (data_of pattern.now) flags) }
+    ensures { GivesExpr result (match_with (data_of pattern.now) flags) }
 {
     let Value::String(text) = pattern else {
         return Err(TermFault::WrongArguments);

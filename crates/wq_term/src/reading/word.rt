@@ -1,6 +1,6 @@
 //! The words that terms take as arguments.
 ghost use Rattle.std.specs.Prelude.{◌≡◌};
-ghost use Rattle.wq_term.specs.Word.{kind_named, scope_named, relation_named, field_named};
+ghost use Rattle.wq_term.specs.Word.{kind_named, scope_named, relation_named, since_field_named};
 
 use crate::expr::Scope;
 use wq_base::Relation;
@@ -8,7 +8,7 @@ use wq_view::Kind;
 
 /// What `since` compares.
 #[derive(Clone, Copy)]
-pub(crate) enum Field {
+pub(crate) enum SinceField {
     Oclock,
     Cclock,
     Mtime,
@@ -61,14 +61,14 @@ pub(super) fn relation_named(word: &str) -> Option<Relation>
 }
 
 /// The field of `since`.
-#[tactic(auto, unfolding(crate::specs::Word::field_named))]
-pub(super) fn field_named(word: &str) -> Option<Field>
-    ensures { result ≡ field_named word.now }
+#[tactic(auto, unfolding(crate::specs::Word::since_field_named))]
+pub(super) fn field_named(word: &str) -> Option<SinceField>
+    ensures { result ≡ since_field_named word.now }
 {
     match word {
-        "oclock" => Some(Field::Oclock),
-        "cclock" => Some(Field::Cclock),
-        "mtime" => Some(Field::Mtime),
+        "oclock" => Some(SinceField::Oclock),
+        "cclock" => Some(SinceField::Cclock),
+        "mtime" => Some(SinceField::Mtime),
         _ => None,
     }
 }

@@ -1,6 +1,6 @@
 -- The loop over the terms of a list.
 use Rattle.std.proofs.Common.{◌≡◌, ◌+◌, ◌<◌, List, length, map, drop, true, sym, ap, subst}
-use Rattle.wq_code.specs.Limit.{max_rows}
+use Rattle.wq_code.specs.Limit.{max_table_rows}
 use Rattle.wq_term.specs.declared.expr.Expr.{Expr}
 use Rattle.wq_term.specs.CodeLength.{terms_len}
 use Rattle.wq_term.specs.Expr.{term, term_of, terms_of}
@@ -17,7 +17,7 @@ put_terms-loop-term-init t c =
     subst (λ us. IsBefore c.args.flag c.args.end ts c.put_code.new.draft (put_all (joined c.args.flag (parts_of us) (length c.args.draft.now.code)) c.args.draft.now)) (sym same)
     (first_put c.args.flag c.args.end (term_of c.in-Some.first.now) ts c.args.draft.now c.put_code.new.draft c.in_ok-put_code.ensures
     (subst (λ us. c.args.end ≡ length c.args.draft.now.code + terms_len us) same c.requires.end)
-    (subst (λ us. length c.args.draft.now.code + terms_len us < max_rows) same c.requires.room)
+    (subst (λ us. length c.args.draft.now.code + terms_len us < max_table_rows) same c.requires.room)
     (subst (λ us. all_keep_limits us ≡ true) same c.requires.limits))
 
 pub put_terms-loop-term-preserved : goal.put_terms-loop-term-preserved

@@ -2,18 +2,18 @@
 use Rattle.std.proofs.Common.{Some, None, refl, sym, ap, ◌∙◌}
 use Rattle.wq_clock.specs.declared.bound.Bound.TheVariants.{Fresh}
 use Rattle.wq_view.specs.Position.{positions_of}
-use Rattle.wq_gen.specs.Candidate.{gives, is_since}
+use Rattle.wq_gen.specs.Candidate.{gives, changed_since}
 use Rattle.wq_gen.proofs.Positions.{goes_on, none_given}
 use Rattle.wq_gen.proofs.candidate.changed_since.Goals as goal
 
 pub loop-i-preserved : goal.loop-i-preserved
 loop-i-preserved c =
-    goes_on (is_since c.in-Some.bound) c.args.view.now.records c.loop-i.i c.get.result.now c.is_since.result c.loop-i.found.items _ c.loop-i.invariant c.get.ensures c.is_since.ensures c.in_ok-keep_if.ensures
+    goes_on (changed_since c.in-Some.bound) c.args.view.now.records c.loop-i.i c.get.result.now c.is_since.result c.loop-i.found.items _ c.loop-i.invariant c.get.ensures c.is_since.ensures c.in_ok-keep_if.ensures
 
 pub returns-in_default : goal.returns-in_default
 returns-in_default c =
-    c.new-found.ensures.items ∙ none_given (gives is_since None) c.args.view.now.records (λ r. refl) ∙ ap (λ o. positions_of (gives is_since o) c.args.view.now.records) (sym c.in_default.is)
+    c.new-found.ensures.items ∙ none_given (gives changed_since None) c.args.view.now.records (λ r. refl) ∙ ap (λ o. positions_of (gives changed_since o) c.args.view.now.records) (sym c.in_default.is)
 
 pub returns-in-Fresh : goal.returns-in-Fresh
 returns-in-Fresh c =
-    c.new-found.ensures.items ∙ none_given (gives is_since (Some Fresh)) c.args.view.now.records (λ r. refl) ∙ ap (λ o. positions_of (gives is_since o) c.args.view.now.records) (sym (c.in-Some.is ∙ ap Some c.in-Fresh.is))
+    c.new-found.ensures.items ∙ none_given (gives changed_since (Some Fresh)) c.args.view.now.records (λ r. refl) ∙ ap (λ o. positions_of (gives changed_since o) c.args.view.now.records) (sym (c.in-Some.is ∙ ap Some c.in-Fresh.is))

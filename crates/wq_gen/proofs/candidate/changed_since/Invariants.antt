@@ -2,9 +2,9 @@
 use Rattle.std.proofs.Common.{◌≡◌, filter}
 use Rattle.std.specs.List.{range_with_len}
 use Rattle.wq_view.specs.Position.{passes_at}
-use Rattle.wq_gen.specs.Candidate.{is_since}
+use Rattle.wq_gen.specs.Candidate.{changed_since}
 use Rattle.wq_gen.proofs.candidate.changed_since.Given as goal
 
 abbrev pub invariant-loop-i : goal.invariant-loop-i
 invariant-loop-i l =
-    l.found.items ≡ filter (passes_at (is_since l.bound) l.view.records) (range_with_len 0 l.i)
+    l.found.items ≡ filter (passes_at (changed_since l.bound) l.view.records) (range_with_len 0 l.i)

@@ -1,7 +1,7 @@
 use Rattle.std.proofs.Common.{sym, ap, subst, ◌≡◌, ℕ, Bool, List, Some, None, []}
 use Rattle.wq_glob.specs.Atom.{Atom, Nothing, known_class, one_of_at}
 use Rattle.wq_glob.specs.Reading.{class_items, begins, is_negation}
-use Rattle.wq_glob.specs.Step.{StandsFor}
+use Rattle.wq_glob.specs.Step.{IsStepOf}
 use Rattle.wq_glob.specs.declared.step.Step.TheVariants.{Never}
 use Rattle.wq_glob.proofs.StepLemmas.{one_of_some, one_of_none, stands_never}
 use Rattle.wq_glob.proofs.reading.one_of.Goals as goal
@@ -21,8 +21,8 @@ endless c =
 
 pub returns-in-Some-clause-stands : goal.returns-in-Some-clause-stands
 returns-in-Some-clause-stands c =
-    subst (λ (r : Atom × List ℕ). StandsFor c.args.flags c.class_step.result r.0) (sym (whole c))
-    (subst (λ (n : Bool). StandsFor c.args.flags c.class_step.result (known_class record { negated = n; items = c.in-Some.ensures.0 })) c.is_negated.ensures
+    subst (λ (r : Atom × List ℕ). IsStepOf c.args.flags c.class_step.result r.0) (sym (whole c))
+    (subst (λ (n : Bool). IsStepOf c.args.flags c.class_step.result (known_class record { negated = n; items = c.in-Some.ensures.0 })) c.is_negated.ensures
     (c.class_step.ensures c.in-Some.ensures.0 c.in-Some.ensures.2))
 
 pub returns-in-Some-clause-rest : goal.returns-in-Some-clause-rest
@@ -30,7 +30,7 @@ returns-in-Some-clause-rest c = sym (ap (λ (r : Atom × List ℕ). r.1) (whole 
 
 pub returns-in-None-clause-stands : goal.returns-in-None-clause-stands
 returns-in-None-clause-stands c =
-    subst (λ (r : Atom × List ℕ). StandsFor c.args.flags Never r.0) (sym (endless c)) (stands_never c.args.flags)
+    subst (λ (r : Atom × List ℕ). IsStepOf c.args.flags Never r.0) (sym (endless c)) (stands_never c.args.flags)
 
 pub returns-in-None-clause-rest : goal.returns-in-None-clause-rest
 returns-in-None-clause-rest c = sym (ap (λ (r : Atom × List ℕ). r.1) (endless c))

@@ -3,7 +3,7 @@ use Rattle.std.proofs.Common.{[], ◌∷◌, ◌++◌, Some, Ok, true, sym, ap, 
 use Rattle.wq_replay.proofs.Steps.{draft_open, rows_are}
 use Rattle.wq_replay.specs.LineData.{line_data}
 use Rattle.wq_replay.specs.Stage.{turn_inside}
-use Rattle.wq_replay.specs.Step.{Takes, draft_data}
+use Rattle.wq_replay.specs.Step.{TakesTurn, draft_data}
 use Rattle.wq_replay.specs.declared.stage.Stage.{Stage}
 use Rattle.wq_replay.proofs.step.step_inside.Goals as goal
 
@@ -11,10 +11,10 @@ pub returns-in_ok-push-in-Row : goal.returns-in_ok-push-in-Row
 returns-in_ok-push-in-Row c = λ at stands tree drafted known.
     let draft = c.args.draft in
     let code : Stage = record c.args.stage.now { draft = Some (record { crawls = draft.crawls; second = draft.second; rows = c.push.new.self }) } in
-    subst (λ line. Takes at (turn_inside (draft_data draft) (line_data line)) known known (Ok true) code) (sym c.in-Row.is)
+    subst (λ line. TakesTurn at (turn_inside (draft_data draft) (line_data line)) known known (Ok true) code) (sym c.in-Row.is)
     (draft_open at _ code known stands tree (rows_are draft.crawls draft.second _ _ (sym (c.in_ok-push-in-Row.ensures.items ∙ ap (λ row. draft.rows.items ++ row ∷ []) c.in_ok-seen-in-Row.ensures))))
 
 pub returns-in-End : goal.returns-in-End
 returns-in-End c = λ at stands tree drafted known.
-    subst (λ line. Takes at (turn_inside (draft_data c.args.draft) (line_data line)) known known c.end_listing.result c.end_listing.new.stage) (sym c.in-End.is)
+    subst (λ line. TakesTurn at (turn_inside (draft_data c.args.draft) (line_data line)) known known c.end_listing.result c.end_listing.new.stage) (sym c.in-End.is)
     (c.end_listing.ensures at stands known)

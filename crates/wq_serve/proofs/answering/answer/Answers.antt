@@ -1,5 +1,5 @@
 -- What the ask needs was done, and it was answered.
-use Rattle.wq_serve.proofs.Getting.{gets_at_none, gets_by_crawl, gets_by_look, gets_by_open}
+use Rattle.wq_serve.proofs.Getting.{gets_at_none, gets_by_crawl, gets_by_look, gets_by_watch}
 use Rattle.wq_serve.specs.Answering.{known}
 use Rattle.wq_serve.proofs.answering.answer.Goals as goal
 
@@ -18,7 +18,7 @@ returns-in-Crawl-clause-gets g c =
     gets_by_crawl c.args.client.now.run c.args.ask c.args.seat _ _ _ _ c.in-Crawl.root.now c.crawl-told.result (g.R.Roots.crawler c.args.roots.now) _
     c.in-Crawl.ensures c.crawl-told.ensures c.learn_and_hold.ensures.answers
 
-pub returns-in-Open-clause-gets : goal.returns-in-Open-clause-gets
-returns-in-Open-clause-gets g c =
-    gets_by_open c.args.client.now.run c.args.ask c.args.seat _ _ _ _ c.in-Open.root.now c.open-told.result (g.R.Roots.crawler c.args.roots.now) _
-    c.in-Open.ensures c.open-told.ensures c.learn_and_hold-in-Open.ensures.answers
+pub returns-in-Watch-clause-gets : goal.returns-in-Watch-clause-gets
+returns-in-Watch-clause-gets g c =
+    gets_by_watch c.args.client.now.run c.args.ask c.args.seat _ _ _ _ c.in-Watch.root.now c.watch-told.result (g.R.Roots.crawler c.args.roots.now) _
+    c.in-Watch.ensures c.watch-told.ensures c.learn_and_hold-in-Watch.ensures.answers

@@ -2,7 +2,7 @@
 use Rattle.std.proofs.Common.{◌≡◌, ◌++◌, map, string_bytes}
 use Rattle.serde_json.specs.Data.{string}
 use Rattle.serde_json.specs.View.{view as data_of}
-use Rattle.wq_registry.specs.Named.{names}
+use Rattle.wq_registry.specs.ByName.{names}
 use Rattle.wq_session.proofs.replies.names.Given as goal
 
 abbrev pub invariant-loop-name : goal.invariant-loop-name

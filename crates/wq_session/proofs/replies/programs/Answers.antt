@@ -2,7 +2,7 @@
 use Rattle.std.proofs.Common.{ap, ◌∙◌}
 use Rattle.std.proofs.lemmas.Result.{IfOk-weaker}
 use Rattle.serde_json.specs.Written.{compact_text, has_float}
-use Rattle.wq_registry.specs.Named.{names}
+use Rattle.wq_registry.specs.ByName.{names}
 use Rattle.wq_session.proofs.Strings.{no_float_named}
 use Rattle.wq_session.proofs.replies.programs.Goals as goal
 

@@ -2,9 +2,9 @@
 use Rattle.std.proofs.Common.{◌≡◌, ◌++◌, drop, map}
 use Rattle.serde_json.specs.Data.{string}
 use Rattle.serde_json.specs.View.{view as data_of}
-use Rattle.wq_session.specs.Reply.{texts_of}
+use Rattle.wq_session.specs.Reply.{root_texts}
 use Rattle.wq_session.proofs.replies.texts.Given as goal
 
 abbrev pub invariant-loop-root : goal.invariant-loop-root
 invariant-loop-root l =
-    map data_of l.values.items ++ map string (texts_of (drop l.root-index l.roots)) ≡ map string (texts_of l.roots)
+    map data_of l.values.items ++ map string (root_texts (drop l.root-index l.roots)) ≡ map string (root_texts l.roots)

@@ -1,5 +1,5 @@
 use Rattle.std.proofs.Common.{ap, sym, ◌∙◌, option_map}
-use Rattle.wq_registry.specs.Named.{under}
+use Rattle.wq_registry.specs.ByName.{under}
 use Rattle.wq_registry.proofs.Entries.{seen, under-unshared}
 use Rattle.wq_registry.proofs.shelf.Shelf.get.Goals as goal
 

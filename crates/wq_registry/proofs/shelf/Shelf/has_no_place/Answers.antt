@@ -1,6 +1,6 @@
 use Rattle.std.proofs.Common.{ap, sym, ◌∙◌}
 use Rattle.wq_registry.specs.Limit.{max_programs}
-use Rattle.wq_registry.specs.Named.{has_no_place}
+use Rattle.wq_registry.specs.ByName.{has_no_place}
 use Rattle.wq_registry.proofs.Entries.{no_place-unshared}
 use Rattle.wq_registry.proofs.shelf.Shelf.has_no_place.Goals as goal
 

@@ -1,5 +1,5 @@
 use Rattle.std.proofs.Common.{ap, sym, ◌∙◌}
-use Rattle.wq_registry.specs.Named.{names}
+use Rattle.wq_registry.specs.ByName.{names}
 use Rattle.wq_registry.proofs.Entries.{names-unshared}
 use Rattle.wq_registry.proofs.shelf.Shelf.names.Goals as goal
 

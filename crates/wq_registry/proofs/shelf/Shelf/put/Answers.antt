@@ -1,5 +1,5 @@
 use Rattle.std.proofs.Common.{ap, sym, ◌∙◌, is_some}
-use Rattle.wq_registry.specs.Named.{under}
+use Rattle.wq_registry.specs.ByName.{under}
 use Rattle.wq_registry.specs.Entry.{unshared}
 use Rattle.wq_registry.specs.Shelf.{with_program}
 use Rattle.wq_registry.proofs.Entries.{there-unshared, put-unshared}

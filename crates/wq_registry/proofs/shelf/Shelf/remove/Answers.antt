@@ -1,6 +1,6 @@
 use Rattle.std.proofs.Common.{ap, sym, ◌∙◌, is_some}
 use Rattle.wq_registry.specs.Entry.{unshared}
-use Rattle.wq_registry.specs.Named.{under}
+use Rattle.wq_registry.specs.ByName.{under}
 use Rattle.wq_registry.specs.Shelf.{without_program}
 use Rattle.wq_registry.proofs.Entries.{without-unshared, there-unshared}
 use Rattle.wq_registry.proofs.shelf.Shelf.remove.Goals as goal

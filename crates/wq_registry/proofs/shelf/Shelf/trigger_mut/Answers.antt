@@ -1,5 +1,5 @@
 use Rattle.std.proofs.Common.{ap, sym, ◌∙◌, slice_get}
-use Rattle.wq_registry.specs.Named.{values}
+use Rattle.wq_registry.specs.ByName.{values}
 use Rattle.wq_registry.specs.Root.{triggers_in, with_trigger_at}
 use Rattle.wq_registry.proofs.Entries.{same_loan}
 use Rattle.wq_registry.proofs.Places.{shelf_changed, shelf_same}

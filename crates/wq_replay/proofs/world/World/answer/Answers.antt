@@ -1,4 +1,4 @@
--- The answer is the refusal of the crawl or the opening, that of a root that ends, or any other.
+-- The answer is the refusal of the crawl or the watching, that of a root that ends, or any other.
 use Rattle.std.proofs.Common.{option_map, sym, ap, ◌∙◌}
 use Rattle.wq_clock.specs.Instance.{instance_data}
 use Rattle.wq_session.specs.Need.{need_of}

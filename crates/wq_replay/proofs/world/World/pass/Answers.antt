@@ -5,7 +5,7 @@ use Rattle.wq_live.specs.Table.{IsNews, IsNoNews, IsTableOf}
 use Rattle.wq_live.specs.declared.event.RootEvent.TheVariants.{Passed}
 use Rattle.wq_session.specs.declared.crawl.CrawlFault.TheVariants.{TicksSpent}
 use Rattle.wq_view.specs.Limit.{max_tick}
-use Rattle.wq_replay.specs.World.{adding, number_in, refusing, unrefused}
+use Rattle.wq_replay.specs.World.{with_events, number_in, refusing, unrefused}
 use Rattle.wq_replay.proofs.Worlds.{crawls_none, crawls_shown, given_none, given_some, some_holds}
 use Rattle.wq_replay.proofs.world.World.pass.Goals as goal
 
@@ -33,8 +33,8 @@ returns-in-Ok-Some c = λ before stands.
     let some : number_in c.args.root c.args.self.now.table ≡ Some c.in-Some.number = subst (λ (text : List ℕ). number_in text c.args.self.now.table ≡ Some c.in-Some.number) c.as_str.ensures (sym c.number_of.ensures ∙ c.in-Some.is) in
     let news = given_some (IsNoNews before.events c.in-Some.number c.args.pass.now) (λ table. IsNews before.events c.in-Some.number c.args.pass.now × IsTableOf (before.events ++ Passed c.in-Some.number c.args.pass.now ∷ []) table) c.with_pass.result c.in-Ok-Some.field-0 c.in-Ok-Some.table c.in-Ok-Some.is c.in-Ok-Some.field-0-is (c.with_pass.ensures.passed before.events stands.roots) in
     let room = some_holds (λ _. length (passes_over number before.events) < max_tick) c.with_pass.result c.in-Ok-Some.field-0 c.in-Ok-Some.table c.in-Ok-Some.is c.in-Ok-Some.field-0-is (c.with_pass.ensures.room before.events stands.roots) in (
-      unrefused (adding (Passed c.in-Some.number c.args.pass.now ∷ []) before),
-      crawls_shown before (unrefused (adding (Passed c.in-Some.number c.args.pass.now ∷ []) before)) c.args.root c.args.pass.now c.args.self.now.table number stands.roots some (inr (inl (news.0, room, refl))),
+      unrefused (with_events (Passed c.in-Some.number c.args.pass.now ∷ []) before),
+      crawls_shown before (unrefused (with_events (Passed c.in-Some.number c.args.pass.now ∷ []) before)) c.args.root c.args.pass.now c.args.self.now.table number stands.roots some (inr (inl (news.0, room, refl))),
       record { run = stands.run; roots = news.1; shelf = stands.shelf; refused = refl; whole = stands.whole },
     )
 

@@ -9,7 +9,7 @@ use Rattle.std.proofs.lemmas.List.Sorted.{length_permutation}
 use Rattle.std.specs.declared.alloc.Global.{Global}
 use Rattle.wq_view.specs.declared.listing.Seen.{Seen}
 use Rattle.wq_view.specs.Seen.{SeenData, is_lawful_row, is_count}
-use Rattle.wq_view.specs.declared.limit.TheConstants.{MAX_ROWS}
+use Rattle.wq_view.specs.declared.limit.TheConstants.{MAX_LISTING_ROWS}
 use Rattle.wq_view.proofs.Faults.{fault_when_lawful}
 use Rattle.wq_view.proofs.Listings.{sorted_listing, is_pass}
 use Rattle.wq_view.proofs.listing.Pass.of_lawful.Goals as goal
@@ -20,14 +20,14 @@ is_second second r fits e is = ap is_count (sym (to_z-of_z w64 second fits)) ∙
 
 pub returns-then-not-sort_by_name-clause-fault : goal.returns-then-not-sort_by_name-clause-fault
 returns-then-not-sort_by_name-clause-fault c =
-    let short : length c.args.rows.items ≤ MAX_ROWS = c.requires.few in
+    let short : length c.args.rows.items ≤ MAX_LISTING_ROWS = c.requires.few in
     let lawful : list_all is_lawful_row c.args.rows.items ≡ true = c.requires.lawful in
     let second = is_second c.args.second _ c.ranges.second c.is_count.ensures c.if-not-is_count.false in
     fault_when_lawful c.args.rows.items c.args.second false short second lawful (rw (c.if-not-sort_by_name.true, c.deref_mut.ensures.value) at c.sort_by_name.ensures.distinct)
 
 pub returns-clause-fault : goal.returns-clause-fault
 returns-clause-fault c =
-    let short : length c.args.rows.items ≤ MAX_ROWS = c.requires.few in
+    let short : length c.args.rows.items ≤ MAX_LISTING_ROWS = c.requires.few in
     let lawful : list_all is_lawful_row c.args.rows.items ≡ true = c.requires.lawful in
     let second = is_second c.args.second _ c.ranges.second c.is_count.ensures c.if-not-is_count.false in
     fault_when_lawful c.args.rows.items c.args.second true short second lawful (rw (c.if-not-sort_by_name.false, c.deref_mut.ensures.value) at c.sort_by_name.ensures.distinct)
@@ -38,7 +38,7 @@ written rows sorted moved = with_items_is rows sorted (omega (arith, length_perm
 
 pub invariant_of-result : goal.invariant_of-result
 invariant_of-result c =
-    let short : length c.args.rows.items ≤ MAX_ROWS = c.requires.few in
+    let short : length c.args.rows.items ≤ MAX_LISTING_ROWS = c.requires.few in
     let lawful : list_all is_lawful_row c.args.rows.items ≡ true = c.requires.lawful in
     let second = is_second c.args.second _ c.ranges.second c.is_count.ensures c.if-not-is_count.false in
     let moved : IsPermutation c.args.rows.items c.sort_by_name.new.rows = rw c.deref_mut.ensures.value at c.sort_by_name.ensures.same in

@@ -1,0 +1,150 @@
+//! A beginning of the one list of events of all roots. The list itself is kept nowhere: threads share its length, and
+//! have tokens without bytes of what they know of it.
+ghost use Rattle.std.specs.Prelude.{◌≡◌, ◌++◌, ◌∷◌, [], IsTrue, length, nat_lt};
+ghost use Rattle.wq_live.specs.Log.{Compared, head_of};
+
+use crate::event::RootEvent;
+use logbook::{Gain, Offer, Plain, Play, Rule, Seen, Word};
+use std::marker::Model;
+
+/// What is kept of the list and of the word that threads share: the word is its length.
+pub struct Law;
+
+impl Rule<RootEvent, u64> for Law {
+    ghost use Rattle.std.specs.Prelude.{[]};
+    ghost use base.Fml.{ftrue};
+    ghost use Rattle.wq_live.specs.Log.{IsCount};
+
+    ghost holds = { λ cells log. IsCount cells log };
+
+    ghost first = { [] };
+
+    ghost hinted = { λ n log. Unit {0} };
+
+    ghost shows = { λ log. [] };
+
+    ghost keeps = { λ names log. ftrue };
+
+    ghost moves = { λ ask before after answer. Unit {0} };
+}
+
+/// Callers trade nothing.
+struct Nothing;
+
+impl Gain<RootEvent, u64> for Nothing {
+    ghost use base.Fml.{ftrue};
+
+    ghost after = { λ names about answer. ftrue };
+}
+
+/// A step that adds an event.
+struct Add;
+
+impl Play<RootEvent, u64> for Add {
+    ghost use Rattle.wq_live.specs.Log.{AddsEvent};
+
+    ghost then = { AddsEvent };
+}
+
+impl Plain<RootEvent, RootEvent, u64> for Add {
+    ghost use Rattle.std.specs.Prelude.{None};
+
+    ghost ask = { λ event. event };
+
+    ghost state = { λ event. None };
+}
+
+/// The word that threads share: the length of the list.
+pub(crate) type Head = Word<RootEvent, u64, Law>;
+
+/// A beginning of the list, by its length.
+#[derive(Drop)]
+pub struct Log {
+    count: u64,
+    seen: Seen<RootEvent, u64, Law>,
+}
+
+impl Model for Log {
+    ghost use Rattle.std.specs.Prelude.{◌≡◌, length as count_of};
+    ghost use Rattle.wq_live.specs.Log.{LogData, log_code};
+
+    ghost Value = { LogData };
+
+    ghost coded = { log_code };
+
+    ghost view = { λ f. record { book = f.seen.book; log = f.seen.log } };
+
+    ghost invariant = { λ f. f.count ≡ count_of f.seen.log };
+}
+
+impl Log {
+    /// The log of a list that has no events yet.
+    pub(crate) fn new(seen: Seen<RootEvent, u64, Law>) -> Log
+        requires { seen.log ≡ [] }
+        ensures { result ≡ record { book = seen.book; log = [] } }
+    {
+        Log { count: 0, seen }
+    }
+
+    /// A copy.
+    pub(crate) fn again(&self) -> Log
+        ensures { result ≡ self.now }
+    {
+        Log {
+            count: self.count,
+            seen: self.seen.again(),
+        }
+    }
+
+    /// Whether this log is shorter than another of the same list. Then it begins the other, and else the other
+    /// begins it.
+    pub(crate) fn is_shorter(&self, other: &Log) -> bool
+        requires { self.now.book ≡ other.now.book }
+        ensures shorter { result ≡ nat_lt (length self.now.log) (length other.now.log) }
+        ensures begins { Compared self.now other.now }
+    {
+        let mut both = self.seen.again();
+        both.learn(&other.seen);
+        self.count < other.count
+    }
+
+    /// Adds an event to all that is known, and says whether it did. It did not where the list is longer, which it is
+    /// for no thread that alone adds to it.
+    pub(crate) fn add(&mut self, head: &Head, event: &RootEvent) -> bool
+        requires { head.now ≡ head_of self.old.book }
+        ensures same { self.new.book ≡ self.old.book }
+        ensures added { IsTrue result → self.new.log ≡ self.old.log ++ event.now ∷ [] }
+    {
+        if self.count == u64::MAX {
+            return false;
+        }
+        let mut offer: Offer<RootEvent, u64, Law, Nothing> = self
+            .seen
+            .plain::<Nothing, RootEvent, Add>(event);
+        let mut pen = self.seen.no_pen();
+        let count = self.count;
+        let found = head.compare_exchange::<Add, Nothing>(
+            count,
+            count + 1,
+            &mut self.seen,
+            &mut offer,
+            &mut pen,
+        );
+        self.count = if found == count { count + 1 } else { found };
+        found == count
+    }
+
+    /// Adds events in their order, and says whether it added all.
+    pub(crate) fn add_all(&mut self, head: &Head, events: &[RootEvent]) -> bool
+        requires { head.now ≡ head_of self.old.book }
+        ensures same { self.new.book ≡ self.old.book }
+        ensures added { IsTrue result → self.new.log ≡ self.old.log ++ events.now }
+    {
+        for event in events {
+            if !self.add(head, event) {
+                return false;
+            }
+        }
+        true
+    }
+}

@@ -1,7 +1,0 @@
-use Rattle.std.proofs.Common.{ap, ◌∙◌}
-use Rattle.wq_registry.specs.Named.{under}
-use Rattle.wq_registry.proofs.Entries.{found}
-use Rattle.wq_registry.proofs.named.Named.get.Goals as goal
-
-pub returns : goal.returns
-returns g c = c.get.ensures.value ∙ found c.args.name.now _ ∙ ap (under c.args.name.now) c.self.view_is
