@@ -1,17 +1,20 @@
 -- Laws about program files.
-use Rattle.std.proofs.Common.{◌≡◌, ℕ, List, [], ◌∷◌, ◌++◌, Result, Ok, Err, refl, sym, ap, subst, ◌∙◌}
+use Rattle.std.proofs.Common.{◌≡◌, ℕ, List, [], ◌∷◌, ◌++◌, Result, Ok, Err, refl, sym, ap, subst, ◌∙◌, ◌⊎◌, inl, inr, ◌<◌, lit<}
 use Rattle.std.specs.Prelude.{◌≢◌, IfOk}
 use Rattle.std.proofs.lemmas.List.{append-nil}
+use Rattle.std.proofs.lemmas.List.Elements.{All-append}
 use Rattle.wq_code.specs.Reading.{◌>>=◌, Gives, end_at}
 use Rattle.wq_code.specs.File.{raw_at, file_at}
 use Rattle.wq_code.specs.Spelling.{spelling, AreBytes, IsSpelling}
-use Rattle.wq_code.specs.Law.{FilesAreSpellings, SpellingsAreReadBack, OneSpelling, NoneBeginsAnother, FaultsStay, FrontsAreCutShort}
+use Rattle.wq_code.specs.Law.{FilesAreSpellings, SpellingsAreReadBack, OneSpelling, NoneBeginsAnother, FaultsStay, FrontsAreCutShort, BeginASpelling, EndInAWrongNumber, CutShortAreFronts, EndsAreSpellings, FaultyBeginNone}
 use Rattle.wq_code.specs.declared.fault.FileFault.{FileFault}
 use Rattle.wq_code.specs.declared.fault.FileFault.TheVariants.{WrongMagic, OtherVersion, CutShort, BytesAfterEnd, UnknownOperation, BadOperand, OverLimit, NoMemory}
 use Rattle.wq_code.specs.declared.raw.Raw.{Raw}
 use Rattle.wq_code.proofs.Forms.{bind_then, ok_is}
 use Rattle.wq_code.proofs.FileForm.{raw-form}
 use Rattle.wq_code.proofs.Steady.{Steady, with_more, raw_steady}
+use Rattle.wq_code.proofs.Ends.{Filled, Spoilt, Judged}
+use Rattle.wq_code.proofs.FileEnds.{raw_judged}
 
 -- nothing was left
 ended : (bytes rest : List ℕ) → end_at bytes ≡ Ok rest → bytes ≡ []
@@ -111,3 +114,131 @@ pub is_found : (bytes : List ℕ) (result : Result Raw FileFault) → AreBytes b
     → IfOk result (λ raw. IsSpelling raw bytes)
 is_found bytes (Ok raw) fits given = file_is_spelling bytes raw fits given
 is_found bytes (Err fault) fits given = tt
+
+-- what fills a file that was cut short makes it a spelling
+filled_begins : (bytes : List ℕ) → AreBytes bytes → raw_at bytes ≡ Err CutShort → Filled raw_at bytes → BeginASpelling bytes
+filled_begins bytes fits e f =
+    let both = All-append (λ b. b < 256) bytes f.0 fits f.1 in
+    let t = raw-form.takes (bytes ++ f.0) (f.2, []) both f.3 in
+    (f.2, f.0, some, record { within_limits = t.1.0; in_range = t.1.1; written = t.0 ∙ append-nil (spelling f.2) })
+  where
+    some : f.0 ≢ []
+    some none =
+        let whole : raw_at bytes ≡ Ok (f.2, []) =
+        ap raw_at (sym (append-nil bytes)) ∙ ap (λ (r : List ℕ). raw_at (bytes ++ r)) (sym none) ∙ f.3 in
+        absurd (let same : raw_at bytes ≡ raw_at bytes = refl in cc)
+
+-- of a number that is wrong whatever follows one fault is told
+told_wrong : (fault : FileFault) → (fault ≡ OverLimit) ⊎ (fault ≡ BadOperand) → (fault ≢ BytesAfterEnd) × (fault ≢ CutShort)
+told_wrong fault (inl is) = (λ e. absurd cc, λ e. absurd cc)
+told_wrong fault (inr is) = (λ e. absurd cc, λ e. absurd cc)
+
+abbrev failed : FileFault → Result Raw FileFault
+failed fault = Err fault
+
+err_is : (x y : FileFault) → failed x ≡ failed y → x ≡ y
+err_is x y e = cc
+
+spoilt_ends : (bytes : List ℕ) → raw_at bytes ≡ Err CutShort → Spoilt raw_at bytes → EndInAWrongNumber bytes
+unfolding file_at
+spoilt_ends bytes e s =
+    let w = told_wrong s.0 s.1 in
+    let cut : file_at bytes ≡ Err CutShort = rw e refl in
+    (s.0, w.0, (λ told. w.1 (err_is s.0 CutShort (sym told ∙ cut))), (λ b small. rw (s.2 b) refl))
+
+cut_case : (bytes : List ℕ) → AreBytes bytes → (told : Result (Raw × List ℕ) FileFault) → raw_at bytes ≡ told
+    → Judged raw_at bytes told → whole_of told ≡ Err CutShort → BeginASpelling bytes ⊎ EndInAWrongNumber bytes
+cut_case bytes fits (Ok (raw, [])) e j is = absurd cc
+cut_case bytes fits (Ok (raw, b ∷ rest)) e j is = absurd cc
+cut_case bytes fits (Err CutShort) e (inl f) is = inl (filled_begins bytes fits e f)
+cut_case bytes fits (Err CutShort) e (inr s) is = inr (spoilt_ends bytes e s)
+cut_case bytes fits (Err WrongMagic) e j is = absurd cc
+cut_case bytes fits (Err OtherVersion) e j is = absurd cc
+cut_case bytes fits (Err BytesAfterEnd) e j is = absurd cc
+cut_case bytes fits (Err UnknownOperation) e j is = absurd cc
+cut_case bytes fits (Err BadOperand) e j is = absurd cc
+cut_case bytes fits (Err OverLimit) e j is = absurd cc
+cut_case bytes fits (Err NoMemory) e j is = absurd cc
+
+-- bytes behind a program
+behind_case : (more : List ℕ) → more ≢ [] → (told : Result (Raw × List ℕ) FileFault) (raw : Raw) → told ≡ Ok (raw, more)
+    → whole_of told ≡ Err BytesAfterEnd
+behind_case [] some told raw is = absurd (some refl)
+behind_case (b ∷ more) some told raw is = rw is refl
+
+-- a spelling and more bytes behind it
+followed : (raw : Raw) (front more : List ℕ) → more ≢ [] → IsSpelling raw front → file_at (front ++ more) ≡ Err BytesAfterEnd
+unfolding file_at
+followed raw front more some s = behind_case more some (raw_at (front ++ more)) raw (spelled raw front more s)
+
+one_more : (b : ℕ) → b ∷ [] ≢ []
+one_more b e = absurd cc
+
+-- a fault that stays is no other one
+stays_same : (bytes : List ℕ) (told fault : FileFault) → told ≢ CutShort → file_at bytes ≡ Err told → file_at bytes ≢ Err fault
+    → file_at (bytes ++ 0 ∷ []) ≡ Err fault → file_at bytes ≡ Err CutShort
+stays_same bytes told fault other e unsaid more =
+    let same : told ≡ fault = err_is told fault (sym (faults_stay bytes (0 ∷ []) told other e) ∙ more) in
+    absurd (unsaid (e ∙ ap failed same))
+
+-- bytes behind which one fault is told, which is not told of them, are cut short
+wrong_case : (bytes : List ℕ) (fault : FileFault) → AreBytes bytes → fault ≢ BytesAfterEnd → (told : Result Raw FileFault)
+    → file_at bytes ≡ told → file_at bytes ≢ Err fault → file_at (bytes ++ 0 ∷ []) ≡ Err fault → file_at bytes ≡ Err CutShort
+wrong_case bytes fault fits other (Ok raw) e unsaid more =
+    absurd (other (err_is fault BytesAfterEnd (sym more ∙ followed raw bytes (0 ∷ []) (one_more 0) (file_is_spelling bytes raw fits e))))
+wrong_case bytes fault fits other (Err CutShort) e unsaid more = e
+wrong_case bytes fault fits other (Err WrongMagic) e unsaid more = stays_same bytes WrongMagic fault (λ e. absurd cc) e unsaid more
+wrong_case bytes fault fits other (Err OtherVersion) e unsaid more = stays_same bytes OtherVersion fault (λ e. absurd cc) e unsaid more
+wrong_case bytes fault fits other (Err BytesAfterEnd) e unsaid more = stays_same bytes BytesAfterEnd fault (λ e. absurd cc) e unsaid more
+wrong_case bytes fault fits other (Err UnknownOperation) e unsaid more = stays_same bytes UnknownOperation fault (λ e. absurd cc) e unsaid more
+wrong_case bytes fault fits other (Err BadOperand) e unsaid more = stays_same bytes BadOperand fault (λ e. absurd cc) e unsaid more
+wrong_case bytes fault fits other (Err OverLimit) e unsaid more = stays_same bytes OverLimit fault (λ e. absurd cc) e unsaid more
+wrong_case bytes fault fits other (Err NoMemory) e unsaid more = stays_same bytes NoMemory fault (λ e. absurd cc) e unsaid more
+
+cut_from : (bytes : List ℕ) → AreBytes bytes → BeginASpelling bytes ⊎ EndInAWrongNumber bytes → file_at bytes ≡ Err CutShort
+cut_from bytes fits (inl f) = fronts_are_cut_short f.0 bytes f.1 f.2 f.3
+cut_from bytes fits (inr w) = wrong_case bytes w.0 fits w.1 (file_at bytes) refl w.2 (w.3 0 (lit< tt))
+
+cut_to : (bytes : List ℕ) → AreBytes bytes → file_at bytes ≡ Err CutShort → BeginASpelling bytes ⊎ EndInAWrongNumber bytes
+unfolding file_at
+cut_to bytes fits e = cut_case bytes fits (raw_at bytes) refl (raw_judged bytes fits) e
+
+-- bytes that are cut short, and no others
+pub cut_short_are_fronts : CutShortAreFronts
+cut_short_are_fronts bytes fits = (cut_to bytes fits, cut_from bytes fits)
+
+-- a front of some bytes that is a spelling
+abbrev HasASpelling : List ℕ → Type 0
+HasASpelling bytes =
+    (raw : Raw) × (front : List ℕ) × (more : List ℕ) × (more ≢ []) × IsSpelling raw front × (bytes ≡ front ++ more)
+
+after_case : (bytes : List ℕ) → AreBytes bytes → (told : Result (Raw × List ℕ) FileFault) → raw_at bytes ≡ told
+    → Judged raw_at bytes told → whole_of told ≡ Err BytesAfterEnd → HasASpelling bytes
+after_case bytes fits (Ok (raw, [])) e j is = absurd cc
+after_case bytes fits (Ok (raw, b ∷ more)) e j is =
+    let t = raw-form.takes bytes (raw, b ∷ more) fits e in
+    (raw, spelling raw, b ∷ more, (λ none. absurd cc), record { within_limits = t.1.0; in_range = t.1.1; written = refl }, t.0)
+after_case bytes fits (Err CutShort) e j is = absurd cc
+after_case bytes fits (Err WrongMagic) e j is = absurd cc
+after_case bytes fits (Err OtherVersion) e j is = absurd cc
+after_case bytes fits (Err BytesAfterEnd) e j is = absurd j
+after_case bytes fits (Err UnknownOperation) e j is = absurd cc
+after_case bytes fits (Err BadOperand) e j is = absurd cc
+after_case bytes fits (Err OverLimit) e j is = absurd cc
+after_case bytes fits (Err NoMemory) e j is = absurd cc
+
+after_to : (bytes : List ℕ) → AreBytes bytes → file_at bytes ≡ Err BytesAfterEnd → HasASpelling bytes
+unfolding file_at
+after_to bytes fits e = after_case bytes fits (raw_at bytes) refl (raw_judged bytes fits) e
+
+-- bytes behind a spelling, and no others
+pub ends_are_spellings : EndsAreSpellings
+ends_are_spellings bytes fits =
+    (after_to bytes fits, λ h. ap file_at h.5 ∙ followed h.0 h.1 h.2 h.3 h.4)
+
+-- what is found wrong begins no spelling
+pub faulty_begin_none : FaultyBeginNone
+faulty_begin_none bytes more fault raw other e s =
+    let stays = faults_stay bytes more fault other e in
+    let read = spellings_are_read_back (bytes ++ more) raw s in
+    absurd (let same : file_at (bytes ++ more) ≡ file_at (bytes ++ more) = refl in cc)

@@ -4,3 +4,6 @@ pub mod Forms
 pub mod FileForm
 pub mod Steady
 pub mod FileLaws
+pub mod Ends
+pub mod OpEnds
+pub mod FileEnds

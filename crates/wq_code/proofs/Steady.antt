@@ -57,7 +57,7 @@ steady_same : {A : Type 0} (read : Result A FileFault) → Steady (λ x. x) read
 steady_same (Ok x) = refl
 steady_same (Err fault) = steady_fault (λ x. x) fault
 
-bytes_steady : (n : ℕ) → IsSteady (bytes_at n)
+pub bytes_steady : (n : ℕ) → IsSteady (bytes_at n)
 unfolding bytes_at
 bytes_steady n bytes more =
     elim (cases_lt (length bytes) n) [
@@ -87,14 +87,14 @@ exact_steady fault (x ∷ xs) [] more = tt
 exact_steady fault (x ∷ xs) (b ∷ bytes) more =
     same_byte fault more (eqb b x) (exact_at fault xs bytes) (exact_at fault xs (bytes ++ more)) (exact_steady fault xs bytes more)
 
-many_steady : {A : Type 0} (field : Reader A) → IsSteady field → (n : ℕ) → IsSteady (many_at field n)
+pub many_steady : {A : Type 0} (field : Reader A) → IsSteady field → (n : ℕ) → IsSteady (many_at field n)
 unfolding many_at
 many_steady field h zero bytes more = refl
 many_steady field h (suc n) bytes more =
     steady_then (with_more more) (with_more more) (field bytes) _ _ _ (h bytes more) (λ first.
     steady_then (with_more more) (with_more more) (many_at field n first.1) _ _ _ (many_steady field h n first.1 more) (λ others. refl))
 
-short_steady : IsSteady short_at
+pub short_steady : IsSteady short_at
 unfolding short_at
 short_steady bytes more = steady_then (with_more more) (with_more more) (bytes_at 2 bytes) _ _ _ (bytes_steady 2 bytes more) (λ x. refl)
 
@@ -103,28 +103,28 @@ count_tested : (more : List ℕ) (x : ℕ × List ℕ) (few : Bool)
 count_tested more x true = refl
 count_tested more x false = refl
 
-count_steady : (limit : ℕ) → IsSteady (count_at limit)
+pub count_steady : (limit : ℕ) → IsSteady (count_at limit)
 unfolding count_at
 count_steady limit bytes more =
     steady_then (with_more more) (with_more more) (short_at bytes) _ _ _ (short_steady bytes more) (λ x. count_tested more x (leb x.0 limit))
 
-number_steady : IsSteady number_at
+pub number_steady : IsSteady number_at
 unfolding number_at
 number_steady bytes more = steady_then (with_more more) (with_more more) (bytes_at 8 bytes) _ _ _ (bytes_steady 8 bytes more) (λ x. refl)
 
-text_steady : IsSteady text_at
+pub text_steady : IsSteady text_at
 unfolding text_at
 text_steady bytes more =
     steady_then (with_more more) (with_more more) (count_at max_constant_text bytes) _ _ _ (count_steady max_constant_text bytes more)
     (λ x. bytes_steady x.0 x.1 more)
 
-list_steady : IsSteady list_at
+pub list_steady : IsSteady list_at
 unfolding list_at
 list_steady bytes more =
     steady_then (with_more more) (with_more more) (short_at bytes) _ _ _ (short_steady bytes more)
     (λ x. many_steady text_at text_steady x.0 x.1 more)
 
-pattern_steady : IsSteady pattern_at
+pub pattern_steady : IsSteady pattern_at
 unfolding pattern_at
 pattern_steady bytes more =
     steady_then (with_more more) (with_more more) (byte_at bytes) _ _ _ (byte_steady bytes more) (λ bits.
@@ -133,7 +133,7 @@ pattern_steady bytes more =
     steady_then (with_more more) (with_more more) (byte_at bits.1) _ _ _ (byte_steady bits.1 more) (λ n.
     steady_then (with_more more) (with_more more) (bytes_at n.0 n.1) _ _ _ (bytes_steady n.0 n.1 more) (λ text. refl))))
 
-op_steady : IsSteady op_at
+pub op_steady : IsSteady op_at
 unfolding op_at
 op_steady bytes more =
     steady_then (with_more more) (with_more more) (byte_at bytes) _ _ _ (byte_steady bytes more) (λ code.
@@ -146,13 +146,13 @@ op_steady bytes more =
     steady_then (λ op. op) (with_more more) (or_file_fault (with_b half b.0) BadOperand) _ _ _
     (steady_same (or_file_fault (with_b half b.0) BadOperand)) (λ op. refl))))))
 
-head_steady : (bytes more : List ℕ) → Steady (λ rest. rest ++ more) (head_at bytes) (head_at (bytes ++ more))
+pub head_steady : (bytes more : List ℕ) → Steady (λ rest. rest ++ more) (head_at bytes) (head_at (bytes ++ more))
 unfolding head_at
 head_steady bytes more =
     steady_then (λ rest. rest ++ more) (λ rest. rest ++ more) (exact_at WrongMagic (codes "WQPF") bytes) _ _ _
     (exact_steady WrongMagic (codes "WQPF") bytes more) (λ rest. exact_steady OtherVersion (1 ∷ []) rest more)
 
-counts_steady : IsSteady counts_at
+pub counts_steady : IsSteady counts_at
 unfolding counts_at
 counts_steady bytes more =
     steady_then (with_more more) (with_more more) (count_at max_table_rows bytes) _ _ _ (count_steady max_table_rows bytes more) (λ a.

@@ -1,10 +1,10 @@
 -- What the reading of program files and their spelling have to do with each other.
 -- This server's own format.
-use Rattle.std.specs.Prelude.{◌≡◌, ◌≢◌, ◌↔◌, ℕ, List, [], ◌++◌, Ok, Err}
+use Rattle.std.specs.Prelude.{◌≡◌, ◌≢◌, ◌↔◌, ◌⊎◌, ◌<◌, ℕ, List, [], ◌∷◌, ◌++◌, Ok, Err}
 use Rattle.wq_code.specs.File.{file_at}
 use Rattle.wq_code.specs.Spelling.{AreBytes, IsSpelling}
 use Rattle.wq_code.specs.declared.fault.FileFault.{FileFault}
-use Rattle.wq_code.specs.declared.fault.FileFault.TheVariants.{CutShort}
+use Rattle.wq_code.specs.declared.fault.FileFault.TheVariants.{BytesAfterEnd, CutShort}
 use Rattle.wq_code.specs.declared.raw.Raw.{Raw}
 
 -- bytes are read as a program exactly where they are its spelling
@@ -35,3 +35,32 @@ FaultsStay = (bytes more : List ℕ) (fault : FileFault) → fault ≢ CutShort
 abbrev pub FrontsAreCutShort : Type 0
 FrontsAreCutShort = (raw : Raw) (front more : List ℕ) → more ≢ [] → IsSpelling raw (front ++ more)
     → file_at front ≡ Err CutShort
+
+-- some bytes are a front of the spelling of a program, and not all of it
+abbrev pub BeginASpelling : List ℕ → Type 0
+BeginASpelling bytes = (raw : Raw) × (more : List ℕ) × (more ≢ []) × IsSpelling raw (bytes ++ more)
+
+-- some bytes end within a number of two bytes that is wrong whatever its second byte is: whichever
+-- byte follows, the same fault is told, which is not told of the bytes themselves
+abbrev pub EndInAWrongNumber : List ℕ → Type 0
+EndInAWrongNumber bytes =
+    (fault : FileFault) × (fault ≢ BytesAfterEnd) × (file_at bytes ≢ Err fault)
+    × ((b : ℕ) → b < 256 → file_at (bytes ++ b ∷ []) ≡ Err fault)
+
+-- bytes are cut short exactly where they are a front of a spelling and not all of it, or end within
+-- a number that is wrong whatever follows
+abbrev pub CutShortAreFronts : Type 0
+CutShortAreFronts = (bytes : List ℕ) → AreBytes bytes
+    → (file_at bytes ≡ Err CutShort) ↔ (BeginASpelling bytes ⊎ EndInAWrongNumber bytes)
+
+-- bytes follow the end exactly where a front of them is a spelling, and not all of them
+abbrev pub EndsAreSpellings : Type 0
+EndsAreSpellings = (bytes : List ℕ) → AreBytes bytes
+    → (file_at bytes ≡ Err BytesAfterEnd)
+    ↔ ((raw : Raw) × (front : List ℕ) × (more : List ℕ) × (more ≢ []) × IsSpelling raw front
+    × (bytes ≡ front ++ more))
+
+-- bytes of which another fault is told begin no spelling
+abbrev pub FaultyBeginNone : Type 0
+FaultyBeginNone = (bytes more : List ℕ) (fault : FileFault) (raw : Raw) → fault ≢ CutShort
+    → file_at bytes ≡ Err fault → IsSpelling raw (bytes ++ more) → ⊥

@@ -1,6 +1,8 @@
 //! Laws about program files, each a function without a body whose contract is the law.
 //! A proof of another crate gets a law by a call, which costs nothing.
-ghost use Rattle.wq_code.specs.Law.{FilesAreSpellings, SpellingsAreReadBack, OneSpelling, NoneBeginsAnother, FaultsStay, FrontsAreCutShort};
+ghost use Rattle.wq_code.specs.Law.{FilesAreSpellings, SpellingsAreReadBack, OneSpelling};
+ghost use Rattle.wq_code.specs.Law.{NoneBeginsAnother, FaultsStay, FrontsAreCutShort};
+ghost use Rattle.wq_code.specs.Law.{CutShortAreFronts, EndsAreSpellings, FaultyBeginNone};
 
 /// Bytes are read as a program exactly where they are its spelling.
 pub fn files_are_spellings()
@@ -35,4 +37,23 @@ pub fn faults_stay()
 #[tactic(auto, using(crate::proofs::FileLaws::fronts_are_cut_short))]
 pub fn fronts_are_cut_short()
     ensures { FrontsAreCutShort }
+{}
+
+/// Bytes are cut short exactly where they are a front of a spelling and not all of it, or end after
+/// the first byte of a number of two bytes that no second byte makes right.
+#[tactic(auto, using(crate::proofs::FileLaws::cut_short_are_fronts))]
+pub fn cut_short_are_fronts()
+    ensures { CutShortAreFronts }
+{}
+
+/// Bytes follow the end exactly where a front of them is a spelling, and not all of them.
+#[tactic(auto, using(crate::proofs::FileLaws::ends_are_spellings))]
+pub fn ends_are_spellings()
+    ensures { EndsAreSpellings }
+{}
+
+/// Bytes of which another fault is told than that they are cut short begin no spelling.
+#[tactic(auto, using(crate::proofs::FileLaws::faulty_begin_none))]
+pub fn faulty_begin_none()
+    ensures { FaultyBeginNone }
 {}

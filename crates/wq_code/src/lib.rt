@@ -23,8 +23,8 @@ pub use fault::FileFault;
 pub use file::{decode, encode};
 pub use flow::Flow;
 pub use law::{
-    faults_stay, files_are_spellings, fronts_are_cut_short, none_begins_another, one_spelling,
-    spellings_are_read_back,
+    cut_short_are_fronts, ends_are_spellings, faults_stay, faulty_begin_none, files_are_spellings,
+    fronts_are_cut_short, none_begins_another, one_spelling, spellings_are_read_back,
 };
 pub use limit::{MAX_CONSTANT_TEXT, MAX_ENTRIES, MAX_TABLE_ROWS};
 pub use operation::{CellKind, Op};
