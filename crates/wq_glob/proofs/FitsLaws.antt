@@ -46,12 +46,12 @@ deeper test fit x xs passes s = (
   s.4,
 )
 
-folders_split : (test : Mark → Bool) (fit : List Mark → Bool) (text : List Mark) → directories test fit text ≡ true → SplitsAtSlash test fit text
-folders_split test fit [] h = absurd (false≢true h)
-folders_split test fit (x ∷ xs) h =
+directories_split : (test : Mark → Bool) (fit : List Mark → Bool) (text : List Mark) → directories test fit text ≡ true → SplitsAtSlash test fit text
+directories_split test fit [] h = absurd (false≢true h)
+directories_split test fit (x ∷ xs) h =
     let parts = and_parts (test x) (directories test fit xs || (is_slash x.byte && fit xs)) h in
     elim (or_cases (directories test fit xs) (is_slash x.byte && fit xs) parts.1) [
-      | inl deep ↦ deeper test fit x xs parts.0 (folders_split test fit xs deep)
+      | inl deep ↦ deeper test fit x xs parts.0 (directories_split test fit xs deep)
       | inr here ↦
           let at = and_parts (is_slash x.byte) (fit xs) here in
           (x ∷ [], xs, refl, (and_from _ _ parts.0 refl, ([], x, refl, at.0)), at.1)
@@ -66,7 +66,7 @@ splits Many test fit text h = many_splits test fit text h
 splits Directories test fit text h =
     elim (or_cases (fit text) (directories test fit text) h) [
       | inl none ↦ ([], text, refl, inl refl, none)
-      | inr some ↦ let s = folders_split test fit text some in (s.0, s.1, s.2, inr s.3, s.4)
+      | inr some ↦ let s = directories_split test fit text some in (s.0, s.1, s.2, inr s.3, s.4)
     ]
 
 many_from : (test : Mark → Bool) (fit : List Mark → Bool) (part after : List Mark) → IsEach test part → fit after ≡ true → many test fit (part ++ after) ≡ true
@@ -76,13 +76,13 @@ many_from test fit (x ∷ part) after each h =
     let parts = and_parts (test x) (list_all test part) each in
     or_right _ _ (and_from _ _ parts.0 (many_from test fit part after parts.1 h))
 
-folders_from : (test : Mark → Bool) (fit : List Mark → Bool) (body : List Mark) (x : Mark) (after : List Mark) → IsEach test (body ++ x ∷ []) → is_slash x.byte ≡ true → fit after ≡ true → directories test fit ((body ++ x ∷ []) ++ after) ≡ true
-folders_from test fit [] x after each ends h =
+directories_from : (test : Mark → Bool) (fit : List Mark → Bool) (body : List Mark) (x : Mark) (after : List Mark) → IsEach test (body ++ x ∷ []) → is_slash x.byte ≡ true → fit after ≡ true → directories test fit ((body ++ x ∷ []) ++ after) ≡ true
+directories_from test fit [] x after each ends h =
     let parts = and_parts (test x) true each in
     and_from _ _ parts.0 (or_right _ _ (and_from _ _ ends h))
-folders_from test fit (y ∷ body) x after each ends h =
+directories_from test fit (y ∷ body) x after each ends h =
     let parts = and_parts (test y) (list_all test (body ++ x ∷ [])) each in
-    and_from _ _ parts.0 (or_left _ _ (folders_from test fit body x after parts.1 ends h))
+    and_from _ _ parts.0 (or_left _ _ (directories_from test fit body x after parts.1 ends h))
 
 -- a cut is found by the test
 found : (r : Reach) (test : Mark → Bool) (fit : List Mark → Bool) (part after : List Mark) → PartOf r test part → fit after ≡ true → part_of r test fit (part ++ after) ≡ true
@@ -94,7 +94,7 @@ found Directories test fit part after (inl none) h =
 found Directories test fit part after (inr (each, (body, x, is, ends))) h =
     or_right _ _
     (subst (λ (p : List Mark). directories test fit (p ++ after) ≡ true) (sym is)
-    (folders_from test fit body x after (subst (IsEach test) is each) ends h))
+    (directories_from test fit body x after (subst (IsEach test) is each) ends h))
 
 -- what an atom takes is a part of its reach, of the bytes that it admits
 taken : (f : Flags) (a : Atom) (part : List Mark) → Takes f a part → PartOf (reach a) (admits f a) part
