@@ -8,12 +8,12 @@
 
 mod ahead;
 mod execute;
+mod finding;
 mod load;
 mod machine;
 mod operand;
 mod slot;
 mod stack;
-mod test;
 mod text;
 
 pub use machine::{Verdict, run, run_in};
