@@ -3,6 +3,7 @@
 use Rattle.std.specs.Prelude.{◌≡◌, ◌≢◌, ◌⊎◌, ℕ, List, ◌++◌, length, codes, Option, Err}
 use Rattle.std.specs.Fmt.{decimal}
 use Rattle.std.specs.Io.KnownBytes.{Appends}
+use Rattle.wq_base.specs.Writing.{WritesFront}
 use Rattle.wq_code.specs.File.{file_at}
 use Rattle.wq_code.specs.FileFault.{file_fault_number as file_number}
 use Rattle.wq_code.specs.Spelling.{IsSpelling}
@@ -43,9 +44,14 @@ status_of (Accepted _ _) = 0
 status_of (WrongFile _) = 3
 status_of (WrongProgram _ _) = 3
 
--- the line of what the bytes are was written, and the status is its own; or the status is 1
+-- what was written of the line that says an answer: all of it, and the status is the answer's own;
+-- or a front of it, but not all, and the status is 1
+abbrev pub Writes : Answer → Option (List ℕ) → Option (List ℕ) → ℕ → Type 0
+Writes answer before after status =
+    (Appends before after (answer_line answer) × (status ≡ status_of answer))
+    ⊎ (WritesFront before after (answer_line answer) × (status ≡ 1))
+
+-- the line of what the bytes are was written, or a front of it, with that status
 abbrev pub Checks : List ℕ → Option (List ℕ) → Option (List ℕ) → ℕ → Type 0
 Checks bytes before after status =
-    ((answer : Answer) × IsAnswer bytes answer × Appends before after (answer_line answer)
-    × (status ≡ status_of answer))
-    ⊎ (status ≡ 1)
+    (answer : Answer) × IsAnswer bytes answer × Writes answer before after status

@@ -15,8 +15,8 @@ pub const LONGEST_NAME: u64 = 4096;
 /// What `check` says of a file.
 #[derive(Clone, Copy, Debug, Drop)]
 pub enum Answer {
-    /// The program may run: how many instructions it has, and the most that it can cost on a name of
-    /// [`LONGEST_NAME`] bytes.
+    /// The program may run: how many instructions it has, and the most that it can cost on a name
+    /// of [`LONGEST_NAME`] bytes.
     Accepted { instructions: usize, budget: u64 },
     /// The bytes are no program file.
     WrongFile(FileFault),

@@ -1,5 +1,6 @@
-//! What the command `check` says of the bytes of a program file: that the program may run, and what it can cost, or the
-//! first thing that is wrong with the file or the program. Opening files is left to the program above.
+//! What the command `check` says of the bytes of a program file: that the program may run, and what
+//! it can cost, or the first thing that is wrong with the file or the program. Opening files is
+//! left to the program above.
 #![tactic(auto)]
 
 mod answer;

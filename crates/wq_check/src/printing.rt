@@ -5,14 +5,16 @@ ghost use Rattle.wq_check.specs.Answer.{Checks, answer_line};
 use crate::answer::Answer;
 use std::alloc::{AllocError, Global};
 use std::io::Write;
+use wq_base::write_all;
 
 /// The exit status where the line could not be written.
 pub const FAULT: u8 = 1;
 
 /// Prints what the bytes of a file are, and gives the exit status.
 ///
-/// The line is `ok <instructions> <budget>`, `refused F<n>` for a file that is none, or `refused Y<n> at <place>` for a
-/// program that may not run. The status is 0, 3 and 3; or [`FAULT`] where the line could not be written.
+/// The line is `ok <instructions> <budget>`, `refused F<n>` for a file that is none, or
+/// `refused Y<n> at <place>` for a program that may not run. The status is 0, 3 and 3; or [`FAULT`]
+/// if the line could not be written whole. The writer then holds a front of it.
 pub fn check<W: Write>(alloc: Global, bytes: &[u8], writer: &mut W) -> u8
     ensures { Checks bytes.now (W.contents writer.old) (W.contents writer.new) result }
 {
@@ -20,7 +22,7 @@ pub fn check<W: Write>(alloc: Global, bytes: &[u8], writer: &mut W) -> u8
     let Ok(line) = line_of(alloc, answer) else {
         return FAULT;
     };
-    match writer.write_all(line.as_bytes()) {
+    match write_all(writer, line.as_bytes()) {
         Ok(()) => answer.status(),
         Err(_) => FAULT,
     }
