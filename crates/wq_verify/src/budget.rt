@@ -6,7 +6,8 @@ ghost use Rattle.wq_verify.specs.Limit.{max_file_name};
 ghost use Rattle.wq_verify.specs.Budget.{most_cost, most_pattern_cost, longest_len, width_of, budget_of};
 
 use crate::program::Program;
-use wq_code::{Op, Raw, Table};
+use wq_base::Table;
+use wq_code::{Op, Raw};
 
 /// The length of the longest text.
 fn longest_len(texts: &[Table<u8>]) -> usize
@@ -72,9 +73,9 @@ fn cost(raw: &Raw, width: u64, op: Op) -> u64
 
 impl Program {
     /// The most that the program can cost on a name of `name_len` bytes, at most 4,096: each
-    /// instruction once, whether a run meets it or not, for 1, for a cell for each atom of a pattern
-    /// and one at each byte of the widest text and one, and for the entries of a list. It takes no
-    /// memory.
+    /// instruction once, whether a run meets it or not, for 1, for a cell for each atom of a
+    /// pattern and one at each byte of the widest text and one, and for the entries of a list. It
+    /// takes no memory.
     #[tactic(auto, unfolding(crate::specs::Budget::budget_of))]
     pub fn budget(&self, name_len: u64) -> u64
         requires { name_len ≤ max_file_name }
