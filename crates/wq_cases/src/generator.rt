@@ -1,5 +1,5 @@
-//! Calls on the generators of a query. A list of suffixes is `list (c) (h)`, one of paths with their depths
-//! `list (-1 src) (0 )`; `list` alone is empty, and `none` is no generator.
+//! Calls on the generators of a query. A list of suffixes is `list (c) (h)`, one of paths with
+//! their depths `list (-1 src) (0 )`; `list` alone is empty, and `none` is no generator.
 
 use crate::history::view_of;
 use crate::word::{cut, number, text};
@@ -9,7 +9,8 @@ use wq_base::{Table, Text};
 use wq_clock::Bound;
 use wq_gen::{Generators, PathGen, candidates};
 
-/// `candidates HISTORY SINCE SUFFIXES PATHS`: the candidates in the view after the history, each with its position.
+/// `candidates HISTORY SINCE SUFFIXES PATHS`: the candidates in the view after the history, each
+/// with its position.
 pub(crate) fn candidates_case(alloc: Global, words: &[Vec<u8>]) -> Result<String> {
     let mut moves = String::new(alloc);
     let view = view_of(alloc, text(words, 1)?, &mut moves)?;

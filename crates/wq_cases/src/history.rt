@@ -1,6 +1,6 @@
-//! Calls on passes, and on views of small trees. A row is written `f 12 1000 src/a.c`: letter of the kind, size, time
-//! and name. Rows of one pass have a comma between them, and a history is `10: ROW, ROW; 20: ROW`, where 10 and 20 are
-//! the seconds of its passes.
+//! Calls on passes, and on views of small trees. A row is written `f 12 1000 src/a.c`: letter of
+//! the kind, size, time and name. Rows of one pass have a comma between them, and a history is
+//! `10: ROW, ROW; 20: ROW`, where 10 and 20 are the seconds of its passes.
 
 use crate::word::{bytes, cut, number, signed, text};
 use anyhow::{Context, Result};
@@ -95,7 +95,8 @@ pub(crate) fn view_of_one(alloc: Global, name: &[u8]) -> Result<View> {
     Ok(view)
 }
 
-/// `history HISTORY`: whether each pass moved the tick, the tick after them, how many records there are, and these.
+/// `history HISTORY`: whether each pass moved the tick, the tick after them, how many records there
+/// are, and these.
 pub(crate) fn history_case(alloc: Global, words: &[Vec<u8>]) -> Result<String> {
     let mut answer = String::new(alloc);
     let view = view_of(alloc, text(words, 1)?, &mut answer)?;
@@ -129,7 +130,8 @@ fn moments_text(alloc: Global, record: &Record) -> Result<String, AllocError> {
     )
 }
 
-/// `find HISTORY NAME`: the place of the record of this name in the view after the history, and the name there.
+/// `find HISTORY NAME`: the place of the record of this name in the view after the history, and the
+/// name there.
 pub(crate) fn find_case(alloc: Global, words: &[Vec<u8>]) -> Result<String> {
     let mut moves = String::new(alloc);
     let view = view_of(alloc, text(words, 1)?, &mut moves)?;

@@ -1,13 +1,14 @@
-//! Cases of calls that no script shows: reads one case a line from standard input, a call with its arguments, and
-//! writes the line again with what the call answers behind ` -> `.
+//! Cases of calls that no script shows: reads one case a line from standard input, a call with its
+//! arguments, and writes the line again with what the call answers behind ` -> `.
 //!
 //! ```text
 //! parse "c:7:9:1:42" -> tick 42 of 7 9 1
 //! pattern wholename "a/**" "a/b" -> yes
 //! ```
 //!
-//! A text stands in quotes; `%20` in it is the byte of these hexadecimal digits. `"ab"*3` is `"ababab"`, and
-//! `"a" + "b"` is `"ab"`. Empty lines and lines that begin with `#` are written as they are.
+//! A text stands in quotes; `%20` in it is the byte of these hexadecimal digits. `"ab"*3` is
+//! `"ababab"`, and `"a" + "b"` is `"ab"`. Empty lines and lines that begin with `#` are written as
+//! they are.
 #![tactic(auto)]
 
 mod clock;

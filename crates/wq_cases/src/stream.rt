@@ -1,4 +1,5 @@
-//! Calls on the splitter of a client's stream. A line is shown in quotes, and a long one by the number of its bytes.
+//! Calls on the splitter of a client's stream. A line is shown in quotes, and a long one by the
+//! number of its bytes.
 
 use crate::word::{bytes, unsigned};
 use anyhow::{Result, bail};

@@ -6,8 +6,8 @@ ghost use Rattle.wq_compile.specs.Instruction.{blank, fitting, number, one_of, p
 
 use std::alloc::{AllocError, Global};
 use std::marker::Model;
-use wq_base::Case;
-use wq_code::{Op, Raw, Table};
+use wq_base::{Case, Table};
+use wq_code::{Op, Raw};
 use wq_glob::Pattern;
 
 /// A program while it is made. Contracts see its tables.

@@ -1,4 +1,5 @@
-//! The files at paths. Those below a path lie together in a view, so the cost follows them and not the view.
+//! The files at paths. Those below a path lie together in a view, so the cost follows them and not
+//! the view.
 ghost use Rattle.std.specs.Prelude.{◌≡◌, ◌||◌, IfOk};
 ghost use Rattle.wq_gen.specs.Candidate.{is_itself, is_on_path, is_under};
 ghost use Rattle.wq_view.specs.Position.{positions_of};

@@ -17,8 +17,10 @@ use thiserror::Error;
 /// Why a text is no pattern.
 #[derive(Clone, Copy, Debug, PartialEq, Eq, Error)]
 pub enum PatternFault {
+    /// The text has more than [`MAX_PATTERN`] bytes.
     #[error("pattern too long")]
     TooLong,
+    /// A growth was refused.
     #[error("no memory")]
     NoMemory,
 }
@@ -137,8 +139,8 @@ impl Pattern {
         self.steps.len()
     }
 
-    /// Whether the pattern fits a text of at most [`MAX_MATCHED_TEXT`](crate::limit::MAX_MATCHED_TEXT) bytes, and
-    /// at what cost.
+    /// Whether the pattern fits a text of at most
+    /// [`MAX_MATCHED_TEXT`](crate::limit::MAX_MATCHED_TEXT) bytes, and at what cost.
     ///
     /// It fits where some cut of the text gives every atom, from left to right, a part that it
     /// takes. The cost is how many cells of the table of atoms and places the definition `cells_of`

@@ -21,7 +21,8 @@ scope_part Wholename name = name
 
 -- whether that part of a name is one of these texts
 abbrev pub is_named : Case → Scope → List (List ℕ) → List ℕ → Bool
-is_named case scope texts name = list_any (λ text. same_text case text (scope_part scope name)) texts
+is_named case scope texts name =
+    list_any (λ text. same_text case text (scope_part scope name)) texts
 
 -- whether the suffix of a name is one of these texts
 abbrev pub has_suffix : List (List ℕ) → List ℕ → Bool

@@ -56,6 +56,7 @@ pub enum Expr {
 pub enum Scope {
     /// What follows the last slash.
     Basename,
+    /// The name from the root on.
     Wholename,
 }
 

@@ -33,8 +33,9 @@ pub const MAX_DEPTH: u32 = 64;
 /// The expression that a JSON value says, at this instance of the server.
 ///
 /// A term is an array headed by its name, with its arguments behind it; the bare name stands for an
-/// array of it alone. The first fault refuses the value: see [`TermFault`]. Which values are read is
-/// also said as a grammar: see [`values_say_what_they_write`](crate::values_say_what_they_write).
+/// array of it alone. The first fault refuses the value: see [`TermFault`]. Which values are read
+/// is also said as a grammar: see
+/// [`values_say_what_they_write`](crate::values_say_what_they_write).
 pub fn read_expr(alloc: Global, value: &Value, instance: &Instance) -> Result<Expr, TermFault>
     ensures read { GivesExpr result
         (reads_as (instance_data instance.now) max_depth (data_of value.now)) }

@@ -5,13 +5,21 @@ ghost use Rattle.wq_view.specs.Kind.{kind_with, letter_of};
 /// What a file is, by the kinds of POSIX and one that only Solaris has.
 #[derive(Clone, Copy, Debug, PartialEq, Eq)]
 pub enum Kind {
+    /// A regular file.
     File,
+    /// A directory.
     Dir,
+    /// A symbolic link.
     Link,
+    /// A block device.
     Block,
+    /// A character device.
     Char,
+    /// A named pipe.
     Fifo,
+    /// A socket.
     Socket,
+    /// A door, which Solaris has.
     Door,
     /// Anything else.
     Unknown,

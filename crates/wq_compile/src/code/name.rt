@@ -12,8 +12,8 @@ ghost use Rattle.wq_compile.specs.Instruction.{fitting, one_of, plain, put_all};
 use crate::code::put_jump;
 use crate::draft::Draft;
 use std::alloc::{AllocError, Global};
-use wq_base::{Case, Relation};
-use wq_code::{Op, Table};
+use wq_base::{Case, Relation, Table};
+use wq_code::Op;
 use wq_glob::Pattern;
 use wq_term::{Depth, Scope};
 

@@ -26,7 +26,8 @@ pub(super) fn read_size(arguments: &[Value]) -> Result<Expr, TermFault>
 
 /// `since` of a clock spec and a field.
 pub(super) fn read_since(arguments: &[Value], instance: &Instance) -> Result<Expr, TermFault>
-    ensures { GivesExpr result (read_since (instance_data instance.now) (items_view arguments.now)) }
+    ensures { GivesExpr result
+        (read_since (instance_data instance.now) (items_view arguments.now)) }
 {
     match arguments {
         [spec] => since_by(SinceField::Oclock, spec, instance),
