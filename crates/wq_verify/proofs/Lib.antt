@@ -3,3 +3,4 @@ pub mod Fronts
 pub mod Shapes
 pub mod Budgets
 pub mod Steps
+pub mod ShortPrograms

@@ -5,5 +5,6 @@ pub mod Typing
 pub mod Budget
 pub mod Shape
 pub mod Run
+pub mod Short
 pub mod Law
 pub mod ProgramFault

@@ -1,6 +1,7 @@
 //! Laws about typings and about the runs of programs that may run, each a function without a body
 //! whose contract is the law. A proof of another crate gets a law by a call, which costs nothing.
-ghost use Rattle.wq_verify.specs.Law.{FrontsAreUnique, FrontsGrow, ValidAreTyped, ValidAreAccepted, RunsBeginWell, StepsGoWell};
+ghost use Rattle.wq_verify.specs.Law.{FrontsAreUnique, FrontsGrow, OperandsAreNeeded, ValidAreTyped};
+ghost use Rattle.wq_verify.specs.Law.{ValidAreAccepted, RunsBeginWell, StepsGoWell};
 
 /// Two typings of the same first places are equal.
 pub fn fronts_are_unique()
@@ -33,4 +34,12 @@ pub fn runs_begin_well()
 /// answer within the sum of all costs, and never to a trap.
 pub fn steps_go_well()
     ensures { StepsGoWell }
+{}
+
+/// If the number of cells that an instruction takes were left out of what may run, a program might
+/// run that has no answer. So what a machine does where a cell lacks is proved never to come, and
+/// that rests on this number.
+#[tactic(auto, using(crate::proofs::ShortPrograms::operands_are_needed))]
+pub fn operands_are_needed()
+    ensures { OperandsAreNeeded }
 {}
