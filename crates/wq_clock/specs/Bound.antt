@@ -1,6 +1,6 @@
 -- The point after which an observation is new to a client, as its clock spec gives it.
 -- From Watchman's documentation of clockspecs and of the query key `since`.
-use Rattle.std.specs.Prelude.{◌&&◌, ◌==◌, Option, Some, None, if◌then◌else◌}
+use Rattle.std.specs.Prelude.{Bool, true, false, ◌&&◌, ◌==◌, Option, Some, None, if◌then◌else◌}
 use Rattle.wq_clock.specs.Instance.{InstanceData}
 use Rattle.wq_clock.specs.ClockSpec.{SpecData, clock_id, old_clock_id, named_cursor}
 use Rattle.wq_clock.specs.declared.bound.Bound.{Bound}
@@ -15,3 +15,8 @@ bound_of (clock_id other tick) instance =
     then Some (Tick tick) else Some Fresh
 bound_of old_clock_id instance = Some Fresh
 bound_of (named_cursor name) instance = None
+
+-- whether the client knows nothing
+abbrev pub is_fresh : Bound → Bool
+is_fresh Fresh = true
+is_fresh _ = false

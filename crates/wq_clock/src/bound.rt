@@ -1,7 +1,7 @@
 //! Bounds: after which point an observation counts, as a clock spec says it.
 ghost use Rattle.std.specs.Prelude.{◌≡◌, pos, ◌≤ℤ◌};
 ghost use Rattle.std.specs.Option.{SomeIff};
-ghost use Rattle.wq_clock.specs.Bound.{bound_of};
+ghost use Rattle.wq_clock.specs.Bound.{bound_of, is_fresh};
 ghost use Rattle.wq_clock.specs.Instance.{instance_data};
 ghost use Rattle.wq_clock.specs.Spec.{spec_data};
 
@@ -17,8 +17,8 @@ pub enum Bound {
     Fresh,
     /// Observations of later ticks of this instance are new.
     Tick(u64),
-    /// A second of the Unix epoch. What changed in it or later is told, since it may have passes that the
-    /// client has not seen; what came in a later one is new.
+    /// A second of the Unix epoch. What changed in it or later is told, since it may have passes
+    /// that the client has not seen; what came in a later one is new.
     Second(i64),
 }
 
@@ -34,6 +34,16 @@ impl Bound {
             Some(Bound::Second(seconds))
         } else {
             None
+        }
+    }
+
+    /// Whether the client knows nothing.
+    pub fn is_fresh(self) -> bool
+        ensures { result ≡ is_fresh self }
+    {
+        match self {
+            Bound::Fresh => true,
+            Bound::Tick(_) | Bound::Second(_) => false,
         }
     }
 }

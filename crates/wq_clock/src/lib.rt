@@ -1,8 +1,8 @@
 //! The texts by which clients name moments: Watchman's clock specs.
 //!
 //! A moment is named by a clock id of the server, by a named cursor or by a second. This crate
-//! prints and
-//! reads these texts and says what bound each sets. It keeps no cursors and knows no view.
+//! prints and reads these texts and says what bound each sets. It keeps no cursors and knows no
+//! view.
 #![tactic(auto)]
 
 mod bound;

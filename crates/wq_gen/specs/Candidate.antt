@@ -11,6 +11,7 @@ use Rattle.wq_base.specs.Compare.{is_suffix}
 use Rattle.wq_base.specs.Directory.{rest_below}
 use Rattle.wq_base.specs.Name.{suffix_of}
 use Rattle.wq_base.specs.declared.compare.Case.TheVariants.{Exact}
+use Rattle.wq_clock.specs.Bound.{is_fresh}
 use Rattle.wq_clock.specs.declared.bound.Bound.{Bound}
 use Rattle.wq_clock.specs.declared.bound.Bound.TheVariants.{Fresh, Tick, Second}
 use Rattle.wq_view.specs.Kind.{letter_of}
@@ -60,8 +61,7 @@ is_given generators r =
 -- whether there is a bound that is not fresh
 abbrev pub is_bounded : Option Bound → Bool
 is_bounded None = false
-is_bounded (Some Fresh) = false
-is_bounded (Some _) = true
+is_bounded (Some bound) = not (is_fresh bound)
 
 -- whether some generator is there
 abbrev pub is_any_there : Generators → Bool

@@ -11,8 +11,8 @@ use wq_base::{Table, Text};
 use wq_clock::Bound;
 use wq_view::View;
 
-/// The positions of the candidates, ascending, each once: of every record that some generator gives, and of every
-/// record where there is no generator.
+/// The positions of the candidates, ascending, each once: of every record that some generator
+/// gives, and of every record where there is no generator.
 ///
 /// With paths alone the cost follows the files at them; else every record is looked at.
 pub fn candidates(

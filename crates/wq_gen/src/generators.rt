@@ -7,10 +7,10 @@ use wq_clock::Bound;
 use wq_view::{Kind, MAX_NAME, Record};
 
 /// A depth that sets no limit.
-const ANY_DEPTH: i64 = -1;
+pub const ANY_DEPTH: i64 = -1;
 
-/// Where the candidates of a query come from. Several generators give their union, and where none is there every
-/// file is a candidate.
+/// Where the candidates of a query come from. Several generators give their union, and where none
+/// is there every file is a candidate.
 #[derive(Drop)]
 pub struct Generators {
     /// The files that changed after a tick, or at a second or later. A fresh bound is no generator.
@@ -21,13 +21,14 @@ pub struct Generators {
     pub path: Option<Table<PathGen>>,
 }
 
-/// A path, which gives the file of that name unless it is a directory, and the files strictly below it.
+/// A path, which gives the file of that name unless it is a directory, and the files strictly below
+/// it.
 #[derive(Drop)]
 pub struct PathGen {
     /// Without a slash at its end. Below the empty path lies every file.
     pub path: Text,
-    /// How many slashes may stand in what follows the path and a slash in a name; in the whole name for the empty
-    /// path. -1 is without limit.
+    /// How many slashes may stand in what follows the path and a slash in a name; in the whole name
+    /// for the empty path. -1 is without limit.
     pub depth: i64,
 }
 
@@ -45,8 +46,8 @@ fn is_bounded(since: Option<Bound>) -> bool
     ensures { result ≡ is_bounded since }
 {
     match since {
-        None | Some(Bound::Fresh) => false,
-        Some(Bound::Tick(_) | Bound::Second(_)) => true,
+        None => false,
+        Some(bound) => !bound.is_fresh(),
     }
 }
 

@@ -1,8 +1,8 @@
-//! Generators: which files of a view a query starts from. Each file that a query lists is a candidate, and the
-//! query's expression is asked of the candidates alone.
+//! Generators: which files of a view a query starts from. Each file that a query lists is a
+//! candidate, and the query's expression is asked of the candidates alone.
 //!
-//! Whether a record is a candidate is defined in `specs/Candidate.antt`, of one record by itself. What a client
-//! writes is read by others.
+//! Whether a record is a candidate is defined in `specs/Candidate.antt`, of one record by itself.
+//! What a client writes is read by others.
 #![tactic(auto)]
 
 mod candidate;
@@ -11,4 +11,4 @@ mod path;
 mod position;
 
 pub use candidate::candidates;
-pub use generators::{Generators, PathGen};
+pub use generators::{ANY_DEPTH, Generators, PathGen};

@@ -8,12 +8,13 @@ use Rattle.wq_code.specs.declared.raw.Raw.{Raw}
 use Rattle.wq_verify.specs.Typing.{IsValid}
 use Rattle.wq_compile.specs.Meaning.{AnswersMeaning}
 use Rattle.wq_eval.specs.Answer.{AnswersAreSaid, says_yes}
+use Rattle.wq_clock.specs.Bound.{is_fresh}
 use Rattle.wq_clock.specs.declared.bound.Bound.{Bound}
 use Rattle.wq_gen.specs.Candidate.{is_candidate}
 use Rattle.wq_gen.specs.declared.generators.Generators.{Generators}
 use Rattle.wq_term.specs.Expr.{ExprData, always, means}
 use Rattle.wq_term.specs.Fits.{expr_fits}
-use Rattle.wq_query.specs.Listing.{generators_of, is_fresh, is_listed, is_match, is_meant}
+use Rattle.wq_query.specs.Listing.{generators_of, is_listed, is_match, is_meant}
 use Rattle.wq_query.specs.Meaning.{SaysMeaning}
 use Rattle.wq_query.specs.Query.{PlanData}
 

@@ -1,9 +1,10 @@
 -- Which files a plan lists: one filter over the records of the view, in their order.
 -- From Watchman's documentation of file queries and of clockspecs.
-use Rattle.std.specs.Prelude.{Bool, true, false, not, ◌&&◌, ◌||◌, nat_lt, int_lt}
+use Rattle.std.specs.Prelude.{Bool, true, not, ◌&&◌, ◌||◌, nat_lt, int_lt}
 use Rattle.std.specs.Prelude.{Option, Some, None}
 use Rattle.std.specs.Prelude.{if◌then◌else◌, List, [], filter, ℕ, ◌<◌, length}
 use Rattle.std.specs.List.{All}
+use Rattle.wq_clock.specs.Bound.{is_fresh}
 use Rattle.wq_clock.specs.declared.bound.Bound.{Bound}
 use Rattle.wq_clock.specs.declared.bound.Bound.TheVariants.{Fresh, Tick, Second}
 use Rattle.wq_view.specs.RecordData.{RecordData}
@@ -13,11 +14,6 @@ use Rattle.wq_gen.specs.Candidate.{is_candidate}
 use Rattle.wq_gen.specs.declared.generators.Generators.{Generators}
 use Rattle.wq_term.specs.Expr.{ExprData, means}
 use Rattle.wq_query.specs.Query.{PlanData}
-
--- whether nothing is known to the client
-abbrev pub is_fresh : Bound → Bool
-is_fresh Fresh = true
-is_fresh _ = false
 
 -- whether the file came after the bound
 abbrev pub is_new : Bound → RecordData → Bool

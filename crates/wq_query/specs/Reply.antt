@@ -6,6 +6,7 @@ use Rattle.serde_json.specs.Data.{Members, no_members, member, put as with_membe
 use Rattle.serde_json.specs.Find.{of_integer}
 use Rattle.serde_json.specs.View.{items_of}
 use Rattle.wq_base.specs.Version.{version}
+use Rattle.wq_clock.specs.Bound.{is_fresh}
 use Rattle.wq_clock.specs.Instance.{InstanceData}
 use Rattle.wq_clock.specs.ClockText.{clock_text}
 use Rattle.wq_clock.specs.declared.bound.Bound.{Bound}
@@ -18,7 +19,7 @@ use Rattle.wq_query.specs.declared.field.Field.TheVariants.{Name, Exists, New, S
 use Rattle.wq_query.specs.declared.field.Field.TheVariants.{Cclock, Oclock, Mtime, MtimeMs}
 use Rattle.wq_query.specs.Field.{field_name}
 use Rattle.wq_query.specs.Query.{PlanData}
-use Rattle.wq_query.specs.Listing.{is_fresh, is_new, files_of}
+use Rattle.wq_query.specs.Listing.{is_new, files_of}
 
 -- what a field says of a file, at an instance
 abbrev pub field_data : InstanceData → Bound → RecordData → Field → Data

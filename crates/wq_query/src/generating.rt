@@ -10,11 +10,8 @@ use crate::fault::QueryFault;
 use serde_json::Value;
 use std::alloc::Global;
 use wq_base::{Table, Text};
-use wq_gen::PathGen;
+use wq_gen::{ANY_DEPTH, PathGen};
 use wq_term::{text, whole_number, without_end_slashes};
-
-/// The depth of a path that is a bare text: without limit.
-const ANY_DEPTH: i64 = -1;
 
 /// The suffixes, if the key is there: a text, or a list of texts.
 pub(crate) fn suffixes(

@@ -2,7 +2,7 @@
 ghost use Rattle.std.specs.Prelude.{◌≡◌, IfOk, filter};
 ghost use Rattle.wq_view.specs.Position.{passes_at, positions_of, records_at};
 ghost use Rattle.wq_query.specs.Listing.{AreWithin, files_of, generators_of};
-ghost use Rattle.wq_query.specs.Listing.{lists_nothing, is_fresh, is_listed, is_match, is_new};
+ghost use Rattle.wq_query.specs.Listing.{lists_nothing, is_listed, is_match, is_new};
 ghost use Rattle.wq_query.specs.Query.{planned};
 
 use crate::query::Plan;
@@ -34,7 +34,7 @@ fn listed_places(alloc: Global, plan: &Plan, view: &View) -> Result<Vec<u32>, Al
 {
     positions_are_there();
     let places = matching(alloc, plan, view)?;
-    if is_fresh(plan.bound) {
+    if plan.bound.is_fresh() {
         existing(alloc, view, &places)
     } else {
         Ok(places)
@@ -77,16 +77,6 @@ fn existing(alloc: Global, view: &View, places: &[u32]) -> Result<Vec<u32>, Allo
     Ok(kept)
 }
 
-/// Whether the client knows nothing.
-pub(crate) fn is_fresh(bound: Bound) -> bool
-    ensures { result ≡ is_fresh bound }
-{
-    match bound {
-        Bound::Fresh => true,
-        Bound::Tick(_) | Bound::Second(_) => false,
-    }
-}
-
 /// Whether the file came after the bound.
 pub(crate) fn is_new(bound: Bound, file: &Record) -> bool
     ensures { result ≡ is_new bound file.now }
@@ -102,5 +92,5 @@ pub(crate) fn is_new(bound: Bound, file: &Record) -> bool
 pub(crate) fn is_empty(plan: &Plan) -> bool
     ensures { result ≡ lists_nothing (planned plan.now) }
 {
-    is_fresh(plan.bound) && plan.query.empty_on_fresh_instance
+    plan.bound.is_fresh() && plan.query.empty_on_fresh_instance
 }

@@ -6,9 +6,10 @@ ghost use Rattle.json.specs.Token.{boolean as boolean_token, string as string_to
 ghost use Rattle.serde_json.specs.Data.{array, object, string};
 ghost use Rattle.serde_json.specs.View.{items_of};
 ghost use Rattle.wq_base.specs.Version.{version};
+ghost use Rattle.wq_clock.specs.Bound.{is_fresh};
 ghost use Rattle.wq_clock.specs.Instance.{instance_data};
 ghost use Rattle.wq_view.specs.Kind.{letter_of};
-ghost use Rattle.wq_query.specs.Listing.{AreWithin, files_of, is_fresh};
+ghost use Rattle.wq_query.specs.Listing.{AreWithin, files_of};
 ghost use Rattle.wq_view.specs.Position.{records_at};
 ghost use Rattle.wq_query.specs.Printing.{Appends, IsFormOf, Prints, members_of, told};
 ghost use Rattle.wq_query.specs.Query.{planned};
@@ -16,7 +17,7 @@ ghost use Rattle.wq_query.specs.Reply.{field_data, reply_of};
 
 use crate::field::Field;
 use crate::form::Form;
-use crate::listing::{is_fresh, is_new};
+use crate::listing::is_new;
 use crate::query::Plan;
 use json::Writer;
 use std::alloc::AllocError;
@@ -77,7 +78,7 @@ fn print_end(out: &mut Writer, bound: Bound) -> Result<(), AllocError>
         (key (codes "is_fresh_instance") ∷ boolean_token (is_fresh bound)
         ∷ key (codes "version") ∷ string_token version ∷ end_object ∷ []) }
 {
-    print_flag(out, "is_fresh_instance", is_fresh(bound))?;
+    print_flag(out, "is_fresh_instance", bound.is_fresh())?;
     print_text(out, "version", VERSION)?;
     out.end_object()
 }

@@ -13,7 +13,7 @@ ghost use Rattle.wq_query.specs.Reply.{field_data, file_data, reply_of};
 
 use crate::field::Field;
 use crate::form::Form;
-use crate::listing::{is_fresh, is_new, listed};
+use crate::listing::{is_new, listed};
 use crate::printing::print_reply;
 use crate::query::Plan;
 use crate::room::room_of;
@@ -41,7 +41,7 @@ pub fn answer(
     json!(in alloc; {
         "clock": clock.as_str(),
         "files": files,
-        "is_fresh_instance": is_fresh(plan.bound),
+        "is_fresh_instance": plan.bound.is_fresh(),
         "version": VERSION,
     })
 }
@@ -59,10 +59,21 @@ pub fn answer_bytes(
     let places = listed(alloc, plan, view)?;
     let form = Form::of(alloc, &plan.query.fields)?;
     let room = room_of(instance, view, &places, &form);
-    let mut out = Writer::new(Vec::with_capacity(alloc, room)?);
+    let mut out = Writer::new(with_room(alloc, room));
     print_reply(&mut out, plan, instance, view, &places, &form)?;
     let text = out.into_inner();
     Ok(text)
+}
+
+/// No bytes yet, with room for so many. Where that much is refused there is no room, and the bytes
+/// grow.
+fn with_room(alloc: Global, room: usize) -> Vec<u8>
+    ensures { result.items ≡ [] }
+{
+    match Vec::with_capacity(alloc, room) {
+        Ok(bytes) => bytes,
+        Err(_) => Vec::new(alloc),
+    }
 }
 
 /// What the plan tells of the files at these places.

@@ -13,5 +13,5 @@ returns c =
     let reply = reply_of (planned c.args.plan.now) (instance_data c.args.instance.now) c.args.view.now in
     text-of c.into_inner-text.result.items c.print_reply.new.out.before c.print_reply.new.out.tokens reply
     c.into_inner-text.ensures.items
-    (c.in_ok-print_reply.ensures.0 ∙ c.new-out.ensures.before ∙ c.in_ok-with_capacity.ensures.items)
+    (c.in_ok-print_reply.ensures.0 ∙ c.new-out.ensures.before ∙ c.with_room.ensures)
     (c.in_ok-print_reply.ensures.1 ∙ ap (λ ts. ts ++ json_tokens (outline reply)) c.new-out.ensures.tokens)
