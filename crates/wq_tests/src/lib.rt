@@ -1,5 +1,6 @@
-//! Tests of what no script and no case shows: devices that fail, limits of a million, shared names, and calls that no
-//! program makes. Worked examples are data: `tests/scripts`, and the standard input of `wq_cases`.
+//! Tests of what no script and no case shows: devices that fail, limits of a million, shared names,
+//! and calls that no program makes. Worked examples are data: `tests/scripts`, and the standard
+//! input of `wq_cases`.
 #![tactic(auto)]
 
 #[cfg(test)]
@@ -10,6 +11,8 @@ mod fault;
 mod limit;
 #[cfg(test)]
 mod pattern;
+#[cfg(test)]
+mod program;
 #[cfg(test)]
 mod query;
 #[cfg(test)]

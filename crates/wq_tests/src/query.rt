@@ -1,5 +1,5 @@
-//! Queries as they are read: their bound or cursor, their expression or program, and their fields; and
-//! a reply as a value.
+//! Queries as they are read: their bound or cursor, their expression or program, and their fields;
+//! and a reply as a value.
 
 use crate::tree::pass;
 use serde_json::Value;

@@ -9,7 +9,8 @@ use std::test::Fail;
 use wq_glob::Flags;
 use wq_term::{Expr, Since, holds, read_expr};
 
-/// Asserts that a term is a pattern with the text `A/**`, and with these flags in the order of [`Flags`].
+/// Asserts that a term is a pattern with the text `A/**`, and with these flags in the order of
+/// [`Flags`].
 fn check_flags(rt: &impl Abort, alloc: Global, rows: &[(&str, [bool; 4])]) -> Result<(), Fail> {
     for (text, flags) in rows {
         let value = Value::from_str(alloc, text)?;
@@ -64,7 +65,8 @@ fn match_keeps_its_pattern_and_flags(rt: HostRuntime) -> Result<(), Fail> {
     )
 }
 
-/// Asserts that a file of this time, in milliseconds, was modified after the first second and not after the next.
+/// Asserts that a file of this time, in milliseconds, was modified after the first second and not
+/// after the next.
 fn check_seconds(rt: &impl Abort, alloc: Global, rows: &[(i64, i64, i64)]) -> Result<(), Fail> {
     for (mtime_ms, before, second) in rows {
         let view = view_of_one(alloc, *mtime_ms)?;

@@ -19,7 +19,8 @@ fn sharing_pass(alloc: Global, name: &ArcSlice<u8>, size: i64) -> Result<Pass, F
     Ok(Pass::new(only(alloc, row)?, size)?)
 }
 
-/// A name's bytes are kept once: beside their first owner a pass and a view own them, and then the view alone.
+/// A name's bytes are kept once: beside their first owner a pass and a view own them, and then the
+/// view alone.
 #[test]
 fn a_view_keeps_each_name_once(rt: HostRuntime) -> Result<(), Fail> {
     let name = ArcSlice::from_slice(rt.alloc(), b"src/a.c")?;
@@ -57,7 +58,8 @@ fn first_name(view: &View) -> Result<Name, Fail> {
     Ok(record.name.copy()?)
 }
 
-/// A copy of a view keeps the name when the view is gone, and a copy of its name is the same bytes again.
+/// A copy of a view keeps the name when the view is gone, and a copy of its name is the same bytes
+/// again.
 #[test]
 fn a_copied_name_is_shared(rt: HostRuntime) -> Result<(), Fail> {
     let name = ArcSlice::from_slice(rt.alloc(), b"src/a.c")?;
@@ -169,7 +171,8 @@ fn check_too_many(rt: &impl Abort, alloc: Global, table: &[(&[u8], i64, i64)]) -
     Ok(())
 }
 
-/// Too many rows are told before a name that stands twice, a name that is not valid, a size and a second out of range.
+/// Too many rows are told before a name that stands twice, a name that is not valid, a size and a
+/// second out of range.
 #[test]
 fn tells_a_row_too_many_first(rt: HostRuntime) -> Result<(), Fail> {
     check_too_many(

@@ -12,7 +12,8 @@ use wq_session::{Ask, CrawlFault};
 use wq_stream::Event;
 use wq_view::Pass;
 
-/// What happens. A root and a client's line are texts, and what a root lists is one of the trees below.
+/// What happens. A root and a client's line are texts, and what a root lists is one of the trees
+/// below.
 #[derive(Clone, Copy)]
 enum Step {
     Crawl(&'static str, Result<usize, CrawlFault>),
@@ -123,7 +124,8 @@ fn seen(trees: &[Pass], tree: Result<usize, CrawlFault>) -> Result<&Pass, CrawlF
     }
 }
 
-/// Of each reply the client's number, a space, the text and a newline, with `!` before a reply by which the server ends.
+/// Of each reply the client's number, a space, the text and a newline, with `!` before a reply by
+/// which the server ends.
 fn shown(alloc: Global, sent: &[Sent]) -> Result<Vec<u8>, AllocError> {
     let mut written = Vec::new(alloc);
     for reply in sent {
@@ -151,7 +153,8 @@ fn check(rt: &impl Abort, alloc: Global, steps: &[Step], want: &str) -> Result<(
     Ok(())
 }
 
-/// What a crawl saw is shown from then on, to a line that synchronises and to one that does not wait for a crawl.
+/// What a crawl saw is shown from then on, to a line that synchronises and to one that does not
+/// wait for a crawl.
 #[test]
 fn a_crawl_is_seen_by_each_line_behind_it(rt: HostRuntime) -> Result<(), Fail> {
     check(
@@ -174,7 +177,8 @@ fn a_crawl_is_seen_by_each_line_behind_it(rt: HostRuntime) -> Result<(), Fail> {
     )
 }
 
-/// A line that synchronises is refused as the crawl before it was; then that is forgotten, and the view is as before.
+/// A line that synchronises is refused as the crawl before it was; then that is forgotten, and the
+/// view is as before.
 #[test]
 fn a_refused_crawl_refuses_the_line_behind_it(rt: HostRuntime) -> Result<(), Fail> {
     check(
@@ -197,7 +201,8 @@ fn a_refused_crawl_refuses_the_line_behind_it(rt: HostRuntime) -> Result<(), Fai
     )
 }
 
-/// One that does not wait for a crawl is answered at the passes so far; and any other line stands between.
+/// One that does not wait for a crawl is answered at the passes so far; and any other line stands
+/// between.
 #[test]
 fn a_refused_crawl_refuses_no_other_line(rt: HostRuntime) -> Result<(), Fail> {
     check(
@@ -235,8 +240,8 @@ fn a_line_behind_the_end_of_the_server_is_answered(rt: HostRuntime) -> Result<()
     )
 }
 
-/// A session ends by a line that is too long, and where its client has gone, which is sent nothing. A later line of the
-/// same number is that of a new session.
+/// A session ends by a line that is too long, and where its client has gone, which is sent nothing.
+/// A later line of the same number is that of a new session.
 #[test]
 fn a_line_behind_the_end_of_a_session_begins_another(rt: HostRuntime) -> Result<(), Fail> {
     check(
