@@ -1,11 +1,13 @@
 //! Roots that one session has for itself.
 ghost use Rattle.std.specs.Prelude.{◌≡◌};
 
-use crate::crawler::{Crawler, Seconds};
+use crate::crawler::Crawler;
+use crate::fault::CrawlFault;
 use crate::roots::Roots;
+use crate::seconds::Seconds;
+use crate::tree::Tree;
 use std::sync::Wait;
-use wq_live::{Named, Told, Tree};
-use wq_session::CrawlFault;
+use wq_live::{Named, Told};
 
 /// Roots over a crawler that nothing else has. They show it.
 #[derive(Drop)]

@@ -2,8 +2,8 @@
 -- No public document is behind it.
 use Rattle.std.specs.Prelude.{◌≡◌, ℕ, List, Option, Some, None, Result}
 use Rattle.wq_live.specs.declared.event.RootEvent.{RootEvent}
-use Rattle.wq_session.specs.declared.crawl.CrawlFault.{CrawlFault}
-use Rattle.wq_serve.specs.Crawl.{CrawlerData, Crawled, Watched, Unwatched, tells}
+use Rattle.wq_crawl.specs.declared.fault.CrawlFault.{CrawlFault}
+use Rattle.wq_crawl.specs.Crawl.{CrawlerData, Crawled, Watched, Unwatched, tells}
 
 -- what a session asks of the roots
 pub data RootRequestData : Type 0 where

@@ -1,11 +1,12 @@
 -- What comes of a root that was listed and then published.
 use Rattle.std.proofs.Common.{◌≡◌, ℕ, List, Result, Ok, Err, MatchResult, inr, sym, ap, subst, ◌∙◌}
-use Rattle.wq_live.specs.Device.{Gave}
+use Rattle.wq_crawl.specs.Device.{Gave}
 use Rattle.wq_live.specs.declared.event.RootEvent.{RootEvent}
 use Rattle.wq_view.specs.Listing.{PassData}
-use Rattle.wq_session.specs.declared.crawl.CrawlFault.{CrawlFault}
-use Rattle.wq_session.specs.declared.crawl.CrawlFault.TheVariants.{NoMemory}
-use Rattle.wq_serve.specs.Crawl.{Began, CrawledAt, CrawlerData, IsNotTakenIn, IsOfRows, IsPassOver, Passes, with_start}
+use Rattle.wq_crawl.specs.declared.fault.CrawlFault.{CrawlFault}
+use Rattle.wq_crawl.specs.declared.fault.CrawlFault.TheVariants.{NoMemory}
+use Rattle.wq_crawl.specs.Crawl.{Began, CrawledAt, CrawlerData, IsOfRows, IsPassOver}
+use Rattle.wq_crawl.specs.Publish.{IsNotTakenIn, Passes, with_start}
 
 module _ (text : List ℕ) (before mid after : CrawlerData) (pass : PassData) where
   -- a pass over a root stays one where nothing more is listed, and the clock is not asked again

@@ -1,6 +1,6 @@
 -- The root was listed, and started with the pass of what was listed.
-use Rattle.wq_serve.proofs.Crawling.{began}
-use Rattle.wq_serve.proofs.crawler.Crawler.begin.Goals as goal
+use Rattle.wq_crawl.proofs.Crawling.{began}
+use Rattle.wq_crawl.proofs.crawler.Crawler.begin.Goals as goal
 
 pub returns : goal.returns
 returns g c =

@@ -1,12 +1,13 @@
 //! Roots that many sessions share.
 ghost use Rattle.std.specs.Prelude.{◌≡◌};
 
-use crate::crawler::Seconds;
+use crate::fault::CrawlFault;
 use crate::roots::Roots;
+use crate::seconds::Seconds;
 use crate::shared_crawler::SharedCrawler;
+use crate::tree::Tree;
 use std::sync::{Arc, Wait};
-use wq_live::{Named, Told, Tree};
-use wq_session::CrawlFault;
+use wq_live::{Named, Told};
 
 /// Roots over a crawler that threads share. They show no crawler.
 #[derive(Drop)]

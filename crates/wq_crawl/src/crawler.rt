@@ -1,33 +1,20 @@
 //! What lists roots and publishes what is seen: a tree, a clock and a publisher, of which one crawl after the other
 //! takes hold.
 ghost use Rattle.std.specs.Prelude.{◌≡◌, ◌≢◌, ◌⊎◌, ◌↔◌, Err, IfErr, IfOk, IsTrue, MatchResult, None};
-ghost use Rattle.wq_live.specs.Tree.{IsCounted, Lists, rows_given};
-ghost use Rattle.wq_serve.specs.Crawl.{Began, Crawled, CrawledAt, IsFull, IsNoPassOver, IsNotTakenIn, IsPassOver};
-ghost use Rattle.wq_serve.specs.Crawl.{Watched, Passes, Unwatched, Shared, number_of, with_start};
+ghost use Rattle.wq_crawl.specs.Tree.{IsCounted, Lists, rows_given};
+ghost use Rattle.wq_crawl.specs.Crawl.{Began, Crawled, CrawledAt, IsNoPassOver, IsPassOver};
+ghost use Rattle.wq_crawl.specs.Crawl.{Shared, Unwatched, Watched};
+ghost use Rattle.wq_crawl.specs.Publish.{IsFull, IsNotTakenIn, Passes, number_of, with_start};
 
-use crate::faults::{no_pass, not_listed};
+use crate::fault::{CrawlFault, no_pass, not_listed};
+use crate::seconds::Seconds;
+use crate::tree::{Tree, TreeFault};
 use std::alloc::AllocError;
 use std::marker::Model;
 use std::sync::Wait;
 use wq_base::{MAX_NUMBER, MAX_ROOTS};
-use wq_live::{Named, Publisher, Seat, StartFault, Told, Tree, TreeFault};
-use wq_session::CrawlFault;
+use wq_live::{Named, Publisher, Seat, StartFault, Told};
 use wq_view::{Pass, Seen, ViewFault};
-
-/// What tells the second of a pass.
-///
-/// It may show what it told last, and how often it told something.
-pub trait Seconds {
-    ghost use Rattle.std.specs.Prelude.{ℕ, ℤ, Option, None};
-    ghost use Rattle.wq_live.specs.Device.{Gave};
-
-    // How often it told something so far, and the second that it told last, where it shows that.
-    ghost told: { Self → Option (ℕ × ℤ) } = { λ _. None };
-
-    /// The second of the Unix epoch, as it is now.
-    fn second(&mut self) -> i64
-        ensures { Gave (told self.old) result (told self.new) };
-}
 
 /// Lists roots, and publishes what is seen. Contracts see the list of events that is published, and what the tree and the
 /// clock show of themselves.
@@ -39,7 +26,7 @@ pub struct Crawler<N: Named, R: Wait + Drop, T: Tree + Drop, S: Seconds + Drop> 
 }
 
 impl<N: Named, R: Wait + Drop, T: Tree + Drop, S: Seconds + Drop> Model for Crawler<N, R, T, S> {
-    ghost use Rattle.wq_serve.specs.Crawl.{CrawlerData, crawler_code};
+    ghost use Rattle.wq_crawl.specs.Crawl.{CrawlerData, crawler_code};
 
     ghost Value = { CrawlerData };
 

@@ -1,8 +1,8 @@
 //! The machine's clock, which tells the second of a pass.
 
+use crate::seconds::Seconds;
 use std::time::{Clock, SystemTime, UNIX_EPOCH};
 use wq_base::MAX_NUMBER;
-use wq_serve::Seconds;
 
 /// The seconds of the Unix epoch by the machine's clock, which never fall: where it was set back, cannot be read or stands before
 /// the epoch, the last second that it told is told again. So who asks what changed since a second may be told too much, and

@@ -3,18 +3,20 @@ ghost use Rattle.std.specs.Prelude.{◌≡◌, ◌⊎◌, None, nat_eq, nat_le, 
 ghost use Rattle.std.specs.Option.{option_map_or};
 ghost use Rattle.lru.specs.LruCache.{lru_cache, put_entries};
 ghost use Rattle.std.specs.Map.{lookup};
-ghost use Rattle.wq_serve.specs.Crawl.{CrawledAt, CrawledOnce, tells};
-ghost use Rattle.wq_serve.specs.Roots.{RootsGive, ending, passing, showing};
+ghost use Rattle.wq_crawl.specs.Crawl.{CrawledAt, CrawledOnce, tells};
+ghost use Rattle.wq_crawl.specs.Roots.{RootsGive, ending, passing, showing};
 
-use crate::crawler::{Crawler, Seconds};
+use crate::crawler::Crawler;
+use crate::fault::CrawlFault;
+use crate::seconds::Seconds;
+use crate::tree::Tree;
 use lru::LruCache;
 use std::alloc::{AllocError, Global};
 use std::num::NonZeroUsize;
 use std::sync::atomic::{AtomicU64, Ordering};
 use std::sync::{Mutex, Wait};
 use wq_base::MAX_ROOTS;
-use wq_live::{Named, Told, Tree};
-use wq_session::CrawlFault;
+use wq_live::{Named, Told};
 
 /// A crawler that threads share. Each call waits until it has the crawler for itself.
 #[derive(Drop)]

@@ -1,6 +1,6 @@
 -- The root was listed, and the pass of what was listed was published.
-use Rattle.wq_serve.proofs.Crawling.{crawled_at}
-use Rattle.wq_serve.proofs.crawler.Crawler.crawl_at.Goals as goal
+use Rattle.wq_crawl.proofs.Crawling.{crawled_at}
+use Rattle.wq_crawl.proofs.crawler.Crawler.crawl_at.Goals as goal
 
 pub returns : goal.returns
 returns g c =

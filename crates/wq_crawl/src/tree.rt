@@ -1,6 +1,6 @@
 //! What lists the files below a root. How a tree is walked is not said here.
 ghost use Rattle.std.specs.Prelude.{◌≡◌, IfErr};
-ghost use Rattle.wq_live.specs.Tree.{IsCounted, Lists, rows_given};
+ghost use Rattle.wq_crawl.specs.Tree.{IsCounted, Lists, rows_given};
 
 use std::alloc::AllocError;
 use thiserror::Error;
@@ -22,7 +22,7 @@ pub enum TreeFault {
 
 impl From<AllocError> for TreeFault {
     ghost use Rattle.std.specs.Prelude.{◌≡◌};
-    ghost use Rattle.wq_live.specs.declared.tree.TreeFault.TheVariants.{NoMemory};
+    ghost use Rattle.wq_crawl.specs.declared.tree.TreeFault.TheVariants.{NoMemory};
 
     ghost from_gives = { λ _ fault. fault ≡ NoMemory };
 
@@ -36,7 +36,7 @@ impl From<AllocError> for TreeFault {
 /// It may show what it listed last, and how often it listed something.
 pub trait Tree {
     ghost use Rattle.std.specs.Prelude.{ℕ, Option, None};
-    ghost use Rattle.wq_live.specs.Tree.{ListedData};
+    ghost use Rattle.wq_crawl.specs.Tree.{ListedData};
 
     // How often its device failed so far.
     ghost failed: { Self → ℕ };

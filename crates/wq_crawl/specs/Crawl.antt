@@ -1,32 +1,27 @@
--- What crawling, watch and retiring a root make of the one list of events of all roots, and why
--- they are refused.
+-- What crawling, watching and unwatching a root does, what it makes of the list of events, and why
+-- it is refused.
 -- No public document is behind it.
-use Rattle.std.specs.Prelude.{◌≡◌, ◌≤◌, ◌⊎◌, ◌+◌, true, false, ℕ, ℤ, refl}
-use Rattle.std.specs.Prelude.{List, [], ◌∷◌, ◌++◌, length}
-use Rattle.std.specs.Prelude.{Option, Some, None, IsSome, Result, Ok, Err, option_map}
+use Rattle.std.specs.Prelude.{◌≡◌, ◌≤◌, ◌⊎◌, ℕ, ℤ, refl, List}
+use Rattle.std.specs.Prelude.{Option, Some, None, IsSome, Result, Ok, Err}
 use Rattle.std.specs.Coded.{Coded, code_by, coded×, coded_ℕ, coded_ℤ, coded_option}
-use Rattle.wq_base.specs.Limit.{max_number, max_roots}
 use Rattle.wq_view.specs.Listing.{PassData, listing_fault, listing_of}
 use Rattle.wq_view.specs.Seen.{SeenData}
 use Rattle.wq_view.specs.declared.listing.PassFault.{PassFault}
 use Rattle.wq_view.specs.declared.listing.PassFault.TheVariants.{BadName, NameTwice, TooManyRows}
 use Rattle.wq_view.specs.declared.listing.PassFault.TheVariants.{OutOfRange}
 use Rattle.wq_view.specs.declared.listing.PassFault.TheVariants.{NoMemory as NoPassMemory}
-use Rattle.wq_live.specs.Device.{Gave}
-use Rattle.wq_live.specs.Event.{is_shown, shown_root, shown, start_events, started}
 use Rattle.wq_live.specs.Log.{events_code}
-use Rattle.wq_live.specs.Table.{IsNews, IsNoNews, WantsForTicks}
-use Rattle.wq_live.specs.Tree.{IsCounted, ListedData, Lists, listed_code}
 use Rattle.wq_live.specs.declared.event.RootEvent.{RootEvent}
-use Rattle.wq_live.specs.declared.event.RootEvent.TheVariants.{Ended, Passed}
-use Rattle.wq_live.specs.declared.tree.TreeFault.{TreeFault}
-use Rattle.wq_live.specs.declared.tree.TreeFault.TheVariants.{Unreadable as UnreadableTree}
-use Rattle.wq_live.specs.declared.tree.TreeFault.TheVariants.{TooManyRows as TooManyTreeRows}
-use Rattle.wq_live.specs.declared.tree.TreeFault.TheVariants.{NoMemory as NoTreeMemory}
-use Rattle.wq_session.specs.declared.crawl.CrawlFault.{CrawlFault}
-use Rattle.wq_session.specs.declared.crawl.CrawlFault.TheVariants.{Unreadable, TooManyFiles}
-use Rattle.wq_session.specs.declared.crawl.CrawlFault.TheVariants.{TooManyRoots, TicksSpent}
-use Rattle.wq_session.specs.declared.crawl.CrawlFault.TheVariants.{NoMemory}
+use Rattle.wq_crawl.specs.Device.{Gave}
+use Rattle.wq_crawl.specs.Publish.{Ends, IsFull, IsNotTakenIn, Passes, number_of, with_start}
+use Rattle.wq_crawl.specs.Tree.{IsCounted, ListedData, Lists, listed_code}
+use Rattle.wq_crawl.specs.declared.tree.TreeFault.{TreeFault}
+use Rattle.wq_crawl.specs.declared.tree.TreeFault.TheVariants.{Unreadable as UnreadableTree}
+use Rattle.wq_crawl.specs.declared.tree.TreeFault.TheVariants.{TooManyRows as TooManyTreeRows}
+use Rattle.wq_crawl.specs.declared.tree.TreeFault.TheVariants.{NoMemory as NoTreeMemory}
+use Rattle.wq_crawl.specs.declared.fault.CrawlFault.{CrawlFault}
+use Rattle.wq_crawl.specs.declared.fault.CrawlFault.TheVariants.{Unreadable, TooManyFiles}
+use Rattle.wq_crawl.specs.declared.fault.CrawlFault.TheVariants.{TooManyRoots, NoMemory}
 
 -- what a crawler shows: the list of events that is published, what its clock told last and how often
 -- it told something, the same of what its tree listed, where they are shown, and how often its tree
@@ -66,20 +61,6 @@ no_pass OutOfRange = Unreadable
 no_pass TooManyRows = TooManyFiles
 no_pass NoPassMemory = NoMemory
 
--- no more root can be started: as many are shown as may be, or the last number was given
-abbrev pub IsFull : List RootEvent → Type 0
-IsFull events = (length (shown events) ≡ max_roots) ⊎ (length (started events) ≡ max_number)
-
--- the number of the root of this text, where it is shown
-abbrev pub number_of : List ℕ → List RootEvent → Option ℕ
-number_of text events = option_map (λ root. root.number) (shown_root text events)
-
--- a pass over the root of this number is added, unless it tells nothing
-abbrev pub Passes : List RootEvent → ℕ → PassData → List RootEvent → Type 0
-Passes before number pass after =
-    (IsNoNews before number pass × (after ≡ before))
-    ⊎ (IsNews before number pass × (after ≡ before ++ Passed number pass ∷ []))
-
 -- a pass is of the rows that the tree gave of a root, where it shows what it gives
 abbrev pub IsOfRows : Option (ℕ × ListedData) → List ℕ → PassData → Option (ℕ × ListedData)
     → Type 0
@@ -104,12 +85,6 @@ IsNoPassOver text before fault after =
     ⊎ ((rows : List SeenData) × (second : ℤ) × (why : PassFault)
     × Lists before.listed text (Ok rows) after.listed × Gave before.clock second after.clock
     × (listing_fault rows second ≡ Some why) × (fault ≡ no_pass why))
-
--- why a pass over a root is not published: it wants for ticks; or it does not, and memory ran out
-abbrev pub IsNotTakenIn : List RootEvent → ℕ → PassData → CrawlFault → Type 0
-IsNotTakenIn events number pass fault =
-    ((fault ≡ TicksSpent) × WantsForTicks events number pass)
-    ⊎ ((fault ≡ NoMemory) × (WantsForTicks events number pass → ⊥))
 
 -- a root that is shown was crawled: it was listed, and a pass over it is added, unless that tells
 -- nothing, and the list is told; where it is refused, nothing is added
@@ -138,10 +113,6 @@ Crawled text before result after =
     × (number_of text before.events ≡ Some number) × (result ≡ tells answer)
     × CrawledAt number text before answer after)
 
--- the list with the start of a root, by this pass
-abbrev pub with_start : List ℕ → PassData → List RootEvent → List RootEvent
-with_start text pass events = events ++ start_events (length (started events) + 1) text pass
-
 -- the list is told as it is, unless memory is wanted for that
 abbrev pub Shared : CrawlerData → Result (List RootEvent) CrawlFault → CrawlerData → Type 0
 Shared before (Ok told) after = (told ≡ before.events) × (after ≡ before)
@@ -164,21 +135,19 @@ BeganIfRoom text before result after =
     (IsFull before.events × (result ≡ Err TooManyRoots) × (after ≡ before))
     ⊎ ((IsFull before.events → ⊥) × Began text before result after)
 
--- a root was opened: of one that is shown the list is told, and any other was started
+-- a root was watched: of one that is shown the list is told, and any other was started
 abbrev pub Watched : List ℕ → CrawlerData → Result (List RootEvent) CrawlFault → CrawlerData
     → Type 0
 Watched text before result after =
     (IsSome (number_of text before.events) × Shared before result after)
     ⊎ ((number_of text before.events ≡ None) × BeganIfRoom text before result after)
 
--- a root was retired by its number: its end is added where it is shown, and the list is told; where
--- it is refused, nothing is added
+-- a root was unwatched by its number: its end is added where it is shown, and the list is told;
+-- where it is refused, nothing is added
 abbrev pub Unwatched : ℕ → CrawlerData → Result (List RootEvent) CrawlFault → CrawlerData → Type 0
 Unwatched number before (Ok told) after =
-    (told ≡ after.events)
-    × (((is_shown before.events number ≡ false) × (after ≡ before))
-    ⊎ ((is_shown before.events number ≡ true)
-    × (after ≡ record before { events = before.events ++ Ended number ∷ [] })))
+    (told ≡ after.events) × Ends before.events number after.events
+    × (after ≡ record before { events = after.events })
 Unwatched number before (Err fault) after = (fault ≡ NoMemory) × (after ≡ before)
 
 -- a root was crawled for a thread that had read this count of crawls: by a crawl; or by none, where

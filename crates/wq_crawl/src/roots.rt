@@ -1,16 +1,16 @@
-//! What crawls, opens and retires roots for a session.
-ghost use Rattle.wq_serve.specs.Crawl.{tells};
-ghost use Rattle.wq_serve.specs.Roots.{RootsGive, ending, passing, showing};
+//! What crawls, watches and unwatches roots for a session.
+ghost use Rattle.wq_crawl.specs.Crawl.{tells};
+ghost use Rattle.wq_crawl.specs.Roots.{RootsGive, ending, passing, showing};
 
+use crate::fault::CrawlFault;
 use wq_live::{Named, Told};
-use wq_session::CrawlFault;
 
-/// What crawls, opens and retires roots, and publishes what comes of it.
+/// What crawls, watches and unwatches roots, and publishes what comes of it.
 ///
 /// It may show the crawler that it goes by. What is refused adds nothing to the list of events.
 pub trait Roots<N: Named> {
     ghost use Rattle.std.specs.Prelude.{Option};
-    ghost use Rattle.wq_serve.specs.Crawl.{CrawlerData};
+    ghost use Rattle.wq_crawl.specs.Crawl.{CrawlerData};
 
     // The crawler, where it is shown.
     ghost crawler: { Self → Option CrawlerData };

@@ -4,9 +4,9 @@ use Rattle.wq_live.specs.Event.{passes_over}
 use Rattle.wq_live.specs.declared.event.RootEvent.{RootEvent}
 use Rattle.wq_view.specs.History.{last_stats}
 use Rattle.wq_view.specs.Listing.{PassData}
-use Rattle.wq_session.specs.declared.crawl.CrawlFault.{CrawlFault}
-use Rattle.wq_serve.specs.Crawl.{CrawledAt, CrawledOnce, CrawlerData, Shared}
-use Rattle.wq_serve.specs.Roots.{RootsGive, passing}
+use Rattle.wq_crawl.specs.declared.fault.CrawlFault.{CrawlFault}
+use Rattle.wq_crawl.specs.Crawl.{CrawledAt, CrawledOnce, CrawlerData, Shared}
+use Rattle.wq_crawl.specs.Roots.{RootsGive, passing}
 
 -- a crawler with this list, whose tree and clock show nothing
 abbrev plain : List RootEvent → CrawlerData

@@ -5,10 +5,10 @@ use Rattle.std.specs.Prelude.{Vec, refl}
 use Rattle.std.specs.Coded.{Coded, code_by, coded×, coded_ℕ, coded_list, coded_result}
 use Rattle.std.specs.declared.alloc.Global.{Global}
 use Rattle.wq_view.specs.Seen.{SeenData, Stat, entry_of, stat_code}
-use Rattle.wq_live.specs.Device.{Gave}
-use Rattle.wq_live.specs.contracts.tree.TreeFault.{the_row}
-use Rattle.wq_live.specs.declared.tree.TreeFault.{TreeFault}
-use Rattle.wq_live.specs.declared.tree.TreeFault.TheVariants.{Unreadable}
+use Rattle.wq_crawl.specs.Device.{Gave}
+use Rattle.wq_crawl.specs.contracts.tree.TreeFault.{the_row}
+use Rattle.wq_crawl.specs.declared.tree.TreeFault.{TreeFault}
+use Rattle.wq_crawl.specs.declared.tree.TreeFault.TheVariants.{Unreadable}
 
 -- the greatest count of failures that can be told
 abbrev pub max_count : ℕ

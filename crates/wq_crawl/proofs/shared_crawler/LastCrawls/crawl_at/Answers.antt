@@ -1,7 +1,7 @@
 -- What was kept of the crawl leaves the crawler as the crawl left it.
 use Rattle.std.proofs.Common.{Ok, sym, subst}
-use Rattle.wq_serve.specs.Crawl.{CrawledAt}
-use Rattle.wq_serve.proofs.shared_crawler.LastCrawls.crawl_at.Goals as goal
+use Rattle.wq_crawl.specs.Crawl.{CrawledAt}
+use Rattle.wq_crawl.proofs.shared_crawler.LastCrawls.crawl_at.Goals as goal
 
 pub returns : goal.returns
 returns g c =
