@@ -2,3 +2,4 @@ pub mod Unsigned
 pub mod Signed
 pub mod Fault
 pub mod Named
+pub mod Fronts

@@ -7,3 +7,4 @@ pub mod Decimal
 pub mod Fault
 pub mod Table
 pub mod Version
+pub mod Writing

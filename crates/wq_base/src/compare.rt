@@ -6,11 +6,17 @@ ghost use Rattle.wq_base.specs.Compare.{compares, is_suffix, same_text};
 /// How the first of two numbers stands to the second.
 #[derive(Clone, Copy, Debug)]
 pub enum Relation {
+    /// It is equal to it.
     Eq,
+    /// It is another number.
     Ne,
+    /// It is less.
     Lt,
+    /// It is less, or equal.
     Le,
+    /// It is greater.
     Gt,
+    /// It is greater, or equal.
     Ge,
 }
 

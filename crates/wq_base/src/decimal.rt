@@ -1,5 +1,5 @@
-//! Numbers in their one decimal text: no sign but `-`, no leading zeros, and `0` without a sign. So each number has
-//! one text, and a text that was changed by hand is refused rather than guessed.
+//! Numbers in their one decimal text: no sign but `-`, no leading zeros, and `0` without a sign. So
+//! each number has one text, and a text that was changed by hand is refused rather than guessed.
 ghost use Rattle.std.specs.Prelude.{◌≡◌, ◌≤◌, IfSome};
 ghost use Rattle.wq_base.specs.Decimal.{signed_of, unsigned_of};
 

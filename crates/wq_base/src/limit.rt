@@ -1,6 +1,8 @@
-//! Limits that several crates know: of the server's numbers, said once for both kinds of them, and of roots.
+//! Limits that several crates know: of the server's numbers, said once for both kinds of them, and
+//! of roots.
 
-/// The greatest number of the protocol, 2^62: it fits signed and unsigned words and JSON's integers alike.
+/// The greatest number of the protocol, 2^62: it fits signed and unsigned words and JSON's integers
+/// alike.
 pub const MAX_NUMBER: u64 = 1 << 62;
 
 /// The same as a signed number: the greatest one either side of 0.

@@ -1,4 +1,5 @@
-//! A list in memory that contracts see as a plain list. So a definition can speak of a type that has lists in it.
+//! A list in memory that contracts see as a plain list. So a definition can speak of a type that
+//! has lists in it.
 ghost use Rattle.std.specs.Prelude.{◌≡◌, [], ◌∷◌, ◌++◌, length, OnErr, OnOk};
 
 use std::alloc::{AllocError, Global};

@@ -24,9 +24,10 @@ pub struct Raw {
 }
 
 impl Raw {
-    /// Whether the program keeps to the limits of a file: at most [`MAX_TABLE_ROWS`] rows of each table,
-    /// texts of at most [`MAX_CONSTANT_TEXT`](crate::limit::MAX_CONSTANT_TEXT) bytes and lists of at most
-    /// [`MAX_ENTRIES`](crate::limit::MAX_ENTRIES). A pattern has at most 255 bytes anyway.
+    /// Whether the program keeps to the limits of a file: at most [`MAX_TABLE_ROWS`] rows of each
+    /// table, texts of at most [`MAX_CONSTANT_TEXT`](crate::limit::MAX_CONSTANT_TEXT) bytes and
+    /// lists of at most [`MAX_ENTRIES`](crate::limit::MAX_ENTRIES). A pattern has at most 255 bytes
+    /// anyway.
     #[tactic(auto, unfolding(crate::specs::Fits::raw_fits))]
     pub fn fits(&self) -> bool
         ensures { result ≡ raw_fits self.now }

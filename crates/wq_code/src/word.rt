@@ -23,21 +23,9 @@ impl Op {
         ensures { result ≡ word_of self }
     {
         match self {
-            Op::Flag(flag) => Word {
-                op: 0x01,
-                a: flag as u8,
-                b: 0,
-            },
-            Op::Number(place) => Word {
-                op: 0x02,
-                a: 0,
-                b: place,
-            },
-            Op::Text(place) => Word {
-                op: 0x03,
-                a: 0,
-                b: place,
-            },
+            Op::Flag(flag) => with_operand(0x01, flag as u8),
+            Op::Number(place) => at_place(0x02, place),
+            Op::Text(place) => at_place(0x03, place),
             Op::WholeName => plain(0x04),
             Op::BaseName => plain(0x05),
             Op::Suffix => plain(0x06),
@@ -49,50 +37,22 @@ impl Op {
             Op::Csec => plain(0x0c),
             Op::Kind => plain(0x0d),
             Op::Exists => plain(0x0e),
-            Op::Compare(relation) => Word {
-                op: 0x10,
-                a: relation_byte(relation),
-                b: 0,
-            },
-            Op::Equal(case) => Word {
-                op: 0x11,
-                a: case_byte(case),
-                b: 0,
-            },
-            Op::Depth(case) => Word {
-                op: 0x12,
-                a: case_byte(case),
-                b: 0,
-            },
+            Op::Compare(relation) => with_operand(0x10, relation_byte(relation)),
+            Op::Equal(case) => with_operand(0x11, case_byte(case)),
+            Op::Depth(case) => with_operand(0x12, case_byte(case)),
             Op::OneOf(case, place) => Word {
                 op: 0x13,
                 a: case_byte(case),
                 b: place,
             },
-            Op::Match(place) => Word {
-                op: 0x14,
-                a: 0,
-                b: place,
-            },
+            Op::Match(place) => at_place(0x14, place),
             Op::Not => plain(0x15),
             Op::And => plain(0x16),
             Op::Or => plain(0x17),
             Op::Drop => plain(0x18),
-            Op::Jump(place) => Word {
-                op: 0x20,
-                a: 0,
-                b: place,
-            },
-            Op::JumpIfNot(place) => Word {
-                op: 0x21,
-                a: 0,
-                b: place,
-            },
-            Op::JumpIf(place) => Word {
-                op: 0x22,
-                a: 0,
-                b: place,
-            },
+            Op::Jump(place) => at_place(0x20, place),
+            Op::JumpIfNot(place) => at_place(0x21, place),
+            Op::JumpIf(place) => at_place(0x22, place),
             Op::Return => plain(0x23),
         }
     }
@@ -103,6 +63,20 @@ fn plain(op: u8) -> Word
     ensures { result ≡ record { op = op; a = 0; b = 0 } }
 {
     Word { op, a: 0, b: 0 }
+}
+
+/// An instruction with the operand `a` alone.
+fn with_operand(op: u8, a: u8) -> Word
+    ensures { result ≡ record { op = op; a = a; b = 0 } }
+{
+    Word { op, a, b: 0 }
+}
+
+/// An instruction with the operand `b` alone: the place of a constant or of an instruction.
+fn at_place(op: u8, b: u16) -> Word
+    ensures { result ≡ record { op = op; a = 0; b = b } }
+{
+    Word { op, a: 0, b }
 }
 
 fn case_byte(case: Case) -> u8
