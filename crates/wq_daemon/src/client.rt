@@ -5,12 +5,13 @@ use crate::inbox::LinkInbox;
 use crate::link::Link;
 use crate::moments::bring_moments;
 use crate::reading::read_all;
-use crate::refusal::{NO_MEMORY, refuse};
+use crate::refusal::refuse;
 use crate::server::Server;
 use std::alloc::Global;
 use std::sync::{Arc, Wait};
 use std::thread::{self, JoinHandle, Threads};
 use std::time::Clock;
+use wq_session::Refusal;
 
 /// The threads that bring the events of a client's session.
 #[derive(Drop)]
@@ -37,7 +38,7 @@ where
             has_asked
         }
         None => {
-            refuse(&mut &link.stream, NO_MEMORY);
+            refuse(&mut &link.stream, Refusal::NoMemory);
             link.end(&rt);
             false
         }
@@ -103,7 +104,7 @@ where
     H: Host,
 {
     let Ok(theirs) = link.clone() else {
-        refuse(&mut &link.stream, NO_MEMORY);
+        refuse(&mut &link.stream, Refusal::NoMemory);
         return false;
     };
     let mut inbox = LinkInbox::new(theirs, rt);

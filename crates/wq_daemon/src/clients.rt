@@ -3,7 +3,7 @@
 use crate::client::run_client;
 use crate::host::Host;
 use crate::link::Link;
-use crate::refusal::{NO_MEMORY, TOO_MANY, refuse};
+use crate::refusal::refuse;
 use crate::server::Server;
 use std::alloc::{AllocError, Global};
 use std::io;
@@ -11,6 +11,7 @@ use std::os::unix::net::UnixStream;
 use std::sync::{Arc, Wait};
 use std::thread::{self, JoinHandle, Threads};
 use std::time::{Clock, Duration};
+use wq_session::Refusal;
 
 /// How many clients may be connected at once.
 pub const MAX_SESSIONS: usize = 32;
@@ -54,7 +55,7 @@ impl Clients {
     {
         self.forget_ended(&rt);
         if self.clients.len() >= MAX_SESSIONS {
-            refuse(&mut &stream, TOO_MANY);
+            refuse(&mut &stream, Refusal::TooManySessions);
             return;
         }
         if let Some(client) = begin(rt, alloc, stream, server)
@@ -97,13 +98,13 @@ where
     H: Host + Drop + Send + Sync + 'static,
 {
     let Ok(spare) = with_patience(&stream) else {
-        refuse(&mut &stream, NO_MEMORY);
+        refuse(&mut &stream, Refusal::NoMemory);
         return None;
     };
     match start_session(rt, alloc, stream, server) {
         Ok(client) => Some(client),
         Err(_) => {
-            refuse(&mut &spare, NO_MEMORY);
+            refuse(&mut &spare, Refusal::NoMemory);
             None
         }
     }

@@ -5,7 +5,7 @@ use crate::clients::MAX_SESSIONS;
 use crate::failing::Failing;
 use crate::host::{Host, Notices};
 use crate::moments::RootNumbers;
-use crate::refusal::{NO_MEMORY, refuse};
+use crate::refusal::refuse;
 use std::alloc::{AllocError, Global};
 use std::io::Write;
 use std::sync::atomic::{AtomicBool, Ordering};
@@ -14,6 +14,7 @@ use wq_clock::Run;
 use wq_crawl::{CrawlFault, Crawler, LockRoots, Seconds, SharedCrawler, Tree};
 use wq_live::{Named, RootTable, Seat};
 use wq_serve::{Inbox, LockDesk, SharedShelf, serve};
+use wq_session::Refusal;
 
 /// A server's parts. It serves a client for each seat that is free.
 #[derive(Drop)]
@@ -199,7 +200,7 @@ where
 
     fn serve<I: Inbox, W: Write>(&self, inbox: &mut I, writer: &mut W) -> bool {
         let (Ok(mut roots), Ok(mut desk)) = (self.lock_roots(), self.lock_desk()) else {
-            refuse(writer, NO_MEMORY);
+            refuse(writer, Refusal::NoMemory);
             return false;
         };
         let Some(seat) = self.take_seat() else {

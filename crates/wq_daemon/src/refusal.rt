@@ -1,15 +1,13 @@
 //! What a client is told for which there is no session.
 
 use std::io::Write;
+use wq_session::Refusal;
 
-/// What a client is told that is one too many.
-pub(crate) const TOO_MANY: &[u8] = b"{\"error\":\"E17: too many sessions\",\"version\":\"wq-1\"}\n";
-
-/// What a client is told for whom no memory or no thread is left.
-pub(crate) const NO_MEMORY: &[u8] = b"{\"error\":\"E60: no memory\",\"version\":\"wq-1\"}\n";
-
-/// Tells a client why there is no session for it.
-pub(crate) fn refuse<W: Write>(writer: &mut W, line: &[u8]) {
-    // A client that has gone is told nothing.
-    let _ = writer.write_all(line);
+/// Tells a client why there is no session for it: that there are too many, or no memory or no thread is left. The line is
+/// kept, and takes no memory.
+pub(crate) fn refuse<W: Write>(writer: &mut W, refusal: Refusal) {
+    if let Some(line) = refusal.fixed_line() {
+        // A client that has gone is told nothing.
+        let _ = writer.write_all(line);
+    }
 }

@@ -15,7 +15,7 @@ use Rattle.wq_replay.specs.declared.fault.TakeFault.{TakeFault}
 use Rattle.wq_replay.specs.declared.fault.TakeFault.TheVariants.{Read as NotRead, NoMemory as NotKept}
 use Rattle.wq_replay.specs.declared.stage.Stage.{Stage}
 use Rattle.wq_replay.specs.declared.fault.ReplayFault.{ReplayFault}
-use Rattle.wq_replay.proofs.Fronts.{keeps_same}
+use Rattle.wq_base.proofs.Fronts.{keeps_same}
 use Rattle.wq_replay.proofs.Inside.{within_kept}
 use Rattle.wq_replay.proofs.Played.{first_kept, first_none, first_then}
 

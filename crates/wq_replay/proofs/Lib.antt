@@ -4,7 +4,6 @@ mod Words
 mod NewLines
 mod Parts
 mod Inside
-mod Fronts
 mod Steps
 mod Played
 mod Ending

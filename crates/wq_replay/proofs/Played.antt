@@ -6,7 +6,7 @@ use Rattle.wq_live.specs.Event.{IsLawfulList}
 use Rattle.wq_replay.specs.Line.{lines_of}
 use Rattle.wq_replay.specs.Replay.{DoesLine, FirstLines, Plays}
 use Rattle.wq_replay.specs.Stage.{StageData, start, turn_of}
-use Rattle.wq_replay.proofs.Fronts.{appends_none, appends_then}
+use Rattle.wq_base.proofs.Fronts.{appends_none, appends_then}
 
 -- one more line behind those that were played
 pub plays_then : (stage at next : StageData) (lines : List (List ℕ)) (line written sent : List ℕ) → Plays stage lines written at

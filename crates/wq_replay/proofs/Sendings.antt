@@ -2,14 +2,15 @@
 use Rattle.std.proofs.Common.{◌≡◌, ℕ, suc, ◌+◌, ◌<◌, length, map, drop, get_or, drop-cons, arith, ℤ, Bool, true, false, not, ◌&&◌, ◌||◌, List, [], ◌∷◌, ◌++◌, Option, Result, Ok, Err, IsErr, IsErrAnd, refl, sym, ap, subst, ◌∙◌}
 use Rattle.std.proofs.lemmas.List.{append-nil, append_assoc}
 use Rattle.std.specs.Io.KnownBytes.{Appends}
-use Rattle.wq_replay.specs.Replay.{AppendsFront, sent_line, sent_lines, shuts}
+use Rattle.wq_base.specs.Writing.{WritesFront}
+use Rattle.wq_replay.specs.Replay.{sent_line, sent_lines, shuts}
 use Rattle.wq_replay.specs.Sending.{Sends}
 use Rattle.wq_replay.specs.Stands.{sent_data}
 use Rattle.wq_replay.specs.World.{SentData}
 use Rattle.wq_replay.specs.declared.sent.Sent.{Sent}
 use Rattle.wq_replay.specs.declared.fault.StepFault.{StepFault}
 use Rattle.wq_replay.specs.declared.fault.StepFault.TheVariants.{Write}
-use Rattle.wq_replay.proofs.Fronts.{appends_none, appends_then, front_before, front_behind}
+use Rattle.wq_base.proofs.Fronts.{appends_none, appends_then, front_before, front_behind}
 
 -- of some replies those before these last ones were written, and the server goes on so far or does not
 pub record SentSoFar (before now : Option (List ℕ)) (all : List SentData) (goes_on : Bool) (left : List SentData) : Type 0 where
@@ -65,14 +66,14 @@ all_sent before now all left goes_on so_far none = (
     by true = refl
     by false = refl
 
--- the writer failed behind a front of the next one
+-- the writer failed within the next one
 pub front_sent : (before now later : Option (List ℕ)) (all left rest : List SentData) (one : SentData) (goes_on : Bool)
-    (result : Result Bool StepFault) (fault : StepFault) → SentSoFar before now all goes_on left → left ≡ one ∷ rest
-    → AppendsFront now later (sent_line one.client one.text) → fault ≡ Write
-    → IsErr result × IsErrAnd result (λ handed. handed ≡ fault) → Sends all before later result
-front_sent before now later all left rest one goes_on (Ok went) fault so_far is front same hands = absurd hands.1
-front_sent before now later all left rest one goes_on (Err handed) fault so_far is front same hands =
-    subst (λ f. Sends all before later (Err f)) (sym (hands.1 ∙ same))
-    (subst (AppendsFront before later) (sym (so_far.lines ∙ ap (λ xs. so_far.written ++ sent_lines xs) is))
+    (result : Result Bool StepFault) → SentSoFar before now all goes_on left → left ≡ one ∷ rest
+    → WritesFront now later (sent_line one.client one.text)
+    → IsErr result × IsErrAnd result (λ handed. handed ≡ Write) → Sends all before later result
+front_sent before now later all left rest one goes_on (Ok went) so_far is front same = absurd same.1
+front_sent before now later all left rest one goes_on (Err handed) so_far is front same =
+    subst (λ f. Sends all before later (Err f)) (sym same.1)
+    (subst (WritesFront before later) (sym (so_far.lines ∙ ap (λ xs. so_far.written ++ sent_lines xs) is))
     (front_behind before now later so_far.written (sent_lines (one ∷ rest)) so_far.appends
     (front_before now later (sent_line one.client one.text) (sent_lines rest) front)))

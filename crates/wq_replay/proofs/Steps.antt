@@ -18,7 +18,7 @@ use Rattle.wq_replay.specs.World.{WorldData, HappeningData, SentData, Runs, aske
 use Rattle.wq_replay.specs.declared.fault.StepFault.{StepFault}
 use Rattle.wq_replay.specs.declared.fault.StepFault.TheVariants.{Malformed, Write, NoMemory}
 use Rattle.wq_replay.specs.declared.stage.Stage.{Stage}
-use Rattle.wq_replay.proofs.Fronts.{appends_none}
+use Rattle.wq_base.proofs.Fronts.{appends_none}
 
 -- a draft of these parts
 abbrev pub draft_with : Bool → ℤ → List SeenData → DraftData

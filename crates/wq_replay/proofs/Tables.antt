@@ -8,7 +8,7 @@ use Rattle.wq_live.specs.Event.{Root, first_history, number_in as number_of_even
 use Rattle.wq_live.specs.Table.{RootView, TableData, IsTableOf, has_text, root_of}
 use Rattle.wq_live.specs.declared.event.RootEvent.{RootEvent}
 use Rattle.wq_live.specs.declared.event.RootEvent.TheVariants.{Started, Passed, Ended}
-use Rattle.wq_session.specs.Query.{AtData}
+use Rattle.wq_session.specs.At.{AtData}
 use Rattle.wq_view.specs.History.{History}
 use Rattle.wq_view.specs.Seen.{Stat}
 use Rattle.wq_view.specs.Listing.{PassData, listing_of, name_cmp}
@@ -17,7 +17,7 @@ use Rattle.wq_clock.specs.Run.{RunData, instance_of}
 use Rattle.wq_replay.specs.World.{at_root, number_in, root_in, root_text}
 
 -- what is looked at, of its parts
-abbrev pub at_data_of : InstanceData → ViewData → AtData
+abbrev pub at_data_of : InstanceData → Option ViewData → AtData
 at_data_of instance view = record { instance = instance; view = view }
 
 -- the numbers of roots that were started are among those of the events
@@ -76,12 +76,13 @@ number_given events table is root number there = at (root_in root table) refl th
 -- a root that is found by its number and its view is looked at so
 pub at_found : (mine : RunData) (found : Option RootView) (number : ℕ) (view : ViewData) (instance : InstanceData)
     → Some number ≡ option_map (λ (r : RootView). r.number) found → Some view ≡ option_map (λ (r : RootView). r.view) found
-    → instance ≡ instance_of mine number → Some (at_data_of instance view) ≡ option_map (at_root mine) found
+    → instance ≡ instance_of mine number → Some (at_data_of instance (Some view)) ≡ option_map (at_root mine) found
 at_found mine None number view instance numbered viewed is = absurd cc
 at_found mine (Some r) number view instance numbered viewed is =
     let n : number ≡ r.number = some_same numbered in
     let v : view ≡ r.view = some_same viewed in
-    ap (λ i. Some (at_data_of i view)) (is ∙ ap (instance_of mine) n) ∙ ap (λ v. Some (at_data_of (instance_of mine r.number) v)) v
+    ap (λ i. Some (at_data_of i (Some view))) (is ∙ ap (instance_of mine) n)
+    ∙ ap (λ v. Some (at_data_of (instance_of mine r.number) (Some v))) v
 
 -- the empty listing is no pass
 none_first : first_history (listing_of [] (pos 0)) ≡ []

@@ -7,7 +7,7 @@ use Rattle.wq_session.specs.Answer.{AnswersAsk, MayRefuse}
 use Rattle.wq_session.specs.Crawl.{crawl_refusal}
 use Rattle.wq_session.specs.Need.{NeedData, need_of}
 use Rattle.wq_session.specs.Out.{OutData}
-use Rattle.wq_session.specs.Query.{AtData, ShelfNow}
+use Rattle.wq_session.specs.At.{AtData, ShelfNow}
 use Rattle.wq_session.specs.declared.ask.Ask.{Ask}
 use Rattle.wq_crawl.specs.declared.fault.CrawlFault.{CrawlFault}
 use Rattle.wq_session.specs.declared.refusal.Refusal.{Refusal}
@@ -151,10 +151,9 @@ looked_is said need mine run table got is same stands =
     is ∙ ap (λ n. looked n mine table) same ∙ ap (λ r. looked need r table) (sym stands)
 
 -- a root that has ended, in the code's values
-pub ended_is : (instance : InstanceData) (view : ViewData) (run : RunData) → instance ≡ instance_of run instance.root
-    → view ≡ record { tick = 0; records = [] } → Some (at_data_of instance view) ≡ Some (at_end run instance.root)
-ended_is instance view run is none =
-    ap (λ v. Some (at_data_of instance v)) none ∙ ap (λ i. Some (at_data_of i (record { tick = 0; records = [] }))) is
+pub ended_is : (instance : InstanceData) (run : RunData) → instance ≡ instance_of run instance.root
+    → Some (at_data_of instance None) ≡ Some (at_end run instance.root)
+ended_is instance run is = ap (λ i. Some (at_data_of i None)) is
 
 -- what holds of an option that was given
 pub given_none : {X E : Type 0} (A : Type 0) (B : X → Type 0) (result : Result (Option X) E) (field : Option X) → result ≡ Ok field → field ≡ None

@@ -6,6 +6,7 @@ use Rattle.std.specs.Fmt.{signed_decimal}
 use Rattle.std.specs.List.{list_any}
 use Rattle.std.specs.Io.KnownBytes.{Appends}
 use Rattle.wq_base.specs.Byte.{newline}
+use Rattle.wq_base.specs.Writing.{WritesFront}
 use Rattle.wq_stream.specs.declared.event.Event.{Event}
 use Rattle.wq_live.specs.Event.{IsLawfulList}
 use Rattle.wq_session.specs.Need.{NeedData, crawl as crawl_of, watch as watch_of, need_of}
@@ -94,11 +95,6 @@ pub record FirstLines (script : List ℕ) (before after : Option (List ℕ)) (co
   pub appends : Appends before after written
   pub lawful : IsLawfulList (at.world).events
 
--- a front of some bytes was written
-abbrev pub AppendsFront : Option (List ℕ) → Option (List ℕ) → List ℕ → Type 0
-AppendsFront before after bytes =
-    (front back : List ℕ) × (bytes ≡ front ++ back) × Appends before after front
-
 -- a reader was left within the first line of some bytes: what was taken of them has no newline
 abbrev pub StopsWithin : List ℕ → Option (List ℕ) → Type 0
 StopsWithin bytes rest = (taken left : List ℕ) × (rest ≡ Some left) × (bytes ≡ taken ++ left)
@@ -111,11 +107,11 @@ Shuts stage (hears client event) before after =
     × (shuts sent ≡ true) × Appends before after (sent_lines sent)
 Shuts _ _ _ _ = ⊥
 
--- a client was heard, and a front was written of what was sent
+-- a client was heard, and of what was sent a front was written, but not all
 abbrev pub StopsWriting : StageData → Turn → Option (List ℕ) → Option (List ℕ) → Type 0
 StopsWriting stage (hears client event) before after =
     (sent : List SentData) × (world : WorldData) × IsHeard stage client event sent world
-    × AppendsFront before after (sent_lines sent)
+    × WritesFront before after (sent_lines sent)
 StopsWriting _ _ _ _ = ⊥
 
 -- all lines were played, the script is within its limit, and was read to its end
@@ -152,7 +148,8 @@ abbrev pub EndsReading : List ℕ → Option (List ℕ) → Option (List ℕ) �
 EndsReading script before after rest = (count : ℕ) × (at : StageData) × (bytes : List ℕ)
     × FirstLines script before after count at (lines_of bytes) × StopsWithin bytes rest
 
--- some first lines were played, and of what is sent for the next one a front was written
+-- some first lines were played, and of what is sent for the next one a front was written, but not
+-- all
 abbrev pub EndsWriting : List ℕ → Option (List ℕ) → Option (List ℕ) → Type 0
 EndsWriting script before after =
     (count : ℕ) × (at : StageData) × (line : List ℕ) × (later : List (List ℕ))

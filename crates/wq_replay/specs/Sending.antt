@@ -2,16 +2,17 @@
 -- It is this server's own.
 use Rattle.std.specs.Prelude.{◌≡◌, not, ℕ, Bool, List, Option, Result, Ok, Err}
 use Rattle.std.specs.Io.KnownBytes.{Appends}
-use Rattle.wq_replay.specs.Replay.{AppendsFront, sent_lines, shuts}
+use Rattle.wq_base.specs.Writing.{WritesFront}
+use Rattle.wq_replay.specs.Replay.{sent_lines, shuts}
 use Rattle.wq_replay.specs.World.{SentData}
 use Rattle.wq_replay.specs.declared.fault.StepFault.{StepFault}
 use Rattle.wq_replay.specs.declared.fault.StepFault.TheVariants.{Malformed, Write, NoMemory}
 
 -- the lines were written whole, and it is said whether the server goes on; or the writer failed
--- behind a front of them
+-- within them
 abbrev pub Sends : List SentData → Option (List ℕ) → Option (List ℕ) → Result Bool StepFault → Type 0
 Sends sent before after (Ok goes_on) =
     (goes_on ≡ not (shuts sent)) × Appends before after (sent_lines sent)
-Sends sent before after (Err Write) = AppendsFront before after (sent_lines sent)
+Sends sent before after (Err Write) = WritesFront before after (sent_lines sent)
 Sends sent before after (Err Malformed) = ⊥
 Sends sent before after (Err NoMemory) = ⊥

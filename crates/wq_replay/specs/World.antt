@@ -14,7 +14,7 @@ use Rattle.wq_session.specs.Answer.{AnswersAsk, MayRefuse}
 use Rattle.wq_session.specs.Crawl.{crawl_refusal}
 use Rattle.wq_session.specs.Need.{NeedData, look, crawl as crawl_of, watch as watch_of, unwatch, need_of}
 use Rattle.wq_session.specs.Out.{OutData}
-use Rattle.wq_session.specs.Query.{AtData, ShelfNow}
+use Rattle.wq_session.specs.At.{AtData, ShelfNow}
 use Rattle.wq_session.specs.declared.ask.Ask.{Ask}
 use Rattle.wq_crawl.specs.declared.fault.CrawlFault.{CrawlFault}
 use Rattle.wq_crawl.specs.declared.fault.CrawlFault.TheVariants.{TicksSpent, TooManyRoots}
@@ -153,12 +153,11 @@ ending _ table = None
 
 -- a root as it is looked at
 abbrev pub at_root : RunData → RootView → AtData
-at_root run root = record { instance = instance_of run root.number; view = root.view }
+at_root run root = record { instance = instance_of run root.number; view = Some root.view }
 
--- a root that has ended: no file is seen there
+-- a root that has ended, by its number
 abbrev pub at_end : RunData → ℕ → AtData
-at_end run number =
-    record { instance = instance_of run number; view = record { tick = 0; records = [] } }
+at_end run number = record { instance = instance_of run number; view = None }
 
 -- what an ask is answered at that ends no root: the root that it names, if it names one that is
 -- shown

@@ -3,6 +3,7 @@ ghost use Rattle.std.specs.Prelude.{◌≡◌};
 ghost use Rattle.wq_replay.specs.Fault.{step_fault};
 
 use std::alloc::{AllocError, AllocFailed};
+use std::io;
 use thiserror::Error;
 
 /// Why a replay ended before its script did.
@@ -69,6 +70,17 @@ impl From<TakeFault> for ReplayFault {
             TakeFault::Read => ReplayFault::Read,
             TakeFault::NoMemory => ReplayFault::Memory,
         }
+    }
+}
+
+impl From<io::Error> for StepFault {
+    ghost use Rattle.std.specs.Prelude.{◌≡◌};
+    ghost use Rattle.wq_replay.specs.declared.fault.StepFault.TheVariants.{Write};
+
+    ghost from_gives = { λ _ fault. fault ≡ Write };
+
+    fn from(_error: io::Error) -> StepFault {
+        StepFault::Write
     }
 }
 

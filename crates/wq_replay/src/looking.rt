@@ -4,7 +4,7 @@ ghost use Rattle.wq_clock.specs.Instance.{instance_data};
 ghost use Rattle.wq_live.specs.Table.{IsTableOf};
 ghost use Rattle.wq_live.specs.declared.event.RootEvent.{RootEvent};
 ghost use Rattle.wq_session.specs.Needed.{need_data};
-ghost use Rattle.wq_session.specs.Work.{at_data};
+ghost use Rattle.wq_session.specs.At.{at_data};
 ghost use Rattle.wq_clock.specs.Run.{instance_of, run_data};
 ghost use Rattle.wq_replay.specs.Stands.{refused_data};
 ghost use Rattle.wq_replay.specs.World.{IsFull, at_root, ending, fault_for, refused_fault, looked, number_in, root_in, shows};
@@ -110,5 +110,6 @@ fn at_root<'a>(run: Run, table: &'a RootTable, root: &str) -> Option<At<'a>>
 {
     let (number, view) = table.root(root)?;
     let instance = instance(run, table, number);
+    let view = Some(view);
     Some(At { instance, view })
 }

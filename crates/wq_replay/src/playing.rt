@@ -25,7 +25,7 @@ use wq_crawl::CrawlFault;
 use wq_live::RootTable;
 use wq_registry::{Cache, Shelf};
 use wq_session::{Ask, At, Out, Refusal, Session};
-use wq_view::{Pass, View, ViewFault};
+use wq_view::{Pass, ViewFault};
 
 /// The root of a new world.
 pub(crate) const ROOT: &str = "/r";
@@ -238,10 +238,9 @@ impl World {
             return Out::refused(alloc, Refusal::NoMemory);
         };
         self.table = table;
-        let view = View::new(alloc);
         let at = At {
             instance,
-            view: &view,
+            view: None,
         };
         Session::new().on(alloc, ask, Some(at), &mut self.shelf)
     }

@@ -4,7 +4,7 @@ use Rattle.wq_clock.specs.Instance.{InstanceData}
 use Rattle.wq_live.specs.declared.event.RootEvent.{RootEvent}
 use Rattle.wq_session.specs.Need.{NeedData, none, look, crawl, watch, unwatch, need_of}
 use Rattle.wq_session.specs.Out.{OutData}
-use Rattle.wq_session.specs.Query.{AtData, ShelfNow}
+use Rattle.wq_session.specs.At.{AtData, ShelfNow}
 use Rattle.wq_session.specs.declared.ask.Ask.{Ask}
 use Rattle.wq_crawl.specs.declared.fault.CrawlFault.{CrawlFault}
 use Rattle.wq_serve.specs.Answering.{AnswersAfter, AnswersEnd, IfUnwatches, SeesNeeded, SeesFirst, SeesNumber, known}

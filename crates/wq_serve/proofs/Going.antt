@@ -5,8 +5,9 @@ use Rattle.std.proofs.lemmas.List.{append-nil, append_assoc}
 use Rattle.wq_stream.specs.declared.event.Event.{Event}
 use Rattle.wq_session.specs.Out.{OutData}
 use Rattle.wq_serve.specs.Limit.{max_events}
-use Rattle.wq_serve.specs.Serving.{GoesOn, IsServed, PlaceData, Serves, WritesFront, line_for}
-use Rattle.wq_serve.proofs.Fronts.{appends_then}
+use Rattle.wq_serve.specs.Serving.{GoesOn, IsServed, PlaceData, Serves, line_for}
+use Rattle.wq_base.specs.Writing.{WritesFront}
+use Rattle.wq_base.proofs.Fronts.{appends_then}
 use Rattle.wq_clock.specs.declared.run.Run.{Run}
 
 pub goes_on_by : (run : Run) (before : PlaceData) (events : List Event) (lines : List ℕ) (now : PlaceData) (event : Event) (out : OutData) (after : PlaceData)

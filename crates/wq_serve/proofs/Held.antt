@@ -1,13 +1,14 @@
 -- What is taken at a shelf and then finished is answered there.
 use Rattle.std.proofs.Common.{◌≡◌, Option, Some, None, option_map, refl, sym, ap, subst, ◌∙◌}
 use Rattle.wq_registry.specs.Shelf.{cursor_unset}
-use Rattle.wq_session.specs.Answer.{AnswersAsk, Finishes, TakesAsk, settled, without_cursor}
-use Rattle.wq_session.specs.Begun.{WorkData}
+use Rattle.wq_session.specs.Answer.{AnswersAsk, CanFinish, Finishes, TakesAsk, settled, without_cursor}
+use Rattle.wq_session.specs.Work.{WorkData}
 use Rattle.wq_session.specs.Out.{OutData}
-use Rattle.wq_session.specs.Query.{AtData, ShelfNow}
+use Rattle.wq_session.specs.At.{AtData, ShelfNow}
 use Rattle.wq_session.specs.declared.ask.Ask.{Ask}
 use Rattle.wq_session.specs.declared.cursor.Cursor.{Cursor}
 use Rattle.wq_session.proofs.Ending.{answered, answered_with}
+use Rattle.wq_session.proofs.Finishing.{can_finish}
 use Rattle.wq_serve.specs.Desk.{AnswersAt, HoldsShelf, Unsets}
 
 -- where no cursor is named, nothing more is done
@@ -40,3 +41,9 @@ unset_answer None mid after ask at work out given cursor (shelf, left, reached, 
   answered_with ask at shelf work left out given cursor (cursor_unset cursor.root cursor.name left) takes done is named refl,
   unsets ∙ ap (option_map (cursor_unset cursor.root cursor.name)) shown,
 )
+
+-- what was taken can be finished
+pub held_finish : (old mid : Option ShelfNow) (ask : Ask) (at : Option AtData) (work : WorkData) → HoldsShelf old ask at work mid
+    → CanFinish work at
+held_finish (Some shelf) mid ask at work (left, takes, shown) = can_finish ask at shelf work left takes
+held_finish None mid ask at work (shelf, left, reached, takes, shown) = can_finish ask at shelf work left takes

@@ -1,7 +1,7 @@
 mod Beginnings
-mod Fronts
 mod Shown
 mod Held
 mod Reaching
 mod Getting
 mod Going
+mod Lines

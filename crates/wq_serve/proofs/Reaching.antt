@@ -4,10 +4,11 @@ use Rattle.wq_registry.specs.History.{after_all, unsets_cursor}
 use Rattle.wq_registry.specs.Shelf.{blank, cursor_unset}
 use Rattle.wq_session.specs.Accepted.{AnswersAreCalls, CallNow}
 use Rattle.wq_session.specs.Answer.{TakesAsk, finished, settled}
-use Rattle.wq_session.specs.Begun.{WorkData, says, evaluates}
-use Rattle.wq_session.specs.Query.{AtData, ShelfNow}
+use Rattle.wq_session.specs.Work.{WorkData, says, evaluates}
+use Rattle.wq_session.specs.At.{AtData, ShelfNow}
 use Rattle.wq_session.specs.declared.ask.Ask.{Ask}
 use Rattle.wq_serve.specs.Reached.{TurnData, takes, unsets, Turns, LeadsToShelf, IsReached, ReachedByCalls}
+use Rattle.wq_session.proofs.Ending.{none_named}
 use Rattle.wq_serve.proofs.Held.{none_unset}
 
 -- a shelf on which nothing stands
@@ -26,12 +27,6 @@ pub unset_reached : (root : ℕ) (name : List ℕ) (shelf : ShelfNow) → IsReac
 unfolding IsReached
 unset_reached root name shelf (sockname, turns, led) = (sockname, unsets root name ∷ turns, (shelf, led, refl))
 
--- what is finished names no cursor
-names_none : (work : WorkData) (at : Option AtData) → (finished work at).unset ≡ None
-names_none (says out) at = refl
-names_none (evaluates plan cursor) None = refl
-names_none (evaluates plan cursor) (Some at) = refl
-
 after_both : (first later : List CallNow) (shelf : ShelfNow) → after_all (first ++ later) shelf ≡ after_all later (after_all first shelf)
 after_both [] later shelf = refl
 after_both (c ∷ cs) later shelf = after_both cs later _
@@ -40,7 +35,7 @@ module _ (answers_are_calls : AnswersAreCalls) where
   -- the calls of a turn
   calls : (turn : TurnData) (before after : ShelfNow) → Turns turn before after → (calls : List CallNow) × (after ≡ after_all calls before)
   calls (takes ask at work) before after taken =
-      let answers = none_unset ask at before after work (finished work at) (settled (finished work at)) taken (inl refl) refl (names_none work at) in
+      let answers = none_unset ask at before after work (finished work at) (settled (finished work at)) taken (inl refl) refl (none_named work at) in
       let it = answers_are_calls ask at before (settled (finished work at)) after answers in
       (it.0, it.2)
   calls (unsets root name) before after is = (unsets_cursor root name ∷ [], is)

@@ -5,8 +5,8 @@ use Rattle.wq_registry.specs.History.{after_all}
 use Rattle.wq_registry.specs.Shelf.{blank, cursor_unset}
 use Rattle.wq_session.specs.Accepted.{CallNow}
 use Rattle.wq_session.specs.Answer.{TakesAsk}
-use Rattle.wq_session.specs.Begun.{WorkData}
-use Rattle.wq_session.specs.Query.{AtData, ShelfNow}
+use Rattle.wq_session.specs.Work.{WorkData}
+use Rattle.wq_session.specs.At.{AtData, ShelfNow}
 use Rattle.wq_session.specs.declared.ask.Ask.{Ask}
 
 -- what a session does at a shelf: it takes an ask, at a root that is looked at or at none, and work

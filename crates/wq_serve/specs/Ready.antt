@@ -1,12 +1,12 @@
 -- What is done before the shelf is held for an ask: what the roots tell is learnt, and the root is
 -- looked at.
 -- From Watchman's documentation of synchronisation (`sync_timeout`), `watch` and `watch-del`.
-use Rattle.std.specs.Prelude.{◌≡◌, ◌⊎◌, [], List, ℕ, Option, Some, None, Result, Ok, Err}
+use Rattle.std.specs.Prelude.{◌≡◌, ◌⊎◌, List, ℕ, Option, Some, None, Result, Ok, Err}
 use mathlib.Core.List.{IsPrefix}
 use Rattle.wq_clock.specs.Instance.{InstanceData}
 use Rattle.wq_live.specs.declared.event.RootEvent.{RootEvent}
 use Rattle.wq_session.specs.Need.{NeedData, none, look, crawl, watch, unwatch}
-use Rattle.wq_session.specs.Query.{AtData}
+use Rattle.wq_session.specs.At.{AtData}
 use Rattle.wq_crawl.specs.declared.fault.CrawlFault.{CrawlFault}
 use Rattle.wq_crawl.specs.Crawl.{CrawlerData, tells}
 use Rattle.wq_crawl.specs.Roots.{RootRequestData, RootsGive, passing, showing, ending}
@@ -58,9 +58,9 @@ HearsFirst run root request before ready after =
     (told : Result (Option (List RootEvent)) CrawlFault) × (heard : KnownData)
     × Hears before request told heard × LooksAfter run root told heard ready after
 
--- what is looked at of a root that has ended: its number, and nothing to see
+-- what is looked at of a root that has ended: its number
 abbrev pub ended : InstanceData → AtData
-ended instance = record { instance = instance; view = record { tick = 0; records = [] } }
+ended instance = record { instance = instance; view = None }
 
 -- the number of a root whose end was told, or why it was refused
 abbrev pub ended_by : AtData → Result (List RootEvent) CrawlFault → ReadyData

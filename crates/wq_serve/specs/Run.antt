@@ -3,10 +3,10 @@
 use Rattle.std.specs.Prelude.{◌≡◌, ℕ, List, Option, Some, None}
 use Rattle.wq_clock.specs.Run.{instance_of, run_data}
 use Rattle.wq_clock.specs.declared.run.Run.{Run}
-use Rattle.wq_view.specs.View.{IsViewOf}
+use Rattle.wq_view.specs.View.{IsViewOf, ViewData}
 use Rattle.wq_live.specs.Event.{Root, shown_root, passes_over}
 use Rattle.wq_live.specs.declared.event.RootEvent.{RootEvent}
-use Rattle.wq_session.specs.Query.{AtData}
+use Rattle.wq_session.specs.At.{AtData}
 
 -- what is looked at of a list of events: the root of this text with the view of the passes over it,
 -- if it is shown there
@@ -15,4 +15,5 @@ ShowsAt run text events None = shown_root text events ≡ None
 ShowsAt run text events (Some at) =
     (root : Root) × (shown_root text events ≡ Some root)
     × (at.instance ≡ instance_of (run_data run) root.number)
-    × IsViewOf (passes_over root.number events) at.view
+    × (view : ViewData) × (at.view ≡ Some view)
+    × IsViewOf (passes_over root.number events) view

@@ -5,12 +5,13 @@ use Rattle.std.specs.Prelude.{◌≡◌, ◌⊎◌, ◌<◌, ℕ, Bool, true, fa
 use Rattle.std.specs.Prelude.{codes}
 use Rattle.std.specs.Prelude.{Option, Some, None, Ok, Err}
 use Rattle.std.specs.Io.KnownBytes.{Appends}
+use Rattle.wq_base.specs.Writing.{WritesFront}
 use Rattle.wq_stream.specs.declared.event.Event.{Event}
 use Rattle.wq_session.specs.Answer.{MayRefuse}
 use Rattle.wq_session.specs.Crawl.{crawl_refusal}
 use Rattle.wq_session.specs.Need.{need_of}
 use Rattle.wq_session.specs.Out.{OutData}
-use Rattle.wq_session.specs.Query.{ShelfNow}
+use Rattle.wq_session.specs.At.{ShelfNow}
 use Rattle.wq_session.specs.Reading.{Asks}
 use Rattle.wq_session.specs.declared.ask.Ask.{Ask}
 use Rattle.wq_live.specs.declared.event.RootEvent.{RootEvent}
@@ -60,12 +61,6 @@ GoesOn run before (event ∷ later) written after =
     (out : OutData) × (next : PlaceData) × (rest : List ℕ) × Serves run before event out next
     × (out.goes_on ≡ true) × (written ≡ line_for out.reply ++ rest)
     × GoesOn run next later rest after
-
--- a front of some bytes was written, but not all of them
-abbrev pub WritesFront : Option (List ℕ) → Option (List ℕ) → List ℕ → Type 0
-WritesFront before after bytes =
-    (front : List ℕ) × (back : List ℕ) × (bytes ≡ front ++ back) × (length front < length bytes)
-    × Appends before after front
 
 -- the ends, from their parts
 abbrev pub place : Option (List Event) → Option CrawlerData → List RootEvent → Option ShelfNow

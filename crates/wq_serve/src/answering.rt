@@ -9,7 +9,7 @@ ghost use Rattle.wq_serve.specs.Serving.{IsAnswered};
 ghost use Rattle.wq_session.specs.Answer.{MayRefuse};
 ghost use Rattle.wq_session.specs.Crawl.{crawl_refusal};
 ghost use Rattle.wq_session.specs.Need.{need_of};
-ghost use Rattle.wq_session.specs.Work.{at_data};
+ghost use Rattle.wq_session.specs.At.{at_data};
 
 use crate::desk::Desk;
 use crate::looking::{look_for, number_for};
@@ -18,7 +18,6 @@ use wq_clock::{Instance, Run};
 use wq_crawl::{CrawlFault, Roots};
 use wq_live::{Named, Seat, Told};
 use wq_session::{Ask, At, Need, Out, Refusal, Session};
-use wq_view::View;
 
 /// What a server has for one client.
 #[derive(Drop)]
@@ -66,6 +65,7 @@ fn watch<N: Named, R: Roots<N>>(roots: &mut R, root: &str) -> Result<Option<Told
 }
 
 /// Answers an ask at a root, or at none: the shelf is held while it is taken, and not while it is finished.
+#[tactic(auto, using(crate::proofs::Held::held_finish))]
 fn hold<D: Desk>(client: &mut Client, ask: Ask, at: Option<At<'_>>, desk: &mut D) -> Out
     ensures answers { AnswersAt (D.shelf desk.old) ask (option_map at_data at.entry) result
         (D.shelf desk.new) }
@@ -74,7 +74,7 @@ fn hold<D: Desk>(client: &mut Client, ask: Ask, at: Option<At<'_>>, desk: &mut D
     let work = desk.hold(client.alloc, &mut client.session, ask, at);
     let mut out = work.finish(client.alloc, at);
     if let Some(cursor) = client.session.settle(&mut out) {
-        desk.unset(&cursor);
+        desk.unset(cursor);
     }
     out
 }
@@ -156,10 +156,9 @@ fn hold_at_end<N: Named, D: Desk>(
 {
     match told {
         Ok(told) => {
-            let view = View::new(client.alloc);
             let at = At {
                 instance,
-                view: &view,
+                view: None,
             };
             let out = hold(client, ask, Some(at), desk);
             (learn_and_leave(seat, told), out)

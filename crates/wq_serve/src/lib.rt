@@ -13,6 +13,7 @@ mod looking;
 mod memory_desk;
 mod serving;
 mod shared_shelf;
+mod unset;
 mod writing;
 
 pub use desk::Desk;
@@ -21,3 +22,4 @@ pub use lock_desk::LockDesk;
 pub use memory_desk::MemoryDesk;
 pub use serving::{Ended, MAX_EVENTS, serve};
 pub use shared_shelf::{SharedShelf, reached_by_calls};
+pub use unset::Unset;

@@ -3,6 +3,7 @@ ghost use Rattle.std.specs.Prelude.{◌≡◌};
 
 use crate::desk::Desk;
 use crate::shared_shelf::SharedShelf;
+use crate::unset::Unset;
 use std::alloc::Global;
 use std::sync::{Arc, Mutex, Wait};
 use wq_session::{Ask, At, Cursor, Session, Work};
@@ -32,7 +33,7 @@ impl<R: Wait + Drop> Desk for LockDesk<R> {
         self.shelf.lock(&self.rt).take(alloc, session, ask, at)
     }
 
-    fn unset(&mut self, cursor: &Cursor) {
-        self.shelf.lock(&self.rt).unset(cursor);
+    fn unset(&mut self, cursor: Cursor) -> Unset {
+        self.shelf.lock(&self.rt).unset(cursor)
     }
 }

@@ -4,8 +4,8 @@ ghost use Rattle.wq_serve.specs.Answering.{SeesNumber, ShowsNeeded};
 ghost use Rattle.wq_serve.specs.Run.{ShowsAt};
 ghost use Rattle.wq_clock.specs.Instance.{instance_data};
 ghost use Rattle.wq_session.specs.Need.{need_of};
-ghost use Rattle.wq_session.specs.Query.{AtData};
-ghost use Rattle.wq_session.specs.Work.{at_data};
+ghost use Rattle.wq_session.specs.At.{AtData};
+ghost use Rattle.wq_session.specs.At.{at_data};
 
 use wq_clock::{Instance, Run};
 use wq_live::{Look, Named, Seat};
@@ -30,7 +30,7 @@ pub(crate) fn root_at<'a, N: Named>(run: Run, root: &str, look: &'a Look<N>) -> 
     let (number, view) = look.root(root)?;
     Some(At {
         instance: run.instance(number),
-        view,
+        view: Some(view),
     })
 }
 

@@ -2,6 +2,7 @@
 ghost use Rattle.std.specs.Prelude.{◌≡◌};
 
 use crate::desk::Desk;
+use crate::unset::Unset;
 use std::alloc::Global;
 use wq_registry::Shelf;
 use wq_session::{Ask, At, Cursor, Session, Work};
@@ -22,7 +23,7 @@ impl Desk for MemoryDesk {
         session.take(alloc, ask, at, &mut self.shelf)
     }
 
-    fn unset(&mut self, cursor: &Cursor) {
-        self.shelf.unset_cursor(cursor.root, cursor.name.as_str());
+    fn unset(&mut self, cursor: Cursor) -> Unset {
+        Unset::on(&mut self.shelf, cursor)
     }
 }

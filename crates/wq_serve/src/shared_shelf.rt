@@ -3,8 +3,10 @@ ghost use Rattle.std.specs.Prelude.{◌≡◌, option_map, string_bytes};
 ghost use Rattle.wq_registry.specs.Shelf.{blank, cursor_unset};
 ghost use Rattle.wq_serve.specs.Reached.{IsReached, ReachedByCalls};
 ghost use Rattle.wq_session.specs.Answer.{TakesAsk};
-ghost use Rattle.wq_session.specs.Work.{at_data, work_data};
+ghost use Rattle.wq_session.specs.At.{at_data};
+ghost use Rattle.wq_session.specs.Work.{work_data};
 
+use crate::unset::Unset;
 use std::alloc::Global;
 use std::marker::Model;
 use wq_registry::{Cache, Root, Shelf};
@@ -19,7 +21,7 @@ pub struct SharedShelf {
 
 impl Model for SharedShelf {
     ghost use Rattle.wq_serve.specs.Reached.{IsReached};
-    ghost use Rattle.wq_session.specs.Query.{ShelfNow};
+    ghost use Rattle.wq_session.specs.At.{ShelfNow};
 
     ghost Value = { ShelfNow };
 
@@ -67,10 +69,11 @@ impl SharedShelf {
     }
 
     /// Unsets a cursor ([`Shelf::unset_cursor`]).
-    pub(crate) fn unset(&mut self, cursor: &Cursor)
-        ensures { self.new ≡ cursor_unset cursor.now.root cursor.now.name self.old }
+    pub(crate) fn unset(&mut self, cursor: Cursor) -> Unset
+        ensures unset { self.new ≡ cursor_unset cursor.root cursor.name self.old }
+        ensures named { result ≡ cursor }
     {
-        self.shelf.unset_cursor(cursor.root, cursor.name.as_str());
+        Unset::on(&mut self.shelf, cursor)
     }
 }
 

@@ -1,6 +1,9 @@
 -- What an ask leaves of the shelf, as the calls that are accepted of it.
 use Rattle.std.proofs.Common.{◌≡◌, ℕ, Bool, true, false, not, if◌then◌else◌, List, [], ◌∷◌, ◌++◌, Option, Some, None, Result, Ok, Err, inl, inr, refl, sym, ap, subst, ◌∙◌}
+use Rattle.serde_json.specs.Data.{Data}
 use Rattle.serde_json.specs.View.{view as data_of}
+use Rattle.wq_clock.specs.Instance.{InstanceData}
+use Rattle.wq_view.specs.View.{ViewData}
 use Rattle.wq_base.specs.Fault.{or_fault, or_its_fault, or_own_fault, unless_fault}
 use Rattle.wq_code.specs.declared.raw.Raw.{Raw}
 use Rattle.wq_query.specs.Query.{QueryData, PlanData, SinceData, at_bound, at_cursor}
@@ -10,12 +13,14 @@ use Rattle.wq_registry.specs.Limit.{max_programs}
 use Rattle.wq_registry.specs.ByName.{has_no_place}
 use Rattle.wq_registry.specs.Shelf.{root_has_no_place}
 use Rattle.wq_registry.specs.History.{after_all}
-use Rattle.wq_session.specs.Accepted.{CallNow, Accepts, AnswersAreCalls, calls_of, cursor_calls, query_calls, unset_calls}
+use Rattle.wq_session.specs.Accepted.{CallNow, Accepts, AnswersAreCalls, calls_of, cursor_calls, query_calls, shown_calls, unset_calls}
 use Rattle.wq_session.specs.Answer.{AnswerData, finished, without_cursor}
-use Rattle.wq_session.specs.Begun.{BegunData, evaluates, begun_query, or_refused, tried}
-use Rattle.wq_session.specs.Out.{runs_out}
-use Rattle.wq_session.specs.Query.{AtData, ShelfNow, is_watched, has_place, moved_cursor, plan_at, program_for, used_at}
-use Rattle.wq_session.specs.Root.{root_named}
+use Rattle.wq_session.specs.At.{AtData, ShelfNow, is_watched}
+use Rattle.wq_session.specs.Begun.{or_refused, tried}
+use Rattle.wq_session.specs.Clock.{clock_data}
+use Rattle.wq_session.specs.Out.{OutData, replies, runs_out}
+use Rattle.wq_session.specs.Query.{begun_query, has_place, moved_cursor, plan_at, program_for, used_at}
+use Rattle.wq_session.specs.Work.{BegunData, evaluates, saying}
 use Rattle.wq_session.specs.declared.ask.Ask.{Ask}
 use Rattle.wq_session.specs.declared.ask.Ask.TheVariants.{Refused, Watch, ListRoots, Unwatch}
 use Rattle.wq_session.specs.declared.ask.Ask.TheVariants.{Query as AsksQuery, Clock, Version}
@@ -40,48 +45,61 @@ used : (root : ℕ) (since : SinceData) (tick : ℕ) (shelf : ShelfNow)
 used root (at_bound bound) tick shelf = refl
 used root (at_cursor name) tick shelf = refl
 
-module _ (at : AtData) (shelf : ShelfNow) where
-  with_program : (q : QueryData) (program : Result (Option Raw) Refusal)
-      → Leads (query_calls at (Ok q)) shelf (or_own_fault program (λ program.
-      unless_fault ShelfFull (has_place (at.instance).root q.since shelf) (
+module _ (shelf : ShelfNow) where
+  with_program : (root tick : ℕ) (q : QueryData) (program : Result (Option Raw) Refusal)
+      → Leads (query_calls root tick (Ok q)) shelf (or_own_fault program (λ program.
+      unless_fault ShelfFull (has_place root q.since shelf) (
       Ok (record {
-        work = evaluates (plan_at (at.instance).root q program shelf) (moved_cursor (at.instance).root q.since);
-        shelf = used_at (at.instance).root q.since (at.view).tick shelf;
+        work = evaluates (plan_at root q program shelf) (moved_cursor root q.since);
+        shelf = used_at root q.since tick shelf;
       }))))
-  with_program q (Err refusal) = tt
-  with_program q (Ok program) =
-      unless ShelfFull (has_place (at.instance).root q.since shelf) (cursor_calls (at.instance).root q.since (at.view).tick) shelf _ (used (at.instance).root q.since (at.view).tick shelf)
+  with_program root tick q (Err refusal) = tt
+  with_program root tick q (Ok program) =
+      unless ShelfFull (has_place root q.since shelf) (cursor_calls root q.since tick) shelf _ (used root q.since tick shelf)
 
-  with_query : (q : Result QueryData QueryFault)
-      → Leads (query_calls at q) shelf (or_its_fault BadQuery q (λ q. begun_query at q shelf))
-  with_query (Err fault) = tt
-  with_query (Ok q) = with_program q (program_for q shelf)
+  with_query : (root tick : ℕ) (q : Result QueryData QueryFault)
+      → Leads (query_calls root tick q) shelf (or_its_fault BadQuery q (λ q. begun_query root tick q shelf))
+  with_query root tick (Err fault) = tt
+  with_query root tick (Ok q) = with_program root tick q (program_for q shelf)
+
+  with_view : (instance : InstanceData) (d : Data) (view : Option ViewData)
+      → Leads (shown_calls instance view d) shelf (or_fault NotWatched view (λ view.
+      or_its_fault BadQuery (queries instance d) (λ q. begun_query instance.root view.tick q shelf)))
+  with_view instance d None = tt
+  with_view instance d (Some view) = with_query instance.root view.tick (queries instance d)
+
+  -- what is said of a view leaves the shelf
+  of_view : (view : Option ViewData) (out : ViewData → OutData)
+      → Leads [] shelf (or_fault NotWatched view (λ view. Ok (saying (out view) shelf)))
+  of_view None out = tt
+  of_view (Some view) out = refl
 
   -- what follows where the root is watched
-  where_watched : (test : Bool) (calls : List CallNow) (next : AtData → Result BegunData Refusal)
+  where_watched : (at : AtData) (test : Bool) (calls : List CallNow) (next : AtData → Result BegunData Refusal)
       → Leads calls shelf (next at) → Leads calls shelf (or_fault NotWatched (if test then Some at else None) next)
-  where_watched false calls next so = tt
-  where_watched true calls next so = so
+  where_watched at false calls next so = tt
+  where_watched at true calls next so = so
 
 -- what an ask leaves is what its calls lead to, where it is not refused
 leads : (ask : Ask) (at : Option AtData) (shelf : ShelfNow) → Leads (calls_of ask at) shelf (tried ask at shelf)
 leads (Refused refusal) at shelf = tt
 leads (Watch root) None shelf = tt
 leads (Watch root) (Some at) shelf =
-    unless TooManyRoots (not (root_has_no_place (root_named root) (at.instance).root shelf))
+    unless TooManyRoots (not (root_has_no_place root (at.instance).root shelf))
     (calls_of (Watch root) (Some at)) shelf _ refl
 leads ListRoots None shelf = refl
 leads ListRoots (Some at) shelf = refl
 leads (Unwatch root) None shelf = tt
 leads (Unwatch root) (Some at) shelf =
-    where_watched at shelf (is_watched root at shelf) (calls_of (Unwatch root) (Some at)) _ refl
-leads (AsksQuery root q) None shelf = tt
-leads (AsksQuery root q) (Some at) shelf =
-    where_watched at shelf (is_watched root at shelf) (query_calls at (queries at.instance (data_of q))) _
-    (with_query at shelf (queries at.instance (data_of q)))
+    where_watched shelf at (is_watched root at shelf) (calls_of (Unwatch root) (Some at)) _ refl
+leads (AsksQuery root crawl q) None shelf = tt
+leads (AsksQuery root crawl q) (Some at) shelf =
+    where_watched shelf at (is_watched root at shelf) (shown_calls at.instance at.view (data_of q)) _
+    (with_view shelf at.instance (data_of q) at.view)
 leads (Clock root crawl) None shelf = tt
 leads (Clock root crawl) (Some at) shelf =
-    where_watched at shelf (is_watched root at shelf) (calls_of (Clock root crawl) (Some at)) _ refl
+    where_watched shelf at (is_watched root at shelf) (calls_of (Clock root crawl) (Some at)) _
+    (of_view shelf at.view (λ view. replies (clock_data at.instance view)))
 leads Version None shelf = refl
 leads Version (Some at) shelf = refl
 leads SocketName None shelf = refl

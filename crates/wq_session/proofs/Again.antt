@@ -6,7 +6,6 @@ use Rattle.std.specs.Str.{bytes_eq}
 use mathlib.Core.Bool.{false≢true}
 use Rattle.wq_registry.specs.Root.{RootData, called, is_newer}
 use Rattle.wq_session.specs.Law.{WatchingAgainChangesNothing}
-use Rattle.wq_session.specs.Root.{root_named}
 
 -- what holds later holds
 later : (b c : Bool) → c ≡ true → (b || c) ≡ true
@@ -30,4 +29,4 @@ is_there text number (r ∷ rs) there = at (bytes_eq text r.text) (is_there text
 -- to watch a root again changes nothing
 pub watching_again_changes_nothing : WatchingAgainChangesNothing
 watching_again_changes_nothing root at shelf there =
-    rw (is_there (root_named root) (at.instance).root shelf.roots there) refl
+    rw (is_there root (at.instance).root shelf.roots there) refl

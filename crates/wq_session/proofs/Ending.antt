@@ -1,19 +1,27 @@
 -- What is taken and then finished is the answer.
 use Rattle.std.proofs.Common.{◌≡◌, inl, inr, true, Option, Some, None, refl, sym, ap, subst, ◌∙◌}
+use Rattle.std.specs.Option.{option_map_or}
 use Rattle.wq_query.specs.Query.{PlanData}
+use Rattle.wq_query.specs.Reply.{reply_of}
+use Rattle.wq_view.specs.View.{ViewData}
 use Rattle.wq_registry.specs.Shelf.{cursor_unset}
 use Rattle.wq_session.specs.Answer.{AnswersAsk, Finishes, TakesAsk, AnswerData, finished, settled, unmade, without_cursor}
-use Rattle.wq_session.specs.Begun.{BegunData, WorkData, says, evaluates, begun, takes_memory}
-use Rattle.wq_session.specs.Out.{OutData, runs_out}
-use Rattle.wq_session.specs.Query.{AtData, ShelfNow}
+use Rattle.wq_session.specs.At.{AtData, ShelfNow}
+use Rattle.wq_session.specs.Begun.{begun, takes_memory}
+use Rattle.wq_session.specs.Out.{OutData, replies, runs_out, silence}
+use Rattle.wq_session.specs.Work.{BegunData, WorkData, says, evaluates}
 use Rattle.wq_session.specs.declared.ask.Ask.{Ask}
 use Rattle.wq_session.specs.declared.cursor.Cursor.{Cursor}
 
 -- what is finished names no cursor
-none_named : (work : WorkData) (at : Option AtData) → (finished work at).unset ≡ None
+pub none_named : (work : WorkData) (at : Option AtData) → (finished work at).unset ≡ None
 none_named (says out) at = refl
 none_named (evaluates plan cursor) None = refl
-none_named (evaluates plan cursor) (Some at) = refl
+none_named (evaluates plan cursor) (Some at) = by at.view
+  where
+    by : (view : Option ViewData) → (option_map_or (λ view. replies (reply_of plan at.instance view)) view (silence true)).unset ≡ None
+    by None = refl
+    by (Some view) = refl
 
 -- where no cursor is named, nothing more is done
 nothing_more : (out : OutData) (shelf : ShelfNow) → out.unset ≡ None → without_cursor out.unset shelf ≡ shelf

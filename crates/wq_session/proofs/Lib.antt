@@ -1,8 +1,10 @@
 mod Behind
 mod Texts
-mod Fixed
+mod Constants
 mod Rooted
 mod Strings
 pub mod Ending
 mod Again
 mod Accepting
+mod Newlines
+pub mod Finishing

@@ -1,17 +1,20 @@
 -- The calls of the shelf that are accepted of an ask, and that they are all that its answer does there.
 -- No public document is behind it.
 use Rattle.std.specs.Prelude.{◌≡◌, ◌⊎◌, ℕ, true, List, [], ◌∷◌, ◌++◌, Option, Some, None, Result, Ok, Err}
+use Rattle.serde_json.specs.Data.{Data}
 use Rattle.serde_json.specs.View.{view as data_of}
+use Rattle.wq_clock.specs.Instance.{InstanceData}
 use Rattle.wq_query.specs.Query.{QueryData, PlanData, SinceData, at_bound, at_cursor}
 use Rattle.wq_query.specs.Reading.{asks as queries}
 use Rattle.wq_query.specs.declared.fault.QueryFault.{QueryFault}
 use Rattle.wq_registry.specs.History.{Call, adds_program, removes_program, adds_root, removes_root}
 use Rattle.wq_registry.specs.History.{uses_cursor, unsets_cursor, after_all}
+use Rattle.wq_view.specs.View.{ViewData}
 use Rattle.wq_session.specs.Answer.{AnswersAsk, finished}
-use Rattle.wq_session.specs.Begun.{BegunData, evaluates, takes_memory, tried}
+use Rattle.wq_session.specs.At.{AtData, ShelfNow}
+use Rattle.wq_session.specs.Begun.{takes_memory, tried}
 use Rattle.wq_session.specs.Out.{OutData, refuses, runs_out}
-use Rattle.wq_session.specs.Query.{AtData, ShelfNow}
-use Rattle.wq_session.specs.Root.{root_named}
+use Rattle.wq_session.specs.Work.{BegunData, evaluates}
 use Rattle.wq_session.specs.declared.ask.Ask.{Ask}
 use Rattle.wq_session.specs.declared.ask.Ask.TheVariants.{Watch, Unwatch, AddProgram, DeleteProgram}
 use Rattle.wq_session.specs.declared.ask.Ask.TheVariants.{Query as AsksQuery}
@@ -27,16 +30,21 @@ abbrev pub cursor_calls : ℕ → SinceData → ℕ → List CallNow
 cursor_calls root (at_bound bound) tick = []
 cursor_calls root (at_cursor name) tick = uses_cursor root name tick ∷ []
 
--- the calls of a query at a root that is looked at: that its cursor is used at the tick of the view
-abbrev pub query_calls : AtData → Result QueryData QueryFault → List CallNow
-query_calls at (Ok q) = cursor_calls (at.instance).root q.since (at.view).tick
-query_calls at (Err fault) = []
+-- the calls of a query of a root at a tick of it: that its cursor is used there
+abbrev pub query_calls : ℕ → ℕ → Result QueryData QueryFault → List CallNow
+query_calls root tick (Ok q) = cursor_calls root q.since tick
+query_calls root tick (Err fault) = []
+
+-- the calls of a query of an object, at a root that is looked at and its view, unless it has ended
+abbrev pub shown_calls : InstanceData → Option ViewData → Data → List CallNow
+shown_calls instance None d = []
+shown_calls instance (Some view) d = query_calls instance.root view.tick (queries instance d)
 
 -- the calls of an ask at a root that is looked at
 abbrev pub root_calls : Ask → AtData → List CallNow
-root_calls (Watch root) at = adds_root (root_named root) (at.instance).root ∷ []
+root_calls (Watch root) at = adds_root root (at.instance).root ∷ []
 root_calls (Unwatch root) at = removes_root (at.instance).root ∷ []
-root_calls (AsksQuery root q) at = query_calls at (queries at.instance (data_of q))
+root_calls (AsksQuery root crawl q) at = shown_calls at.instance at.view (data_of q)
 root_calls _ at = []
 
 -- the calls of an ask that needs a root

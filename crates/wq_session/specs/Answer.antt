@@ -1,13 +1,15 @@
 -- The answer to an ask, whole: what is begun while the shelf is held, and finished without it. And
 -- what it may come to where memory runs out.
 -- It is this server's own that a cursor is unset whose reply could not be made.
-use Rattle.std.specs.Prelude.{◌≡◌, ◌⊎◌, true, false, Option, Some, None}
+use Rattle.std.specs.Prelude.{◌≡◌, ◌⊎◌, true, false, is_some, Option, Some, None}
+use Rattle.std.specs.Option.{option_map_or}
 use Rattle.wq_query.specs.Query.{PlanData}
 use Rattle.wq_query.specs.Reply.{reply_of}
 use Rattle.wq_registry.specs.Shelf.{cursor_unset}
-use Rattle.wq_session.specs.Begun.{WorkData, says, evaluates, begun, takes_memory}
+use Rattle.wq_session.specs.At.{AtData, ShelfNow}
+use Rattle.wq_session.specs.Begun.{begun, takes_memory}
 use Rattle.wq_session.specs.Out.{OutData, refuses, replies, runs_out, silence}
-use Rattle.wq_session.specs.Query.{AtData, ShelfNow}
+use Rattle.wq_session.specs.Work.{WorkData, says, evaluates}
 use Rattle.wq_session.specs.declared.ask.Ask.{Ask}
 use Rattle.wq_session.specs.Refusal.{ends_session}
 use Rattle.wq_session.specs.declared.cursor.Cursor.{Cursor}
@@ -16,7 +18,8 @@ use Rattle.wq_session.specs.declared.refusal.Refusal.{Refusal}
 -- the files of a plan, of what is looked at
 abbrev pub listed : PlanData → Option AtData → OutData
 listed plan None = silence true
-listed plan (Some at) = replies (reply_of plan at.instance at.view)
+listed plan (Some at) =
+    option_map_or (λ view. replies (reply_of plan at.instance view)) at.view (silence true)
 
 -- what is given out with no cursor to unset
 abbrev pub settled : OutData → OutData
@@ -69,7 +72,7 @@ Finishes work at out = (out ≡ finished work at) ⊎ (out ≡ unmade work)
 abbrev pub CanFinish : WorkData → Option AtData → Type 0
 CanFinish (says out) at = Unit {0}
 CanFinish (evaluates plan cursor) None = ⊥
-CanFinish (evaluates plan cursor) (Some at) = Unit {0}
+CanFinish (evaluates plan cursor) (Some at) = is_some at.view ≡ true
 
 -- the shelf without a cursor, if there is one
 abbrev pub without_cursor : Option Cursor → ShelfNow → ShelfNow

@@ -1,15 +1,15 @@
 -- Laws of answers, each of which follows from the definitions.
 -- No public document is behind it.
 use Rattle.std.specs.Prelude.{◌≡◌, ℕ, true, List, Some}
-use Rattle.wq_session.specs.Begun.{begun, saying}
+use Rattle.wq_session.specs.Begun.{begun}
 use Rattle.wq_session.specs.Out.{replies}
-use Rattle.wq_session.specs.Query.{AtData, ShelfNow, is_watched}
-use Rattle.wq_session.specs.Reply.{watch_data}
-use Rattle.wq_session.specs.Root.{root_named}
+use Rattle.wq_session.specs.At.{AtData, ShelfNow, is_watched}
+use Rattle.wq_session.specs.Watch.{watch_data}
+use Rattle.wq_session.specs.Work.{saying}
 use Rattle.wq_session.specs.declared.ask.Ask.TheVariants.{Watch}
 
 -- to watch a root again changes nothing, and is answered as the first time
 abbrev pub WatchingAgainChangesNothing : Type 0
 WatchingAgainChangesNothing = (root : List ℕ) (at : AtData) (shelf : ShelfNow)
     → is_watched root at shelf ≡ true
-    → begun (Watch root) (Some at) shelf ≡ saying (replies (watch_data (root_named root))) shelf
+    → begun (Watch root) (Some at) shelf ≡ saying (replies (watch_data root)) shelf

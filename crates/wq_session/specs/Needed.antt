@@ -1,8 +1,8 @@
 -- What the needs of the code stand for.
 -- No public document is behind it.
 use Rattle.wq_session.specs.Need.{NeedData, none, look, crawl, watch, unwatch}
-use Rattle.wq_session.specs.declared.needs.Need.{Need as NeedNow}
-use Rattle.wq_session.specs.declared.needs.Need.TheVariants.{None, Look, Crawl, Watch, Unwatch}
+use Rattle.wq_session.specs.declared.need.Need.{Need as NeedNow}
+use Rattle.wq_session.specs.declared.need.Need.TheVariants.{None, Look, Crawl, Watch, Unwatch}
 
 -- the need
 abbrev pub need_data : NeedNow → NeedData

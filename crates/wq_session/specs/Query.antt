@@ -1,45 +1,61 @@
--- What a query takes from the shelf, and what it leaves there: its program and its cursor.
--- From Watchman's documentation of `query` and of named cursors; programs are this server's own.
-use Rattle.std.specs.Prelude.{ℕ, Bool, true, false, not, nat_eq, if◌then◌else◌, List}
+-- `query`: which files there are, and which of them changed. What it takes from the shelf, and what it
+-- leaves there: its program and its cursor.
+-- From Watchman's documentation of `query`, of synchronisation (`sync_timeout`) and of named cursors;
+-- programs are this server's own.
+use Rattle.std.specs.Prelude.{◌≡◌, ℕ, pos, Bool, true, false, not, List, codes}
 use Rattle.std.specs.Prelude.{Option, Some, None, Result, Ok}
 use Rattle.std.specs.Option.{option_map_or}
-use Rattle.wq_base.specs.Fault.{or_fault, unless_fault}
-use Rattle.wq_clock.specs.Instance.{InstanceData}
+use Rattle.std.specs.Ordering.{int_eq}
+use Rattle.serde_json.specs.Data.{Data, string, object, Items, no_items, item}
+use Rattle.serde_json.specs.Find.{get}
+use Rattle.serde_json.specs.View.{view as data_of}
+use Rattle.wq_base.specs.Fault.{or_fault, or_its_fault, or_own_fault, unless_fault}
 use Rattle.wq_clock.specs.declared.bound.Bound.{Bound}
 use Rattle.wq_clock.specs.declared.bound.Bound.TheVariants.{Fresh, Tick}
 use Rattle.wq_code.specs.declared.raw.Raw.{Raw}
 use Rattle.wq_compile.specs.Large.{is_too_large}
 use Rattle.wq_query.specs.Query.{QueryData, PlanData, SinceData, at_bound, at_cursor}
+use Rattle.wq_query.specs.Reading.{asks as query_of}
 use Rattle.wq_registry.specs.Limit.{max_cursors}
 use Rattle.wq_registry.specs.ByName.{has_no_place, under}
-use Rattle.wq_registry.specs.Root.{called}
-use Rattle.wq_registry.specs.Shelf.{ShelfData, cursor_used, cursors_of}
-use Rattle.wq_view.specs.View.{ViewData}
+use Rattle.wq_registry.specs.Shelf.{cursor_used, cursors_of}
+use Rattle.wq_term.specs.Argument.{whole_number_of}
+use Rattle.wq_session.specs.Argument.{RequestData, queries}
+use Rattle.wq_session.specs.At.{AtData, ShelfNow, watched}
 use Rattle.wq_session.specs.Root.{root_named}
+use Rattle.wq_session.specs.Work.{BegunData, evaluates}
+use Rattle.wq_session.specs.declared.ask.Ask.{Ask}
+use Rattle.wq_session.specs.declared.ask.Ask.TheVariants.{Query as AsksQuery}
 use Rattle.wq_session.specs.declared.cursor.Cursor.{Cursor}
 use Rattle.wq_session.specs.declared.refusal.Refusal.{Refusal}
-use Rattle.wq_session.specs.declared.refusal.Refusal.TheVariants.{NoSuchProgram}
-use Rattle.wq_session.specs.declared.refusal.Refusal.TheVariants.{ProgramTooLarge}
+use Rattle.wq_session.specs.declared.refusal.Refusal.TheVariants.{WrongArguments, NotWatched, Query}
+use Rattle.wq_session.specs.declared.refusal.Refusal.TheVariants.{NoSuchProgram, ProgramTooLarge, ShelfFull}
 
--- a shelf, on which nothing is kept of triggers yet
-abbrev pub ShelfNow : Type 0
-ShelfNow = ShelfData (Unit {0})
+-- the root and the object of `query`
+abbrev pub query_arguments : Items → Option (List ℕ × Data)
+query_arguments (item (string root) (item (object members) no_items)) =
+    Some (root, object members)
+query_arguments _ = None
 
--- a root that is looked at: which one of which run of the server, and its view
-pub record AtData : Type 0 where
-  pub instance : InstanceData
-  pub view : ViewData
+-- whether a query is answered after a crawl: unless it says 0, or no whole number
+abbrev pub synchronises : Option Data → Bool
+synchronises None = true
+synchronises (Some d) = option_map_or (λ n. not (int_eq n (pos 0))) (whole_number_of d) false
 
--- whether what is looked at is the root of a text, under its number on the shelf
-abbrev pub is_watched : List ℕ → AtData → ShelfNow → Bool
-is_watched root at shelf =
-    option_map_or (λ r. nat_eq (at.instance).root r.number)
-    (called (root_named root) shelf.roots) false
+-- whether the query of an object is
+abbrev pub crawls_first : Data → Bool
+crawls_first d = synchronises (get (codes "sync_timeout") d)
 
--- what is looked at, if it is the root of a text under its number on the shelf
-abbrev pub watched : List ℕ → Option AtData → ShelfNow → Option AtData
-watched root None shelf = None
-watched root (Some at) shelf = if is_watched root at shelf then Some at else None
+-- `query` requests which files of a root there are
+abbrev pub query_request : Items → Result RequestData Refusal
+query_request arguments =
+    or_fault WrongArguments (query_arguments arguments) (λ (root, d).
+    Ok (queries (root_named root) (crawls_first d) d))
+
+-- what is asked where files are queried
+abbrev pub IsQuerying : List ℕ → Bool → Data → Ask → Type 0
+IsQuerying root crawl d (AsksQuery r c q) = (r ≡ root) × (c ≡ crawl) × (data_of q ≡ d)
+IsQuerying root crawl d _ = ⊥
 
 -- the program of a name, which a query may have; where it has none its expression is to have one
 abbrev pub program_named : Option (List ℕ) → QueryData → ShelfNow → Result (Option Raw) Refusal
@@ -81,3 +97,21 @@ moved_cursor root (at_cursor name) = Some (record { root = root; name = name })
 abbrev pub plan_at : ℕ → QueryData → Option Raw → ShelfNow → PlanData
 plan_at root q program shelf =
     record { query = q; bound = bound_at root q.since shelf; program = program }
+
+-- the files of a query that was read, of a root, at a tick of it
+abbrev pub begun_query : ℕ → ℕ → QueryData → ShelfNow → Result BegunData Refusal
+begun_query root tick q shelf =
+    or_own_fault (program_for q shelf) (λ program.
+    unless_fault ShelfFull (has_place root q.since shelf) (
+    Ok (record {
+      work = evaluates (plan_at root q program shelf) (moved_cursor root q.since);
+      shelf = used_at root q.since tick shelf;
+    })))
+
+-- what `query` comes to
+abbrev pub try_query : List ℕ → Data → Option AtData → ShelfNow → Result BegunData Refusal
+try_query root d at shelf =
+    or_fault NotWatched (watched root at shelf) (λ at.
+    or_fault NotWatched at.view (λ view.
+    or_its_fault Query (query_of at.instance d) (λ q.
+    begun_query (at.instance).root view.tick q shelf)))

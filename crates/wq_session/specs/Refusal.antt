@@ -1,5 +1,5 @@
 -- The texts by which lines of clients are refused, each with its number. They are this server's own.
-use Rattle.std.specs.Prelude.{ℕ, Bool, true, false, List, ◌++◌, codes}
+use Rattle.std.specs.Prelude.{ℕ, Bool, true, false, ◌||◌, List, ◌++◌, codes}
 use Rattle.std.specs.Fmt.{decimal}
 use Rattle.wq_code.specs.FileFault.{file_fault_number as file_number}
 use Rattle.wq_verify.specs.ProgramFault.{program_fault_number as program_number}
@@ -15,7 +15,7 @@ use Rattle.wq_session.specs.declared.refusal.Refusal.{Refusal}
 use Rattle.wq_session.specs.declared.refusal.Refusal.TheVariants.{LineTooLong, NotJson, NotACommand}
 use Rattle.wq_session.specs.declared.refusal.Refusal.TheVariants.{UnknownCommand, WrongArguments, Bser}
 use Rattle.wq_session.specs.declared.refusal.Refusal.TheVariants.{RootNotAbsolute, UnreadableRoot, TooManyFiles}
-use Rattle.wq_session.specs.declared.refusal.Refusal.TheVariants.{TooManyRoots, NotWatched}
+use Rattle.wq_session.specs.declared.refusal.Refusal.TheVariants.{TooManyRoots, TooManySessions, NotWatched}
 use Rattle.wq_session.specs.declared.refusal.Refusal.TheVariants.{TicksSpent, Query, ProgramTooLarge}
 use Rattle.wq_session.specs.declared.refusal.Refusal.TheVariants.{NotBase64, WrongFile, WrongProgram}
 use Rattle.wq_session.specs.declared.refusal.Refusal.TheVariants.{NoSuchProgram, ShelfFull, BadName, NoMemory}
@@ -55,6 +55,7 @@ refusal_text TooManyFiles = codes "E12: too many files"
 refusal_text TooManyRoots = codes "E13: too many roots"
 refusal_text NotWatched = codes "E14: root is not watched"
 refusal_text TicksSpent = codes "E15: ticks are spent"
+refusal_text TooManySessions = codes "E17: too many sessions"
 refusal_text (Query fault) = query_text fault
 refusal_text ProgramTooLarge = codes "E30: program too large"
 refusal_text NotBase64 = codes "E31: not base64"
@@ -66,8 +67,18 @@ refusal_text ShelfFull = codes "E35: shelf is full"
 refusal_text BadName = codes "E36: bad name"
 refusal_text NoMemory = codes "E60: no memory"
 
--- whether a session ends where it refuses a line so: nothing of its stream follows
+-- whether a session ends where it refuses a line so, or there is none: nothing of its stream follows
 abbrev pub ends_session : Refusal → Bool
 ends_session LineTooLong = true
 ends_session Bser = true
+ends_session TooManySessions = true
 ends_session _ = false
+
+-- whether a refusal is that memory ran out
+abbrev pub is_no_memory : Refusal → Bool
+is_no_memory NoMemory = true
+is_no_memory _ = false
+
+-- whether the line of a refusal is kept, so that it takes no memory
+abbrev pub is_fixed : Refusal → Bool
+is_fixed refusal = ends_session refusal || is_no_memory refusal

@@ -9,7 +9,8 @@ use Rattle.wq_compile.specs.Large.{is_too_large}
 use Rattle.wq_compile.specs.Meaning.{AnswersMeaning}
 use Rattle.wq_query.specs.Query.{QueryData, SinceData}
 use Rattle.wq_registry.specs.ByName.{under}
-use Rattle.wq_session.specs.Query.{AtData, ShelfNow, program_for, bound_at, has_place, used_at}
+use Rattle.wq_session.specs.At.{ShelfNow}
+use Rattle.wq_session.specs.Query.{program_for, bound_at, has_place, used_at}
 use Rattle.wq_session.specs.declared.refusal.Refusal.{Refusal}
 use Rattle.wq_session.specs.declared.refusal.Refusal.TheVariants.{NoSuchProgram, ProgramTooLarge}
 use Rattle.wq_session.specs.declared.refusal.Refusal.TheVariants.{ShelfFull, NoMemory}
@@ -40,12 +41,11 @@ FindsCompiled q (Err _) = ⊥
 
 -- the bound that a query sets, with the shelf on which its cursor was moved; or that there is no
 -- place for the cursor, or memory ran out, which leave the shelf
-abbrev pub MovesCursor : SinceData → AtData → ShelfNow → Result Bound Refusal → ShelfNow → Type 0
-MovesCursor since at shelf (Ok bound) after =
-    (has_place (at.instance).root since shelf ≡ true)
-    × (bound ≡ bound_at (at.instance).root since shelf)
-    × (after ≡ used_at (at.instance).root since (at.view).tick shelf)
-MovesCursor since at shelf (Err NoMemory) after = after ≡ shelf
-MovesCursor since at shelf (Err ShelfFull) after =
-    (has_place (at.instance).root since shelf ≡ false) × (after ≡ shelf)
-MovesCursor since at shelf (Err _) after = ⊥
+abbrev pub MovesCursor : SinceData → ℕ → ℕ → ShelfNow → Result Bound Refusal → ShelfNow → Type 0
+MovesCursor since root tick shelf (Ok bound) after =
+    (has_place root since shelf ≡ true) × (bound ≡ bound_at root since shelf)
+    × (after ≡ used_at root since tick shelf)
+MovesCursor since root tick shelf (Err NoMemory) after = after ≡ shelf
+MovesCursor since root tick shelf (Err ShelfFull) after =
+    (has_place root since shelf ≡ false) × (after ≡ shelf)
+MovesCursor since root tick shelf (Err _) after = ⊥

@@ -1,6 +1,7 @@
 //! What is asked of a session.
 
 use crate::refusal::Refusal;
+use crate::root::RootText;
 use serde_json::Value;
 use wq_base::Text;
 use wq_verify::Program;
@@ -11,15 +12,27 @@ pub enum Ask {
     /// This is the first reason to refuse the line.
     Refused(Refusal),
     /// That a root is watched.
-    Watch { root: Text },
+    Watch {
+        root: RootText,
+    },
     /// The roots that are watched.
     ListRoots,
     /// That a root is watched no more.
-    Unwatch { root: Text },
-    /// Which files of a root there are, and which of them changed, as the object says.
-    Query { root: Text, query: Value },
+    Unwatch {
+        root: RootText,
+    },
+    /// Which files of a root there are, and which of them changed, as the object says; and whether the root is crawled
+    /// first.
+    Query {
+        root: RootText,
+        crawl: bool,
+        query: Value,
+    },
     /// The clock of a root, and whether the root is crawled first.
-    Clock { root: Text, crawl: bool },
+    Clock {
+        root: RootText,
+        crawl: bool,
+    },
     /// The version alone.
     Version,
     /// The name of the server's socket.
@@ -27,11 +40,16 @@ pub enum Ask {
     /// That the server ends.
     ShutDown,
     /// That the program is kept under a name.
-    AddProgram { name: Text, program: Program },
+    AddProgram {
+        name: Text,
+        program: Program,
+    },
     /// The names of the programs.
     ListPrograms,
     /// That the program under a name is kept no more.
-    DeleteProgram { name: Text },
+    DeleteProgram {
+        name: Text,
+    },
     /// Nothing: the client has gone.
     Leave,
     /// Nothing.

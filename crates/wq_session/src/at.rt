@@ -1,6 +1,11 @@
 //! What is looked at for an answer.
+ghost use Rattle.std.specs.Prelude.{◌≡◌, false, is_none, option_map, IfSome};
+ghost use Rattle.wq_registry.specs.Root.{numbered};
+ghost use Rattle.wq_session.specs.At.{at_data, watched};
 
+use crate::root::RootText;
 use wq_clock::Instance;
+use wq_registry::Shelf;
 use wq_view::View;
 
 /// A root that is looked at for an answer.
@@ -8,6 +13,23 @@ use wq_view::View;
 pub struct At<'a> {
     /// The run of the server, and the number of the root there.
     pub instance: Instance,
-    /// The view of that root.
-    pub view: &'a View,
+    /// The view of that root, unless it has ended.
+    pub view: Option<&'a View>,
+}
+
+/// What is looked at, if it is this root, under its number on the shelf.
+#[tactic(auto, using(crate::proofs::Rooted::number_there))]
+pub(crate) fn watched<'a>(root: &RootText, at: Option<At<'a>>, shelf: &Shelf<()>) -> Option<At<'a>>
+    ensures value { option_map at_data result
+        ≡ watched root.now (option_map at_data at.entry) shelf.now }
+    ensures there { IfSome result (λ at.
+        is_none (numbered at.instance.root shelf.now.roots) ≡ false) }
+{
+    let at = at?;
+    let root = shelf.root_called(root.as_str())?;
+    if at.instance.root == root.number() {
+        Some(at)
+    } else {
+        None
+    }
 }

@@ -1,6 +1,39 @@
-//! The commands that a client may give.
-ghost use Rattle.std.specs.Prelude.{◌≡◌};
+//! The commands that a client may give, in tables: their names, what each of them asks, what an ask needs, and what is
+//! begun of it. Each command has a file of its own for its arguments, its reply and what it does.
+ghost use Rattle.std.specs.Prelude.{◌≡◌, option_map, true, false, IfErr};
+ghost use Rattle.serde_json.specs.View.{items_view};
+ghost use Rattle.wq_session.specs.Argument.{behind};
+ghost use Rattle.wq_session.specs.At.{at_data};
+ghost use Rattle.wq_session.specs.Begun.{takes_memory, tried};
 ghost use Rattle.wq_session.specs.Command.{command_named};
+ghost use Rattle.wq_session.specs.Need.{need_of, seen};
+ghost use Rattle.wq_session.specs.Needed.{need_data};
+ghost use Rattle.wq_session.specs.Reading.{Requests, request_of};
+ghost use Rattle.wq_session.specs.Refusal.{ends_session};
+ghost use Rattle.wq_session.specs.Work.{Begins};
+
+mod clock;
+mod program;
+mod query;
+mod server;
+mod watch;
+
+use crate::ask::Ask;
+use crate::at::At;
+use crate::need::Need;
+use crate::outcome::Out;
+use crate::refusal::Refusal;
+use crate::root::RootText;
+use crate::work::Work;
+use clock::{ask_clock, begin_clock};
+use program::{ask_add, ask_delete, ask_names, begin_add, begin_delete, begin_names};
+pub(crate) use query::listed;
+use query::{ask_query, begin_query};
+use serde_json::Value;
+use server::{ask_shutdown, ask_socket, ask_version, begin_socket};
+use std::alloc::Global;
+use watch::{ask_list, ask_unwatch, ask_watch, begin_list, begin_unwatch, begin_watch};
+use wq_registry::Shelf;
 
 /// A command, by its name alone.
 #[derive(Clone, Copy, Debug, PartialEq, Eq)]
@@ -51,5 +84,81 @@ impl Command {
             "program-del" => Some(Command::DeleteProgram),
             _ => None,
         }
+    }
+
+    /// What the command asks with these words, of which the first is its name.
+    pub(crate) fn asked(self, alloc: Global, words: Vec<Value>) -> Result<Ask, Refusal>
+        ensures { Requests (request_of self (behind (items_view words.items))) result }
+    {
+        match self {
+            Command::Watch | Command::WatchProject => ask_watch(alloc, words),
+            Command::ListRoots => ask_list(&words),
+            Command::Unwatch => ask_unwatch(alloc, words),
+            Command::Query => ask_query(alloc, words),
+            Command::Clock => ask_clock(alloc, words),
+            Command::Version => ask_version(&words),
+            Command::SocketName => ask_socket(&words),
+            Command::ShutDown => ask_shutdown(&words),
+            Command::AddProgram => ask_add(alloc, words),
+            Command::ListPrograms => ask_names(&words),
+            Command::DeleteProgram => ask_delete(words),
+        }
+    }
+}
+
+impl Ask {
+    /// What has to come before this is answered. A line that needs a crawl is answered after that crawl, at the view
+    /// that it left; one that watches a root, at the view of that root; one that unwatches it, at its number.
+    pub fn need(&self) -> Need<'_>
+        ensures { need_data result ≡ need_of self.now }
+    {
+        match self {
+            Ask::Query { root, crawl, .. } => seen(*crawl, root),
+            Ask::Clock { root, crawl } => seen(*crawl, root),
+            Ask::Watch { root } => Need::Watch(root.as_str()),
+            Ask::Unwatch { root } => Need::Unwatch(root.as_str()),
+            _ => Need::None,
+        }
+    }
+}
+
+/// The view of a root, crawled first or not.
+fn seen(crawl: bool, root: &RootText) -> Need<'_>
+    ensures { need_data result ≡ seen crawl root.now }
+{
+    if crawl {
+        Need::Crawl(root.as_str())
+    } else {
+        Need::Look(root.as_str())
+    }
+}
+
+/// What is begun of an ask while the shelf is held, or why the line is refused.
+pub(crate) fn tried(
+    alloc: Global,
+    ask: Ask,
+    at: Option<At<'_>>,
+    shelf: &mut Shelf<()>,
+) -> Result<Work, Refusal>
+    ensures begun { Begins (tried ask (option_map at_data at.entry) shelf.old) shelf.old
+        result shelf.new }
+    ensures memory { IfErr result (λ refusal.
+        ends_session refusal ≡ false → takes_memory ask ≡ true) }
+{
+    match ask {
+        Ask::Refused(refusal) => Err(refusal),
+        Ask::Watch { root } => begin_watch(alloc, &root, at, shelf),
+        Ask::ListRoots => begin_list(alloc, shelf),
+        Ask::Unwatch { root } => begin_unwatch(alloc, &root, at, shelf),
+        Ask::Query { root, query, .. } => begin_query(alloc, &root, &query, at, shelf),
+        Ask::Clock { root, .. } => begin_clock(alloc, &root, at, shelf),
+        Ask::Version => Ok(Work::Says(Out::version())),
+        Ask::SocketName => begin_socket(alloc, shelf),
+        Ask::ShutDown => Ok(Work::Says(Out::shutdown())),
+        Ask::AddProgram { name, program } => begin_add(alloc, &name, program, shelf),
+        Ask::ListPrograms => begin_names(alloc, shelf),
+        Ask::DeleteProgram { name } => begin_delete(alloc, &name, shelf),
+        Ask::Leave => Ok(Work::Says(Out::silence(false))),
+        Ask::Nothing => Ok(Work::Says(Out::silence(true))),
     }
 }

@@ -1,26 +1,18 @@
 //! What is given out: replies that were made, and those that are always the same.
-ghost use Rattle.std.specs.Prelude.{◌≡◌, ◌⊎◌, ℕ, List, Some, None, false, option_map};
+ghost use Rattle.std.specs.Prelude.{◌≡◌, ◌⊎◌, ◌++◌, codes, ℕ, List, Some, None, false, option_map, IfOk};
 ghost use Rattle.wq_session.specs.Answer.{MayRefuse};
 ghost use Rattle.wq_session.specs.Out.{refuses, replies, runs_out, saying_text, shuts_with, silence};
-ghost use Rattle.wq_session.specs.Reply.{shutdown_data, version_data};
+ghost use Rattle.wq_session.specs.Reply.{error_data};
+ghost use Rattle.wq_session.specs.Said.{IsLine, text_of};
+ghost use Rattle.wq_session.specs.Server.{shutdown_data, version_data};
 
 use crate::cursor::Cursor;
+use crate::fixed::{NO_MEMORY, SHUTS_DOWN, VERSION_ALONE};
 use crate::outcome::{Out, Reply};
 use crate::refusal::Refusal;
-use crate::replies;
-use std::alloc::Global;
+use crate::reply::{error_reply, print};
+use std::alloc::{AllocError, Global};
 use wq_base::Table;
-
-/// The replies that are always the same.
-const LINE_TOO_LONG: &[u8] = br#"{"error":"E1: line too long","version":"wq-1"}"#;
-
-const BSER: &[u8] = br#"{"error":"E6: BSER is not spoken here","version":"wq-1"}"#;
-
-const NO_MEMORY: &[u8] = br#"{"error":"E60: no memory","version":"wq-1"}"#;
-
-const VERSION_ALONE: &[u8] = br#"{"version":"wq-1"}"#;
-
-const SHUTS_DOWN: &[u8] = br#"{"shutdown-server":true,"version":"wq-1"}"#;
 
 impl Out {
     /// The text of the reply, without a newline.
@@ -29,8 +21,20 @@ impl Out {
     {
         match &self.reply {
             Reply::None => None,
-            Reply::Made(text) => Some(text.as_slice()),
-            Reply::Fixed(text) => Some(text),
+            Reply::Made(line) => Some(without_newline(line.as_slice())),
+            Reply::Fixed(line) => Some(without_newline(line)),
+        }
+    }
+
+    /// The text of the reply and the newline behind it, in one piece.
+    pub fn line(&self) -> Option<&[u8]>
+        ensures { option_map (λ line. line.now) result
+            ≡ option_map (λ text. text ++ codes "\n") self.now.reply }
+    {
+        match &self.reply {
+            Reply::None => None,
+            Reply::Made(line) => Some(line.as_slice()),
+            Reply::Fixed(line) => Some(line),
         }
     }
 
@@ -48,19 +52,23 @@ impl Out {
         self.shuts
     }
 
-    /// The reply of this text, after which the session goes on.
-    pub(crate) fn of_text(text: Vec<u8>) -> Out
-        ensures { result ≡ saying_text text.items }
+    /// The reply of this text, to which a newline is put, and after which the session goes on.
+    #[tactic(auto, using(crate::proofs::Newlines::text_before, crate::proofs::Newlines::is_line))]
+    pub(crate) fn of_text(text: Vec<u8>) -> Result<Out, AllocError>
+        ensures { IfOk result (λ out. out ≡ saying_text text.items) }
     {
-        Out {
-            reply: Reply::Made(Table::from_vec(text)),
+        let mut line = text;
+        line.push(b'\n')?;
+        Ok(Out {
+            reply: Reply::Made(Table::from_vec(line)),
             goes_on: true,
             shuts: false,
             unset: None,
-        }
+        })
     }
 
     /// The version alone.
+    #[tactic(auto, using(crate::proofs::Newlines::kept_line, crate::proofs::Constants::version_alone))]
     pub(crate) fn version() -> Out
         ensures { result ≡ replies version_data }
     {
@@ -73,6 +81,7 @@ impl Out {
     }
 
     /// That the server ends.
+    #[tactic(auto, using(crate::proofs::Newlines::kept_line, crate::proofs::Constants::shuts_down))]
     pub(crate) fn shutdown() -> Out
         ensures { result ≡ shuts_with shutdown_data }
     {
@@ -97,6 +106,7 @@ impl Out {
     }
 
     /// That memory ran out, with the cursor that was moved for the reply.
+    #[tactic(auto, using(crate::proofs::Newlines::kept_line, crate::proofs::Constants::ran_out))]
     pub(crate) fn runs_out(cursor: Option<Cursor>) -> Out
         ensures { result ≡ runs_out cursor }
     {
@@ -109,33 +119,38 @@ impl Out {
     }
 
     /// That a line is refused; or, where memory does not suffice for the reply, that it ran out.
+    #[tactic(auto, using(crate::proofs::Constants::goes_on, crate::proofs::Newlines::kept_text, crate::proofs::Newlines::kept_line))]
     pub fn refused(alloc: Global, refusal: Refusal) -> Out
         ensures { MayRefuse refusal result }
     {
-        match refusal {
-            Refusal::LineTooLong => Out::last(LINE_TOO_LONG),
-            Refusal::Bser => Out::last(BSER),
-            refusal => match replies::error(alloc, refusal) {
-                Ok(text) => Out::of_text(text),
+        match refusal.fixed_line() {
+            Some(line) => Out {
+                reply: Reply::Fixed(line),
+                goes_on: !refusal.ends_session(),
+                shuts: false,
+                unset: None,
+            },
+            None => match error(alloc, refusal) {
+                Ok(out) => out,
                 Err(_) => Out::runs_out(None),
             },
         }
     }
+}
 
-    /// The last reply of a session.
-    fn last(text: &'static [u8]) -> Out
-        ensures { result ≡ record {
-          reply = Some text.now;
-          goes_on = false;
-          shuts = false;
-          unset = None;
-        } }
-    {
-        Out {
-            reply: Reply::Fixed(text),
-            goes_on: false,
-            shuts: false,
-            unset: None,
-        }
-    }
+/// That a line is refused, where its text is made.
+fn error(alloc: Global, refusal: Refusal) -> Result<Out, AllocError>
+    ensures { IfOk result (λ out. out ≡ replies (error_data refusal)) }
+{
+    let reply = error_reply(alloc, refusal)?;
+    print(alloc, &reply)
+}
+
+/// A line without the newline at its end.
+#[tactic(auto, using(crate::proofs::Newlines::not_empty))]
+fn without_newline(line: &[u8]) -> &[u8]
+    requires { IsLine line.now }
+    ensures { result.now ≡ text_of line.now }
+{
+    &line[..line.len() - 1]
 }

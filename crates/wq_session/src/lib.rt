@@ -3,35 +3,31 @@
 //! said here.
 #![tactic(auto)]
 
-mod adding;
-mod arguments;
 mod ask;
 mod at;
 mod command;
 mod crawl;
 mod cursor;
+mod fixed;
 mod giving;
 mod law;
 mod need;
-mod needs;
 mod outcome;
-mod querying;
 mod reading;
 mod refusal;
-mod replies;
+mod reply;
 mod root;
 mod session;
-mod taking;
-mod watching;
+mod words;
 mod work;
 
 pub use ask::Ask;
 pub use at::At;
 pub use cursor::Cursor;
 pub use law::{answers_are_calls, watching_again_changes_nothing};
-pub use needs::Need;
+pub use need::Need;
 pub use outcome::Out;
 pub use refusal::Refusal;
-pub use root::{MAX_ROOT, root_named};
+pub use root::{MAX_ROOT, RootText};
 pub use session::Session;
 pub use work::Work;

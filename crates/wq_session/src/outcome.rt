@@ -4,8 +4,8 @@ use crate::cursor::Cursor;
 use std::marker::Model;
 use wq_base::Table;
 
-/// What a session gives out for an event: a reply or none, and whether it goes on. Its text is compact JSON with keys
-/// in byte order, and has no newline.
+/// What a session gives out for an event: a reply or none, and whether it goes on. The reply is compact JSON with keys in
+/// byte order, and a newline.
 #[derive(Drop)]
 pub struct Out {
     pub(crate) reply: Reply,
@@ -14,7 +14,7 @@ pub struct Out {
     pub(crate) unset: Option<Cursor>,
 }
 
-/// The text of a reply.
+/// The line of a reply: its text and a newline, so that both are written at once.
 #[derive(Drop)]
 pub(crate) enum Reply {
     /// There is none.
@@ -27,7 +27,7 @@ pub(crate) enum Reply {
 
 impl Model for Out {
     ghost use Rattle.wq_session.specs.Out.{OutData};
-    ghost use Rattle.wq_session.specs.Said.{reply_text};
+    ghost use Rattle.wq_session.specs.Said.{EndsLine, reply_text};
 
     ghost Value = { OutData };
 
@@ -37,4 +37,6 @@ impl Model for Out {
       shuts = o.shuts;
       unset = o.unset;
     } };
+
+    ghost invariant = { λ o. EndsLine o.reply };
 }

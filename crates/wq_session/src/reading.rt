@@ -1,24 +1,12 @@
 //! What an event asks.
-ghost use Rattle.std.specs.Prelude.{Ok};
-ghost use Rattle.serde_json.specs.View.{view as data_of, items_view};
-ghost use Rattle.wq_base.specs.Fault.{unless_fault};
-ghost use Rattle.wq_session.specs.Command.{command_named};
-ghost use Rattle.wq_session.specs.Argument.{behind};
-ghost use Rattle.wq_session.specs.Reading.{Asks, complete, value_of, watching, request_of, request_of_value, requested};
-ghost use Rattle.wq_session.specs.declared.refusal.Refusal.TheVariants.{WrongArguments};
-ghost use Rattle.wq_session.specs.Work.{GivesValue, Requests};
+ghost use Rattle.serde_json.specs.View.{view as data_of};
+ghost use Rattle.wq_session.specs.Reading.{Asks, GivesValue, Requests, request_of_value, requested, value_of};
 
-use crate::adding::{adding, is_name};
-use crate::arguments::{
-    are_none, are_options, clock_arguments, one_text, query_arguments, two_texts,
-};
 use crate::ask::Ask;
 use crate::command::Command;
 use crate::refusal::Refusal;
-use crate::root::is_absolute;
 use serde_json::Value;
 use std::alloc::Global;
-use wq_base::Text;
 use wq_stream::Event;
 
 impl Ask {
@@ -75,66 +63,4 @@ fn asked_by(alloc: Global, value: Value) -> Result<Ask, Refusal>
         return Err(Refusal::UnknownCommand);
     };
     command.asked(alloc, words)
-}
-
-impl Command {
-    /// What the command asks with these words, of which the first is its name.
-    fn asked(self, alloc: Global, words: Vec<Value>) -> Result<Ask, Refusal>
-        ensures { Requests (request_of self (behind (items_view words.items))) result }
-    {
-        match self {
-            Command::Watch | Command::WatchProject => match one_text(words) {
-                Some(root) => watching(root),
-                None => Err(Refusal::WrongArguments),
-            },
-            Command::ListRoots => unless_wrong(are_none(&words), Ask::ListRoots),
-            Command::Unwatch => match one_text(words) {
-                Some(root) => Ok(Ask::Unwatch { root }),
-                None => Err(Refusal::WrongArguments),
-            },
-            Command::Query => match query_arguments(words) {
-                Some((root, query)) => Ok(Ask::Query { root, query }),
-                None => Err(Refusal::WrongArguments),
-            },
-            Command::Clock => match clock_arguments(words) {
-                Some((root, crawl)) => Ok(Ask::Clock { root, crawl }),
-                None => Err(Refusal::WrongArguments),
-            },
-            Command::Version => unless_wrong(are_options(&words), Ask::Version),
-            Command::SocketName => unless_wrong(are_none(&words), Ask::SocketName),
-            Command::ShutDown => unless_wrong(are_none(&words), Ask::ShutDown),
-            Command::AddProgram => match two_texts(words) {
-                Some((name, text)) => adding(alloc, name, &text),
-                None => Err(Refusal::WrongArguments),
-            },
-            Command::ListPrograms => unless_wrong(are_none(&words), Ask::ListPrograms),
-            Command::DeleteProgram => match one_text(words) {
-                Some(name) if is_name(&name) => Ok(Ask::DeleteProgram { name }),
-                Some(_) => Err(Refusal::BadName),
-                None => Err(Refusal::WrongArguments),
-            },
-        }
-    }
-}
-
-/// That a root is watched.
-fn watching(root: Text) -> Result<Ask, Refusal>
-    ensures { Requests (watching root) result }
-{
-    if is_absolute(&root) {
-        Ok(Ask::Watch { root })
-    } else {
-        Err(Refusal::RootNotAbsolute)
-    }
-}
-
-/// What is asked, where the arguments are right.
-fn unless_wrong(right: bool, ask: Ask) -> Result<Ask, Refusal>
-    ensures { Requests (unless_fault WrongArguments right (Ok (complete ask))) result }
-{
-    if right {
-        Ok(ask)
-    } else {
-        Err(Refusal::WrongArguments)
-    }
 }

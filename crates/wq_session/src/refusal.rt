@@ -34,6 +34,8 @@ pub enum Refusal {
     BadName,
     /// As many roots are watched as may be, or as many were ever watched as there are numbers for.
     TooManyRoots,
+    /// As many sessions are open as may be. It is no line's, and told in the place of a session.
+    TooManySessions,
     /// The root could not be read when it was crawled for the line.
     UnreadableRoot,
     /// The root has more files than a view may have.
@@ -59,11 +61,14 @@ pub enum Refusal {
 }
 
 impl Refusal {
-    /// Whether the session ends where a line is refused so.
+    /// Whether the session ends where a line is refused so, or there is none.
     pub fn ends_session(self) -> bool
         ensures { result ≡ ends_session self }
     {
-        matches!(self, Refusal::LineTooLong | Refusal::Bser)
+        matches!(
+            self,
+            Refusal::LineTooLong | Refusal::Bser | Refusal::TooManySessions
+        )
     }
 
     /// The text of the key `error` in the reply.
@@ -83,6 +88,7 @@ impl Refusal {
             Refusal::TooManyRoots => String::from_str(alloc, "E13: too many roots"),
             Refusal::NotWatched => String::from_str(alloc, "E14: root is not watched"),
             Refusal::TicksSpent => String::from_str(alloc, "E15: ticks are spent"),
+            Refusal::TooManySessions => String::from_str(alloc, "E17: too many sessions"),
             Refusal::Query(fault) => String::from_str(alloc, query_text(fault)),
             Refusal::ProgramTooLarge => String::from_str(alloc, "E30: program too large"),
             Refusal::NotBase64 => String::from_str(alloc, "E31: not base64"),

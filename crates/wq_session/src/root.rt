@@ -1,15 +1,55 @@
 //! The texts of roots.
-ghost use Rattle.std.specs.Prelude.{◌≡◌};
+ghost use Rattle.std.specs.Prelude.{◌≡◌, IfOk};
 ghost use Rattle.wq_session.specs.Root.{is_absolute, root_named};
 
+use std::alloc::{AllocError, Global};
+use std::marker::Model;
 use wq_base::Text;
 use wq_term::without_end_slashes;
 
 /// How many bytes the text of a root may have where it is to be watched, as it is given.
 pub const MAX_ROOT: usize = 4096;
 
+/// The text of a root: without the slashes at its end, but `/` where there is nothing else. They are dropped when this is
+/// made, and by nothing else.
+#[derive(Drop)]
+pub struct RootText {
+    text: Text,
+}
+
+impl Model for RootText {
+    ghost use Rattle.std.specs.Prelude.{ℕ, List};
+
+    ghost Value = { List ℕ };
+
+    ghost view = { λ r. r.text };
+}
+
+impl RootText {
+    /// The root that a text names. It takes no memory where the text has no slashes that are dropped.
+    pub fn named(alloc: Global, text: Text) -> Result<RootText, AllocError>
+        ensures { IfOk result (λ root. root ≡ root_named text) }
+    {
+        let is_named = root_named(text.as_str()) == text.as_str();
+        if is_named {
+            return Ok(RootText { text });
+        }
+        let root = String::from_str(alloc, root_named(text.as_str()))?;
+        Ok(RootText {
+            text: Text::from_string(root),
+        })
+    }
+
+    /// The text as a string slice.
+    pub fn as_str(&self) -> &str
+        ensures { result.now ≡ self.now }
+    {
+        self.text.as_str()
+    }
+}
+
 /// The root that a text names: without the slashes at its end, but `/` where there is nothing else.
-pub fn root_named(text: &str) -> &str
+fn root_named(text: &str) -> &str
     ensures { result.now ≡ root_named text.now }
 {
     let short = without_end_slashes(text);

@@ -2,14 +2,14 @@
 //! what is to be unset where memory did not suffice for that one.
 ghost use Rattle.std.specs.Prelude.{◌≡◌, option_map};
 ghost use Rattle.wq_session.specs.Answer.{AnswersAsk, CanFinish, Finishes, TakesAsk, settled};
-ghost use Rattle.wq_session.specs.Work.{at_data, work_data};
+ghost use Rattle.wq_session.specs.At.{at_data};
+ghost use Rattle.wq_session.specs.Work.{work_data};
 
 use crate::ask::Ask;
 use crate::at::At;
+use crate::command::{listed, tried};
 use crate::cursor::Cursor;
 use crate::outcome::Out;
-use crate::querying::listed;
-use crate::taking::begin;
 use crate::work::Work;
 use std::alloc::Global;
 use wq_registry::Shelf;
@@ -40,7 +40,10 @@ impl Session {
     ) -> Work
         ensures { TakesAsk ask (option_map at_data at.entry) shelf.old (work_data result) shelf.new }
     {
-        begin(alloc, ask, at, shelf)
+        match tried(alloc, ask, at, shelf) {
+            Ok(work) => work,
+            Err(refusal) => Work::Says(Out::refused(alloc, refusal)),
+        }
     }
 
     /// What stands to be undone on the shelf: a cursor that was moved for a reply which memory did not suffice for.
@@ -54,6 +57,7 @@ impl Session {
 
     /// The answer whole: [`take`](Session::take), [`finish`](Work::finish), [`settle`](Session::settle), and the cursor
     /// unset that it names.
+    #[tactic(auto, using(crate::proofs::Finishing::can_finish))]
     pub fn on(&mut self, alloc: Global, ask: Ask, at: Option<At<'_>>, shelf: &mut Shelf<()>) -> Out
         ensures { AnswersAsk ask (option_map at_data at.entry) shelf.old result shelf.new }
     {
@@ -79,8 +83,13 @@ impl Work {
                 out
             }
             Work::Evaluates(plan, cursor) => match at {
-                Some(at) => listed(alloc, &plan, cursor, at),
-                None => unreachable!(),
+                Some(
+                    At {
+                        instance,
+                        view: Some(view),
+                    },
+                ) => listed(alloc, &plan, cursor, &instance, view),
+                _ => unreachable!(),
             },
         }
     }

@@ -3,7 +3,7 @@ use Rattle.std.proofs.Common.{◌≡◌, ◌+◌, ◌&&◌, FitsSigned, w64, rul
 use mir.Facts.{to_z-of_z}
 use Rattle.std.specs.Io.KnownBytes.{Appends}
 use Rattle.std.proofs.lemmas.List.{drop_all}
-use Rattle.wq_replay.specs.Replay.{AppendsFront}
+use Rattle.wq_base.specs.Writing.{WritesFront}
 use Rattle.wq_replay.specs.Stands.{sent_data}
 use Rattle.wq_replay.proofs.Sendings.{all_sent, front_sent, line_as, next_one, one_sent}
 use Rattle.wq_replay.proofs.sending.send.Goals as goal
@@ -17,11 +17,11 @@ returns g c =
 pub returns-in_err-send_line : goal.returns-in_err-send_line
 returns-in_err-send_line g c =
     front_sent _ _ _ (map sent_data c.args.replies.now) (map sent_data (drop c.loop-reply.reply-index c.args.replies.now)) _ (sent_data c.reply-item.result)
-    c.loop-reply.goes_on c.from_residual.result c.in_err-send_line.field-0.0 c.loop-reply.invariant
+    c.loop-reply.goes_on c.from_residual.result c.loop-reply.invariant
     (next_one c.args.replies.now c.loop-reply.reply-index c.reply-item.result c.loop-reply-test.true c.reply-item.is)
-    (line_as (c.reply-item.result).client _ _ c.text.result.now (AppendsFront (g.W.Write.contents c.loop-reply.writer) (g.W.Write.contents c.send_line.new.writer))
+    (line_as (c.reply-item.result).client _ _ c.text.result.now (WritesFront (g.W.Write.contents c.loop-reply.writer) (g.W.Write.contents c.send_line.new.writer))
     (to_z-of_z fits ∙ c.client.ensures) c.text.ensures c.in_err-send_line.ensures.front)
-    c.in_err-send_line.ensures.fault c.from_residual.ensures
+    c.from_residual.ensures
   where
     fits : FitsSigned w64 c.client.result
     fits = search rules

@@ -4,15 +4,15 @@ use mir.Facts.{to_z-of_z}
 use Rattle.std.specs.Fmt.{signed_decimal}
 use Rattle.std.proofs.lemmas.Result.{on_err_weaker}
 use Rattle.std.specs.Io.KnownBytes.{Appends}
-use Rattle.wq_replay.specs.Replay.{AppendsFront}
-use Rattle.wq_replay.proofs.Fronts.{front_before, front_behind, on_err}
+use Rattle.wq_base.specs.Writing.{WritesFront}
+use Rattle.wq_base.proofs.Fronts.{front_before, front_behind, on_err}
 use Rattle.wq_replay.proofs.sending.send_line.Goals as goal
 
 pub returns-in_err-write_all-clause-front : goal.returns-in_err-write_all-clause-front
 returns-in_err-write_all-clause-front g c =
     let number = c.as_bytes.ensures.value ∙ c.format.ensures.text ∙ ap signed_decimal (to_z-of_z c.ranges.client) in
     on_err c.from_residual.result
-    (front_before _ _ _ _ (subst (AppendsFront _ _) number c.in_err-write_all.ensures.front))
+    (front_before _ _ _ _ (subst (WritesFront _ _) number c.in_err-write_all.ensures.front))
 
 pub returns-in_err-write_all-2-clause-front : goal.returns-in_err-write_all-2-clause-front
 returns-in_err-write_all-2-clause-front g c =

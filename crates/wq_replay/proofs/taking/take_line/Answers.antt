@@ -1,6 +1,6 @@
 -- The parts of a line are taken one after the other.
 use Rattle.std.proofs.Common.{true, false}
-use Rattle.wq_replay.proofs.Fronts.{keeps_same, on_err}
+use Rattle.wq_base.proofs.Fronts.{keeps_same, on_err}
 use Rattle.wq_replay.proofs.Inside.{within_kept, within_then}
 use Rattle.wq_replay.proofs.Parts.{empty_fits, first_part, next_part}
 use Rattle.wq_replay.proofs.taking.take_line.Goals as goal

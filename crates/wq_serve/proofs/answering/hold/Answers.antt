@@ -1,13 +1,14 @@
 -- What was taken and finished is the answer.
 use Rattle.std.proofs.Common.{option_map, sym, ◌∙◌}
-use Rattle.wq_session.specs.Work.{at_data, work_data}
+use Rattle.wq_session.specs.At.{at_data}
+use Rattle.wq_session.specs.Work.{work_data}
 use Rattle.wq_serve.proofs.Held.{kept_answer, unset_answer}
 use Rattle.wq_serve.proofs.answering.hold.Goals as goal
 
 pub returns-in-Some-clause-answers : goal.returns-in-Some-clause-answers
 returns-in-Some-clause-answers g c =
     unset_answer _ _ _ c.args.ask (option_map at_data c.args.at) (work_data c.hold-work.result) c.finish-out.result c.settle.new.out c.in-Some.cursor
-    c.hold-work.ensures c.finish-out.ensures c.settle.ensures.taken (sym c.in-Some.ensures.named) c.unset.ensures
+    c.hold-work.ensures c.finish-out.ensures c.settle.ensures.taken (sym c.in-Some.ensures.named) c.unset.ensures.unset
 
 pub returns-in_default-clause-answers : goal.returns-in_default-clause-answers
 returns-in_default-clause-answers g c =

@@ -1,5 +1,5 @@
 -- The root is the one that was found.
-use Rattle.std.proofs.Common.{ap, subst, ◌∙◌}
+use Rattle.std.proofs.Common.{ap, refl, subst, ◌∙◌}
 use Rattle.wq_live.specs.Event.{shown_root, passes_over}
 use Rattle.wq_view.specs.View.{IsViewOf}
 use Rattle.wq_clock.specs.Run.{instance_of, run_data}
@@ -12,5 +12,7 @@ returns g c =
       it.0,
       it.1,
       c.instance.ensures ∙ ap (instance_of (run_data c.args.run)) it.2,
+      c.in_ok-number.view.now,
+      refl,
       subst (λ n. IsViewOf (passes_over n c.args.look.now) c.in_ok-number.view.now) it.2 c.in_ok-number.ensures.view,
     )

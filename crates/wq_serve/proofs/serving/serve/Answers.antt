@@ -1,7 +1,7 @@
 -- One more event was taken, after which the session goes on, or ends.
 use Rattle.std.proofs.Common.{rules, ◌+◌, ◌++◌, ◌∷◌, [], ◌∙◌, ap, length-append, subst}
 use Rattle.wq_serve.specs.Serving.{Serves, line_for, place}
-use Rattle.wq_serve.proofs.Fronts.{appends_then}
+use Rattle.wq_base.proofs.Fronts.{appends_then}
 use Rattle.wq_serve.proofs.Going.{ends_well, ends_within, goes_on_by}
 use Rattle.wq_serve.proofs.serving.serve.Goals as goal
 

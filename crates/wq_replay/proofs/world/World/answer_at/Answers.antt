@@ -2,7 +2,7 @@
 use Rattle.std.proofs.Common.{None, option_map, refl, sym, ap}
 use Rattle.wq_session.specs.Need.{need_of}
 use Rattle.wq_session.specs.Needed.{need_data}
-use Rattle.wq_session.specs.Work.{at_data}
+use Rattle.wq_session.specs.At.{at_data}
 use Rattle.wq_clock.specs.Run.{run_data}
 use Rattle.wq_replay.specs.Stands.{refused_data}
 use Rattle.wq_replay.specs.World.{looked}

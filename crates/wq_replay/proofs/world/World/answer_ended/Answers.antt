@@ -21,8 +21,8 @@ returns c = λ before stands is.
       record { run = before.run; events = before.events ++ Ended c.args.instance.root ∷ []; shelf = c.on.new.shelf; refused = None },
       inl (
         c.on.new.shelf,
-        answers_at c.args.ask c.on.result (Some (at_data_of (instance_data c.args.instance) c.new-view.result)) (Some (at_end before.run c.args.instance.root)) c.args.self.now.shelf before.shelf c.on.new.shelf
-            (ended_is (instance_data c.args.instance) c.new-view.result before.run is c.new-view.ensures.empty) stands.shelf c.on.ensures,
+        answers_at c.args.ask c.on.result (Some (at_data_of (instance_data c.args.instance) None)) (Some (at_end before.run c.args.instance.root)) c.args.self.now.shelf before.shelf c.on.new.shelf
+            (ended_is (instance_data c.args.instance) before.run is) stands.shelf c.on.ensures,
         refl,
       ),
       record { run = stands.run; roots = ended.1; shelf = refl; refused = sym (ap (option_map refused_data) c.requires.followed); whole = stands.whole },

@@ -5,4 +5,4 @@ use Rattle.wq_serve.proofs.Reaching.{unset_reached}
 use Rattle.wq_serve.proofs.shared_shelf.SharedShelf.unset.Goals as goal
 
 pub invariant_of-self : goal.invariant_of-self
-invariant_of-self c = subst IsReached (sym c.unset_cursor.ensures) (unset_reached _ _ c.self.inside.shelf c.self.invariant)
+invariant_of-self c = subst IsReached (sym c.on.ensures.unset) (unset_reached _ _ c.self.inside.shelf c.self.invariant)

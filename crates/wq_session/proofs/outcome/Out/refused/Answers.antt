@@ -1,11 +1,13 @@
--- The texts that are always the same are the refusals'.
-use Rattle.std.proofs.Common.{sym, subst, ◌∙◌, inl}
-use Rattle.wq_session.specs.Answer.{MayRefuse}
-use Rattle.wq_session.proofs.Fixed.{too_long, binary}
+-- The line that is kept of a refusal is its reply's.
+use Rattle.std.proofs.Common.{inl}
+use Rattle.serde_json.specs.Written.{compact_text}
+use Rattle.wq_session.specs.Reply.{error_data}
+use Rattle.wq_session.proofs.Constants.{fixed_said}
+use Rattle.wq_session.proofs.Newlines.{kept_line}
 use Rattle.wq_session.proofs.outcome.Out.refused.Goals as goal
 
-pub returns-in-LineTooLong : goal.returns-in-LineTooLong
-returns-in-LineTooLong c = subst (λ r. MayRefuse r c.last.result) (sym c.in-LineTooLong.is) (inl (c.last.ensures ∙ too_long))
+pub invariant_of-result : goal.invariant_of-result
+invariant_of-result c = kept_line (compact_text (error_data c.args.refusal)) c.in-Some.line.now c.in-Some.ensures.line
 
-pub returns-in-Bser : goal.returns-in-Bser
-returns-in-Bser c = subst (λ r. MayRefuse r c.last-in-Bser.result) (sym c.in-Bser.is) (inl (c.last-in-Bser.ensures ∙ binary))
+pub returns-in-Some : goal.returns-in-Some
+returns-in-Some c = inl (fixed_said c.args.refusal c.in-Some.line.now c.ends_session.result c.in-Some.ensures.line c.ends_session.ensures)

@@ -1,6 +1,6 @@
--- The text that is always the same is the reply's.
-use Rattle.wq_session.proofs.Fixed.{ran_out}
+-- The line that is kept is the reply's.
+use Rattle.wq_session.proofs.Constants.{ran_out_said}
 use Rattle.wq_session.proofs.outcome.Out.runs_out.Goals as goal
 
 pub returns : goal.returns
-returns c = ran_out c.args.cursor
+returns c = ran_out_said c.args.cursor

@@ -1,6 +1,6 @@
--- The text that is always the same is the reply's.
-use Rattle.wq_session.proofs.Fixed.{shuts_down}
+-- The line that is kept is the reply's.
+use Rattle.wq_session.proofs.Constants.{shutdown_said}
 use Rattle.wq_session.proofs.outcome.Out.shutdown.Goals as goal
 
 pub returns : goal.returns
-returns c = shuts_down
+returns c = shutdown_said

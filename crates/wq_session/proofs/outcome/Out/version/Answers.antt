@@ -1,6 +1,6 @@
--- The text that is always the same is the reply's.
-use Rattle.wq_session.proofs.Fixed.{version_alone}
+-- The line that is kept is the reply's.
+use Rattle.wq_session.proofs.Constants.{version_said}
 use Rattle.wq_session.proofs.outcome.Out.version.Goals as goal
 
 pub returns : goal.returns
-returns c = version_alone
+returns c = version_said

@@ -1,7 +1,8 @@
 -- What is taken and then finished is the answer.
 use Rattle.std.proofs.Common.{ap, sym, ◌∙◌, option_map}
 use Rattle.wq_registry.specs.Shelf.{cursor_unset}
-use Rattle.wq_session.specs.Work.{at_data, work_data}
+use Rattle.wq_session.specs.At.{at_data}
+use Rattle.wq_session.specs.Work.{work_data}
 use Rattle.wq_session.proofs.Ending.{answered_with}
 use Rattle.wq_session.proofs.session.Session.on.Goals as goal
 

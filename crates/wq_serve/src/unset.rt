@@ -1,0 +1,33 @@
+//! That a cursor was unset.
+ghost use Rattle.std.specs.Prelude.{◌≡◌};
+ghost use Rattle.wq_registry.specs.Shelf.{cursor_unset};
+
+use std::marker::Model;
+use wq_registry::Shelf;
+use wq_session::Cursor;
+
+/// That a cursor was unset on a shelf. Nothing but unsetting it makes one, so a desk that never comes to a shelf has none
+/// to give.
+#[derive(Drop)]
+pub struct Unset {
+    cursor: Cursor,
+}
+
+impl Model for Unset {
+    ghost use Rattle.wq_session.specs.declared.cursor.Cursor.{Cursor};
+
+    ghost Value = { Cursor };
+
+    ghost view = { λ u. u.cursor };
+}
+
+impl Unset {
+    /// Unsets a cursor ([`Shelf::unset_cursor`]).
+    pub fn on(shelf: &mut Shelf<()>, cursor: Cursor) -> Unset
+        ensures unset { shelf.new ≡ cursor_unset cursor.root cursor.name shelf.old }
+        ensures named { result ≡ cursor }
+    {
+        shelf.unset_cursor(cursor.root, cursor.name.as_str());
+        Unset { cursor }
+    }
+}

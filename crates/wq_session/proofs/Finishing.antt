@@ -1,0 +1,116 @@
+-- Where files are to be listed, there is a view of which they can be.
+use Rattle.std.proofs.Common.{◌≡◌, ℕ, Bool, true, false, not, is_some, if◌then◌else◌, Option, Some, None, Result, Ok, Err, inl, inr, refl, sym, ap, subst}
+use Rattle.serde_json.specs.Data.{Data}
+use Rattle.serde_json.specs.View.{view as data_of}
+use Rattle.wq_base.specs.Fault.{or_fault, or_its_fault, or_own_fault, unless_fault}
+use Rattle.wq_code.specs.declared.raw.Raw.{Raw}
+use Rattle.wq_query.specs.Query.{QueryData}
+use Rattle.wq_query.specs.Reading.{asks as queries}
+use Rattle.wq_query.specs.declared.fault.QueryFault.{QueryFault}
+use Rattle.wq_registry.specs.Limit.{max_programs}
+use Rattle.wq_registry.specs.ByName.{has_no_place}
+use Rattle.wq_registry.specs.Shelf.{root_has_no_place}
+use Rattle.wq_view.specs.View.{ViewData}
+use Rattle.wq_session.specs.Answer.{CanFinish, TakesAsk}
+use Rattle.wq_session.specs.At.{AtData, ShelfNow, is_watched}
+use Rattle.wq_session.specs.Begun.{or_refused, tried}
+use Rattle.wq_session.specs.Clock.{clock_data}
+use Rattle.wq_session.specs.Out.{OutData, replies}
+use Rattle.wq_session.specs.Query.{begun_query, has_place, moved_cursor, plan_at, program_for, used_at}
+use Rattle.wq_session.specs.Work.{BegunData, WorkData, evaluates, says, saying}
+use Rattle.wq_session.specs.declared.ask.Ask.{Ask}
+use Rattle.wq_session.specs.declared.ask.Ask.TheVariants.{Refused, Watch, ListRoots, Unwatch}
+use Rattle.wq_session.specs.declared.ask.Ask.TheVariants.{Query as AsksQuery, Clock, Version}
+use Rattle.wq_session.specs.declared.ask.Ask.TheVariants.{SocketName, ShutDown, AddProgram, ListPrograms}
+use Rattle.wq_session.specs.declared.ask.Ask.TheVariants.{DeleteProgram, Leave, Nothing}
+use Rattle.wq_session.specs.declared.refusal.Refusal.{Refusal}
+use Rattle.wq_session.specs.declared.refusal.Refusal.TheVariants.{NotWatched, Query as BadQuery, ShelfFull, TooManyRoots}
+
+-- what is begun can be finished at what is looked at
+abbrev Fits : Option AtData → Result BegunData Refusal → Type 0
+Fits at (Ok b) = CanFinish b.work at
+Fits at (Err refusal) = Unit {0}
+
+-- what is said can be
+unless_said : (refusal : Refusal) (test : Bool) (out : OutData) (after : ShelfNow) (at : Option AtData)
+    → Fits at (unless_fault refusal test (Ok (record { work = says out; shelf = after })))
+unless_said refusal false out after at = tt
+unless_said refusal true out after at = tt
+
+module _ (at : AtData) (shelf : ShelfNow) where
+  -- what follows where the root is watched
+  where_watched : (test : Bool) (next : AtData → Result BegunData Refusal) → Fits (Some at) (next at)
+      → Fits (Some at) (or_fault NotWatched (if test then Some at else None) next)
+  where_watched false next so = tt
+  where_watched true next so = so
+
+  -- what is said of a view
+  of_view : (view : Option ViewData) (out : ViewData → OutData)
+      → Fits (Some at) (or_fault NotWatched view (λ view. Ok (saying (out view) shelf)))
+  of_view None out = tt
+  of_view (Some view) out = tt
+
+  with_place : (root tick : ℕ) (q : QueryData) (program : Option Raw) (test : Bool) → is_some at.view ≡ true
+      → Fits (Some at) (unless_fault ShelfFull test (Ok (record {
+        work = evaluates (plan_at root q program shelf) (moved_cursor root q.since);
+        shelf = used_at root q.since tick shelf;
+      })))
+  with_place root tick q program false shown = tt
+  with_place root tick q program true shown = shown
+
+  with_program : (root tick : ℕ) (q : QueryData) (program : Result (Option Raw) Refusal) → is_some at.view ≡ true
+      → Fits (Some at) (or_own_fault program (λ program.
+      unless_fault ShelfFull (has_place root q.since shelf) (
+      Ok (record {
+        work = evaluates (plan_at root q program shelf) (moved_cursor root q.since);
+        shelf = used_at root q.since tick shelf;
+      }))))
+  with_program root tick q (Err refusal) shown = tt
+  with_program root tick q (Ok program) shown = with_place root tick q program (has_place root q.since shelf) shown
+
+  with_query : (root tick : ℕ) (q : Result QueryData QueryFault) → is_some at.view ≡ true
+      → Fits (Some at) (or_its_fault BadQuery q (λ q. begun_query root tick q shelf))
+  with_query root tick (Err fault) shown = tt
+  with_query root tick (Ok q) shown = with_program root tick q (program_for q shelf) shown
+
+  with_view : (d : Data) (view : Option ViewData) → at.view ≡ view
+      → Fits (Some at) (or_fault NotWatched view (λ view.
+      or_its_fault BadQuery (queries at.instance d) (λ q. begun_query (at.instance).root view.tick q shelf)))
+  with_view d None is = tt
+  with_view d (Some view) is = with_query (at.instance).root view.tick (queries at.instance d) (ap is_some is)
+
+-- what an ask comes to can be finished
+tried_fits : (ask : Ask) (at : Option AtData) (shelf : ShelfNow) → Fits at (tried ask at shelf)
+tried_fits (Refused refusal) at shelf = tt
+tried_fits (Watch root) None shelf = tt
+tried_fits (Watch root) (Some at) shelf =
+    unless_said TooManyRoots (not (root_has_no_place root (at.instance).root shelf)) _ _ (Some at)
+tried_fits ListRoots at shelf = tt
+tried_fits (Unwatch root) None shelf = tt
+tried_fits (Unwatch root) (Some at) shelf = where_watched at shelf (is_watched root at shelf) _ tt
+tried_fits (AsksQuery root crawl q) None shelf = tt
+tried_fits (AsksQuery root crawl q) (Some at) shelf =
+    where_watched at shelf (is_watched root at shelf) _ (with_view at shelf (data_of q) at.view refl)
+tried_fits (Clock root crawl) None shelf = tt
+tried_fits (Clock root crawl) (Some at) shelf =
+    where_watched at shelf (is_watched root at shelf) _ (of_view at shelf at.view (λ view. replies (clock_data at.instance view)))
+tried_fits Version at shelf = tt
+tried_fits SocketName at shelf = tt
+tried_fits ShutDown at shelf = tt
+tried_fits (AddProgram name program) at shelf =
+    unless_said ShelfFull (not (has_no_place max_programs name shelf.programs)) _ _ at
+tried_fits ListPrograms at shelf = tt
+tried_fits (DeleteProgram name) at shelf = tt
+tried_fits Leave at shelf = tt
+tried_fits Nothing at shelf = tt
+
+or_fits : (r : Result BegunData Refusal) (at : Option AtData) (shelf : ShelfNow) → Fits at r → CanFinish (or_refused r shelf).work at
+or_fits (Ok b) at shelf fits = fits
+or_fits (Err refusal) at shelf fits = tt
+
+-- so can the work that was taken
+pub can_finish : (ask : Ask) (at : Option AtData) (shelf : ShelfNow) (work : WorkData) (after : ShelfNow)
+    → TakesAsk ask at shelf work after → CanFinish work at
+can_finish ask at shelf work after (inl is) =
+    subst (λ (b : BegunData). CanFinish b.work at) is (or_fits (tried ask at shelf) at shelf (tried_fits ask at shelf))
+can_finish ask at shelf work after (inr ran_out) = subst (λ w. CanFinish w at) (sym ran_out.1) tt

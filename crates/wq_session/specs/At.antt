@@ -1,0 +1,36 @@
+-- What is looked at for an answer, and whether it is the root that a line names.
+-- No public document is behind it.
+use Rattle.std.specs.Prelude.{ℕ, Bool, false, nat_eq, if◌then◌else◌, List}
+use Rattle.std.specs.Prelude.{Option, Some, None, option_map}
+use Rattle.std.specs.Option.{option_map_or}
+use Rattle.wq_clock.specs.Instance.{InstanceData, instance_data}
+use Rattle.wq_registry.specs.Root.{called}
+use Rattle.wq_registry.specs.Shelf.{ShelfData}
+use Rattle.wq_view.specs.View.{ViewData}
+use Rattle.wq_session.specs.declared.at.At.{At}
+
+-- a shelf, on which nothing is kept of triggers yet
+abbrev pub ShelfNow : Type 0
+ShelfNow = ShelfData (Unit {0})
+
+-- a root that is looked at: which one of which run of the server, and its view, unless it has ended
+pub record AtData : Type 0 where
+  pub instance : InstanceData
+  pub view : Option ViewData
+
+-- what is looked at
+abbrev pub at_data : At → AtData
+at_data at = record {
+  instance = instance_data at.instance;
+  view = option_map (λ view. view.now) at.view;
+}
+
+-- whether what is looked at is this root, under its number on the shelf
+abbrev pub is_watched : List ℕ → AtData → ShelfNow → Bool
+is_watched root at shelf =
+    option_map_or (λ r. nat_eq (at.instance).root r.number) (called root shelf.roots) false
+
+-- what is looked at, if it is this root under its number on the shelf
+abbrev pub watched : List ℕ → Option AtData → ShelfNow → Option AtData
+watched root None shelf = None
+watched root (Some at) shelf = if is_watched root at shelf then Some at else None

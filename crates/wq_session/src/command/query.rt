@@ -1,0 +1,250 @@
+//! `query`: which files there are, and which of them changed. While the shelf is held its program is found and its cursor
+//! moved; the files are listed without it.
+ghost use Rattle.std.specs.Prelude.{◌≡◌, ◌↔◌, Ok, Some, false, is_none, option_map, IfOk};
+ghost use Rattle.std.specs.Prelude.{IsErrOf, IsTrue};
+ghost use Rattle.serde_json.specs.View.{view as data_of, items_view};
+ghost use Rattle.wq_clock.specs.Instance.{instance_data};
+ghost use Rattle.wq_compile.specs.Large.{is_too_large};
+ghost use Rattle.wq_compile.specs.Meaning.{AnswersMeaning};
+ghost use Rattle.wq_query.specs.Query.{asked_of, planned};
+ghost use Rattle.wq_query.specs.Reading.{asks};
+ghost use Rattle.wq_registry.specs.Root.{numbered};
+ghost use Rattle.wq_session.specs.Answer.{Finishes};
+ghost use Rattle.wq_session.specs.Argument.{behind};
+ghost use Rattle.wq_session.specs.At.{at_data};
+ghost use Rattle.wq_session.specs.Query.{begun_query, crawls_first, moved_cursor, query_arguments, query_request};
+ghost use Rattle.wq_session.specs.Query.{synchronises, try_query};
+ghost use Rattle.wq_session.specs.Reading.{Requests};
+ghost use Rattle.wq_session.specs.Taking.{FindsCompiled, FindsNamed, FindsProgram, MovesCursor};
+ghost use Rattle.wq_session.specs.Work.{Begins, evaluates};
+
+use crate::ask::Ask;
+use crate::at::{At, watched};
+use crate::cursor::Cursor;
+use crate::outcome::Out;
+use crate::refusal::Refusal;
+use crate::root::RootText;
+use crate::words::{text, two_behind};
+use crate::work::Work;
+use serde_json::Value;
+use std::alloc::{AllocError, Global};
+use std::sync::Arc;
+use wq_base::Text;
+use wq_clock::{Bound, Instance};
+use wq_compile::CompileFault;
+use wq_query::{Plan, Query, QueryFault, answer_bytes};
+use wq_registry::{Shelf, ShelfFault, compile_shared};
+use wq_term::whole_number;
+use wq_verify::Program;
+use wq_view::View;
+
+/// What `query` asks with these words.
+pub(super) fn ask_query(alloc: Global, words: Vec<Value>) -> Result<Ask, Refusal>
+    ensures { Requests (query_request (behind (items_view words.items))) result }
+{
+    let Some((root, query)) = query_arguments(words) else {
+        return Err(Refusal::WrongArguments);
+    };
+    let root = RootText::named(alloc, root)?;
+    let crawl = crawls_first(&query);
+    Ok(Ask::Query { root, crawl, query })
+}
+
+/// The root and the object of `query`.
+fn query_arguments(words: Vec<Value>) -> Option<(Text, Value)>
+    ensures { option_map (λ (root, query). (root, data_of query)) result
+        ≡ query_arguments (behind (items_view words.items)) }
+{
+    let (root, query) = two_behind(words)?;
+    if !query.is_object() {
+        return None;
+    }
+    Some((text(root)?, query))
+}
+
+/// Whether the query of an object is answered after a crawl.
+fn crawls_first(query: &Value) -> bool
+    ensures { result ≡ crawls_first (data_of query.now) }
+{
+    synchronises(query.get("sync_timeout"))
+}
+
+/// Whether a query is answered after a crawl: unless its key says 0, or no whole number.
+fn synchronises(value: Option<&Value>) -> bool
+    ensures { result ≡ synchronises (option_map (λ v. data_of v.now) value.entry) }
+{
+    match value {
+        None => true,
+        Some(value) => match whole_number(value) {
+            None => false,
+            Some(number) => number != 0,
+        },
+    }
+}
+
+/// `query`, of the root that it names.
+pub(super) fn begin_query(
+    alloc: Global,
+    root: &RootText,
+    object: &Value,
+    at: Option<At<'_>>,
+    shelf: &mut Shelf<()>,
+) -> Result<Work, Refusal>
+    ensures { Begins
+        (try_query root.now (data_of object.now) (option_map at_data at.entry) shelf.old)
+        shelf.old result shelf.new }
+{
+    let Some(at) = watched(root, at, shelf) else {
+        return Err(Refusal::NotWatched);
+    };
+    let Some(view) = at.view else {
+        return Err(Refusal::NotWatched);
+    };
+    match Query::read(alloc, object, &at.instance) {
+        Ok(query) => begin_read(alloc, query, object, &at.instance, view.tick(), shelf),
+        Err(QueryFault::NoMemory) => Err(Refusal::NoMemory),
+        Err(fault) => Err(Refusal::Query(fault)),
+    }
+}
+
+/// A query that was read from this object, at a tick of its root.
+fn begin_read(
+    alloc: Global,
+    query: Query,
+    object: &Value,
+    instance: &Instance,
+    tick: u64,
+    shelf: &mut Shelf<()>,
+) -> Result<Work, Refusal>
+    requires read { asks (instance_data instance.now) (data_of object.now) ≡ Ok (asked_of query) }
+    requires watched { is_none (numbered instance.now.root shelf.old.roots) ≡ false }
+    ensures { Begins (begun_query instance.now.root tick (asked_of query) shelf.old) shelf.old
+        result shelf.new }
+{
+    let program = program_for(alloc, &query, object, instance, shelf)?;
+    let cursor = cursor_of(alloc, &query, instance.root)?;
+    let bound = move_cursor(&query, instance.root, tick, shelf)?;
+    Ok(Work::Evaluates(query.plan(bound, program), cursor))
+}
+
+/// The program that says which files match a query.
+fn program_for(
+    alloc: Global,
+    query: &Query,
+    object: &Value,
+    instance: &Instance,
+    shelf: &mut Shelf<()>,
+) -> Result<Arc<Program>, Refusal>
+    requires { asks (instance_data instance.now) (data_of object.now) ≡ Ok (asked_of query.now) }
+    ensures found { FindsProgram (asked_of query.now) shelf.old result }
+    ensures same { shelf.new ≡ shelf.old }
+{
+    match query.program() {
+        Some(name) => named(name, shelf),
+        None => compiled(alloc, query, object, instance, shelf),
+    }
+}
+
+/// The program of a name.
+fn named(name: &str, shelf: &Shelf<()>) -> Result<Arc<Program>, Refusal>
+    ensures { FindsNamed name.now shelf.now result }
+{
+    let Some(program) = shelf.get(name) else {
+        return Err(Refusal::NoSuchProgram);
+    };
+    Ok(Arc::try_clone(program)?)
+}
+
+/// The program of the expression of a query that was read from this object.
+fn compiled(
+    alloc: Global,
+    query: &Query,
+    object: &Value,
+    instance: &Instance,
+    shelf: &mut Shelf<()>,
+) -> Result<Arc<Program>, Refusal>
+    requires { asks (instance_data instance.now) (data_of object.now) ≡ Ok (asked_of query.now) }
+    ensures found { FindsCompiled (asked_of query.now) result }
+    ensures same { shelf.new ≡ shelf.old }
+{
+    match kept(alloc, query, object, instance, shelf) {
+        Ok(program) => Ok(program),
+        Err(CompileFault::TooLarge) => Err(Refusal::ProgramTooLarge),
+        Err(CompileFault::NoMemory) => Err(Refusal::NoMemory),
+    }
+}
+
+/// The same, from the cache where that is of this run of the server.
+fn kept(
+    alloc: Global,
+    query: &Query,
+    object: &Value,
+    instance: &Instance,
+    shelf: &mut Shelf<()>,
+) -> Result<Arc<Program>, CompileFault>
+    requires { asks (instance_data instance.now) (data_of object.now) ≡ Ok (asked_of query.now) }
+    ensures meaning { IfOk result (λ program.
+        AnswersMeaning program.value (asked_of query.now).expression) }
+    ensures large { IsErrOf result CompileFault.TooLarge
+        ↔ IsTrue (is_too_large (asked_of query.now).expression) }
+    ensures same { shelf.new ≡ shelf.old }
+{
+    let Some(value) = object.get("expression") else {
+        return compile_shared(alloc, query.expr());
+    };
+    let cache = shelf.cache();
+    if cache.start() != instance.start || cache.pid() != instance.pid {
+        return compile_shared(alloc, query.expr());
+    }
+    cache.program(instance.root, value, query.expr())
+}
+
+/// The cursor of a query, by a name of its own.
+fn cursor_of(alloc: Global, query: &Query, root: u64) -> Result<Option<Cursor>, AllocError>
+    ensures { IfOk result (λ cursor. cursor ≡ moved_cursor root (asked_of query.now).since) }
+{
+    match query.cursor() {
+        None => Ok(None),
+        Some(name) => Ok(Some(Cursor {
+            root,
+            name: Text::from_string(String::from_str(alloc, name)?),
+        })),
+    }
+}
+
+/// Moves the cursor of a query to this tick of its root, and gives the bound that it sets.
+fn move_cursor(query: &Query, root: u64, tick: u64, shelf: &mut Shelf<()>) -> Result<Bound, Refusal>
+    requires { is_none (numbered root shelf.old.roots) ≡ false }
+    ensures { MovesCursor (asked_of query.now).since root tick shelf.old result shelf.new }
+{
+    let Some(name) = query.cursor() else {
+        return Ok(query.bound().unwrap_or(Bound::Fresh));
+    };
+    match shelf.swap_cursor(root, name, tick) {
+        Ok(None) => Ok(Bound::Fresh),
+        Ok(Some(tick)) => Ok(Bound::Tick(tick)),
+        Err(ShelfFault::NoMemory) => Err(Refusal::NoMemory),
+        Err(ShelfFault::Full) => Err(Refusal::ShelfFull),
+        Err(ShelfFault::NoRoot) => unreachable!(),
+    }
+}
+
+/// The listing of the files of a plan, of a root with this view.
+pub(crate) fn listed(
+    alloc: Global,
+    plan: &Plan,
+    cursor: Option<Cursor>,
+    instance: &Instance,
+    view: &View,
+) -> Out
+    ensures { Finishes (evaluates (planned plan.now) cursor)
+        (Some (record { instance = instance_data instance.now; view = Some view.now })) result }
+{
+    let Ok(text) = answer_bytes(alloc, plan, instance, view) else {
+        return Out::runs_out(cursor);
+    };
+    match Out::of_text(text) {
+        Ok(out) => out,
+        Err(_) => Out::runs_out(cursor),
+    }
+}

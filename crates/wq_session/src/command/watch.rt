@@ -1,0 +1,156 @@
+//! `watch`, `watch-project`, `watch-list` and `watch-del`: roots are watched, told, and watched no more.
+ghost use Rattle.std.specs.Prelude.{◌≡◌, ◌⊎◌, Ok, false, map, option_map, true, IfErr, IfOk, OnErr, OnOk};
+ghost use Rattle.serde_json.specs.Data.{string};
+ghost use Rattle.serde_json.specs.View.{view as data_of, items_view};
+ghost use Rattle.wq_registry.specs.Shelf.{root_added, root_has_no_place};
+ghost use Rattle.wq_session.specs.Argument.{behind};
+ghost use Rattle.wq_session.specs.At.{at_data};
+ghost use Rattle.wq_session.specs.Reading.{Requests};
+ghost use Rattle.wq_session.specs.Reply.{IsReply};
+ghost use Rattle.wq_session.specs.Watch.{list_request, unwatch_request, watch_request};
+ghost use Rattle.wq_session.specs.Watch.{root_deleted_data, root_texts, roots_data, watch_data};
+ghost use Rattle.wq_session.specs.Watch.{listing_roots, try_unwatch, try_watch};
+ghost use Rattle.wq_session.specs.Work.{Begins};
+ghost use Rattle.wq_session.specs.declared.refusal.Refusal.TheVariants.{NoMemory, TooManyRoots};
+
+use crate::ask::Ask;
+use crate::at::{At, watched};
+use crate::refusal::Refusal;
+use crate::reply::saying;
+use crate::root::{RootText, is_absolute};
+use crate::words::{are_none, one_text};
+use crate::work::Work;
+use serde_json::{Value, json};
+use std::alloc::{AllocError, Global};
+use wq_base::VERSION;
+use wq_registry::{Root, Shelf, ShelfFault};
+
+/// What `watch` and `watch-project` ask with these words.
+pub(super) fn ask_watch(alloc: Global, words: Vec<Value>) -> Result<Ask, Refusal>
+    ensures { Requests (watch_request (behind (items_view words.items))) result }
+{
+    let Some(root) = one_text(words) else {
+        return Err(Refusal::WrongArguments);
+    };
+    if !is_absolute(&root) {
+        return Err(Refusal::RootNotAbsolute);
+    }
+    let root = RootText::named(alloc, root)?;
+    Ok(Ask::Watch { root })
+}
+
+/// What `watch-list` asks with these words.
+pub(super) fn ask_list(words: &[Value]) -> Result<Ask, Refusal>
+    ensures { Requests (list_request (behind (items_view words.now))) result }
+{
+    if !are_none(words) {
+        return Err(Refusal::WrongArguments);
+    }
+    Ok(Ask::ListRoots)
+}
+
+/// What `watch-del` asks with these words.
+pub(super) fn ask_unwatch(alloc: Global, words: Vec<Value>) -> Result<Ask, Refusal>
+    ensures { Requests (unwatch_request (behind (items_view words.items))) result }
+{
+    let Some(root) = one_text(words) else {
+        return Err(Refusal::WrongArguments);
+    };
+    let root = RootText::named(alloc, root)?;
+    Ok(Ask::Unwatch { root })
+}
+
+/// That a root is watched.
+fn watch_reply(alloc: Global, root: &str) -> Result<Value, AllocError>
+    ensures { IfOk result (IsReply (watch_data root.now)) }
+{
+    json!(in alloc; { "version": VERSION, "watch": root, "watcher": "poll" })
+}
+
+/// The roots that are watched, by their texts.
+fn list_reply(alloc: Global, roots: &[Root<()>]) -> Result<Value, AllocError>
+    ensures { IfOk result (λ value. data_of value ≡ roots_data (root_texts roots.now)) }
+{
+    let texts = Value::Array(texts(alloc, roots)?);
+    json!(in alloc; { "roots": texts, "version": VERSION })
+}
+
+/// The texts as values.
+fn texts(alloc: Global, roots: &[Root<()>]) -> Result<Vec<Value>, AllocError>
+    ensures { IfOk result (λ values. map data_of values.items ≡ map string (root_texts roots.now)) }
+{
+    let mut values = Vec::new(alloc);
+    for root in roots {
+        values.push(Value::try_from_str(alloc, root.text())?)?;
+    }
+    Ok(values)
+}
+
+/// That a root is watched no more.
+fn unwatch_reply(alloc: Global, root: &str) -> Result<Value, AllocError>
+    ensures { IfOk result (IsReply (root_deleted_data root.now)) }
+{
+    json!(in alloc; { "root": root, "version": VERSION, "watch-del": true })
+}
+
+/// `watch` and `watch-project`: what is looked at stands on the shelf as this root. The reply is made first, so that
+/// nothing changes where memory runs out.
+pub(super) fn begin_watch(
+    alloc: Global,
+    root: &RootText,
+    at: Option<At<'_>>,
+    shelf: &mut Shelf<()>,
+) -> Result<Work, Refusal>
+    ensures { Begins (try_watch root.now (option_map at_data at.entry) shelf.old) shelf.old
+        result shelf.new }
+{
+    let Some(at) = at else {
+        return Err(Refusal::NotWatched);
+    };
+    let root = root.as_str();
+    let work = saying(alloc, &watch_reply(alloc, root)?)?;
+    put_root(root, at.instance.root, shelf)?;
+    Ok(work)
+}
+
+/// Puts a root on the shelf, under this number.
+fn put_root(root: &str, number: u64, shelf: &mut Shelf<()>) -> Result<(), Refusal>
+    ensures put { OnOk result ((root_has_no_place root.now number shelf.old ≡ false)
+        × (shelf.new ≡ root_added root.now number shelf.old)) }
+    ensures kept { OnErr result (shelf.new ≡ shelf.old) }
+    ensures refused { IfErr result (λ refusal. (refusal ≡ NoMemory)
+        ⊎ ((refusal ≡ TooManyRoots) × (root_has_no_place root.now number shelf.old ≡ true))) }
+{
+    match shelf.add_root(root, number) {
+        Ok(()) => Ok(()),
+        Err(ShelfFault::NoMemory) => Err(Refusal::NoMemory),
+        Err(_) => Err(Refusal::TooManyRoots),
+    }
+}
+
+/// `watch-list`
+#[tactic(auto, using(crate::proofs::Strings::plain_rooted))]
+pub(super) fn begin_list(alloc: Global, shelf: &Shelf<()>) -> Result<Work, Refusal>
+    ensures { Begins (Ok (listing_roots shelf.now)) shelf.now result shelf.now }
+{
+    let reply = list_reply(alloc, shelf.roots())?;
+    Ok(saying(alloc, &reply)?)
+}
+
+/// `watch-del`. The reply is made first, so that the root stays where memory runs out.
+pub(super) fn begin_unwatch(
+    alloc: Global,
+    root: &RootText,
+    at: Option<At<'_>>,
+    shelf: &mut Shelf<()>,
+) -> Result<Work, Refusal>
+    ensures { Begins (try_unwatch root.now (option_map at_data at.entry) shelf.old) shelf.old
+        result shelf.new }
+{
+    let Some(at) = watched(root, at, shelf) else {
+        return Err(Refusal::NotWatched);
+    };
+    let work = saying(alloc, &unwatch_reply(alloc, root.as_str())?)?;
+    shelf.remove_root(at.instance.root);
+    Ok(work)
+}

@@ -1,0 +1,38 @@
+//! Replies that are made: each is a value, and is printed here, as compact JSON with keys in byte order.
+ghost use Rattle.std.specs.Prelude.{◌≡◌, false, IfOk};
+ghost use Rattle.serde_json.specs.View.{view as data_of};
+ghost use Rattle.serde_json.specs.Written.{has_float};
+ghost use Rattle.wq_session.specs.Out.{replies};
+ghost use Rattle.wq_session.specs.Reply.{IsReply, error_data};
+ghost use Rattle.wq_session.specs.Work.{says, work_data};
+
+use crate::outcome::Out;
+use crate::refusal::Refusal;
+use crate::work::Work;
+use serde_json::{Value, json};
+use std::alloc::{AllocError, Global};
+use wq_base::VERSION;
+
+/// A reply without floats, after which the session goes on.
+pub(crate) fn print(alloc: Global, reply: &Value) -> Result<Out, AllocError>
+    ensures { has_float (data_of reply.now) ≡ false
+        → IfOk result (λ out. out ≡ replies (data_of reply.now)) }
+{
+    Out::of_text(reply.to_vec(alloc)?)
+}
+
+/// That this reply without floats is given out, and nothing is left to do.
+pub(crate) fn saying(alloc: Global, reply: &Value) -> Result<Work, AllocError>
+    ensures { has_float (data_of reply.now) ≡ false
+        → IfOk result (λ work. work_data work ≡ says (replies (data_of reply.now))) }
+{
+    Ok(Work::Says(print(alloc, reply)?))
+}
+
+/// That a line is refused.
+pub(crate) fn error_reply(alloc: Global, refusal: Refusal) -> Result<Value, AllocError>
+    ensures { IfOk result (IsReply (error_data refusal)) }
+{
+    let text = refusal.text(alloc)?;
+    json!(in alloc; { "error": text, "version": VERSION })
+}
