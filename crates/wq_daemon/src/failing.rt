@@ -1,7 +1,7 @@
 //! The roots that could not be crawled when they were last crawled, and why, so that each fault is told of once.
 
 use std::alloc::Global;
-use wq_session::CrawlFault;
+use wq_crawl::CrawlFault;
 
 /// A root that could not be crawled.
 #[derive(Drop)]

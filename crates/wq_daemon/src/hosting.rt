@@ -11,9 +11,9 @@ use std::io::Write;
 use std::sync::atomic::{AtomicBool, Ordering};
 use std::sync::{Arc, Mutex, Wait};
 use wq_clock::Run;
-use wq_live::{Named, RootTable, Seat, Tree};
-use wq_serve::{Crawler, Inbox, LockDesk, LockRoots, Seconds, SharedCrawler, SharedShelf, serve};
-use wq_session::CrawlFault;
+use wq_crawl::{CrawlFault, Crawler, LockRoots, Seconds, SharedCrawler, Tree};
+use wq_live::{Named, RootTable, Seat};
+use wq_serve::{Inbox, LockDesk, SharedShelf, serve};
 
 /// A server's parts. It serves a client for each seat that is free.
 #[derive(Drop)]

@@ -4,7 +4,6 @@
 
 mod client;
 mod clients;
-mod clock;
 mod failing;
 mod host;
 mod hosting;
@@ -21,7 +20,6 @@ mod socket;
 mod stop;
 
 pub use clients::MAX_SESSIONS;
-pub use clock::MachineClock;
 pub use host::{Host, Notices};
 pub use hosting::LockHost;
 pub use moments::RootNumbers;

@@ -11,9 +11,10 @@ use std::sync::Wait;
 use std::thread::Threads;
 use std::time::{Clock, Duration};
 use wq_clock::Run;
-use wq_live::{Blank, Named, Tree};
+use wq_crawl::{Crawler, Seconds, Tree};
+use wq_live::{Blank, Named};
 use wq_registry::Cache;
-use wq_serve::{Crawler, Seconds, SharedShelf};
+use wq_serve::SharedShelf;
 
 /// How many seats a server has: one for each session, one for idle moments, and some to spare.
 pub const SEATS: usize = 48;

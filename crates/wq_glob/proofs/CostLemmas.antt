@@ -2,7 +2,7 @@
 use Rattle.std.proofs.Common.{◌≡◌, ℕ, zero, suc, ◌+◌, ◌-◌, ◌<◌, true, false, ◌&&◌, List, [], ◌∷◌, length, get_or, drop, nat_le, refl, ◌∙◌, ap}
 use Rattle.wq_glob.specs.Mark.{Mark, marks}
 use Rattle.wq_glob.specs.Atom.{Atom}
-use Rattle.wq_glob.specs.FitsTest.{Reach, Single, Many, Folders, Form, reach, admits, atom_form, fits_by}
+use Rattle.wq_glob.specs.FitsTest.{Reach, Single, Many, Directories, Form, reach, admits, atom_form, fits_by}
 use Rattle.wq_glob.specs.Pattern.{PatternData, atoms_of, cells_of}
 use Rattle.wq_glob.specs.Table.{Row, begun_at, begun_by, cell_by, row_by}
 use Rattle.wq_glob.specs.Cost.{agrees, begins_literal, cost, first_differs, end_cells, front, is_live, is_looked_at, is_seen_at_end, last_alone, new_cells, next_fits, row_cells}
@@ -75,7 +75,7 @@ module _ (f : Flags) where
       at : (r : Reach) → begun_at r (step_admits f s) (step_fits f steps) xs ≡ begun_at r (admits f a) (fits_by (atom_form f) atoms) xs
       at Single = refl
       at Many = refl
-      at Folders = same_folders (step_admits f s) (admits f a) (step_fits f steps) (fits_by (atom_form f) atoms) stands.same_bytes (same_fits f steps atoms all) xs bytes
+      at Directories = same_folders (step_admits f s) (admits f a) (step_fits f steps) (fits_by (atom_form f) atoms) stands.same_bytes (same_fits f steps atoms all) xs bytes
 
   same_cell : (steps : List Step) (atoms : List Atom) → AllStand f steps atoms → (xs : List Mark) → AreBytes xs → cell_by (step_form f) steps xs ≡ cell_by (atom_form f) atoms xs
   same_cell steps atoms all xs bytes = rw (same_fits f steps atoms all xs bytes, same_begun steps atoms all xs bytes) refl

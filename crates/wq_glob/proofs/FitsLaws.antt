@@ -6,14 +6,14 @@ use Rattle.wq_base.specs.Byte.{is_slash}
 use Rattle.wq_glob.specs.Atom.{Atom, Literal, One, OneOf, Star, Dirs, Rest, Nothing}
 use Rattle.wq_glob.specs.Mark.{Mark}
 use Rattle.wq_glob.specs.Fits.{IsOne, IsEach, EndsInSlash, Takes, Cuts}
-use Rattle.wq_glob.specs.FitsTest.{Reach, Single, Many, Folders, reach, admits, folders, many, single, part_of, atom_form, fits_by}
+use Rattle.wq_glob.specs.FitsTest.{Reach, Single, Many, Directories, reach, admits, directories, many, single, part_of, atom_form, fits_by}
 use Rattle.wq_glob.specs.declared.flag.Flags.{Flags}
 
 -- a part of this reach, each of whose bytes passes the test
 abbrev PartOf : Reach → (Mark → Bool) → List Mark → Type 0
 PartOf Single test part = IsOne test part
 PartOf Many test part = IsEach test part
-PartOf Folders test part = (part ≡ []) ⊎ (IsEach test part × EndsInSlash part)
+PartOf Directories test part = (part ≡ []) ⊎ (IsEach test part × EndsInSlash part)
 
 -- some front of the text is such a part, and what follows it fits
 abbrev Splits : Reach → (Mark → Bool) → (List Mark → Bool) → List Mark → Type 0
@@ -46,12 +46,12 @@ deeper test fit x xs passes s = (
   s.4,
 )
 
-folders_split : (test : Mark → Bool) (fit : List Mark → Bool) (text : List Mark) → folders test fit text ≡ true → SplitsAtSlash test fit text
-folders_split test fit [] h = absurd (false≢true h)
-folders_split test fit (x ∷ xs) h =
-    let parts = and_parts (test x) (folders test fit xs || (is_slash x.byte && fit xs)) h in
-    elim (or_cases (folders test fit xs) (is_slash x.byte && fit xs) parts.1) [
-      | inl deep ↦ deeper test fit x xs parts.0 (folders_split test fit xs deep)
+directories_split : (test : Mark → Bool) (fit : List Mark → Bool) (text : List Mark) → directories test fit text ≡ true → SplitsAtSlash test fit text
+directories_split test fit [] h = absurd (false≢true h)
+directories_split test fit (x ∷ xs) h =
+    let parts = and_parts (test x) (directories test fit xs || (is_slash x.byte && fit xs)) h in
+    elim (or_cases (directories test fit xs) (is_slash x.byte && fit xs) parts.1) [
+      | inl deep ↦ deeper test fit x xs parts.0 (directories_split test fit xs deep)
       | inr here ↦
           let at = and_parts (is_slash x.byte) (fit xs) here in
           (x ∷ [], xs, refl, (and_from _ _ parts.0 refl, ([], x, refl, at.0)), at.1)
@@ -63,10 +63,10 @@ splits Single test fit [] h = absurd (false≢true h)
 splits Single test fit (x ∷ xs) h =
     let parts = and_parts (test x) (fit xs) h in (x ∷ [], xs, refl, (x, refl, parts.0), parts.1)
 splits Many test fit text h = many_splits test fit text h
-splits Folders test fit text h =
-    elim (or_cases (fit text) (folders test fit text) h) [
+splits Directories test fit text h =
+    elim (or_cases (fit text) (directories test fit text) h) [
       | inl none ↦ ([], text, refl, inl refl, none)
-      | inr some ↦ let s = folders_split test fit text some in (s.0, s.1, s.2, inr s.3, s.4)
+      | inr some ↦ let s = directories_split test fit text some in (s.0, s.1, s.2, inr s.3, s.4)
     ]
 
 many_from : (test : Mark → Bool) (fit : List Mark → Bool) (part after : List Mark) → IsEach test part → fit after ≡ true → many test fit (part ++ after) ≡ true
@@ -76,25 +76,25 @@ many_from test fit (x ∷ part) after each h =
     let parts = and_parts (test x) (list_all test part) each in
     or_right _ _ (and_from _ _ parts.0 (many_from test fit part after parts.1 h))
 
-folders_from : (test : Mark → Bool) (fit : List Mark → Bool) (body : List Mark) (x : Mark) (after : List Mark) → IsEach test (body ++ x ∷ []) → is_slash x.byte ≡ true → fit after ≡ true → folders test fit ((body ++ x ∷ []) ++ after) ≡ true
-folders_from test fit [] x after each ends h =
+directories_from : (test : Mark → Bool) (fit : List Mark → Bool) (body : List Mark) (x : Mark) (after : List Mark) → IsEach test (body ++ x ∷ []) → is_slash x.byte ≡ true → fit after ≡ true → directories test fit ((body ++ x ∷ []) ++ after) ≡ true
+directories_from test fit [] x after each ends h =
     let parts = and_parts (test x) true each in
     and_from _ _ parts.0 (or_right _ _ (and_from _ _ ends h))
-folders_from test fit (y ∷ body) x after each ends h =
+directories_from test fit (y ∷ body) x after each ends h =
     let parts = and_parts (test y) (list_all test (body ++ x ∷ [])) each in
-    and_from _ _ parts.0 (or_left _ _ (folders_from test fit body x after parts.1 ends h))
+    and_from _ _ parts.0 (or_left _ _ (directories_from test fit body x after parts.1 ends h))
 
 -- a cut is found by the test
 found : (r : Reach) (test : Mark → Bool) (fit : List Mark → Bool) (part after : List Mark) → PartOf r test part → fit after ≡ true → part_of r test fit (part ++ after) ≡ true
 found Single test fit part after (x, is, passes) h =
     subst (λ (p : List Mark). single test fit (p ++ after) ≡ true) (sym is) (and_from _ _ passes h)
 found Many test fit part after each h = many_from test fit part after each h
-found Folders test fit part after (inl none) h =
-    subst (λ (p : List Mark). part_of Folders test fit (p ++ after) ≡ true) (sym none) (or_left _ _ h)
-found Folders test fit part after (inr (each, (body, x, is, ends))) h =
+found Directories test fit part after (inl none) h =
+    subst (λ (p : List Mark). part_of Directories test fit (p ++ after) ≡ true) (sym none) (or_left _ _ h)
+found Directories test fit part after (inr (each, (body, x, is, ends))) h =
     or_right _ _
-    (subst (λ (p : List Mark). folders test fit (p ++ after) ≡ true) (sym is)
-    (folders_from test fit body x after (subst (IsEach test) is each) ends h))
+    (subst (λ (p : List Mark). directories test fit (p ++ after) ≡ true) (sym is)
+    (directories_from test fit body x after (subst (IsEach test) is each) ends h))
 
 -- what an atom takes is a part of its reach, of the bytes that it admits
 taken : (f : Flags) (a : Atom) (part : List Mark) → Takes f a part → PartOf (reach a) (admits f a) part

@@ -3,7 +3,7 @@ use Rattle.std.proofs.Common.{◌≡◌, ℕ, suc, ◌<◌, ◌≤◌, Bool, tru
 use Rattle.wq_base.specs.Byte.{is_slash}
 use Rattle.wq_glob.specs.Atom.{Atom}
 use Rattle.wq_glob.specs.Mark.{Mark, marks, marks_from}
-use Rattle.wq_glob.specs.FitsTest.{Reach, Single, Many, Folders, reach, admits, folders, many, single, part_of, atom_form, fits_by}
+use Rattle.wq_glob.specs.FitsTest.{Reach, Single, Many, Directories, reach, admits, directories, many, single, part_of, atom_form, fits_by}
 use Rattle.wq_glob.specs.Pattern.{PatternData, atoms_of, fits, Fits}
 use Rattle.wq_glob.specs.Step.{AllStand, IsCompiled, step_admits}
 use Rattle.wq_glob.specs.Cell.{step_fits}
@@ -32,14 +32,14 @@ module _ (test other : Mark → Bool) (fit like : List Mark → Bool) (same_test
   same_many (x ∷ xs) bytes = rw (same_fit (x ∷ xs) bytes, same_test x bytes.0, same_many xs bytes.1) refl
 
   -- two tests that agree on bytes find the same directories
-  pub same_folders : (xs : List Mark) → AreBytes xs → folders test fit xs ≡ folders other like xs
+  pub same_folders : (xs : List Mark) → AreBytes xs → directories test fit xs ≡ directories other like xs
   same_folders [] bytes = refl
   same_folders (x ∷ xs) bytes = rw (same_test x bytes.0, same_folders xs bytes.1, same_fit xs bytes.1) refl
 
   same_part : (r : Reach) (xs : List Mark) → AreBytes xs → part_of r test fit xs ≡ part_of r other like xs
   same_part Single xs bytes = same_single xs bytes
   same_part Many xs bytes = same_many xs bytes
-  same_part Folders xs bytes = rw (same_fit xs bytes, same_folders xs bytes) refl
+  same_part Directories xs bytes = rw (same_fit xs bytes, same_folders xs bytes) refl
 
 -- steps that stand for atoms fit what these fit
 pub same_fits : (f : Flags) (steps : List Step) (atoms : List Atom) → AllStand f steps atoms → (xs : List Mark) → AreBytes xs → step_fits f steps xs ≡ fits_by (atom_form f) atoms xs

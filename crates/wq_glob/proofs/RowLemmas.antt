@@ -3,7 +3,7 @@ use Rattle.std.proofs.Common.{◌≡◌, ℕ, zero, suc, ◌+◌, ◌-◌, ◌<�
 use Rattle.std.proofs.lemmas.Bool.{cases_eq}
 use Rattle.wq_base.specs.Byte.{is_slash}
 use Rattle.wq_glob.specs.Mark.{Mark}
-use Rattle.wq_glob.specs.FitsTest.{Reach, Single, Many, Folders}
+use Rattle.wq_glob.specs.FitsTest.{Reach, Single, Many, Directories}
 use Rattle.wq_glob.specs.Step.{step_reach, step_takes, seen_of}
 use Rattle.wq_glob.specs.Cell.{cell_of, next_cell, dead_cell, step_fits}
 use Rattle.wq_glob.specs.declared.flag.Flags.{Flags}
@@ -54,9 +54,9 @@ dead_next Single true slash = refl
 dead_next Single false slash = refl
 dead_next Many true slash = refl
 dead_next Many false slash = refl
-dead_next Folders true true = refl
-dead_next Folders true false = refl
-dead_next Folders false slash = refl
+dead_next Directories true true = refl
+dead_next Directories true false = refl
+dead_next Directories false slash = refl
 
 dead_from : (r : Reach) (takes slash : Bool) (old : Cell) (old_next new_next : Bool) → old ≡ dead_cell → old_next ≡ false → new_next ≡ false → next_cell r takes slash old old_next new_next ≡ dead_cell
 dead_from r takes slash old old_next new_next old_is old_next_is new_next_is = rw (old_is, old_next_is, new_next_is) (dead_next r takes slash)

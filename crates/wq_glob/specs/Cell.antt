@@ -5,7 +5,7 @@ use Rattle.std.specs.Prelude.{List, [], ◌∷◌, length, drop, slice_index, sl
 use Rattle.std.specs.Prelude.{Option, MatchOption, IsTrue}
 use Rattle.wq_base.specs.Byte.{is_slash}
 use Rattle.wq_glob.specs.Mark.{Mark, mark, marks}
-use Rattle.wq_glob.specs.FitsTest.{Reach, Single, Many, Folders, fits_by}
+use Rattle.wq_glob.specs.FitsTest.{Reach, Single, Many, Directories, fits_by}
 use Rattle.wq_glob.specs.Cost.{agrees, is_live, row_cells}
 use Rattle.wq_glob.specs.Table.{Row, cell_by, row_by}
 use Rattle.wq_glob.specs.Step.{step_reach, step_takes, step_form}
@@ -43,7 +43,7 @@ dead_cell = fit_cell false
 abbrev pub next_cell : Reach → Bool → Bool → Cell → Bool → Bool → Cell
 next_cell Single takes slash old old_next new_next = fit_cell (takes && old_next)
 next_cell Many takes slash old old_next new_next = fit_cell (new_next || (takes && old.fits))
-next_cell Folders takes slash old old_next new_next =
+next_cell Directories takes slash old old_next new_next =
     let begins = takes && (old.begun || (slash && old_next)) in
     record { fits = new_next || begins; begun = begins }
 

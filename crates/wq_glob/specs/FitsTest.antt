@@ -13,13 +13,13 @@ use Rattle.wq_glob.specs.declared.flag.Flags.{Flags}
 pub data Reach : Type 0 where
   Single : Reach
   Many : Reach
-  Folders : Reach
+  Directories : Reach
 
 -- how far each atom reaches
 abbrev pub reach : Atom → Reach
 reach Star = Many
 reach Rest = Many
-reach Dirs = Folders
+reach Dirs = Directories
 reach _ = Single
 
 -- the bytes that an atom's part may hold
@@ -58,15 +58,15 @@ many test fit [] = fit []
 many test fit (x ∷ xs) = fit (x ∷ xs) || (test x && many test fit xs)
 
 -- each byte of some front of the text, which ends in a slash, passes, and what follows it fits
-abbrev pub folders : (Mark → Bool) → (List Mark → Bool) → List Mark → Bool
-folders test fit [] = false
-folders test fit (x ∷ xs) = test x && (folders test fit xs || (is_slash x.byte && fit xs))
+abbrev pub directories : (Mark → Bool) → (List Mark → Bool) → List Mark → Bool
+directories test fit [] = false
+directories test fit (x ∷ xs) = test x && (directories test fit xs || (is_slash x.byte && fit xs))
 
 -- some front of the text is a part of this reach, and what follows it fits
 abbrev pub part_of : Reach → (Mark → Bool) → (List Mark → Bool) → List Mark → Bool
 part_of Single test fit text = single test fit text
 part_of Many test fit text = many test fit text
-part_of Folders test fit text = fit text || folders test fit text
+part_of Directories test fit text = fit text || directories test fit text
 
 -- the text is empty
 abbrev pub is_empty : List Mark → Bool

@@ -8,7 +8,7 @@ use Rattle.wq_glob.specs.ByteSet.{has_byte}
 use Rattle.wq_glob.specs.Atom.{Atom, opens, atoms_from}
 use Rattle.wq_glob.specs.Mark.{Mark}
 use Rattle.wq_glob.specs.Fits.{has_no_hidden_dot, is_wild}
-use Rattle.wq_glob.specs.FitsTest.{Reach, Single, Many, Folders, Form, is_literal, reach, admits}
+use Rattle.wq_glob.specs.FitsTest.{Reach, Single, Many, Directories, Form, is_literal, reach, admits}
 use Rattle.wq_glob.specs.Limit.{max_pattern_length}
 use Rattle.wq_glob.specs.declared.flag.Flags.{Flags}
 use Rattle.wq_glob.specs.declared.row.Seen.{Seen}
@@ -20,7 +20,7 @@ use Rattle.wq_glob.specs.declared.step.Step.TheVariants.{Never}
 abbrev pub step_reach : Step → Reach
 step_reach Stars = Many
 step_reach Tail = Many
-step_reach Below = Folders
+step_reach Below = Directories
 step_reach _ = Single
 
 -- a mark as the steps of a pattern with these flags see it

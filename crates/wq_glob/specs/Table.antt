@@ -2,12 +2,12 @@
 -- the pattern. This library's own; what fits is defined without it.
 use Rattle.std.specs.Prelude.{ℕ, Bool, false, List, [], ◌∷◌, drop}
 use Rattle.wq_glob.specs.Mark.{Mark}
-use Rattle.wq_glob.specs.FitsTest.{Reach, Folders, Form, folders, fits_by}
+use Rattle.wq_glob.specs.FitsTest.{Reach, Directories, Form, directories, fits_by}
 use Rattle.wq_glob.specs.declared.row.Cell.{Cell}
 
 -- of this reach a part has begun: some front of the text ends it in a slash, and what follows fits
 abbrev pub begun_at : Reach → (Mark → Bool) → (List Mark → Bool) → List Mark → Bool
-begun_at Folders test fit text = folders test fit text
+begun_at Directories test fit text = directories test fit text
 begun_at _ test fit text = false
 
 -- the part of a `**/` at the front of the atoms has begun

@@ -1,6 +1,4 @@
 pub mod Event
 pub mod Table
-pub mod Device
-pub mod Tree
 pub mod Log
 pub mod Shared

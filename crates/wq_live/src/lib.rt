@@ -14,7 +14,6 @@ mod seat;
 mod shown;
 mod shown_root;
 mod table;
-mod tree;
 
 pub use blank::Blank;
 pub use event::RootEvent;
@@ -22,4 +21,3 @@ pub use named::Named;
 pub use publisher::Publisher;
 pub use seat::{Look, Seat, Told};
 pub use table::{RootTable, StartFault};
-pub use tree::{Tree, TreeFault};

@@ -11,8 +11,9 @@ use std::thread::Threads;
 use std::{io, thread};
 use wq_base::Table;
 use wq_clock::Run;
+use wq_crawl::{Crawler, LockRoots, SharedCrawler};
 use wq_live::{Blank, Named, Seat};
-use wq_serve::{Crawler, Inbox, LockDesk, LockRoots, SharedCrawler, SharedShelf, serve};
+use wq_serve::{Inbox, LockDesk, SharedShelf, serve};
 use wq_stream::Event;
 
 /// How often it is looked whether the other client got its reply.

@@ -10,9 +10,9 @@ use std::io::Write;
 use std::marker::Brand;
 use std::sync::{Arc, Wait};
 use wq_clock::Run;
-use wq_live::{Blank, Named, Told, Tree, TreeFault};
-use wq_serve::{Crawler, LockDesk, LockRoots, MemoryInbox, Roots, SharedCrawler, serve};
-use wq_session::CrawlFault;
+use wq_crawl::{CrawlFault, Crawler, LockRoots, Roots, SharedCrawler, Tree, TreeFault};
+use wq_live::{Blank, Named, Told};
+use wq_serve::{LockDesk, MemoryInbox, serve};
 use wq_stream::Splitter;
 use wq_view::Seen;
 

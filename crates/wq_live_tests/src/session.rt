@@ -8,12 +8,10 @@ use std::marker::Brand;
 use std::sync::{Arc, Mutex, Wait};
 use std::test::Fail;
 use wq_clock::Run;
-use wq_live::{Blank, Named, Seat, Tree, TreeFault};
+use wq_crawl::{Crawler, MemoryRoots, Roots, Seconds, Tree, TreeFault};
+use wq_live::{Blank, Named, Seat};
 use wq_registry::{Cache, Shelf};
-use wq_serve::{
-    Crawler, Desk, LockDesk, MemoryDesk, MemoryInbox, MemoryRoots, Roots, Seconds, SharedShelf,
-    serve,
-};
+use wq_serve::{Desk, LockDesk, MemoryDesk, MemoryInbox, SharedShelf, serve};
 use wq_stream::Splitter;
 use wq_view::Seen;
 

@@ -5,7 +5,7 @@ use Rattle.wq_stream.specs.declared.event.Event.{Event}
 use Rattle.wq_session.specs.Need.{need_of}
 use Rattle.wq_session.specs.Reading.{Asks}
 use Rattle.wq_session.specs.declared.ask.Ask.{Ask}
-use Rattle.wq_session.specs.declared.crawl.CrawlFault.{CrawlFault}
+use Rattle.wq_crawl.specs.declared.fault.CrawlFault.{CrawlFault}
 use Rattle.wq_view.specs.Seen.{SeenData}
 use Rattle.wq_view.specs.Listing.{PassData, listing_fault, listing_of}
 use Rattle.wq_view.specs.declared.listing.PassFault.{PassFault}

@@ -12,7 +12,7 @@ use Rattle.wq_session.specs.Crawl.{crawl_refusal}
 use Rattle.wq_session.specs.Need.{need_of}
 use Rattle.wq_session.specs.Out.{OutData}
 use Rattle.wq_session.specs.declared.ask.Ask.{Ask}
-use Rattle.wq_session.specs.declared.crawl.CrawlFault.{CrawlFault}
+use Rattle.wq_crawl.specs.declared.fault.CrawlFault.{CrawlFault}
 use Rattle.wq_session.specs.declared.refusal.Refusal.TheVariants.{NoMemory}
 use Rattle.wq_replay.specs.World.{WorldData, HappeningData, crawl, watching, asked, SentData}
 use Rattle.wq_replay.specs.World.{Does, Runs, at_end, ending, fault_for, looked, new_world, root_text}

@@ -3,7 +3,7 @@
 use Rattle.std.specs.Prelude.{◌≡◌, ℕ, false, List, [], ◌∷◌, Option, Some, None, option_map, Result, Ok, Err}
 use Rattle.std.specs.Borrow.{Bor}
 use Rattle.wq_live.specs.Table.{IsTableOf}
-use Rattle.wq_session.specs.declared.crawl.CrawlFault.{CrawlFault}
+use Rattle.wq_crawl.specs.declared.fault.CrawlFault.{CrawlFault}
 use Rattle.wq_view.specs.Listing.{PassData}
 use Rattle.wq_clock.specs.Run.{run_data}
 use Rattle.wq_replay.specs.World.{RefusedData, WorldData, Runs}

@@ -16,8 +16,8 @@ use Rattle.wq_session.specs.Need.{NeedData, look, crawl as crawl_of, watch as wa
 use Rattle.wq_session.specs.Out.{OutData}
 use Rattle.wq_session.specs.Query.{AtData, ShelfNow}
 use Rattle.wq_session.specs.declared.ask.Ask.{Ask}
-use Rattle.wq_session.specs.declared.crawl.CrawlFault.{CrawlFault}
-use Rattle.wq_session.specs.declared.crawl.CrawlFault.TheVariants.{TicksSpent, TooManyRoots}
+use Rattle.wq_crawl.specs.declared.fault.CrawlFault.{CrawlFault}
+use Rattle.wq_crawl.specs.declared.fault.CrawlFault.TheVariants.{TicksSpent, TooManyRoots}
 use Rattle.wq_session.specs.declared.refusal.Refusal.TheVariants.{NoMemory}
 use Rattle.wq_view.specs.Limit.{max_tick}
 use Rattle.wq_view.specs.Listing.{PassData}

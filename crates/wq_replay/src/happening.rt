@@ -1,7 +1,8 @@
 //! What may happen in a world.
 
 use wq_base::Text;
-use wq_session::{Ask, CrawlFault};
+use wq_crawl::CrawlFault;
+use wq_session::Ask;
 use wq_view::Pass;
 
 /// What may happen. A root is named without slashes at its end, but for `/`.

@@ -11,7 +11,8 @@ use crate::happening::Happening;
 use crate::playing::ROOT;
 use std::alloc::{AllocError, Global};
 use wq_base::Text;
-use wq_session::{Ask, CrawlFault, Need};
+use wq_crawl::CrawlFault;
+use wq_session::{Ask, Need};
 use wq_view::Pass;
 
 /// What happens where a client asks this while `/r` lists that.

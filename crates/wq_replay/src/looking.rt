@@ -12,8 +12,9 @@ ghost use Rattle.wq_replay.specs.World.{IsFull, at_root, ending, fault_for, refu
 use crate::refused::Refused;
 use wq_base::{MAX_NUMBER, MAX_ROOTS};
 use wq_clock::{Instance, Run};
+use wq_crawl::CrawlFault;
 use wq_live::RootTable;
-use wq_session::{At, CrawlFault, Need};
+use wq_session::{At, Need};
 
 /// Whether the root of this text is shown.
 pub(crate) fn shows(table: &RootTable, root: &str) -> bool

@@ -21,9 +21,10 @@ use crate::world::World;
 use std::alloc::{AllocError, Global};
 use wq_base::Text;
 use wq_clock::{Instance, Run};
+use wq_crawl::CrawlFault;
 use wq_live::RootTable;
 use wq_registry::{Cache, Shelf};
-use wq_session::{Ask, At, CrawlFault, Out, Refusal, Session};
+use wq_session::{Ask, At, Out, Refusal, Session};
 use wq_view::{Pass, View, ViewFault};
 
 /// The root of a new world.

@@ -1,7 +1,7 @@
 //! A crawl or a watching that was refused.
 
 use wq_base::Text;
-use wq_session::CrawlFault;
+use wq_crawl::CrawlFault;
 
 /// A root that could not be crawled or opened, and why.
 #[derive(Drop)]

@@ -6,12 +6,12 @@ use Rattle.wq_session.specs.Need.{NeedData, none, look, crawl, watch, unwatch, n
 use Rattle.wq_session.specs.Out.{OutData}
 use Rattle.wq_session.specs.Query.{AtData, ShelfNow}
 use Rattle.wq_session.specs.declared.ask.Ask.{Ask}
-use Rattle.wq_session.specs.declared.crawl.CrawlFault.{CrawlFault}
+use Rattle.wq_crawl.specs.declared.fault.CrawlFault.{CrawlFault}
 use Rattle.wq_serve.specs.Answering.{AnswersAfter, AnswersEnd, IfUnwatches, SeesNeeded, SeesFirst, SeesNumber, known}
 use Rattle.wq_serve.specs.Desk.{AnswersAt}
 use Rattle.wq_serve.specs.Ready.{HearsFirst, KnownData, ReadyData, Readies, ended_by}
-use Rattle.wq_serve.specs.Crawl.{CrawlerData, tells}
-use Rattle.wq_serve.specs.Roots.{RootRequestData, RootsGive, passing, showing, ending}
+use Rattle.wq_crawl.specs.Crawl.{CrawlerData, tells}
+use Rattle.wq_crawl.specs.Roots.{RootRequestData, RootsGive, passing, showing, ending}
 use Rattle.wq_serve.specs.Serving.{IsAnswered, Replies}
 use Rattle.wq_clock.specs.declared.run.Run.{Run}
 

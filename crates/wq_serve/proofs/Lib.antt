@@ -5,5 +5,3 @@ mod Held
 mod Reaching
 mod Getting
 mod Going
-mod Crawling
-mod Sharing

@@ -10,10 +10,10 @@ use Rattle.wq_session.specs.Need.{NeedData, none, look, crawl, watch, unwatch, n
 use Rattle.wq_session.specs.Out.{OutData}
 use Rattle.wq_session.specs.Query.{AtData, ShelfNow}
 use Rattle.wq_session.specs.declared.ask.Ask.{Ask}
-use Rattle.wq_session.specs.declared.crawl.CrawlFault.{CrawlFault}
+use Rattle.wq_crawl.specs.declared.fault.CrawlFault.{CrawlFault}
 use Rattle.wq_serve.specs.Desk.{AnswersAt}
 use Rattle.wq_serve.specs.Ready.{KnownData, Learns, ended}
-use Rattle.wq_serve.specs.Crawl.{CrawlerData}
+use Rattle.wq_crawl.specs.Crawl.{CrawlerData}
 use Rattle.wq_serve.specs.Run.{ShowsAt}
 use Rattle.wq_clock.specs.declared.run.Run.{Run}
 

@@ -1,5 +1,3 @@
-pub mod Crawl
-pub mod Roots
 pub mod Inbox
 pub mod Reached
 pub mod Desk

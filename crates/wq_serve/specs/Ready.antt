@@ -7,9 +7,9 @@ use Rattle.wq_clock.specs.Instance.{InstanceData}
 use Rattle.wq_live.specs.declared.event.RootEvent.{RootEvent}
 use Rattle.wq_session.specs.Need.{NeedData, none, look, crawl, watch, unwatch}
 use Rattle.wq_session.specs.Query.{AtData}
-use Rattle.wq_session.specs.declared.crawl.CrawlFault.{CrawlFault}
-use Rattle.wq_serve.specs.Crawl.{CrawlerData, tells}
-use Rattle.wq_serve.specs.Roots.{RootRequestData, RootsGive, passing, showing, ending}
+use Rattle.wq_crawl.specs.declared.fault.CrawlFault.{CrawlFault}
+use Rattle.wq_crawl.specs.Crawl.{CrawlerData, tells}
+use Rattle.wq_crawl.specs.Roots.{RootRequestData, RootsGive, passing, showing, ending}
 use Rattle.wq_serve.specs.Run.{ShowsAt}
 use Rattle.wq_clock.specs.declared.run.Run.{Run}
 

@@ -19,7 +19,7 @@ use Rattle.wq_serve.specs.Desk.{AnswersAt}
 use Rattle.wq_serve.specs.Inbox.{Hands}
 use Rattle.wq_serve.specs.Limit.{max_events}
 use Rattle.wq_serve.specs.Ready.{KnownData, ReadyData, Readies}
-use Rattle.wq_serve.specs.Crawl.{CrawlerData}
+use Rattle.wq_crawl.specs.Crawl.{CrawlerData}
 use Rattle.wq_clock.specs.declared.run.Run.{Run}
 
 -- what the ends of a session show: the events that are left, what is known of the roots, and the

@@ -4,7 +4,7 @@ ghost use Rattle.wq_clock.specs.Instance.{instance_data};
 ghost use Rattle.wq_serve.specs.Answering.{AnswersAfter, AnswersEnd, IfUnwatches, SeesFirst, known};
 ghost use Rattle.wq_serve.specs.Desk.{AnswersAt};
 ghost use Rattle.wq_serve.specs.Ready.{Learns};
-ghost use Rattle.wq_serve.specs.Roots.{RootsGive, showing};
+ghost use Rattle.wq_crawl.specs.Roots.{RootsGive, showing};
 ghost use Rattle.wq_serve.specs.Serving.{IsAnswered};
 ghost use Rattle.wq_session.specs.Answer.{MayRefuse};
 ghost use Rattle.wq_session.specs.Crawl.{crawl_refusal};
@@ -13,11 +13,11 @@ ghost use Rattle.wq_session.specs.Work.{at_data};
 
 use crate::desk::Desk;
 use crate::looking::{look_for, number_for};
-use crate::roots::Roots;
 use std::alloc::Global;
 use wq_clock::{Instance, Run};
+use wq_crawl::{CrawlFault, Roots};
 use wq_live::{Named, Seat, Told};
-use wq_session::{Ask, At, CrawlFault, Need, Out, Refusal, Session};
+use wq_session::{Ask, At, Need, Out, Refusal, Session};
 use wq_view::View;
 
 /// What a server has for one client.

@@ -6,29 +6,18 @@
 #![tactic(auto)]
 
 mod answering;
-mod crawler;
 mod desk;
-mod faults;
 mod inbox;
 mod lock_desk;
-mod lock_roots;
 mod looking;
 mod memory_desk;
-mod memory_roots;
-mod roots;
 mod serving;
-mod shared_crawler;
 mod shared_shelf;
 mod writing;
 
-pub use crawler::{Crawler, Seconds};
 pub use desk::Desk;
 pub use inbox::{Inbox, MemoryInbox};
 pub use lock_desk::LockDesk;
-pub use lock_roots::LockRoots;
 pub use memory_desk::MemoryDesk;
-pub use memory_roots::MemoryRoots;
-pub use roots::Roots;
 pub use serving::{Ended, MAX_EVENTS, serve};
-pub use shared_crawler::SharedCrawler;
 pub use shared_shelf::{SharedShelf, reached_by_calls};

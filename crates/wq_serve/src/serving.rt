@@ -6,11 +6,11 @@ ghost use Rattle.wq_stream.specs.declared.event.Event.{Event};
 use crate::answering::{Client, answer};
 use crate::desk::Desk;
 use crate::inbox::Inbox;
-use crate::roots::Roots;
 use crate::writing::write_reply;
 use std::alloc::Global;
 use std::io::Write;
 use wq_clock::Run;
+use wq_crawl::Roots;
 use wq_live::{Named, Seat};
 use wq_session::{Ask, Out, Session};
 

@@ -1,9 +1,9 @@
 -- How a line is refused whose root could not be crawled, opened or retired.
 -- No public document is behind it.
-use Rattle.wq_session.specs.declared.crawl.CrawlFault.{CrawlFault}
-use Rattle.wq_session.specs.declared.crawl.CrawlFault.TheVariants.{Unreadable, TooManyFiles as TooManyRows}
-use Rattle.wq_session.specs.declared.crawl.CrawlFault.TheVariants.{TooManyRoots as TooManyShown}
-use Rattle.wq_session.specs.declared.crawl.CrawlFault.TheVariants.{TicksSpent as NoTicks, NoMemory as NoRoom}
+use Rattle.wq_crawl.specs.declared.fault.CrawlFault.{CrawlFault}
+use Rattle.wq_crawl.specs.declared.fault.CrawlFault.TheVariants.{Unreadable, TooManyFiles as TooManyRows}
+use Rattle.wq_crawl.specs.declared.fault.CrawlFault.TheVariants.{TooManyRoots as TooManyShown}
+use Rattle.wq_crawl.specs.declared.fault.CrawlFault.TheVariants.{TicksSpent as NoTicks, NoMemory as NoRoom}
 use Rattle.wq_session.specs.declared.refusal.Refusal.{Refusal}
 use Rattle.wq_session.specs.declared.refusal.Refusal.TheVariants.{UnreadableRoot, TooManyFiles, TooManyRoots}
 use Rattle.wq_session.specs.declared.refusal.Refusal.TheVariants.{TicksSpent, NoMemory}

@@ -27,7 +27,6 @@ mod work;
 
 pub use ask::Ask;
 pub use at::At;
-pub use crawl::CrawlFault;
 pub use cursor::Cursor;
 pub use law::{answers_are_calls, watching_again_changes_nothing};
 pub use needs::Need;

@@ -7,8 +7,9 @@ use std::process::Abort;
 use std::test::Fail;
 use wq_base::{Table, Text};
 use wq_clock::Run;
+use wq_crawl::CrawlFault;
 use wq_replay::{Happening, Sent, World};
-use wq_session::{Ask, CrawlFault};
+use wq_session::Ask;
 use wq_stream::Event;
 use wq_view::Pass;
 

@@ -234,7 +234,7 @@ pattern_paid width p (text x ∷ cells) n =
 charged : (raw : Raw) (width : ℕ) (op : Op) (cells : List Cell) → AreNarrow width cells → charge raw op cells ≤ most_cost raw width op
 charged raw width (Match place) cells n = by (slice_get raw.patterns place)
   where
-    by : (o : Option PatternData) → 1 + option_map_or (λ p. pattern_cost p cells) o 0 ≤ 1 + option_map_or (Rattle.wq_verify.specs.Budget.pattern_cost width) o 0
+    by : (o : Option PatternData) → 1 + option_map_or (λ p. pattern_cost p cells) o 0 ≤ 1 + option_map_or (Rattle.wq_verify.specs.Budget.most_pattern_cost width) o 0
     by None = omega arith
     by (Some p) = omega (arith, pattern_paid width p cells n)
 charged raw width (OneOf case place) cells n = omega arith

@@ -3,8 +3,8 @@
 use Rattle.std.specs.Prelude.{ℤ, pos, negsuc, Bool, false, ◌==◌, ◌||◌, if◌then◌else◌, Option, Some, None}
 use Rattle.std.specs.declared.io.ErrorKind.{ErrorKind}
 use Rattle.std.specs.declared.io.ErrorKind.TheVariants.{OutOfMemory}
-use Rattle.wq_live.specs.declared.tree.TreeFault.{TreeFault}
-use Rattle.wq_live.specs.declared.tree.TreeFault.TheVariants.{NoMemory, Unreadable}
+use Rattle.wq_crawl.specs.declared.tree.TreeFault.{TreeFault}
+use Rattle.wq_crawl.specs.declared.tree.TreeFault.TheVariants.{NoMemory, Unreadable}
 
 -- whether an error with this number says that no more files can be opened: in the machine, or in
 -- this process

@@ -4,7 +4,7 @@ use crate::names::{Block, Names, names_in};
 use crate::stat::{Stat, stat_of};
 use crate::unseen::walk_fault;
 use std::fs::Files;
-use wq_live::TreeFault;
+use wq_crawl::TreeFault;
 
 /// What tells of folders and files. It fails where nothing can be told of any: no more files can be opened, or memory ran
 /// out.

@@ -5,7 +5,7 @@ use crate::names::{Block, Names};
 use crate::path::{TreePath, with_slash};
 use crate::piece::MOST_PIECES;
 use std::alloc::{AllocError, Global};
-use wq_live::TreeFault;
+use wq_crawl::TreeFault;
 
 /// Where the root has fewer names than this, some of those below them are taken too.
 const FEW: usize = 256;

@@ -2,7 +2,7 @@
 ghost use Rattle.std.specs.Prelude.{◌≡◌, ◌+◌, ◌≤◌, ◌<◌, ◌++◌, length, IfErr, IfOk, IsTrue};
 ghost use Rattle.std.specs.List.{flat_map, list_all};
 ghost use Rattle.std.specs.Thread.{IsSync};
-ghost use Rattle.wq_live.specs.declared.tree.TreeFault.TheVariants.{TooManyRows};
+ghost use Rattle.wq_crawl.specs.declared.tree.TreeFault.TheVariants.{TooManyRows};
 ghost use Rattle.wq_view.specs.Seen.{is_lawful_row};
 
 use crate::disk::Disk;
@@ -14,7 +14,7 @@ use crate::rows::Rows;
 use crate::walk::rows_in;
 use std::alloc::{AllocError, Global};
 use std::thread::{Threads, join};
-use wq_live::TreeFault;
+use wq_crawl::TreeFault;
 use wq_view::{MAX_LISTING_ROWS, Record, Seen};
 
 /// The end of a list of pieces from which a thread takes them.

@@ -5,7 +5,7 @@ use std::alloc::{AllocError, Global};
 use std::cmp::Ordering;
 use std::fs::Files;
 use std::io::{Error, ErrorKind, Read};
-use wq_live::TreeFault;
+use wq_crawl::TreeFault;
 
 /// How many bytes of names are asked for at once.
 const BLOCK: usize = 32_768;

@@ -1,10 +1,10 @@
 //! How far the threads are that walk one tree. What they do with a piece is not said here.
 ghost use Rattle.std.specs.Prelude.{◌≡◌, IfErr};
-ghost use Rattle.wq_live.specs.declared.tree.TreeFault.TheVariants.{TooManyRows};
+ghost use Rattle.wq_crawl.specs.declared.tree.TreeFault.TheVariants.{TooManyRows};
 
 use crate::rows::Rows;
 use std::sync::atomic::{AtomicUsize, Ordering};
-use wq_live::TreeFault;
+use wq_crawl::TreeFault;
 use wq_view::MAX_LISTING_ROWS;
 
 /// How many rows of a piece are counted at once, so that no row costs a step on memory that the other thread writes too. What

@@ -1,13 +1,13 @@
 //! The rows of a listing that is being made. Where they come from is not looked at here.
 ghost use Rattle.std.specs.Prelude.{◌≡◌, ◌≤◌, ◌++◌, ◌∷◌, [], length, IfErr, IfOk, OnOk, IsTrue};
 ghost use Rattle.std.specs.List.{list_all};
-ghost use Rattle.wq_live.specs.declared.tree.TreeFault.TheVariants.{TooManyRows};
+ghost use Rattle.wq_crawl.specs.declared.tree.TreeFault.TheVariants.{TooManyRows};
 ghost use Rattle.wq_view.specs.Seen.{is_lawful_row};
 ghost use Rattle.wq_walk.specs.Part.{IsListing, is_row_in};
 
 use crate::part::Part;
 use std::alloc::{AllocError, Global};
-use wq_live::TreeFault;
+use wq_crawl::TreeFault;
 use wq_view::{MAX_LISTING_ROWS, Seen};
 
 /// At most 1,000,000 rows of a part, each of which a pass takes.

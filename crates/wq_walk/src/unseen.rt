@@ -4,7 +4,7 @@ ghost use Rattle.std.specs.IoError.{error_kind, raw_os_error};
 ghost use Rattle.wq_walk.specs.Unseen.{walk_fault};
 
 use std::io::{Error, ErrorKind};
-use wq_live::TreeFault;
+use wq_crawl::TreeFault;
 
 /// The machine can open no more files (Linux `errno(3)`).
 const ENFILE: i32 = 23;

@@ -15,7 +15,7 @@ use crate::rows::Rows;
 use crate::stat::Stat;
 use std::alloc::{AllocError, Global};
 use std::sync::ArcSlice;
-use wq_live::TreeFault;
+use wq_crawl::TreeFault;
 use wq_view::{Kind, Known, Seen};
 
 /// A walk on its way.

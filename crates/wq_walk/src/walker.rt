@@ -1,14 +1,14 @@
 //! The tree on disk, for a server that lists roots again and again. It keeps nothing of them.
 ghost use Rattle.std.specs.Prelude.{◌≡◌, ◌≤◌, length, IfErr, IfOk, IsTrue};
 ghost use Rattle.std.specs.List.{list_all};
-ghost use Rattle.wq_live.specs.Tree.{IsCounted};
+ghost use Rattle.wq_crawl.specs.Tree.{IsCounted};
 ghost use Rattle.wq_view.specs.Seen.{is_lawful_row};
 
 use crate::disk::FileDisk;
 use crate::listing::{first_rows, rows_again};
 use std::alloc::Global;
 use std::thread::Threads;
-use wq_live::{Tree, TreeFault};
+use wq_crawl::{Tree, TreeFault};
 use wq_view::{Seen, View};
 
 /// Walks the trees of a disk, a large one on two threads, and counts how often a root could not be read.

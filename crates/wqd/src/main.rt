@@ -13,7 +13,7 @@ use std::fs::File;
 use std::io::{self, BufReader, BufWriter, ErrorKind, Read, Write};
 use std::process::ExitCode;
 use wq_check::{FAULT, MAX_FILE, check};
-use wq_daemon::MachineClock;
+use wq_crawl::MachineClock;
 use wq_replay::{ReplayFault, replay};
 use wq_walk::Walker;
 

@@ -8,9 +8,9 @@ use std::sync::Wait;
 use std::thread::Threads;
 use std::time::{Clock, Duration};
 use wq_clock::Run;
+use wq_crawl::{Seconds, Tree};
 use wq_daemon::{Listening, Notices, Parts, SEATS, listen, remove, serve_clients};
-use wq_live::{Blank, Tree};
-use wq_serve::Seconds;
+use wq_live::Blank;
 
 /// What the command line says of the server.
 #[derive(Debug, Drop)]

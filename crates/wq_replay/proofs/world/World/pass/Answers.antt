@@ -3,7 +3,7 @@ use Rattle.std.proofs.Common.{◌≡◌, ◌<◌, ℕ, length, List, [], ◌∷�
 use Rattle.wq_live.specs.Event.{passes_over}
 use Rattle.wq_live.specs.Table.{IsNews, IsNoNews, IsTableOf}
 use Rattle.wq_live.specs.declared.event.RootEvent.TheVariants.{Passed}
-use Rattle.wq_session.specs.declared.crawl.CrawlFault.TheVariants.{TicksSpent}
+use Rattle.wq_crawl.specs.declared.fault.CrawlFault.TheVariants.{TicksSpent}
 use Rattle.wq_view.specs.Limit.{max_tick}
 use Rattle.wq_replay.specs.World.{with_events, number_in, refusing, unrefused}
 use Rattle.wq_replay.proofs.Worlds.{crawls_none, crawls_shown, given_none, given_some, some_holds}

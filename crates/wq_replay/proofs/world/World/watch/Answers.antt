@@ -1,7 +1,7 @@
 -- What a watching leads to: of a root that is shown, where no other may be, and else.
 use Rattle.std.proofs.Common.{◌≡◌, ℕ, ◌+◌, true, false, List, refl, sym, ap, subst, ◌∙◌, inl, inr}
 use mathlib.Core.Bool.{false≢true}
-use Rattle.wq_session.specs.declared.crawl.CrawlFault.TheVariants.{TooManyRoots}
+use Rattle.wq_crawl.specs.declared.fault.CrawlFault.TheVariants.{TooManyRoots}
 use Rattle.wq_replay.specs.Stands.{Stands, crawl_data}
 use Rattle.wq_replay.specs.World.{IsFull, Starts, refusing, shows, unrefused}
 use Rattle.wq_replay.proofs.Worlds.{opens_new, opens_shown, opens_start}

@@ -1,0 +1,2 @@
+mod Crawling
+mod Sharing

@@ -1,0 +1,161 @@
+-- What crawling, watching and unwatching a root does, what it makes of the list of events, and why
+-- it is refused.
+-- No public document is behind it.
+use Rattle.std.specs.Prelude.{◌≡◌, ◌≤◌, ◌⊎◌, ℕ, ℤ, refl, List}
+use Rattle.std.specs.Prelude.{Option, Some, None, IsSome, Result, Ok, Err}
+use Rattle.std.specs.Coded.{Coded, code_by, coded×, coded_ℕ, coded_ℤ, coded_option}
+use Rattle.wq_view.specs.Listing.{PassData, listing_fault, listing_of}
+use Rattle.wq_view.specs.Seen.{SeenData}
+use Rattle.wq_view.specs.declared.listing.PassFault.{PassFault}
+use Rattle.wq_view.specs.declared.listing.PassFault.TheVariants.{BadName, NameTwice, TooManyRows}
+use Rattle.wq_view.specs.declared.listing.PassFault.TheVariants.{OutOfRange}
+use Rattle.wq_view.specs.declared.listing.PassFault.TheVariants.{NoMemory as NoPassMemory}
+use Rattle.wq_live.specs.Log.{events_code}
+use Rattle.wq_live.specs.declared.event.RootEvent.{RootEvent}
+use Rattle.wq_crawl.specs.Device.{Gave}
+use Rattle.wq_crawl.specs.Publish.{Ends, IsFull, IsNotTakenIn, Passes, number_of, with_start}
+use Rattle.wq_crawl.specs.Tree.{IsCounted, ListedData, Lists, listed_code}
+use Rattle.wq_crawl.specs.declared.tree.TreeFault.{TreeFault}
+use Rattle.wq_crawl.specs.declared.tree.TreeFault.TheVariants.{Unreadable as UnreadableTree}
+use Rattle.wq_crawl.specs.declared.tree.TreeFault.TheVariants.{TooManyRows as TooManyTreeRows}
+use Rattle.wq_crawl.specs.declared.tree.TreeFault.TheVariants.{NoMemory as NoTreeMemory}
+use Rattle.wq_crawl.specs.declared.fault.CrawlFault.{CrawlFault}
+use Rattle.wq_crawl.specs.declared.fault.CrawlFault.TheVariants.{Unreadable, TooManyFiles}
+use Rattle.wq_crawl.specs.declared.fault.CrawlFault.TheVariants.{TooManyRoots, NoMemory}
+
+-- what a crawler shows: the list of events that is published, what its clock told last and how often
+-- it told something, the same of what its tree listed, where they are shown, and how often its tree
+-- failed
+pub record CrawlerData : Type 0 where
+  pub events : List RootEvent
+  pub clock : Option (ℕ × ℤ)
+  pub listed : Option (ℕ × ListedData)
+  pub failed : ℕ
+
+-- a crawler as the tuple of its parts
+abbrev pub crawler_code : Coded CrawlerData
+crawler_code =
+    code_by (List RootEvent × (Option (ℕ × ℤ) × (Option (ℕ × ListedData) × ℕ)))
+    (coded× events_code
+    (coded× (coded_option (coded× coded_ℕ coded_ℤ))
+    (coded× (coded_option (coded× coded_ℕ listed_code)) coded_ℕ)))
+    (λ c. (c.events, (c.clock, (c.listed, c.failed))))
+    (λ (events, (clock, (listed, failed))). record {
+      events = events;
+      clock = clock;
+      listed = listed;
+      failed = failed;
+    }) (λ _. refl)
+
+-- why a root is not crawled that the tree does not list
+abbrev pub not_listed : TreeFault → CrawlFault
+not_listed UnreadableTree = Unreadable
+not_listed TooManyTreeRows = TooManyFiles
+not_listed NoTreeMemory = NoMemory
+
+-- why a root is not crawled of which the rows make no pass
+abbrev pub no_pass : PassFault → CrawlFault
+no_pass BadName = Unreadable
+no_pass NameTwice = Unreadable
+no_pass OutOfRange = Unreadable
+no_pass TooManyRows = TooManyFiles
+no_pass NoPassMemory = NoMemory
+
+-- a pass is of the rows that the tree gave of a root, where it shows what it gives
+abbrev pub IsOfRows : Option (ℕ × ListedData) → List ℕ → PassData → Option (ℕ × ListedData)
+    → Type 0
+IsOfRows before text pass None = Unit {0}
+IsOfRows before text pass (Some after) =
+    (rows : List SeenData) × Lists before text (Ok rows) (Some after)
+    × (listing_fault rows pass.second ≡ None) × (pass ≡ listing_of rows pass.second)
+
+-- a root was listed, and this is the pass over it: of the rows that the tree gave, and of the second
+-- that the clock told then
+abbrev pub IsPassOver : List ℕ → CrawlerData → PassData → CrawlerData → Type 0
+IsPassOver text before pass after =
+    IsOfRows before.listed text pass after.listed × Gave before.clock pass.second after.clock
+
+-- a root was to be listed, and this is why there is no pass over it: the tree did not list it, and
+-- the clock was not asked; or what it listed makes none at the second that the clock told
+abbrev pub IsNoPassOver : List ℕ → CrawlerData → CrawlFault → CrawlerData → Type 0
+IsNoPassOver text before fault after =
+    ((why : TreeFault) × Lists before.listed text (Err why) after.listed
+    × (after.clock ≡ before.clock) × IsCounted before.failed after.failed why
+    × (fault ≡ not_listed why))
+    ⊎ ((rows : List SeenData) × (second : ℤ) × (why : PassFault)
+    × Lists before.listed text (Ok rows) after.listed × Gave before.clock second after.clock
+    × (listing_fault rows second ≡ Some why) × (fault ≡ no_pass why))
+
+-- a root that is shown was crawled: it was listed, and a pass over it is added, unless that tells
+-- nothing, and the list is told; where it is refused, nothing is added
+abbrev pub CrawledAt : ℕ → List ℕ → CrawlerData → Result (List RootEvent) CrawlFault
+    → CrawlerData → Type 0
+CrawledAt number text before (Ok told) after =
+    (told ≡ after.events) × (pass : PassData) × IsPassOver text before pass after
+    × Passes before.events number pass after.events
+CrawledAt number text before (Err fault) after =
+    (after.events ≡ before.events)
+    × (IsNoPassOver text before fault after
+    ⊎ ((pass : PassData) × IsPassOver text before pass after
+    × IsNotTakenIn before.events number pass fault))
+
+-- what was told where a list is told unless that is refused
+abbrev pub tells : Result (List RootEvent) CrawlFault → Result (Option (List RootEvent)) CrawlFault
+tells (Ok told) = Ok (Some told)
+tells (Err fault) = Err fault
+
+-- a root was crawled; of one that is not shown there is no crawl, and nothing is told
+abbrev pub Crawled : List ℕ → CrawlerData → Result (Option (List RootEvent)) CrawlFault
+    → CrawlerData → Type 0
+Crawled text before result after =
+    ((number_of text before.events ≡ None) × (result ≡ Ok None) × (after ≡ before))
+    ⊎ ((number : ℕ) × (answer : Result (List RootEvent) CrawlFault)
+    × (number_of text before.events ≡ Some number) × (result ≡ tells answer)
+    × CrawledAt number text before answer after)
+
+-- the list is told as it is, unless memory is wanted for that
+abbrev pub Shared : CrawlerData → Result (List RootEvent) CrawlFault → CrawlerData → Type 0
+Shared before (Ok told) after = (told ≡ before.events) × (after ≡ before)
+Shared before (Err fault) after = (fault ≡ NoMemory) × (after ≡ before)
+
+-- a root that is not shown was listed and started with a pass over it, and the list is told; where
+-- it is refused, nothing is added
+abbrev pub Began : List ℕ → CrawlerData → Result (List RootEvent) CrawlFault → CrawlerData → Type 0
+Began text before (Ok told) after =
+    (told ≡ after.events) × (pass : PassData) × IsPassOver text before pass after
+    × (after.events ≡ with_start text pass before.events)
+Began text before (Err fault) after =
+    (after.events ≡ before.events) × (IsNoPassOver text before fault after ⊎ (fault ≡ NoMemory))
+
+-- a root that is not shown was started; or, where no more can be started, refused before it was
+-- listed
+abbrev pub BeganIfRoom : List ℕ → CrawlerData → Result (List RootEvent) CrawlFault → CrawlerData
+    → Type 0
+BeganIfRoom text before result after =
+    (IsFull before.events × (result ≡ Err TooManyRoots) × (after ≡ before))
+    ⊎ ((IsFull before.events → ⊥) × Began text before result after)
+
+-- a root was watched: of one that is shown the list is told, and any other was started
+abbrev pub Watched : List ℕ → CrawlerData → Result (List RootEvent) CrawlFault → CrawlerData
+    → Type 0
+Watched text before result after =
+    (IsSome (number_of text before.events) × Shared before result after)
+    ⊎ ((number_of text before.events ≡ None) × BeganIfRoom text before result after)
+
+-- a root was unwatched by its number: its end is added where it is shown, and the list is told;
+-- where it is refused, nothing is added
+abbrev pub Unwatched : ℕ → CrawlerData → Result (List RootEvent) CrawlFault → CrawlerData → Type 0
+Unwatched number before (Ok told) after =
+    (told ≡ after.events) × Ends before.events number after.events
+    × (after ≡ record before { events = after.events })
+Unwatched number before (Err fault) after = (fault ≡ NoMemory) × (after ≡ before)
+
+-- a root was crawled for a thread that had read this count of crawls: by a crawl; or by none, where
+-- its last crawl began at this count or a later one: then the list is told as it is
+abbrev pub CrawledOnce : List ℕ → ℕ → (ℕ → Option ℕ) → CrawlerData
+    → Result (Option (List RootEvent)) CrawlFault → CrawlerData → Type 0
+CrawledOnce text asked last before result after =
+    Crawled text before result after
+    ⊎ ((number : ℕ) × (begun : ℕ) × (answer : Result (List RootEvent) CrawlFault)
+    × (number_of text before.events ≡ Some number) × (last number ≡ Some begun)
+    × (asked ≤ begun) × (result ≡ tells answer) × Shared before answer after)

@@ -1,0 +1,5 @@
+pub mod Device
+pub mod Tree
+pub mod Publish
+pub mod Crawl
+pub mod Roots

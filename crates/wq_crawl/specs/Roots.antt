@@ -1,0 +1,37 @@
+-- What the roots do for a session, and what they answer.
+-- No public document is behind it.
+use Rattle.std.specs.Prelude.{◌≡◌, ℕ, List, Option, Some, None, Result}
+use Rattle.wq_live.specs.declared.event.RootEvent.{RootEvent}
+use Rattle.wq_crawl.specs.declared.fault.CrawlFault.{CrawlFault}
+use Rattle.wq_crawl.specs.Crawl.{CrawlerData, Crawled, Watched, Unwatched, tells}
+
+-- what a session asks of the roots
+pub data RootRequestData : Type 0 where
+  -- a pass over the root of this text, if it is shown
+  passing : (root : List ℕ) → RootRequestData
+  -- that the root of this text is shown
+  showing : (root : List ℕ) → RootRequestData
+  -- the end of the root of this number
+  ending : (number : ℕ) → RootRequestData
+
+-- a request was done by a crawler, and this was answered: the list of events, if one is told; or
+-- why the request was refused
+abbrev pub Fulfils : RootRequestData → CrawlerData → Result (Option (List RootEvent)) CrawlFault
+    → CrawlerData → Type 0
+Fulfils (passing root) before told after = Crawled root before told after
+Fulfils (showing root) before told after =
+    (answer : Result (List RootEvent) CrawlFault) × (told ≡ tells answer)
+    × Watched root before answer after
+Fulfils (ending number) before told after =
+    (answer : Result (List RootEvent) CrawlFault) × (told ≡ tells answer)
+    × Unwatched number before answer after
+
+-- the roots do what a session asks, and answer this: by the crawler that is shown, and what it is
+-- then is shown; or by some crawler, where none is shown
+abbrev pub RootsGive : Option CrawlerData → RootRequestData
+    → Result (Option (List RootEvent)) CrawlFault → Option CrawlerData → Type 0
+RootsGive (Some before) request told after =
+    (left : CrawlerData) × Fulfils request before told left × (after ≡ Some left)
+RootsGive None request told after =
+    (before : CrawlerData) × (left : CrawlerData) × Fulfils request before told left
+    × (after ≡ None)

@@ -1,0 +1,53 @@
+-- When a tree may say that a root cannot be read, and what it shows of what it listed.
+-- No public document is behind it.
+use Rattle.std.specs.Prelude.{◌≡◌, ◌<◌, ◌⊎◌, ◌^◌, ◌-◌, ℕ, List, Option, Result, Ok, Err}
+use Rattle.std.specs.Prelude.{Vec, refl}
+use Rattle.std.specs.Coded.{Coded, code_by, coded×, coded_ℕ, coded_list, coded_result}
+use Rattle.std.specs.declared.alloc.Global.{Global}
+use Rattle.wq_view.specs.Seen.{SeenData, Stat, entry_of, stat_code}
+use Rattle.wq_crawl.specs.Device.{Gave}
+use Rattle.wq_crawl.specs.contracts.tree.TreeFault.{the_row}
+use Rattle.wq_crawl.specs.declared.tree.TreeFault.{TreeFault}
+use Rattle.wq_crawl.specs.declared.tree.TreeFault.TheVariants.{Unreadable}
+
+-- the greatest count of failures that can be told
+abbrev pub max_count : ℕ
+max_count = 2 ^ 64 - 1
+
+-- a root is unreadable only where the count of failures rose; at the greatest count it may have risen
+abbrev pub IsCounted : ℕ → ℕ → TreeFault → Type 0
+IsCounted before after fault = fault ≡ Unreadable → (before < after) ⊎ (after ≡ max_count)
+
+-- what a tree listed: of which root, and the rows that it gave, or why it gave none
+pub record ListedData : Type 0 where
+  pub root : List ℕ
+  pub rows : Result (List SeenData) TreeFault
+
+-- a row as the pair of its name and what was seen of it
+abbrev pub row_code : Coded SeenData
+row_code =
+    code_by (List ℕ × Stat) (coded× (coded_list coded_ℕ) stat_code) entry_of
+    (λ (name, stat). record {
+      name = name;
+      kind = stat.kind;
+      size = stat.size;
+      mtime_ms = stat.mtime_ms;
+    }) (λ _. refl)
+
+-- a listing as the pair of its parts
+abbrev pub listed_code : Coded ListedData
+listed_code =
+    code_by (List ℕ × Result (List SeenData) TreeFault)
+    (coded× (coded_list coded_ℕ) (coded_result (coded_list row_code) the_row.coded))
+    (λ listed. (listed.root, listed.rows)) (λ (root, rows). record { root = root; rows = rows })
+    (λ _. refl)
+
+-- the rows that were given, as a list
+abbrev pub rows_given : Result (Vec SeenData Global) TreeFault → Result (List SeenData) TreeFault
+rows_given (Ok rows) = Ok rows.items
+rows_given (Err fault) = Err fault
+
+-- a tree lists a root, and gives these rows
+abbrev pub Lists : Option (ℕ × ListedData) → List ℕ → Result (List SeenData) TreeFault
+    → Option (ℕ × ListedData) → Type 0
+Lists before root rows after = Gave before (record { root = root; rows = rows }) after

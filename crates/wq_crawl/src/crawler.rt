@@ -1,0 +1,232 @@
+//! What lists roots and publishes what is seen: a tree, a clock and a publisher, of which one crawl after the other
+//! takes hold.
+ghost use Rattle.std.specs.Prelude.{◌≡◌, ◌≢◌, ◌⊎◌, ◌↔◌, Err, IfErr, IfOk, IsTrue, MatchResult, None};
+ghost use Rattle.wq_crawl.specs.Tree.{IsCounted, Lists, rows_given};
+ghost use Rattle.wq_crawl.specs.Crawl.{Began, Crawled, CrawledAt, IsNoPassOver, IsPassOver};
+ghost use Rattle.wq_crawl.specs.Crawl.{Shared, Unwatched, Watched};
+ghost use Rattle.wq_crawl.specs.Publish.{IsFull, IsNotTakenIn, Passes, number_of, with_start};
+
+use crate::fault::{CrawlFault, no_pass, not_listed};
+use crate::seconds::Seconds;
+use crate::tree::{Tree, TreeFault};
+use std::alloc::AllocError;
+use std::marker::Model;
+use std::sync::Wait;
+use wq_base::{MAX_NUMBER, MAX_ROOTS};
+use wq_live::{Named, Publisher, Seat, StartFault, Told};
+use wq_view::{Pass, Seen, ViewFault};
+
+/// Lists roots, and publishes what is seen. Contracts see the list of events that is published, and what the tree and the
+/// clock show of themselves.
+#[derive(Drop)]
+pub struct Crawler<N: Named, R: Wait + Drop, T: Tree + Drop, S: Seconds + Drop> {
+    publisher: Publisher<N, R>,
+    tree: T,
+    seconds: S,
+}
+
+impl<N: Named, R: Wait + Drop, T: Tree + Drop, S: Seconds + Drop> Model for Crawler<N, R, T, S> {
+    ghost use Rattle.wq_crawl.specs.Crawl.{CrawlerData, crawler_code};
+
+    ghost Value = { CrawlerData };
+
+    ghost coded = { crawler_code };
+
+    ghost view = { λ c. record {
+      events = c.publisher;
+      clock = S.told c.seconds;
+      listed = T.listed c.tree;
+      failed = T.failed c.tree;
+    } };
+}
+
+impl<N: Named, R: Wait + Drop, T: Tree + Drop, S: Seconds + Drop> Crawler<N, R, T, S> {
+    /// The crawler of these parts.
+    pub fn new(publisher: Publisher<N, R>, tree: T, seconds: S) -> Crawler<N, R, T, S>
+        ensures { result ≡ record {
+          events = publisher;
+          clock = S.told seconds;
+          listed = T.listed tree;
+          failed = T.failed tree;
+        } }
+    {
+        Crawler {
+            publisher,
+            tree,
+            seconds,
+        }
+    }
+
+    /// A new seat, which has seen what is published. Refused where each place is in use too.
+    pub fn seat(&mut self) -> Result<Seat<N>, AllocError>
+        ensures seat { IfOk result (λ seat. seat ≡ (self.new).events) }
+        ensures kept { self.new ≡ self.old }
+    {
+        self.publisher.seat()
+    }
+
+    /// The number of the root of this text, if it is shown.
+    pub fn number(&self, root: &str) -> Option<u64>
+        ensures { result ≡ number_of root.now (self.now).events }
+    {
+        self.publisher.find(root)
+    }
+
+    /// Crawls the root of this text, publishes the pass, and tells the list; none where the root is not shown.
+    ///
+    /// A refused crawl leaves the list. It waits for those that still look at what was published before the last pass.
+    pub fn crawl(&mut self, root: &str) -> Result<Option<Told<N>>, CrawlFault>
+        ensures { Crawled root.now self.old result self.new }
+    {
+        let Some(number) = self.publisher.find(root) else {
+            return Ok(None);
+        };
+        match self.crawl_at(number, root) {
+            Ok(told) => Ok(Some(told)),
+            Err(fault) => Err(fault),
+        }
+    }
+
+    /// Finds the root of this text, or lists it and starts it, and tells the list.
+    ///
+    /// A root that is not shown is refused before it is listed where no more can be started. One that is shown is
+    /// refused for want of memory alone. What is refused leaves the list.
+    pub fn watch(&mut self, root: &str) -> Result<Told<N>, CrawlFault>
+        ensures { Watched root.now self.old result self.new }
+    {
+        if self.publisher.find(root).is_some() {
+            return self.told();
+        }
+        if self.is_full() {
+            return Err(CrawlFault::TooManyRoots);
+        }
+        self.begin(root)
+    }
+
+    /// Publishes the end of the root of this number, if it is shown, and tells the list.
+    ///
+    /// What is refused leaves the list.
+    pub fn unwatch(&mut self, number: u64) -> Result<Told<N>, CrawlFault>
+        ensures { Unwatched number self.old result self.new }
+    {
+        match self.publisher.end(number) {
+            Ok(told) => Ok(told),
+            Err(_) => Err(CrawlFault::NoMemory),
+        }
+    }
+
+    /// Lets go of the views that only what was published before the last time has. It changes nothing, and waits for those
+    /// that still look at that.
+    pub fn let_go(&mut self)
+        ensures { self.new ≡ self.old }
+    {
+        self.publisher.let_go();
+    }
+
+    /// The list as it is.
+    pub(crate) fn told(&self) -> Result<Told<N>, CrawlFault>
+        ensures { Shared self.now result self.now }
+    {
+        match self.publisher.told() {
+            Ok(told) => Ok(told),
+            Err(_) => Err(CrawlFault::NoMemory),
+        }
+    }
+
+    /// Whether no more root can be started.
+    fn is_full(&self) -> bool
+        ensures { IsTrue result ↔ IsFull (self.now).events }
+    {
+        self.publisher.len() == MAX_ROOTS || self.publisher.table().given() == MAX_NUMBER
+    }
+
+    /// Crawls the root of this number and text, which is shown.
+    pub(crate) fn crawl_at(&mut self, number: u64, root: &str) -> Result<Told<N>, CrawlFault>
+        ensures { CrawledAt number root.now self.old result self.new }
+    {
+        let pass = self.list(root)?;
+        self.publish(number, pass)
+    }
+
+    /// Lists a root that is not shown, and starts it.
+    fn begin(&mut self, root: &str) -> Result<Told<N>, CrawlFault>
+        requires new { number_of root.now (self.old).events ≡ None }
+        requires room { IsFull (self.old).events → ⊥ }
+        ensures { Began root.now self.old result self.new }
+    {
+        let pass = self.list(root)?;
+        self.start(root, pass)
+    }
+
+    /// Publishes a pass over the root of this number.
+    fn publish(&mut self, number: u64, pass: Pass) -> Result<Told<N>, CrawlFault>
+        ensures published { MatchResult result
+            (λ told. (told ≡ (self.new).events) × Passes (self.old).events number pass (self.new).events)
+            (λ fault. ((self.new).events ≡ (self.old).events)
+            × IsNotTakenIn (self.old).events number pass fault) }
+        ensures listed { (self.new).listed ≡ (self.old).listed }
+        ensures clock { (self.new).clock ≡ (self.old).clock }
+        ensures failed { (self.new).failed ≡ (self.old).failed }
+    {
+        match self.publisher.publish(number, pass) {
+            Ok(told) => Ok(told),
+            Err(ViewFault::TicksSpent) => Err(CrawlFault::TicksSpent),
+            Err(ViewFault::NoMemory) => Err(CrawlFault::NoMemory),
+        }
+    }
+
+    /// Publishes the start of a root that is not shown.
+    fn start(&mut self, root: &str, pass: Pass) -> Result<Told<N>, CrawlFault>
+        requires new { number_of root.now (self.old).events ≡ None }
+        requires room { IsFull (self.old).events → ⊥ }
+        ensures started { MatchResult result
+            (λ told. (told ≡ (self.new).events)
+            × ((self.new).events ≡ with_start root.now pass (self.old).events))
+            (λ fault. ((self.new).events ≡ (self.old).events) × (fault ≡ CrawlFault.NoMemory)) }
+        ensures listed { (self.new).listed ≡ (self.old).listed }
+        ensures clock { (self.new).clock ≡ (self.old).clock }
+    {
+        match self.publisher.start(root, pass) {
+            Ok((_number, told)) => Ok(told),
+            Err(StartFault::TooManyRoots) => Err(CrawlFault::TooManyRoots),
+            Err(StartFault::NoMemory) => Err(CrawlFault::NoMemory),
+        }
+    }
+
+    /// The pass of a root, as the tree shows it now.
+    fn list(&mut self, root: &str) -> Result<Pass, CrawlFault>
+        ensures kept { (self.new).events ≡ (self.old).events }
+        ensures listed { MatchResult result
+            (λ pass. IsPassOver root.now self.old pass self.new)
+            (λ fault. IsNoPassOver root.now self.old fault self.new) }
+    {
+        // Else the views before the last ones would stand in memory beside the rows and the views that follow from them.
+        self.let_go();
+        let rows = match self.rows(root) {
+            Ok(rows) => rows,
+            Err(fault) => return Err(not_listed(fault)),
+        };
+        let second = self.seconds.second();
+        let made = match self.publisher.table().root(root) {
+            Some((_number, last)) => Pass::again(rows, second, last),
+            None => Pass::new(rows, second),
+        };
+        match made {
+            Ok(pass) => Ok(pass),
+            Err(fault) => Err(no_pass(fault)),
+        }
+    }
+
+    /// The rows of a root, as the tree shows it now. They may share the names of its view.
+    fn rows(&mut self, root: &str) -> Result<Vec<Seen>, TreeFault>
+        ensures events { (self.new).events ≡ (self.old).events }
+        ensures clock { (self.new).clock ≡ (self.old).clock }
+        ensures counted { IfErr result (IsCounted (self.old).failed (self.new).failed) }
+        ensures listed { Lists (self.old).listed root.now (rows_given result) (self.new).listed }
+    {
+        match self.publisher.table().root(root) {
+            Some((_number, last)) => self.tree.list_again(root, last),
+            None => self.tree.list(root),
+        }
+    }
+}

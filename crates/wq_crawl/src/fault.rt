@@ -1,0 +1,49 @@
+//! Why a root could not be crawled, watched or unwatched.
+ghost use Rattle.std.specs.Prelude.{◌≡◌};
+ghost use Rattle.wq_crawl.specs.Crawl.{no_pass, not_listed};
+
+use crate::tree::TreeFault;
+use thiserror::Error;
+use wq_view::PassFault;
+
+/// Why a root could not be crawled, watched or unwatched. It is then shown as before, or not shown as before.
+#[derive(Clone, Copy, Debug, PartialEq, Eq, Drop, Error)]
+pub enum CrawlFault {
+    /// The root could not be read, or a row of its listing is refused.
+    #[error("the root cannot be read")]
+    Unreadable,
+    /// The root has more files than a view may have.
+    #[error("too many files")]
+    TooManyFiles,
+    /// As many roots are shown as may be, or as many were ever shown as there are numbers for.
+    #[error("too many roots")]
+    TooManyRoots,
+    /// The root was crawled 2^62 times with changes.
+    #[error("the ticks are spent")]
+    TicksSpent,
+    /// A growth was refused.
+    #[error("no memory")]
+    NoMemory,
+}
+
+/// Why a root is not crawled that the tree does not list.
+pub(crate) fn not_listed(fault: TreeFault) -> CrawlFault
+    ensures { result ≡ not_listed fault }
+{
+    match fault {
+        TreeFault::Unreadable => CrawlFault::Unreadable,
+        TreeFault::TooManyRows => CrawlFault::TooManyFiles,
+        TreeFault::NoMemory => CrawlFault::NoMemory,
+    }
+}
+
+/// Why a root is not crawled of which the rows make no pass.
+pub(crate) fn no_pass(fault: PassFault) -> CrawlFault
+    ensures { result ≡ no_pass fault }
+{
+    match fault {
+        PassFault::BadName | PassFault::NameTwice | PassFault::OutOfRange => CrawlFault::Unreadable,
+        PassFault::TooManyRows => CrawlFault::TooManyFiles,
+        PassFault::NoMemory => CrawlFault::NoMemory,
+    }
+}

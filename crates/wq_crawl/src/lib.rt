@@ -1,0 +1,23 @@
+//! Crawling: what lists roots, publishes what is seen, and starts and ends roots; for one caller, or for threads that
+//! share it. How a tree is walked is not said here, nor what a session asks for.
+#![tactic(auto)]
+
+mod clock;
+mod crawler;
+mod fault;
+mod lock_roots;
+mod memory_roots;
+mod roots;
+mod seconds;
+mod shared_crawler;
+mod tree;
+
+pub use clock::MachineClock;
+pub use crawler::Crawler;
+pub use fault::CrawlFault;
+pub use lock_roots::LockRoots;
+pub use memory_roots::MemoryRoots;
+pub use roots::Roots;
+pub use seconds::Seconds;
+pub use shared_crawler::SharedCrawler;
+pub use tree::{Tree, TreeFault};

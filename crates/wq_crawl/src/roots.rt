@@ -1,0 +1,29 @@
+//! What crawls, watches and unwatches roots for a session.
+ghost use Rattle.wq_crawl.specs.Crawl.{tells};
+ghost use Rattle.wq_crawl.specs.Roots.{RootsGive, ending, passing, showing};
+
+use crate::fault::CrawlFault;
+use wq_live::{Named, Told};
+
+/// What crawls, watches and unwatches roots, and publishes what comes of it.
+///
+/// It may show the crawler that it goes by. What is refused adds nothing to the list of events.
+pub trait Roots<N: Named> {
+    ghost use Rattle.std.specs.Prelude.{Option};
+    ghost use Rattle.wq_crawl.specs.Crawl.{CrawlerData};
+
+    // The crawler, where it is shown.
+    ghost crawler: { Self → Option CrawlerData };
+
+    /// Finds the root of this text, or lists it and starts it, and tells the list of events.
+    fn watch(&mut self, root: &str) -> Result<Told<N>, CrawlFault>
+        ensures { RootsGive (crawler self.old) (showing root.now) (tells result) (crawler self.new) };
+
+    /// Crawls the root of this text and publishes the pass, and tells the list of events; none where it is not shown.
+    fn crawl(&mut self, root: &str) -> Result<Option<Told<N>>, CrawlFault>
+        ensures { RootsGive (crawler self.old) (passing root.now) result (crawler self.new) };
+
+    /// Publishes the end of the root of this number, if it is shown, and tells the list of events.
+    fn unwatch(&mut self, number: u64) -> Result<Told<N>, CrawlFault>
+        ensures { RootsGive (crawler self.old) (ending number) (tells result) (crawler self.new) };
+}

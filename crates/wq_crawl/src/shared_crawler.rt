@@ -1,0 +1,145 @@
+//! A crawler that threads share: one crawls at a time, and those that asked before it began go by what it told.
+ghost use Rattle.std.specs.Prelude.{◌≡◌, ◌⊎◌, None, nat_eq, nat_le, false};
+ghost use Rattle.std.specs.Option.{option_map_or};
+ghost use Rattle.lru.specs.LruCache.{lru_cache, put_entries};
+ghost use Rattle.std.specs.Map.{lookup};
+ghost use Rattle.wq_crawl.specs.Crawl.{CrawledAt, CrawledOnce, tells};
+ghost use Rattle.wq_crawl.specs.Roots.{RootsGive, ending, passing, showing};
+
+use crate::crawler::Crawler;
+use crate::fault::CrawlFault;
+use crate::seconds::Seconds;
+use crate::tree::Tree;
+use lru::LruCache;
+use std::alloc::{AllocError, Global};
+use std::num::NonZeroUsize;
+use std::sync::atomic::{AtomicU64, Ordering};
+use std::sync::{Mutex, Wait};
+use wq_base::MAX_ROOTS;
+use wq_live::{Named, Told};
+
+/// A crawler that threads share. Each call waits until it has the crawler for itself.
+#[derive(Drop)]
+pub struct SharedCrawler<N: Named, R: Wait + Drop, T: Tree + Drop, S: Seconds + Drop> {
+    /// How many crawls have begun.
+    begun: AtomicU64,
+    crawls: Mutex<LastCrawls<N, R, T, S>>,
+}
+
+/// A crawler and its last crawls.
+#[derive(Drop)]
+struct LastCrawls<N: Named, R: Wait + Drop, T: Tree + Drop, S: Seconds + Drop> {
+    crawler: Crawler<N, R, T, S>,
+    /// How many crawls had begun before the last one of a root that was published, by the number of the root.
+    last: LruCache<u64, u64>,
+}
+
+impl<N: Named, R: Wait + Drop, T: Tree + Drop, S: Seconds + Drop> SharedCrawler<N, R, T, S> {
+    /// This crawler, for threads to share.
+    pub fn new(
+        alloc: Global,
+        crawler: Crawler<N, R, T, S>,
+    ) -> Result<SharedCrawler<N, R, T, S>, AllocError> {
+        Ok(SharedCrawler {
+            begun: AtomicU64::new(0),
+            crawls: Mutex::new(LastCrawls {
+                crawler,
+                last: LruCache::new(alloc, most_roots())?,
+            }),
+        })
+    }
+
+    /// Crawls the root of this text and publishes the pass, and tells the list of events; none where it is not shown.
+    ///
+    /// Where another thread crawled the root meanwhile, and began after this was called, the list is told as it is.
+    pub fn crawl(&self, rt: &R, root: &str) -> Result<Option<Told<N>>, CrawlFault>
+        ensures { RootsGive None (passing root.now) result None }
+    {
+        let asked = self.begun.load(Ordering::SeqCst);
+        self.crawls.lock(rt).crawl(&self.begun, asked, root)
+    }
+
+    /// Finds the root of this text, or lists it and starts it, and tells the list of events.
+    pub fn watch(&self, rt: &R, root: &str) -> Result<Told<N>, CrawlFault>
+        ensures { RootsGive None (showing root.now) (tells result) None }
+    {
+        self.crawls.lock(rt).crawler.watch(root)
+    }
+
+    /// Publishes the end of the root of this number, if it is shown, and tells the list of events.
+    pub fn unwatch(&self, rt: &R, number: u64) -> Result<Told<N>, CrawlFault>
+        ensures { RootsGive None (ending number) (tells result) None }
+    {
+        self.crawls.lock(rt).crawler.unwatch(number)
+    }
+
+    /// Lets go of the views that only what was published before the last time has ([`Crawler::let_go`]).
+    pub fn let_go(&self, rt: &R) {
+        self.crawls.lock(rt).crawler.let_go();
+    }
+}
+
+impl<N: Named, R: Wait + Drop, T: Tree + Drop, S: Seconds + Drop> LastCrawls<N, R, T, S> {
+    /// Crawls a root for those that asked when so many crawls had begun, unless the last crawl of it does for them.
+    fn crawl(
+        &mut self,
+        begun: &AtomicU64,
+        asked: u64,
+        root: &str,
+    ) -> Result<Option<Told<N>>, CrawlFault>
+        ensures { CrawledOnce root.now asked (λ number. lookup (nat_eq number) self.old.last.entries)
+            self.old.crawler result self.new.crawler }
+    {
+        let Some(number) = self.crawler.number(root) else {
+            return Ok(None);
+        };
+        if self.has_begun_since(asked, number) {
+            return Ok(Some(self.crawler.told()?));
+        }
+        Ok(Some(self.crawl_at(begun, number, root)?))
+    }
+
+    /// Crawls the root of this number and text, which is shown, and keeps how many crawls had begun before.
+    fn crawl_at(
+        &mut self,
+        begun: &AtomicU64,
+        number: u64,
+        root: &str,
+    ) -> Result<Told<N>, CrawlFault>
+        ensures { CrawledAt number root.now self.old.crawler result self.new.crawler }
+    {
+        let before = begun.fetch_add(1, Ordering::SeqCst);
+        let told = self.crawler.crawl_at(number, root)?;
+        self.keep(number, before);
+        Ok(told)
+    }
+
+    /// Whether the last crawl of the root of this number began when so many had begun, or later.
+    fn has_begun_since(&self, asked: u64, number: u64) -> bool
+        ensures { result ≡ option_map_or (λ begun. nat_le asked begun)
+            (lookup (nat_eq number) self.now.last.entries) false }
+    {
+        match self.last.peek(&number) {
+            Some(begun) => asked <= *begun,
+            None => false,
+        }
+    }
+
+    /// Keeps that so many crawls had begun before the last one of the root of this number. Where memory is wanted for that,
+    /// each thread crawls for itself.
+    fn keep(&mut self, number: u64, before: u64)
+        ensures crawler { self.new.crawler ≡ self.old.crawler }
+        ensures last { (self.new.last ≡ self.old.last)
+            ⊎ (self.new.last ≡ lru_cache (put_entries nat_eq self.old.last number before) self.old.last.cap) }
+    {
+        match self.last.put(number, before) {
+            Ok(_) => {}
+            Err(_) => {}
+        }
+    }
+}
+
+/// How many roots may be shown.
+fn most_roots() -> NonZeroUsize {
+    NonZeroUsize::new(MAX_ROOTS).unwrap_or(NonZeroUsize::MIN)
+}

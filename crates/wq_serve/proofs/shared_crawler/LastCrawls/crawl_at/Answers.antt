@@ -1,8 +1,0 @@
--- What was kept of the crawl leaves the crawler as the crawl left it.
-use Rattle.std.proofs.Common.{Ok, sym, subst}
-use Rattle.wq_serve.specs.Crawl.{CrawledAt}
-use Rattle.wq_serve.proofs.shared_crawler.LastCrawls.crawl_at.Goals as goal
-
-pub returns : goal.returns
-returns g c =
-    subst (CrawledAt c.args.number c.args.root.now c.args.self.now.crawler (Ok c.in_ok-told.told)) (sym c.keep.ensures.crawler) c.in_ok-told.ensures
