@@ -1,7 +1,7 @@
 //! The publisher: the one that changes the list of events, and shows what follows from it.
-ghost use Rattle.std.specs.Prelude.{if◌then◌else◌, ◌+◌, ◌↔◌, None, option_map, ◌≡◌, ◌⊎◌, ◌++◌, ◌∷◌, [], Err, IfErr, IfOk, MatchResult, Some, drop, false, length, true};
+ghost use Rattle.std.specs.Prelude.{if◌then◌else◌, ◌+◌, ◌↔◌, None, option_map, ◌≡◌, ◌⊎◌, ◌++◌, ◌∷◌, [], Err, IfErr, IfOk, MatchResult, Some, drop, false, length, nat_lt, true};
 ghost use Rattle.left_right.specs.Sides.{view};
-ghost use Rattle.wq_live.specs.Log.{BeginsLog, head_of};
+ghost use Rattle.wq_live.specs.Log.{AgreeAs, BeginsLog, head_of};
 ghost use Rattle.wq_base.specs.Limit.{max_number, max_roots};
 ghost use Rattle.wq_live.specs.declared.event.RootEvent.TheVariants.{Ended, Passed};
 ghost use Rattle.wq_live.specs.Event.{first_history, is_shown, shown_root, shown, start_events, started};
@@ -12,7 +12,7 @@ use crate::kept::Note;
 use crate::log::Head;
 use crate::named::Named;
 use crate::publishing::{ShownWriter, show};
-use crate::seat::{Seat, Told};
+use crate::seat::{Look, Seat, Told};
 use crate::shown::Shown;
 use crate::table::{RootTable, StartFault};
 use core::{mem, slice};
@@ -100,6 +100,15 @@ impl<N: Named, R: Wait + Drop> Publisher<N, R> {
         ensures { IsTableOf self.now result.now }
     {
         self.writer.published().table()
+    }
+
+    /// Whether the list of events is shorter than that of a look. It then begins the look's, and else the look's begins
+    /// it: whatever a seat sees was published here.
+    pub fn is_shorter(&self, look: &Look<N>) -> bool
+        ensures shorter { result ≡ nat_lt (length self.now) (length look.now) }
+        ensures begins { AgreeAs result self.now look.now }
+    {
+        self.writer.published().log().is_shorter(look.log())
     }
 
     /// The number of the root of this text, where it is shown.

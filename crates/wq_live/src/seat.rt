@@ -1,10 +1,10 @@
 //! Seats, which look at what is shown. A look waits for nobody and takes no memory.
-ghost use Rattle.std.specs.Prelude.{◌≡◌, ◌≤◌, IfSome, MatchResult, Some, is_some, length, nat_lt, option_map};
+ghost use Rattle.std.specs.Prelude.{◌≡◌, ◌≤◌, IfOk, IfSome, MatchResult, Some, is_some, length, nat_lt, option_map};
 ghost use mathlib.Core.List.{IsPrefix};
 ghost use Rattle.left_right.specs.Sides.{view};
 ghost use Rattle.wq_base.specs.Limit.{max_number};
 ghost use Rattle.wq_view.specs.View.{IsViewOf};
-ghost use Rattle.wq_live.specs.Event.{is_shown, passes_over, shown_root};
+ghost use Rattle.wq_live.specs.Event.{IsLawfulList, is_shown, passes_over, shown_root};
 ghost use Rattle.wq_live.specs.Log.{AgreeAs, BeginsLog, IsAhead, begun_with};
 ghost use Rattle.wq_live.specs.Table.{IsTableOf};
 
@@ -14,7 +14,9 @@ use crate::named::Named;
 use crate::shown::Shown;
 use crate::table::RootTable;
 use left_right::reader::{Reader, Reading};
+use std::alloc::AllocError;
 use std::marker::{Model, PhantomData};
+use std::sync::Arc;
 use wq_view::View;
 
 /// What the publisher told: the list of events as of that moment, with its table. Contracts see the list.
@@ -195,7 +197,7 @@ impl<N: Named> Look<N> {
     }
 
     /// The look's list.
-    fn log(&self) -> &Log
+    pub(crate) fn log(&self) -> &Log
         ensures { result.now ≡ record { book = N.book; log = self.now } }
     {
         match &self.told {
@@ -206,12 +208,29 @@ impl<N: Named> Look<N> {
 
     /// The number and the view of the root of this text, where it is shown in the look's list.
     pub fn root(&self, text: &str) -> Option<(u64, &View)>
+        ensures lawful { IsLawfulList self.now }
         ensures number { option_map (λ it. it.0) result
             ≡ option_map (λ root. root.number) (shown_root text.now self.now) }
         ensures view { IfSome result (λ it. IsViewOf (passes_over it.0 self.now) it.1.now) }
         ensures bound { IfSome result (λ it. it.0 ≤ max_number) }
     {
         self.table().root(text)
+    }
+
+    /// The number of the root of this text, and a share of its view, where it is shown in the look's list. The share
+    /// outlives the look, so that whoever needs the view for long holds up no publish.
+    ///
+    /// Refused where no share can be had; then the look still lends the view.
+    pub fn share(&self, text: &str) -> Result<Option<(u64, Arc<View>)>, AllocError>
+        ensures lawful { IsLawfulList self.now }
+        ensures number { IfOk result (λ it. option_map (λ it. it.0) it
+            ≡ option_map (λ root. root.number) (shown_root text.now self.now)) }
+        ensures view { IfOk result (λ it.
+            IfSome it (λ it. IsViewOf (passes_over it.0 self.now) it.1.value)) }
+        ensures bound { IfOk result (λ it. IfSome it (λ it. it.0 ≤ max_number)) }
+    {
+        let share = self.table().share(text)?;
+        Ok(share)
     }
 
     /// The view of the root of this number, where it is shown in the look's list.

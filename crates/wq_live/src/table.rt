@@ -108,6 +108,20 @@ impl RootTable {
         Some((root.number, &root.view))
     }
 
+    /// The number of the root of this text, and a share of its view, if it is shown. Refused where no share can be had.
+    pub fn share(&self, text: &str) -> Result<Option<(u64, Arc<View>)>, AllocError>
+        ensures number { IfOk result (λ it. option_map (λ it. it.0) it
+            ≡ option_map (λ root. root.number) (find (has_text text.now) self.now.roots)) }
+        ensures view { IfOk result (λ it. option_map (λ it. it.1.value) it
+            ≡ option_map (λ root. root.view) (find (has_text text.now) self.now.roots)) }
+        ensures given { self.now.given ≤ max_number }
+    {
+        match self.root_of_text(text) {
+            Some(root) => Ok(Some((root.number, root.view.clone()?))),
+            None => Ok(None),
+        }
+    }
+
     /// The number of the root of this text, if it is shown.
     pub fn number_of(&self, text: &str) -> Option<u64>
         ensures { result ≡ option_map (λ root. root.number) (find (has_text text.now) self.now.roots) }

@@ -4,7 +4,6 @@ use mathlib.Core.Bool.{false≢true}
 use Rattle.std.specs.declared.cmp.Ordering.{Ordering}
 use Rattle.std.specs.declared.cmp.Ordering.TheVariants.{Less, Equal, Greater}
 use Rattle.std.specs.Ordering.{is_eq, is_lt, eq_by_cmp, ordering_reverse}
-use Rattle.std.specs.Cmp.Lexicographic.{texts_ties}
 use Rattle.std.specs.FinMap.{find, is_sorted}
 use Rattle.std.specs.FinMap.Entries.{below_all}
 use Rattle.wq_view.specs.Seen.{SeenData, Stat, same_stat, stat_of, entry_of}
@@ -60,16 +59,16 @@ module _ (tick : ℕ) (second : ℤ) where
 
   -- the first of the records after the pass, by which name comes first
   first_row : (row : SeenData) (rows : List SeenData) → records_after [] (row ∷ rows) ≡ seen_row row ∷ records_after [] rows
-  first_row row rows = rw (name_ties_itself row.name) refl
+  first_row row rows = refl
 
   first_less : (r : RecordData) (rs : List RecordData) (row : SeenData) (rows : List SeenData) → name_cmp r.name row.name ≡ Less → records_after (r ∷ rs) (row ∷ rows) ≡ record_after r None tick second ∷ records_after rs (row ∷ rows)
-  first_less r rs row rows less = rw (less, texts_ties r.name row.name, less) refl
+  first_less r rs row rows less = rw less refl
 
   first_equal : (r : RecordData) (rs : List RecordData) (row : SeenData) (rows : List SeenData) → name_cmp r.name row.name ≡ Equal → records_after (r ∷ rs) (row ∷ rows) ≡ record_after r (Some (stat_of row)) tick second ∷ records_after rs rows
-  first_equal r rs row rows same = rw (same, texts_ties r.name row.name, same) refl
+  first_equal r rs row rows same = rw same refl
 
   first_greater : (r : RecordData) (rs : List RecordData) (row : SeenData) (rows : List SeenData) → name_cmp r.name row.name ≡ Greater → records_after (r ∷ rs) (row ∷ rows) ≡ seen_row row ∷ records_after (r ∷ rs) rows
-  first_greater r rs row rows greater = rw (greater, name_ties_itself row.name) refl
+  first_greater r rs row rows greater = rw greater refl
 
   -- the records after the pass answer to each name as they should
   abbrev pub Answers : List RecordData → List SeenData → Type 0
@@ -176,7 +175,7 @@ module _ (tick : ℕ) (second : ℤ) where
       alone [] e = refl
       alone (row ∷ rows) e =
           let parts = both_true (is_lt (name_cmp x row.name)) (below_all name_cmp x (map entry_of rows)) e in
-          rw (first_row row rows, parts.0) (alone rows parts.1)
+          rw parts.0 (alone rows parts.1)
   below_absorbed x (r ∷ rs) rows below_rs below_rows =
       let parts = both_true (is_lt (name_cmp x r.name)) (below_all name_cmp x (by_name rs)) below_rs in
       below_through_rows x r rs parts.0 (λ rows e. below_absorbed x rs rows parts.1 e) rows below_rows

@@ -2,7 +2,7 @@ mod NameOrder
 mod Sorting
 mod Faults
 mod Listings
-mod LeftOver
+mod Pairs
 mod Absorbed
 mod Stats
 mod Histories

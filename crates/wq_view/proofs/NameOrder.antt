@@ -1,11 +1,11 @@
 -- The byte order of names, and what rises in it.
-use Rattle.std.proofs.Common.{◌≡◌, ℕ, Bool, true, false, ◌&&◌, List, [], ◌∷◌, map, bytes_eq, IsTrue, refl, subst}
+use Rattle.std.proofs.Common.{◌≡◌, ℕ, Bool, true, false, ◌&&◌, List, [], ◌∷◌, map, bytes_eq, IsTrue, sym, refl, ap, subst, ◌∙◌}
 use mathlib.Core.Bool.{false≢true}
 use Rattle.std.specs.declared.cmp.Ordering.{Ordering}
 use Rattle.std.specs.declared.cmp.Ordering.TheVariants.{Less, Equal, Greater}
-use Rattle.std.specs.Ordering.{is_lt}
-use Rattle.std.specs.Cmp.{IsTotalOrder}
-use Rattle.std.specs.Cmp.Lexicographic.{nat_list_cmp_total}
+use Rattle.std.specs.Ordering.{is_eq, is_lt}
+use Rattle.std.specs.Cmp.{IsTotalOrder, tied_itself}
+use Rattle.std.specs.Cmp.Lexicographic.{nat_list_cmp_total, texts_ties}
 use Rattle.std.specs.FinMap.{IsAntisymmetric, nat_cmp-IsAntisymmetric, slice_cmp-IsAntisymmetric, is_sorted}
 use Rattle.std.specs.FinMap.Entries.{below_all}
 use Rattle.std.specs.List.{AllByRecursion}
@@ -26,11 +26,24 @@ names_exact = slice_cmp-IsAntisymmetric nat_cmp-IsAntisymmetric
 pub same_name : (a b : List ℕ) → bytes_eq a b ≡ true → a ≡ b
 same_name a b e = (bytes_eq-Decides a b).0 e
 
+-- the order of names that are one
+pub order_of_same : (a b : List ℕ) → bytes_eq a b ≡ true → name_cmp a b ≡ Equal
+order_of_same a b e = ap (name_cmp a) (sym (same_name a b e)) ∙ tied_itself names_total a
+
 -- an order that tests as less is less
 pub less_from_lt : (o : Ordering) → is_lt o ≡ true → o ≡ Less
 less_from_lt Less e = refl
 less_from_lt Equal e = absurd (false≢true e)
 less_from_lt Greater e = absurd (false≢true e)
+
+-- names that are not one, and of which the first is not below, are the other way round
+pub order_of_others : (a b : List ℕ) → bytes_eq a b ≡ false → is_lt (name_cmp a b) ≡ false → name_cmp a b ≡ Greater
+order_of_others a b apart not_below = at (name_cmp a b) refl
+  where
+    at : (o : Ordering) → name_cmp a b ≡ o → name_cmp a b ≡ Greater
+    at Less is = absurd (false≢true (sym not_below ∙ ap is_lt is))
+    at Equal is = absurd (false≢true (sym apart ∙ texts_ties a b ∙ ap is_eq is))
+    at Greater is = is
 
 -- both of two tests hold where their conjunction does
 pub both_true : (a b : Bool) → (a && b) ≡ true → (a ≡ true) × (b ≡ true)

@@ -1,15 +1,19 @@
 -- When rows say of the files that exist what the records say.
-use Rattle.std.proofs.Common.{◌≡◌, ℕ, true, false, ◌&&◌, cond, List, [], ◌∷◌, map, bytes_eq, Some, None, sym, refl, ap, ◌∙◌}
+use Rattle.std.proofs.Common.{◌≡◌, ℕ, Bool, true, false, not, ◌&&◌, cond, List, [], ◌∷◌, map, Some, None, sym, refl, ap, ◌∙◌}
 use mathlib.Core.Bool.{false≢true}
+use Rattle.std.specs.Cmp.{tied_itself}
 use Rattle.std.specs.Ordering.{is_lt, eq_by_cmp}
+use Rattle.std.proofs.lemmas.Bool.{not-true}
 use Rattle.std.specs.FinMap.{find, is_sorted}
-use Rattle.std.specs.FinMap.Entries.{below_all}
+use Rattle.std.specs.FinMap.Entries.{below_all, by_order}
+use Rattle.std.specs.List.{list_all}
+use Rattle.std.specs.declared.cmp.Ordering.{Ordering}
+use Rattle.std.specs.declared.cmp.Ordering.TheVariants.{Less, Equal, Greater}
 use Rattle.wq_view.specs.Seen.{SeenData, Stat, same_stat, stat_of, entry_of}
 use Rattle.wq_view.specs.Listing.{name_cmp}
 use Rattle.wq_view.specs.RecordData.{RecordData, last_stat, by_name, record_named}
-use Rattle.wq_view.specs.Merge.{shows, shows_next}
-use Rattle.wq_view.proofs.NameOrder.{both_true, same_name}
-use Rattle.wq_view.proofs.Listings.{name_ties_itself}
+use Rattle.wq_view.specs.Merge.{record_alone, record_and_row, row_alone, pairs_of, is_unchanged, shows}
+use Rattle.wq_view.proofs.NameOrder.{both_true, names_total, names_exact, less_from_lt}
 use Rattle.wq_view.proofs.Stats.{one_stat, same_stat-itself}
 use Rattle.wq_view.proofs.Absorbed.{find_below, tied}
 use Rattle.wq_view.proofs.Histories.{existing_stat}
@@ -20,43 +24,29 @@ existing [] = []
 existing (r ∷ rs) = cond r.exists ((r.name, last_stat r) ∷ existing rs) (existing rs)
 
 -- rows that say so are those stats
+shown_by_first : (r : RecordData) (rs : List RecordData) (row : SeenData) (rows : List SeenData) → (shows rs (row ∷ rows) ≡ true → existing rs ≡ map entry_of (row ∷ rows)) → (shows rs rows ≡ true → existing rs ≡ map entry_of rows) → (o : Ordering) → name_cmp r.name row.name ≡ o → list_all is_unchanged (by_order o (record_alone r ∷ pairs_of rs (row ∷ rows)) (record_and_row r row ∷ pairs_of rs rows) (row_alone row ∷ pairs_of (r ∷ rs) rows)) ≡ true → existing (r ∷ rs) ≡ map entry_of (row ∷ rows)
+shown_by_first r rs row rows less equal Less is e =
+    let parts = both_true (not r.exists) (shows rs (row ∷ rows)) e in
+    rw (not-true r.exists parts.0) (less parts.1)
+shown_by_first r rs row rows less equal Equal is e =
+    let parts = both_true (r.exists && same_stat (last_stat r) (stat_of row)) (shows rs rows) e in
+    let here = both_true r.exists (same_stat (last_stat r) (stat_of row)) parts.0 in
+    let name_is = names_exact r.name row.name is in
+    let stat_is = one_stat (last_stat r) (stat_of row) here.1 in
+    let rest = equal parts.1 in
+    rw here.0 (λ i. (name_is i, stat_is i) ∷ rest i)
+shown_by_first r rs row rows less equal Greater is e = absurd (false≢true e)
+
+shown_through : (r : RecordData) (rs : List RecordData) → ((rows : List SeenData) → shows rs rows ≡ true → existing rs ≡ map entry_of rows) → (rows : List SeenData) → shows (r ∷ rs) rows ≡ true → existing (r ∷ rs) ≡ map entry_of rows
+shown_through r rs later [] e =
+    let parts = both_true (not r.exists) (shows rs []) e in
+    rw (not-true r.exists parts.0) (later [] parts.1)
+shown_through r rs later (row ∷ rows) e = shown_by_first r rs row rows (later (row ∷ rows)) (later rows) (name_cmp r.name row.name) refl e
+
 pub existing_shown : (rs : List RecordData) (rows : List SeenData) → shows rs rows ≡ true → existing rs ≡ map entry_of rows
 existing_shown [] [] e = refl
 existing_shown [] (row ∷ rows) e = absurd (false≢true e)
-existing_shown (r ∷ rs) rows e = elim r.exists as (λ b. cond b (shows_next r (shows rs) rows) (shows rs rows) ≡ true → cond b ((r.name, last_stat r) ∷ existing rs) (existing rs) ≡ map entry_of rows) [
-  | true ↦ λ h. next rows h (λ left. existing_shown rs left)
-  | false ↦ λ h. existing_shown rs rows h
-] e
-  where
-    next : (rows : List SeenData) → shows_next r (shows rs) rows ≡ true → ((left : List SeenData) → shows rs left ≡ true → existing rs ≡ map entry_of left) → (r.name, last_stat r) ∷ existing rs ≡ map entry_of rows
-    next [] h later = absurd (false≢true h)
-    next (row ∷ rows) h later =
-        let parts = both_true (bytes_eq r.name row.name && same_stat (last_stat r) (stat_of row)) (shows rs rows) h in
-        let here = both_true (bytes_eq r.name row.name) (same_stat (last_stat r) (stat_of row)) parts.0 in
-        let name_is = same_name r.name row.name here.0 in
-        let stat_is = one_stat (last_stat r) (stat_of row) here.1 in
-        let rest = later rows parts.1 in
-        λ i. (name_is i, stat_is i) ∷ rest i
-
--- and rows that are those stats say so
-pub shown_existing : (rs : List RecordData) (rows : List SeenData) → existing rs ≡ map entry_of rows → shows rs rows ≡ true
-shown_existing [] [] e = refl
-shown_existing [] (row ∷ rows) e = absurd (cc)
-shown_existing (r ∷ rs) rows e = elim r.exists as (λ b. cond b ((r.name, last_stat r) ∷ existing rs) (existing rs) ≡ map entry_of rows → cond b (shows_next r (shows rs) rows) (shows rs rows) ≡ true) [
-  | true ↦ λ h. next rows h (λ left. shown_existing rs left)
-  | false ↦ λ h. shown_existing rs rows h
-] e
-  where
-    next : (rows : List SeenData) → (r.name, last_stat r) ∷ existing rs ≡ map entry_of rows → ((left : List SeenData) → existing rs ≡ map entry_of left → shows rs left ≡ true) → shows_next r (shows rs) rows ≡ true
-    next [] h later = absurd (cc)
-    next (row ∷ rows) h later =
-        let head : ◌≡◌ {A = List ℕ × Stat} (r.name, last_stat r) (entry_of row) = cc in
-        let rest : existing rs ≡ map entry_of rows = cc in
-        let name_is : r.name ≡ row.name = ap (λ p. p.0) head in
-        let stat_is : last_stat r ≡ stat_of row = ap (λ p. p.1) head in
-        let name_test : bytes_eq r.name row.name ≡ true = ap (λ n. bytes_eq r.name n) (sym name_is) ∙ name_ties_itself r.name in
-        let stat_test : same_stat (last_stat r) (stat_of row) ≡ true = ap (same_stat (last_stat r)) (sym stat_is) ∙ same_stat-itself (last_stat r) in
-        rw (name_test, stat_test) (later rows rest)
+existing_shown (r ∷ rs) rows e = shown_through r rs (λ rows e. existing_shown rs rows e) rows e
 
 -- a name below all records is below their stats
 below_existing : (x : List ℕ) (rs : List RecordData) → below_all name_cmp x (by_name rs) ≡ true → below_all name_cmp x (existing rs) ≡ true
@@ -65,6 +55,41 @@ below_existing x (r ∷ rs) e =
     let parts = both_true (is_lt (name_cmp x r.name)) (below_all name_cmp x (by_name rs)) e in
     let rest = below_existing x rs parts.1 in
     elim r.exists as (λ b. below_all name_cmp x (cond b ((r.name, last_stat r) ∷ existing rs) (existing rs)) ≡ true) [ true ↦ rw parts.0 rest | false ↦ rest ]
+
+-- and rows that are those stats say so, where the names of the records rise
+unchanged_alone : (r : RecordData) (rs : List RecordData) (row : SeenData) (rows : List SeenData) → r.exists ≡ false → below_all name_cmp r.name (existing rs) ≡ true → existing rs ≡ map entry_of (row ∷ rows) → shows rs (row ∷ rows) ≡ true → shows (r ∷ rs) (row ∷ rows) ≡ true
+unchanged_alone r rs row rows gone below is later =
+    let first = both_true (is_lt (name_cmp r.name row.name)) (below_all name_cmp r.name (map entry_of rows)) (sym (ap (below_all name_cmp r.name) is) ∙ below) in
+    rw (less_from_lt (name_cmp r.name row.name) first.0, gone) later
+
+unchanged_row : (r : RecordData) (rs : List RecordData) (row : SeenData) (rows : List SeenData) → r.exists ≡ true → (r.name, last_stat r) ∷ existing rs ≡ map entry_of (row ∷ rows) → (existing rs ≡ map entry_of rows → shows rs rows ≡ true) → shows (r ∷ rs) (row ∷ rows) ≡ true
+unchanged_row r rs row rows here is later =
+    let head : ◌≡◌ {A = List ℕ × Stat} (r.name, last_stat r) (entry_of row) = cc in
+    let rest : existing rs ≡ map entry_of rows = cc in
+    let name_is : r.name ≡ row.name = ap (λ p. p.0) head in
+    let stat_is : last_stat r ≡ stat_of row = ap (λ p. p.1) head in
+    let tie : name_cmp r.name row.name ≡ Equal = ap (λ n. name_cmp r.name n) (sym name_is) ∙ tied_itself names_total r.name in
+    let stat_test : same_stat (last_stat r) (stat_of row) ≡ true = ap (same_stat (last_stat r)) (sym stat_is) ∙ same_stat-itself (last_stat r) in
+    rw (tie, here, stat_test) (later rest)
+
+pub shown_existing : (rs : List RecordData) (rows : List SeenData) → is_sorted name_cmp (by_name rs) ≡ true → existing rs ≡ map entry_of rows → shows rs rows ≡ true
+shown_existing [] [] sorted e = refl
+shown_existing [] (row ∷ rows) sorted e = absurd (cc)
+shown_existing (r ∷ rs) rows sorted e =
+    let parts = both_true (below_all name_cmp r.name (by_name rs)) (is_sorted name_cmp (by_name rs)) sorted in
+    by_existing rows r.exists refl e (below_existing r.name rs parts.0) (λ rows e. shown_existing rs rows parts.1 e)
+  where
+    by_existing : (rows : List SeenData) (b : Bool) → r.exists ≡ b → existing (r ∷ rs) ≡ map entry_of rows → below_all name_cmp r.name (existing rs) ≡ true → ((rows : List SeenData) → existing rs ≡ map entry_of rows → shows rs rows ≡ true) → shows (r ∷ rs) rows ≡ true
+    by_existing [] true is e below later =
+        let filled : (r.name, last_stat r) ∷ existing rs ≡ [] = rw is at e in
+        absurd (cc)
+    by_existing (row ∷ rows) true is e below later = unchanged_row r rs row rows is (rw is at e) (later rows)
+    by_existing [] false is e below later =
+        let rest : existing rs ≡ [] = rw is at e in
+        rw is (later [] rest)
+    by_existing (row ∷ rows) false is e below later =
+        let rest : existing rs ≡ map entry_of (row ∷ rows) = rw is at e in
+        unchanged_alone r rs row rows is below rest (later (row ∷ rows) rest)
 
 -- the files that exist stand in the order of all
 pub existing_sorted : (rs : List RecordData) → is_sorted name_cmp (by_name rs) ≡ true → is_sorted name_cmp (existing rs) ≡ true

@@ -45,7 +45,7 @@ module _ (history : History) (view : ViewData) (pass : PassData) (rows : List Se
       there e = same_map names_total names_exact (last_stats history) pass.stats (λ q. sym (existing_is q) ∙ ap (find name_cmp q) (existing_shown view.records rows e) ∙ found_is q)
 
       back : last_stats history ≡ pass.stats → IsTrue (shows view.records rows)
-      back e = shown_existing view.records rows (same_entries name_cmp names_total names_exact (existing view.records) (map entry_of rows) (subst T (sym (existing_sorted view.records is_view.ordered)) tt) (subst T (sym sorted) tt) (λ q. existing_is q ∙ ap (λ m. get m q) e ∙ sym (found_is q)))
+      back e = shown_existing view.records rows is_view.ordered (same_entries name_cmp names_total names_exact (existing view.records) (map entry_of rows) (subst T (sym (existing_sorted view.records is_view.ordered)) tt) (subst T (sym sorted) tt) (λ q. existing_is q ∙ ap (λ m. get m q) e ∙ sym (found_is q)))
 
 -- records whose names rise are those that their names find
 same_records : (a b : List RecordData) → is_sorted name_cmp (by_name a) ≡ true → is_sorted name_cmp (by_name b) ≡ true → ((q : List ℕ) → record_named q a ≡ record_named q b) → a ≡ b

@@ -8,5 +8,6 @@ pub mod Record
 pub mod History
 pub mod View
 pub mod Merge
+pub mod Pair
 pub mod Position
 pub mod Below

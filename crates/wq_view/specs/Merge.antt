@@ -1,53 +1,50 @@
 -- How a view takes in a pass: records and rows in the order of their names, side by side.
 -- What the result means is said by the view of a history alone.
-use Rattle.std.specs.Prelude.{ℕ, ℤ, Bool, true, false, ◌&&◌, if◌then◌else◌, List, [], ◌∷◌, map, bytes_eq, Some, None}
+use Rattle.std.specs.Prelude.{ℕ, ℤ, Bool, false, not, ◌&&◌, List, [], ◌∷◌, map, Some, None}
 use Rattle.std.specs.FinMap.Entries.{by_order}
+use Rattle.std.specs.List.{list_all}
 use Rattle.wq_view.specs.Seen.{SeenData, stat_of, same_stat}
 use Rattle.wq_view.specs.Listing.{name_cmp}
 use Rattle.wq_view.specs.RecordData.{RecordData, last_stat, blank_record, record_after}
 
--- the first row is that of a record which exists, and the later rows pass the test
-abbrev pub shows_next : RecordData → (List SeenData → Bool) → List SeenData → Bool
-shows_next r later [] = false
-shows_next r later (row ∷ rows) =
-    bytes_eq r.name row.name && same_stat (last_stat r) (stat_of row) && later rows
+-- what records and rows have of a name: a record alone, a record and a row, or a row alone
+pub data PairData : Type 0 where
+  record_alone : RecordData → PairData
+  record_and_row : RecordData → SeenData → PairData
+  row_alone : SeenData → PairData
+
+-- the pairs of a record, of those that come later, and of these rows
+abbrev pub pairs_from : RecordData → (List SeenData → List PairData) → List SeenData
+    → List PairData
+pairs_from r later [] = record_alone r ∷ later []
+pairs_from r later (row ∷ rows) =
+    by_order (name_cmp r.name row.name)
+    (record_alone r ∷ later (row ∷ rows))
+    (record_and_row r row ∷ later rows)
+    (row_alone row ∷ pairs_from r later rows)
+
+-- the pairs of records and rows whose names rise, in the order of names
+abbrev pub pairs_of : List RecordData → List SeenData → List PairData
+pairs_of [] rows = map row_alone rows
+pairs_of (r ∷ rs) rows = pairs_from r (pairs_of rs) rows
+
+-- whether the row says of the file what the record says, or there is no row, and the file is deleted
+abbrev pub is_unchanged : PairData → Bool
+is_unchanged (record_alone r) = not r.exists
+is_unchanged (record_and_row r row) = r.exists && same_stat (last_stat r) (stat_of row)
+is_unchanged (row_alone row) = false
 
 -- whether the rows say what the records say of the files that exist
 abbrev pub shows : List RecordData → List SeenData → Bool
-shows [] [] = true
-shows [] (row ∷ rows) = false
-shows (r ∷ rs) rows = if r.exists then shows_next r (shows rs) rows else shows rs rows
+shows rs rows = list_all is_unchanged (pairs_of rs rows)
 
--- a record with the unseen records of the rows before it
-abbrev pub put_before : RecordData → (List SeenData → List RecordData) → List SeenData
-    → List RecordData
-put_before r later [] = r ∷ later []
-put_before r later (row ∷ rows) =
-    by_order (name_cmp r.name row.name)
-    (r ∷ later (row ∷ rows))
-    (r ∷ later rows)
-    (blank_record row.name ∷ put_before r later rows)
-
--- the records, with an unseen one for each row whose name has none
-abbrev pub with_names : List RecordData → List SeenData → List RecordData
-with_names [] rows = map (λ row. blank_record row.name) rows
-with_names (r ∷ rs) rows = put_before r (with_names rs) rows
-
--- a record as the first row shows it if that row has its name, and the later records after it
-abbrev pub observe_next : RecordData → (List SeenData → List RecordData) → List SeenData → ℕ → ℤ
-    → List RecordData
-observe_next r later [] tick second = record_after r None tick second ∷ later []
-observe_next r later (row ∷ rows) tick second =
-    if bytes_eq r.name row.name
-    then record_after r (Some (stat_of row)) tick second ∷ later rows
-    else record_after r None tick second ∷ later (row ∷ rows)
-
--- the records after a pass with these rows, each of which has its record
-abbrev pub each_after : ℕ → ℤ → List RecordData → List SeenData → List RecordData
-each_after tick second [] rows = []
-each_after tick second (r ∷ rs) rows =
-    observe_next r (each_after tick second rs) rows tick second
+-- the record of the name after a pass
+abbrev pub pair_after : ℕ → ℤ → PairData → RecordData
+pair_after tick second (record_alone r) = record_after r None tick second
+pair_after tick second (record_and_row r row) = record_after r (Some (stat_of row)) tick second
+pair_after tick second (row_alone row) =
+    record_after (blank_record row.name) (Some (stat_of row)) tick second
 
 -- the records after a pass with these rows
 abbrev pub records_after : ℕ → ℤ → List RecordData → List SeenData → List RecordData
-records_after tick second rs rows = each_after tick second (with_names rs rows) rows
+records_after tick second rs rows = map (pair_after tick second) (pairs_of rs rows)

@@ -21,6 +21,7 @@ mod limit;
 mod listing;
 mod merging;
 mod name;
+mod pair;
 mod view;
 
 pub use file_record::Record;

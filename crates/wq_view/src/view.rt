@@ -11,7 +11,7 @@ ghost use Rattle.wq_view.specs.View.{IsViewOf, NamesRise};
 use crate::file_record::Record;
 use crate::limit::{MAX_RECORDS, MAX_TICK};
 use crate::listing::Pass;
-use crate::merging::{observe_all, push_copies, shows, with_names};
+use crate::merging::{push_copies, records_after, shows};
 use std::alloc::{AllocError, Global};
 use std::marker::Model;
 use thiserror::Error;
@@ -136,10 +136,9 @@ impl View {
         ensures { (history : History) → IsViewOf history self.now
             → IfOk result (IsViewOf (history ++ pass.now ∷ [])) }
     {
-        let rows = pass.rows();
-        let mut records = with_names(*self.records.allocator(), &self.records, rows)?;
+        let alloc = *self.records.allocator();
         let tick = self.tick + 1;
-        observe_all(&mut records, rows, tick, pass.second());
+        let records = records_after(alloc, &self.records, pass.rows(), tick, pass.second())?;
         Ok(View { tick, records })
     }
 

@@ -3,4 +3,4 @@ use Rattle.std.proofs.Common.{◌≡◌, ◌++◌, take}
 use Rattle.wq_view.proofs.merging.push_copies.Given as goal
 
 abbrev pub invariant-loop-record : goal.invariant-loop-record
-invariant-loop-record l = l.merged.items ≡ l.initial.merged.items ++ take l.record-index l.records
+invariant-loop-record l = l.copies.items ≡ l.initial.copies.items ++ take l.record-index l.records

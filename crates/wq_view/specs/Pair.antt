@@ -1,0 +1,24 @@
+-- What the types of pairs stand for.
+-- No public document is behind it.
+use Rattle.std.specs.Prelude.{Bool, true, List}
+use Rattle.wq_view.specs.declared.pair.Pair.{Pair}
+use Rattle.wq_view.specs.declared.pair.Pair.TheVariants.{Old, Both, New}
+use Rattle.wq_view.specs.declared.pair.Pairs.{Pairs}
+use Rattle.wq_view.specs.Seen.{is_lawful_row}
+use Rattle.wq_view.specs.Merge.{PairData, record_alone, record_and_row, row_alone, pairs_of}
+
+-- what a pair has of its name
+abbrev pub pair_data : Pair → PairData
+pair_data (Old known) = record_alone known.now
+pair_data (Both known row) = record_and_row known.now row.now
+pair_data (New row) = row_alone row.now
+
+-- the pairs that are left
+abbrev pub pairs_left : Pairs → List PairData
+pairs_left pairs = pairs_of pairs.records.now pairs.rows.now
+
+-- whether the row of a pair is lawful, if there is one
+abbrev pub has_lawful_row : PairData → Bool
+has_lawful_row (record_alone r) = true
+has_lawful_row (record_and_row r row) = is_lawful_row row
+has_lawful_row (row_alone row) = is_lawful_row row
