@@ -24,8 +24,8 @@ pub trait Launch {
     // What it shows, if anything.
     ghost shown: { Self → Option LauncherData };
 
-    /// Starts a command, and gives the number of its run. If it fails, then the count of failures rose
-    /// in this call, or it is at the greatest number that can be told.
+    /// Starts a command, and gives the number of its run. If it fails, then the count of failures
+    /// rose in this call, or it is at the greatest number that can be told.
     fn start(&mut self, start: Start) -> Result<u32, LaunchFault>
         ensures counted { IfErr result (λ _. Rose (failures_of self.old) (failures_of self.new)) }
         ensures told { Starts (shown self.old) (start_data start) (run_of result)

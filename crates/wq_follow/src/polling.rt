@@ -39,7 +39,8 @@ impl Follower {
 
     /// The next batch, at a view. The follower does not move: see [`commit`](Follower::commit).
     ///
-    /// At a view that is no newer than that of the last batch it takes no memory and no time that depends on the view.
+    /// At a view that is no newer than the last batch it takes no memory, and no time that grows
+    /// with the view.
     pub fn poll(&self, alloc: Global, view: &View) -> Result<Batch, AllocError>
         ensures batch { IfOk result (IsBatch view.now.records
             (polled (follower_data self.now) view.now)) }
