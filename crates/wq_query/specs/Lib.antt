@@ -9,3 +9,4 @@ pub mod Printing
 pub mod Grammar
 pub mod Law
 pub mod Meaning
+pub mod Following

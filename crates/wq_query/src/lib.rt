@@ -4,6 +4,7 @@
 
 mod fault;
 mod field;
+mod following;
 mod form;
 mod generating;
 mod law;
@@ -17,6 +18,7 @@ mod room;
 
 pub use fault::QueryFault;
 pub use field::Field;
+pub use following::{files_text, print_list};
 pub use law::values_ask_what_they_write;
 pub use query::{Plan, Query};
 pub use reply::{answer, answer_bytes};

@@ -47,7 +47,7 @@ pub(crate) fn print_reply(
 }
 
 /// Prints what stands before the files.
-fn print_start(out: &mut Writer, clock: &str) -> Result<(), AllocError>
+pub(crate) fn print_start(out: &mut Writer, clock: &str) -> Result<(), AllocError>
     ensures { Appends result out.old out.new (begin_object ∷ key (codes "clock")
         ∷ string_token clock.now ∷ key (codes "files") ∷ []) }
 {
@@ -57,7 +57,7 @@ fn print_start(out: &mut Writer, clock: &str) -> Result<(), AllocError>
 }
 
 /// Prints a key with a flag.
-fn print_flag(out: &mut Writer, name: &str, flag: bool) -> Result<(), AllocError>
+pub(crate) fn print_flag(out: &mut Writer, name: &str, flag: bool) -> Result<(), AllocError>
     ensures { Appends result out.old out.new (key name.now ∷ boolean_token flag ∷ []) }
 {
     out.key(name)?;
@@ -65,7 +65,7 @@ fn print_flag(out: &mut Writer, name: &str, flag: bool) -> Result<(), AllocError
 }
 
 /// Prints a key with a text.
-fn print_text(out: &mut Writer, name: &str, text: &str) -> Result<(), AllocError>
+pub(crate) fn print_text(out: &mut Writer, name: &str, text: &str) -> Result<(), AllocError>
     ensures { Appends result out.old out.new (key name.now ∷ string_token text.now ∷ []) }
 {
     out.key(name)?;
@@ -84,7 +84,7 @@ fn print_end(out: &mut Writer, bound: Bound) -> Result<(), AllocError>
 }
 
 /// Prints what is told of the files at these places.
-fn print_files(
+pub(crate) fn print_files(
     out: &mut Writer,
     form: &Form,
     instance: &Instance,

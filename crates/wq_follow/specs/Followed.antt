@@ -1,0 +1,20 @@
+-- The meaning of the types `Follower` and `Trigger`.
+-- It is this server's own.
+use Rattle.wq_query.specs.Query.{planned}
+use Rattle.wq_follow.specs.Batch.{FollowerData}
+use Rattle.wq_follow.specs.Round.{TriggerData}
+use Rattle.wq_follow.specs.Started.{order_data}
+use Rattle.wq_follow.specs.declared.follower.Follower.{Follower}
+use Rattle.wq_follow.specs.declared.trigger.Trigger.{Trigger}
+
+-- a follower
+abbrev pub follower_data : Follower → FollowerData
+follower_data f = record { plan = planned f.plan; last = f.last }
+
+-- a trigger
+abbrev pub trigger_data : Trigger → TriggerData
+trigger_data t = record {
+  order = order_data t.order;
+  follower = follower_data t.follower;
+  running = t.running;
+}

@@ -1,0 +1,87 @@
+-- What a round does for a trigger.
+-- From Watchman's documentation of `trigger`; that a failed start tells nothing is this server's
+-- own.
+use Rattle.std.specs.Prelude.{◌≡◌, ◌≢◌, ℕ, Bool, true, false, [], Option, Some, None}
+use Rattle.wq_clock.specs.Instance.{InstanceData}
+use Rattle.wq_view.specs.View.{ViewData}
+use Rattle.wq_follow.specs.Batch.{BatchData, FollowerData, is_told, polled, told}
+use Rattle.wq_follow.specs.Launcher.{LauncherData, Starts, goes_on}
+use Rattle.wq_follow.specs.Start.{OrderData, StartData, start_of}
+
+-- a trigger: how it starts its command, its follower, and the run of its command, if that runs
+pub record TriggerData : Type 0 where
+  pub order : OrderData
+  pub follower : FollowerData
+  pub running : Option ℕ
+
+-- what a round does for it
+pub data FiredData : Type 0 where
+  -- nothing, since its command runs
+  runs : (run : ℕ) → FiredData
+  -- no file of it changed
+  quiet : FiredData
+  -- its command is started
+  started : (run : ℕ) → StartData → FiredData
+  -- its command could not be started
+  failed : StartData → FiredData
+  -- nothing, since memory ran out
+  short : FiredData
+
+-- the batch of a trigger at a view
+abbrev pub batch_of : TriggerData → ViewData → BatchData
+batch_of t view = polled t.follower view
+
+-- the trigger with this run of its command, once its batch was told
+abbrev pub moved : Option ℕ → ViewData → TriggerData → TriggerData
+moved running view t = record {
+  order = t.order;
+  follower = told (batch_of t view).now t.follower;
+  running = running;
+}
+
+-- the trigger when its command does not run
+abbrev pub stopped : TriggerData → TriggerData
+stopped t = record { order = t.order; follower = t.follower; running = None }
+
+-- a start of its command tells the files of its batch, of which there are some
+abbrev pub IsStart : InstanceData → ViewData → TriggerData → StartData → Type 0
+IsStart instance view t start =
+    ((batch_of t view).files ≢ []) × (start ≡ start_of t.order instance (batch_of t view))
+
+-- a poll of it needs memory: the view is newer than the last batch
+abbrev pub WantsMemory : ViewData → TriggerData → Type 0
+WantsMemory view t = is_told (t.follower).last view.tick ≡ false
+
+-- a round did this for a trigger, which is then so
+abbrev pub Fires : InstanceData → ViewData → TriggerData → FiredData → TriggerData → Type 0
+Fires instance view t (runs run) after = (t.running ≡ Some run) × (after ≡ t)
+Fires instance view t quiet after =
+    ((batch_of t view).files ≡ []) × (after ≡ moved None view t)
+Fires instance view t (started run start) after =
+    IsStart instance view t start × (after ≡ moved (Some run) view t)
+Fires instance view t (failed start) after = IsStart instance view t start × (after ≡ stopped t)
+Fires instance view t short after = WantsMemory view t × (after ≡ stopped t)
+
+-- whether memory ran out for it
+abbrev pub is_short : FiredData → Bool
+is_short short = true
+is_short _ = false
+
+-- the command of a trigger does not run, as a launcher tells it
+abbrev pub IsFree : Option ℕ → LauncherData → Type 0
+IsFree None l = Unit {0}
+IsFree (Some run) l = goes_on run l ≡ false
+
+-- this agrees with a launcher that shows its answers: the round passes over a trigger only if its
+-- command runs, and does anything else only if it does not; and each start has its answer
+abbrev pub AgreesWith : FiredData → Option ℕ → LauncherData → Option LauncherData → Type 0
+AgreesWith (runs run) running l after = (goes_on run l ≡ true) × (after ≡ Some l)
+AgreesWith (started run start) running l after =
+    IsFree running l × Starts (Some l) start (Some run) after
+AgreesWith (failed start) running l after = IsFree running l × Starts (Some l) start None after
+AgreesWith _ running l after = IsFree running l × (after ≡ Some l)
+
+-- the same for a launcher that may show nothing
+abbrev pub Agrees : FiredData → Option ℕ → Option LauncherData → Option LauncherData → Type 0
+Agrees fired running None after = after ≡ None
+Agrees fired running (Some l) after = AgreesWith fired running l after

@@ -1,0 +1,15 @@
+//! A command that is started when files changed, as it is kept. Its functions are in `firing`.
+ghost use Rattle.wq_query.specs.Query.{planned};
+ghost use Rattle.wq_follow.specs.Started.{IsClocked};
+
+use crate::follower::Follower;
+use crate::order::Order;
+
+/// A command that is started when files changed.
+#[derive(Drop)]
+pub struct Trigger {
+    pub(crate) order: Order,
+    pub(crate) follower: Follower,
+    pub(crate) running: Option<u32>,
+    ghost clocked: { IsClocked (planned follower.plan).bound },
+}
