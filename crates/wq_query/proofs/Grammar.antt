@@ -35,7 +35,7 @@ use Rattle.wq_query.specs.Field.{field_name, field_named, fields, default_fields
 use Rattle.wq_query.specs.Query.{QueryData, SinceData, at_bound, at_cursor}
 use Rattle.wq_query.specs.Reading.{asks, left_out_keys, has_key_of, has_left_out_key, is_plain_case}
 use Rattle.wq_query.specs.Reading.{expression_of, field_of, fields_in, fields_of, since_of, flag_of}
-use Rattle.wq_query.specs.Reading.{is_whole_or_absent, has_both, cursor_in, cursor_in, since_from, program_name}
+use Rattle.wq_query.specs.Reading.{is_whole_or_absent, has_both, cursor_in, spec_cursor, since_from, program_name}
 use Rattle.wq_query.specs.Generator.{suffixes_of, paths_in, paths_of}
 use Rattle.wq_query.specs.Grammar.{IsExpression, AreNamed, AreFields, AreSuffixes, ArePaths, IsCursor}
 use Rattle.wq_query.specs.Grammar.{IsSinceKey, IsProgram, IsWrittenBy}
@@ -206,9 +206,9 @@ bound-no-cursor : (instance : InstanceData) (d : Data) (bound : Bound) → bound
 bound-no-cursor instance (string text) bound e = at (clock_spec_of text) refl
   where
     at : (o : Option SpecData) → clock_spec_of text ≡ o → cursor_in (string text) ≡ None
-    at None is = ap (option_and_then cursor_in) is
-    at (Some (clock_id other tick)) is = ap (option_and_then cursor_in) is
-    at (Some old_clock_id) is = ap (option_and_then cursor_in) is
+    at None is = ap (option_and_then spec_cursor) is
+    at (Some (clock_id other tick)) is = ap (option_and_then spec_cursor) is
+    at (Some old_clock_id) is = ap (option_and_then spec_cursor) is
     at (Some (named_cursor name)) is = cc
 bound-no-cursor instance _ bound e = refl
 
@@ -219,14 +219,14 @@ cursor-found law (string text) name e = at (clock_spec_of text) refl
     at : (o : Option SpecData) → clock_spec_of text ≡ o → IsClockSpelling (named_cursor name) text
     at (Some (named_cursor other)) is =
         subst (λ n. IsClockSpelling (named_cursor n) text)
-        (same_Some other name (sym (ap (option_and_then cursor_in) is) ∙ e)) ((law text (named_cursor other)).0 is)
-    at (Some (clock_id other tick)) is = absurd (none_or_some name (sym (ap (option_and_then cursor_in) is) ∙ e))
-    at (Some old_clock_id) is = absurd (none_or_some name (sym (ap (option_and_then cursor_in) is) ∙ e))
-    at None is = absurd (none_or_some name (sym (ap (option_and_then cursor_in) is) ∙ e))
+        (same_Some other name (sym (ap (option_and_then spec_cursor) is) ∙ e)) ((law text (named_cursor other)).0 is)
+    at (Some (clock_id other tick)) is = absurd (none_or_some name (sym (ap (option_and_then spec_cursor) is) ∙ e))
+    at (Some old_clock_id) is = absurd (none_or_some name (sym (ap (option_and_then spec_cursor) is) ∙ e))
+    at None is = absurd (none_or_some name (sym (ap (option_and_then spec_cursor) is) ∙ e))
 cursor-found law _ name e = cc
 
 cursor-reads : TextsSayWhatTheySpell → (d : Data) (name : List ℕ) → IsCursor name d → cursor_in d ≡ Some name
-cursor-reads law (string text) name h = ap (option_and_then cursor_in) ((law text (named_cursor name)).1 h)
+cursor-reads law (string text) name h = ap (option_and_then spec_cursor) ((law text (named_cursor name)).1 h)
 cursor-reads law _ name h = absurd h
 
 since-found : BoundsSayWhatTheyWrite → TextsSayWhatTheySpell

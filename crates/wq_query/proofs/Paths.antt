@@ -17,7 +17,7 @@ use Rattle.wq_term.proofs.ArgumentGrammar.{mapped, between-found, between-reads,
 use Rattle.wq_term.proofs.Slashes.{slashes, drops}
 use Rattle.wq_term.proofs.TermGrammar.{dir-found}
 use Rattle.wq_query.specs.Generator.{path_depth, path_parts, path_of, paths_in}
-use Rattle.wq_query.specs.Grammar.{IsPath, ArePaths}
+use Rattle.wq_query.specs.Grammar.{IsPath, ListPaths}
 
 -- the path of a text and a depth
 abbrev pub path_at : List ℕ × ℤ → PathGen
@@ -103,13 +103,13 @@ path-reads (array ds) p h = object-reads (array ds) p h
 path-reads (object ms) p h = object-reads (object ms) p h
 
 -- the paths of a list
-pub paths-found : (ds : Items) (paths : List PathGen) → paths_in ds ≡ Some paths → ArePaths paths ds
-paths-found no_items paths e = subst (λ ps. ArePaths ps no_items) (same_Some [] paths e) tt
+pub paths-found : (ds : Items) (paths : List PathGen) → paths_in ds ≡ Some paths → ListPaths paths ds
+paths-found no_items paths e = subst (λ ps. ListPaths ps no_items) (same_Some [] paths e) tt
 paths-found (item d ds) paths e =
     with_first-some (path_of d) (paths_in ds) paths e (λ p ps first rest is.
-    subst (λ qs. ArePaths qs (item d ds)) is (path-found d p first, paths-found ds ps rest))
+    subst (λ qs. ListPaths qs (item d ds)) is (path-found d p first, paths-found ds ps rest))
 
-pub paths-read : (ds : Items) (paths : List PathGen) → ArePaths paths ds → paths_in ds ≡ Some paths
+pub paths-read : (ds : Items) (paths : List PathGen) → ListPaths paths ds → paths_in ds ≡ Some paths
 paths-read no_items [] h = refl
 paths-read (item d ds) (p ∷ ps) h = rw (path-reads d p h.0, paths-read ds ps h.1) refl
 paths-read no_items (p ∷ ps) h = absurd h

@@ -52,14 +52,14 @@ IsPath p d =
     × MatchOption (get (codes "depth") d) ⊥ (IsBetween (negsuc 0) (pos max_number) p.depth)
 
 -- paths, one behind the other
-abbrev pub ArePaths : List PathGen → Items → Type 0
-ArePaths [] no_items = Unit {0}
-ArePaths (p ∷ ps) (item d ds) = IsPath p d × ArePaths ps ds
-ArePaths _ _ = ⊥
+abbrev pub ListPaths : List PathGen → Items → Type 0
+ListPaths [] no_items = Unit {0}
+ListPaths (p ∷ ps) (item d ds) = IsPath p d × ListPaths ps ds
+ListPaths _ _ = ⊥
 
 -- a list of paths
 abbrev pub ArePaths : Option (List PathGen) → Data → Type 0
-ArePaths (Some paths) (array ds) = ArePaths paths ds
+ArePaths (Some paths) (array ds) = ListPaths paths ds
 ArePaths _ _ = ⊥
 
 -- a cursor: its name, of 1 to 255 bytes, stands behind `n:`

@@ -73,13 +73,13 @@ fields_of (Some (array (item d ds))) = fields_in (item d ds)
 fields_of (Some _) = None
 
 -- the name of a clock spec that is a cursor
-abbrev pub cursor_in : SpecData → Option (List ℕ)
-cursor_in (named_cursor name) = Some name
-cursor_in _ = None
+abbrev pub spec_cursor : SpecData → Option (List ℕ)
+spec_cursor (named_cursor name) = Some name
+spec_cursor _ = None
 
 -- the name of the cursor that a value says
 abbrev pub cursor_in : Data → Option (List ℕ)
-cursor_in (string text) = option_and_then cursor_in (clock_spec_of text)
+cursor_in (string text) = option_and_then spec_cursor (clock_spec_of text)
 cursor_in _ = None
 
 -- the tick of a cursor, where there is one, or else a bound
