@@ -22,25 +22,25 @@ static unsigned long entries;
 static unsigned long long sizes;
 
 static void walk(int above, const char *name, int follow) {
-  int folder = openat(above, name, O_RDONLY | O_DIRECTORY | O_CLOEXEC | (follow ? 0 : O_NOFOLLOW));
-  if (folder < 0) return;
+  int directory = openat(above, name, O_RDONLY | O_DIRECTORY | O_CLOEXEC | (follow ? 0 : O_NOFOLLOW));
+  if (directory < 0) return;
   char *block = malloc(32768);
   for (;;) {
-    long count = syscall(SYS_getdents64, folder, block, 32768);
+    long count = syscall(SYS_getdents64, directory, block, 32768);
     if (count <= 0) break;
     for (long at = 0; at < count;) {
       struct entry *entry = (struct entry *)(block + at);
       at += entry->length;
       if (!strcmp(entry->name, ".") || !strcmp(entry->name, "..")) continue;
       struct statx found;
-      if (statx(folder, entry->name, AT_SYMLINK_NOFOLLOW, STATX_BASIC_STATS, &found) < 0) continue;
+      if (statx(directory, entry->name, AT_SYMLINK_NOFOLLOW, STATX_BASIC_STATS, &found) < 0) continue;
       entries++;
       sizes += found.stx_size;
-      if (S_ISDIR(found.stx_mode)) walk(folder, entry->name, 0);
+      if (S_ISDIR(found.stx_mode)) walk(directory, entry->name, 0);
     }
   }
   free(block);
-  close(folder);
+  close(directory);
 }
 
 static long long now(void) {

@@ -34,12 +34,12 @@ impl Progress {
 
     /// Takes a piece. Says whether one was left.
     pub(crate) fn take(&self) -> bool {
-        self.taken.fetch_add(1, Ordering::Relaxed) < self.pieces
+        self.taken.fetch_add(1, Ordering::SeqCst) < self.pieces
     }
 
     /// Leaves no piece to be taken, since the walk of one failed.
     pub(crate) fn stop(&self) {
-        self.taken.fetch_add(self.pieces, Ordering::Relaxed);
+        self.taken.fetch_add(self.pieces, Ordering::SeqCst);
     }
 
     /// Counts the last rows of a piece, each time that they fill a batch.
@@ -52,7 +52,7 @@ impl Progress {
         if !rows.len().is_multiple_of(BATCH) {
             return Ok(());
         }
-        let counted = self.counted.fetch_add(BATCH, Ordering::Relaxed);
+        let counted = self.counted.fetch_add(BATCH, Ordering::SeqCst);
         if counted.saturating_add(BATCH) > MAX_LISTING_ROWS {
             return Err(TreeFault::TooManyRows);
         }
