@@ -5,7 +5,8 @@ use Rattle.std.specs.Option.{option_map_or}
 use Rattle.wq_clock.specs.declared.bound.Bound.{Bound}
 use Rattle.wq_clock.specs.declared.bound.Bound.TheVariants.{Tick}
 use Rattle.wq_query.specs.Following.{with_bound}
-use Rattle.wq_query.specs.Listing.{files_of, is_fresh}
+use Rattle.wq_clock.specs.Bound.{is_fresh}
+use Rattle.wq_query.specs.Listing.{files_of}
 use Rattle.wq_query.specs.Query.{PlanData}
 use Rattle.wq_view.specs.RecordData.{RecordData}
 use Rattle.wq_view.specs.View.{ViewData}

@@ -2,7 +2,6 @@
 ghost use Rattle.std.specs.Prelude.{◌≡◌, ◌≤◌, IfErr, IfOk, List, false};
 ghost use Rattle.wq_base.specs.Limit.{max_number};
 ghost use Rattle.wq_view.specs.RecordData.{RecordData};
-ghost use Rattle.wq_query.specs.Listing.{is_fresh};
 ghost use Rattle.wq_query.specs.Query.{planned};
 ghost use Rattle.wq_follow.specs.Batch.{begun, is_told, last_or, listing, nothing, polled, told};
 ghost use Rattle.wq_follow.specs.Followed.{follower_data};
@@ -11,7 +10,6 @@ ghost use Rattle.wq_follow.specs.Follower.{IsBatch};
 use crate::batch::Batch;
 use crate::follower::Follower;
 use std::alloc::{AllocError, Global};
-use wq_clock::Bound;
 use wq_query::Plan;
 use wq_view::View;
 
@@ -85,7 +83,7 @@ impl Follower {
         ensures from { result.from ≡ ((follower_data self.now).plan).bound }
     {
         Batch {
-            fresh: self.is_fresh(),
+            fresh: self.plan.bound().is_fresh(),
             from: self.plan.bound(),
             tick: self.last_or(tick),
             files: Vec::new(alloc),
@@ -112,20 +110,10 @@ impl Follower {
         ensures from { IfOk result (λ batch. batch.from ≡ ((follower_data self.now).plan).bound) }
     {
         Ok(Batch {
-            fresh: self.is_fresh(),
+            fresh: self.plan.bound().is_fresh(),
             from: self.plan.bound(),
             tick: view.tick(),
             files: self.plan.files(alloc, view)?,
         })
-    }
-
-    /// Whether nothing is known.
-    fn is_fresh(&self) -> bool
-        ensures { result ≡ is_fresh ((follower_data self.now).plan).bound }
-    {
-        match self.plan.bound() {
-            Bound::Fresh => true,
-            Bound::Tick(_) | Bound::Second(_) => false,
-        }
     }
 }

@@ -9,7 +9,7 @@ use Rattle.wq_clock.specs.Instance.{InstanceData}
 use Rattle.wq_clock.specs.declared.bound.Bound.{Bound}
 use Rattle.wq_view.specs.RecordData.{RecordData}
 use Rattle.wq_query.specs.declared.field.Field.{Field}
-use Rattle.wq_query.specs.Listing.{is_fresh}
+use Rattle.wq_clock.specs.Bound.{is_fresh}
 use Rattle.wq_query.specs.Query.{PlanData}
 use Rattle.wq_query.specs.Reply.{file_data}
 

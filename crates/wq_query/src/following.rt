@@ -9,13 +9,13 @@ ghost use Rattle.wq_clock.specs.Instance.{instance_data};
 ghost use Rattle.wq_clock.specs.declared.bound.Bound.TheVariants.{Tick};
 ghost use Rattle.wq_view.specs.Position.{records_at};
 ghost use Rattle.wq_query.specs.Following.{files_data, list_data, with_bound};
-ghost use Rattle.wq_query.specs.Listing.{AreWithin, files_of, is_fresh};
+ghost use Rattle.wq_query.specs.Listing.{AreWithin, files_of};
 ghost use Rattle.wq_query.specs.Printing.{Appends, IsFormOf, Prints};
 ghost use Rattle.wq_query.specs.Query.{planned};
 
 use crate::field::Field;
 use crate::form::Form;
-use crate::listing::{is_fresh, listed};
+use crate::listing::listed;
 use crate::printing::{print_files, print_flag, print_start, print_text};
 use crate::query::Plan;
 use json::Writer;
@@ -96,7 +96,7 @@ fn put_list(
 {
     print_start(out, print(instance, view.tick()).as_str())?;
     print_files(out, form, instance, plan.bound, view, places)?;
-    put_end(out, is_fresh(plan.bound), root, name)
+    put_end(out, plan.bound.is_fresh(), root, name)
 }
 
 /// Prints what comes after the files.
