@@ -142,7 +142,7 @@ const LINES: &[u8] = br#"["watch","/r"]
 
 /// What is written to it.
 const WRITTEN: &[u8] = br#"{"version":"wq-1","watch":"/r","watcher":"poll"}
-{"clock":"c:7:9:1:9","files":["a","b"],"is_fresh_instance":true,"version":"wq-1"}
+{"clock":"c:7:9:1:7","files":["a","b"],"is_fresh_instance":true,"version":"wq-1"}
 {"root":"/r","version":"wq-1","watch-del":true}
 "#;
 
