@@ -4,9 +4,9 @@ use Rattle.wq_clock.specs.Instance.{InstanceData}
 use Rattle.wq_view.specs.Position.{records_at}
 use Rattle.wq_view.specs.RecordData.{RecordData}
 use Rattle.wq_view.specs.View.{ViewData}
-use Rattle.wq_follow.specs.Batch.{BatchData, FollowerData, is_told, last_or, listing, nothing, polled, told}
+use Rattle.wq_follow.specs.Batch.{BatchData, FollowerData, is_told, last_or, listing, nothing, polled, told_up_to}
 use Rattle.wq_follow.specs.Follower.{IsBatch, batch_at}
-use Rattle.wq_follow.specs.Launcher.{Asks, LauncherData, Starts, goes_on}
+use Rattle.wq_follow.specs.Launcher.{AsksRun, LauncherData, StartsRun, goes_on}
 use Rattle.wq_follow.specs.Round.{Agrees, FiredData, Fires, IsFree, TriggerData, WantsMemory, batch_of, is_short, stopped, runs, quiet, started, failed, short}
 use Rattle.wq_follow.specs.Start.{StartData, start_of}
 use Rattle.wq_follow.specs.declared.batch.Batch.{Batch}
@@ -21,49 +21,49 @@ ends true e = absurd (cc e)
 ends false e = refl
 
 -- it is passed over where its command runs
-pub agrees_runs : (running : Option ℕ) (before after : Option LauncherData) → Asks running false before after
+pub agrees_runs : (running : Option ℕ) (before after : Option LauncherData) → AsksRun running false before after
     → (run : ℕ) × (running ≡ Some run) × Agrees (runs run) running before after
 agrees_runs None before after asks = absurd (cc (asks.0))
 agrees_runs (Some run) None after asks = (run, refl, asks)
 agrees_runs (Some run) (Some l) after asks = (run, refl, (goes (goes_on run l) asks.0, asks.1))
 
 -- where it does not run, nothing is shown, or that it does not run
-free_none : (running : Option ℕ) (after : Option LauncherData) → Asks running true None after → after ≡ None
+free_none : (running : Option ℕ) (after : Option LauncherData) → AsksRun running true None after → after ≡ None
 free_none None after asks = asks.1
 free_none (Some run) after asks = asks
 
-free_some : (running : Option ℕ) (l : LauncherData) (after : Option LauncherData) → Asks running true (Some l) after
+free_some : (running : Option ℕ) (l : LauncherData) (after : Option LauncherData) → AsksRun running true (Some l) after
     → IsFree running l × (after ≡ Some l)
 free_some None l after asks = (tt, asks.1)
 free_some (Some run) l after asks = (ends (goes_on run l) asks.0, asks.1)
 
-pub agrees_quiet : (running : Option ℕ) (before after : Option LauncherData) → Asks running true before after
+pub agrees_quiet : (running : Option ℕ) (before after : Option LauncherData) → AsksRun running true before after
     → Agrees quiet running before after
 agrees_quiet running None after asks = free_none running after asks
 agrees_quiet running (Some l) after asks = free_some running l after asks
 
-pub agrees_short : (running : Option ℕ) (before after : Option LauncherData) → Asks running true before after
+pub agrees_short : (running : Option ℕ) (before after : Option LauncherData) → AsksRun running true before after
     → Agrees short running before after
 agrees_short running None after asks = free_none running after asks
 agrees_short running (Some l) after asks = free_some running l after asks
 
 pub agrees_started : (running : Option ℕ) (run : ℕ) (start : StartData) (before mid after : Option LauncherData)
-    → Asks running true before mid → Starts mid start (Some run) after
+    → AsksRun running true before mid → StartsRun mid start (Some run) after
     → Agrees (started run start) running before after
 agrees_started running run start None mid after asks starts =
-    subst (λ m. Starts m start (Some run) after) (free_none running mid asks) starts
+    subst (λ m. StartsRun m start (Some run) after) (free_none running mid asks) starts
 agrees_started running run start (Some l) mid after asks starts =
     let is = free_some running l mid asks in
-    (is.0, subst (λ m. Starts m start (Some run) after) is.1 starts)
+    (is.0, subst (λ m. StartsRun m start (Some run) after) is.1 starts)
 
 pub agrees_failed : (running : Option ℕ) (start : StartData) (before mid after : Option LauncherData)
-    → Asks running true before mid → Starts mid start None after
+    → AsksRun running true before mid → StartsRun mid start None after
     → Agrees (failed start) running before after
 agrees_failed running start None mid after asks starts =
-    subst (λ m. Starts m start None after) (free_none running mid asks) starts
+    subst (λ m. StartsRun m start None after) (free_none running mid asks) starts
 agrees_failed running start (Some l) mid after asks starts =
     let is = free_some running l mid asks in
-    (is.0, subst (λ m. Starts m start None after) is.1 starts)
+    (is.0, subst (λ m. StartsRun m start None after) is.1 starts)
 
 -- a batch without places has no files, and one with places has some
 pub no_files : (records : List RecordData) (said : BatchData) (batch : Batch) → IsBatch records said batch
@@ -87,17 +87,17 @@ Does instance view t after before shown errs = (fired : FiredData) × Fires inst
 
 -- its follower, once the batch was told
 followed : (view : ViewData) (t : TriggerData) (batch : Batch) (next : FollowerData) → IsBatch view.records (batch_of t view) batch
-    → next ≡ told batch.tick t.follower → next ≡ told (batch_of t view).now t.follower
-followed view t batch next is moves = moves ∙ ap (λ (b : BatchData). told b.now t.follower) is.0
+    → next ≡ told_up_to batch.tick t.follower → next ≡ told_up_to (batch_of t view).now t.follower
+followed view t batch next is moves = moves ∙ ap (λ (b : BatchData). told_up_to b.now t.follower) is.0
 
 pub does_runs : (instance : InstanceData) (view : ViewData) (t : TriggerData) (before shown : Option LauncherData)
-    → Asks t.running false before shown → Does instance view t t before shown false
+    → AsksRun t.running false before shown → Does instance view t t before shown false
 does_runs instance view t before shown asks =
     let is = agrees_runs t.running before shown asks in
     (runs is.0, (is.1, refl), is.2, refl)
 
 pub does_short : (instance : InstanceData) (view : ViewData) (t : TriggerData) (before shown : Option LauncherData)
-    → Asks t.running true before shown → WantsMemory view t → Does instance view t (stopped t) before shown true
+    → AsksRun t.running true before shown → WantsMemory view t → Does instance view t (stopped t) before shown true
 does_short instance view t before shown asks wants = (short, (wants, refl), agrees_short t.running before shown asks, refl)
 
 -- a follower with files to tell is polled at a newer view
@@ -110,14 +110,14 @@ wants_memory f view some = at (is_told f.last view.tick) refl
 
 -- memory ran out for its start
 pub does_short_start : (instance : InstanceData) (view : ViewData) (t : TriggerData) (batch : Batch) (before shown : Option LauncherData)
-    → Asks t.running true before shown → IsBatch view.records (batch_of t view) batch → length batch.files.items ≢ 0
+    → AsksRun t.running true before shown → IsBatch view.records (batch_of t view) batch → length batch.files.items ≢ 0
     → Does instance view t (stopped t) before shown true
 does_short_start instance view t batch before shown asks is some =
     does_short instance view t before shown asks (wants_memory t.follower view (some_files view.records (batch_of t view) batch is some))
 
 pub does_quiet : (instance : InstanceData) (view : ViewData) (t : TriggerData) (batch : Batch) (next : FollowerData) (before shown : Option LauncherData)
-    → Asks t.running true before shown → IsBatch view.records (batch_of t view) batch → length batch.files.items ≡ 0
-    → next ≡ told batch.tick t.follower
+    → AsksRun t.running true before shown → IsBatch view.records (batch_of t view) batch → length batch.files.items ≡ 0
+    → next ≡ told_up_to batch.tick t.follower
     → Does instance view t (record { order = t.order; follower = next; running = None }) before shown false
 does_quiet instance view t batch next before shown asks is none moves = (
   quiet,
@@ -130,9 +130,9 @@ does_quiet instance view t batch next before shown asks is none moves = (
 )
 
 pub does_started : (instance : InstanceData) (view : ViewData) (t : TriggerData) (batch : Batch) (next : FollowerData) (start : StartData) (run : ℕ) (before mid shown : Option LauncherData)
-    → Asks t.running true before mid → IsBatch view.records (batch_of t view) batch → length batch.files.items ≢ 0
-    → start ≡ start_of t.order instance (batch_at view.records batch) → Starts mid start (Some run) shown
-    → next ≡ told batch.tick t.follower
+    → AsksRun t.running true before mid → IsBatch view.records (batch_of t view) batch → length batch.files.items ≢ 0
+    → start ≡ start_of t.order instance (batch_at view.records batch) → StartsRun mid start (Some run) shown
+    → next ≡ told_up_to batch.tick t.follower
     → Does instance view t (record { order = t.order; follower = next; running = Some run }) before shown false
 does_started instance view t batch next start run before mid shown asks is some made starts moves = (
   started run start,
@@ -145,8 +145,8 @@ does_started instance view t batch next start run before mid shown asks is some 
 )
 
 pub does_failed : (instance : InstanceData) (view : ViewData) (t : TriggerData) (batch : Batch) (start : StartData) (before mid shown : Option LauncherData)
-    → Asks t.running true before mid → IsBatch view.records (batch_of t view) batch → length batch.files.items ≢ 0
-    → start ≡ start_of t.order instance (batch_at view.records batch) → Starts mid start None shown
+    → AsksRun t.running true before mid → IsBatch view.records (batch_of t view) batch → length batch.files.items ≢ 0
+    → start ≡ start_of t.order instance (batch_at view.records batch) → StartsRun mid start None shown
     → Does instance view t (stopped t) before shown false
 does_failed instance view t batch start before mid shown asks is some made starts = (
   failed start,

@@ -5,14 +5,14 @@ use Rattle.wq_query.specs.Listing.{AreWithin}
 use Rattle.wq_view.specs.Position.{records_at}
 use Rattle.wq_view.specs.RecordData.{RecordData}
 use Rattle.wq_follow.specs.Follower.{batch_at}
-use Rattle.wq_follow.specs.Start.{EnvData, OrderData, StartData, appended, cuts, env_of, input_text, names_of, start_of, taken}
+use Rattle.wq_follow.specs.Start.{EnvData, OrderData, StartData, appended, cuts, env_of, input_text, file_names, start_of, taken}
 use Rattle.wq_follow.specs.declared.batch.Batch.{Batch}
 use Rattle.wq_follow.proofs.Places.{length_at, taken_at, length_front}
 
 pub start_from : (order : OrderData) (instance : InstanceData) (records : List RecordData) (batch : Batch)
     (places given : List ℕ) (count : ℕ) (overflow : Bool) (a : List (List ℕ)) (e : EnvData) (i : List ℕ)
     → places ≡ batch.files.items → AreWithin records places
-    → names_of (records_at records (take count places)) ≡ appended order.appends (records_at records places)
+    → file_names (records_at records (take count places)) ≡ appended order.appends (records_at records places)
     → count ≤ length places
     → a ≡ order.command ++ appended order.appends (records_at records places)
     → overflow ≡ cuts order count (length places)

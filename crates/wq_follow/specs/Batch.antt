@@ -59,9 +59,9 @@ polled f view =
     else listing f.plan view
 
 -- a follower, once a batch that ends at this tick was told: the next one begins there
-abbrev pub told : ℕ → FollowerData → FollowerData
-told tick f = record { plan = with_bound (Tick tick) f.plan; last = Some tick }
+abbrev pub told_up_to : ℕ → FollowerData → FollowerData
+told_up_to tick f = record { plan = with_bound (Tick tick) f.plan; last = Some tick }
 
 -- a new follower with this plan
-abbrev pub begun : PlanData → FollowerData
-begun plan = record { plan = plan; last = None }
+abbrev pub untold : PlanData → FollowerData
+untold plan = record { plan = plan; last = None }

@@ -8,7 +8,7 @@ use Rattle.wq_query.specs.Listing.{is_meant}
 use Rattle.wq_query.specs.Query.{PlanData}
 use Rattle.wq_view.specs.RecordData.{RecordData}
 use Rattle.wq_view.specs.View.{ViewData}
-use Rattle.wq_follow.specs.Batch.{BatchData, FollowerData, polled, told}
+use Rattle.wq_follow.specs.Batch.{BatchData, FollowerData, polled, told_up_to}
 
 -- a look at a view, and whether what was polled there was told
 pub record LookData : Type 0 where
@@ -26,7 +26,7 @@ told_at [] f = []
 told_at (look ∷ looks) f =
     if look.tells
     then record { batch = polled f look.view; view = look.view }
-    ∷ told_at looks (told (polled f look.view).now f)
+    ∷ told_at looks (told_up_to (polled f look.view).now f)
     else told_at looks f
 
 -- whether the last change of a file lies in an interval: after the first tick, and no later than
@@ -54,8 +54,8 @@ Adjoin last matches [] = Unit {0}
 Adjoin last matches (t ∷ later) = TellsFrom last matches t × Adjoin (t.batch).now matches later
 
 -- the plan has no generators but its bound, as those of subscriptions and triggers
-abbrev pub IsPlain : PlanData → Type 0
-IsPlain plan = ((plan.query).suffix ≡ None) × ((plan.query).path ≡ None)
+abbrev pub HasNoGenerators : PlanData → Type 0
+HasNoGenerators plan = ((plan.query).suffix ≡ None) × ((plan.query).path ≡ None)
 
 -- no file changed last at a later tick
 abbrev pub AreReached : ℕ → List RecordData → Type 0
@@ -70,5 +70,5 @@ HaveReached (look ∷ looks) =
 
 -- once a batch was told that ended at a tick, the intervals of all that are told then adjoin it
 abbrev pub IntervalsAdjoin : Type 0
-IntervalsAdjoin = (f : FollowerData) (last : ℕ) (looks : List LookData) → IsPlain f.plan
-    → HaveReached looks → Adjoin last (is_matched f.plan) (told_at looks (told last f))
+IntervalsAdjoin = (f : FollowerData) (last : ℕ) (looks : List LookData) → HasNoGenerators f.plan
+    → HaveReached looks → Adjoin last (is_matched f.plan) (told_at looks (told_up_to last f))

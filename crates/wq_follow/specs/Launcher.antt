@@ -7,12 +7,12 @@ use Rattle.wq_follow.specs.Start.{StartData}
 use Rattle.wq_follow.specs.declared.launch.LaunchFault.{LaunchFault}
 
 -- the greatest count of failures that can be told
-abbrev pub max_count : ℕ
-max_count = 2 ^ 64 - 1
+abbrev pub most_failures : ℕ
+most_failures = 2 ^ 64 - 1
 
 -- a count of failures rose; at the greatest count it may have risen
 abbrev pub Rose : ℕ → ℕ → Type 0
-Rose before after = (before < after) ⊎ (after ≡ max_count)
+Rose before after = (before < after) ⊎ (after ≡ most_failures)
 
 -- a start, and the number of its run, unless it failed
 pub record TriedData : Type 0 where
@@ -56,9 +56,9 @@ run_of (Err fault) = None
 
 -- a launcher answered a start so: if it shows its answers, by the next one; it may show nothing
 -- from then on, if memory ran out for what it shows
-abbrev pub Starts : Option LauncherData → StartData → Option ℕ → Option LauncherData → Type 0
-Starts None start run after = after ≡ None
-Starts (Some l) start run after =
+abbrev pub StartsRun : Option LauncherData → StartData → Option ℕ → Option LauncherData → Type 0
+StartsRun None start run after = after ≡ None
+StartsRun (Some l) start run after =
     ((run ≡ next_answer l.answers) × (after ≡ Some (after_start start l))) ⊎ (after ≡ None)
 
 -- whether a run goes on
@@ -66,12 +66,12 @@ abbrev pub goes_on : ℕ → LauncherData → Bool
 goes_on run l = list_any (λ r. nat_eq run r) l.running
 
 -- the launcher told so whether a run has ended
-abbrev pub Ends : Option LauncherData → ℕ → Bool → Option LauncherData → Type 0
-Ends None run ended after = after ≡ None
-Ends (Some l) run ended after = (ended ≡ not (goes_on run l)) × (after ≡ Some l)
+abbrev pub EndsRun : Option LauncherData → ℕ → Bool → Option LauncherData → Type 0
+EndsRun None run ended after = after ≡ None
+EndsRun (Some l) run ended after = (ended ≡ not (goes_on run l)) × (after ≡ Some l)
 
 -- whether the command of a trigger does not run, as the launcher answered; it is not asked about a
 -- trigger that was not started
-abbrev pub Asks : Option ℕ → Bool → Option LauncherData → Option LauncherData → Type 0
-Asks None free before after = (free ≡ true) × (after ≡ before)
-Asks (Some run) free before after = Ends before run free after
+abbrev pub AsksRun : Option ℕ → Bool → Option LauncherData → Option LauncherData → Type 0
+AsksRun None free before after = (free ≡ true) × (after ≡ before)
+AsksRun (Some run) free before after = EndsRun before run free after

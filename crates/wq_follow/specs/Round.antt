@@ -4,8 +4,8 @@
 use Rattle.std.specs.Prelude.{◌≡◌, ◌≢◌, ℕ, Bool, true, false, [], Option, Some, None}
 use Rattle.wq_clock.specs.Instance.{InstanceData}
 use Rattle.wq_view.specs.View.{ViewData}
-use Rattle.wq_follow.specs.Batch.{BatchData, FollowerData, is_told, polled, told}
-use Rattle.wq_follow.specs.Launcher.{LauncherData, Starts, goes_on}
+use Rattle.wq_follow.specs.Batch.{BatchData, FollowerData, is_told, polled, told_up_to}
+use Rattle.wq_follow.specs.Launcher.{LauncherData, StartsRun, goes_on}
 use Rattle.wq_follow.specs.Start.{OrderData, StartData, start_of}
 
 -- a trigger: how it starts its command, its follower, and the run of its command, if that runs
@@ -35,7 +35,7 @@ batch_of t view = polled t.follower view
 abbrev pub moved : Option ℕ → ViewData → TriggerData → TriggerData
 moved running view t = record {
   order = t.order;
-  follower = told (batch_of t view).now t.follower;
+  follower = told_up_to (batch_of t view).now t.follower;
   running = running;
 }
 
@@ -44,8 +44,8 @@ abbrev pub stopped : TriggerData → TriggerData
 stopped t = record { order = t.order; follower = t.follower; running = None }
 
 -- a start of its command tells the files of its batch, of which there are some
-abbrev pub IsStart : InstanceData → ViewData → TriggerData → StartData → Type 0
-IsStart instance view t start =
+abbrev pub IsStartFor : InstanceData → ViewData → TriggerData → StartData → Type 0
+IsStartFor instance view t start =
     ((batch_of t view).files ≢ []) × (start ≡ start_of t.order instance (batch_of t view))
 
 -- a poll of it needs memory: the view is newer than the last batch
@@ -58,8 +58,8 @@ Fires instance view t (runs run) after = (t.running ≡ Some run) × (after ≡ 
 Fires instance view t quiet after =
     ((batch_of t view).files ≡ []) × (after ≡ moved None view t)
 Fires instance view t (started run start) after =
-    IsStart instance view t start × (after ≡ moved (Some run) view t)
-Fires instance view t (failed start) after = IsStart instance view t start × (after ≡ stopped t)
+    IsStartFor instance view t start × (after ≡ moved (Some run) view t)
+Fires instance view t (failed start) after = IsStartFor instance view t start × (after ≡ stopped t)
 Fires instance view t short after = WantsMemory view t × (after ≡ stopped t)
 
 -- whether memory ran out for it
@@ -77,8 +77,8 @@ IsFree (Some run) l = goes_on run l ≡ false
 abbrev pub AgreesWith : FiredData → Option ℕ → LauncherData → Option LauncherData → Type 0
 AgreesWith (runs run) running l after = (goes_on run l ≡ true) × (after ≡ Some l)
 AgreesWith (started run start) running l after =
-    IsFree running l × Starts (Some l) start (Some run) after
-AgreesWith (failed start) running l after = IsFree running l × Starts (Some l) start None after
+    IsFree running l × StartsRun (Some l) start (Some run) after
+AgreesWith (failed start) running l after = IsFree running l × StartsRun (Some l) start None after
 AgreesWith _ running l after = IsFree running l × (after ≡ Some l)
 
 -- the same for a launcher that may show nothing

@@ -70,13 +70,13 @@ pub record StartData : Type 0 where
   pub input : List ℕ
 
 -- the names of files
-abbrev pub names_of : List RecordData → List (List ℕ)
-names_of files = map (λ r. r.name) files
+abbrev pub file_names : List RecordData → List (List ℕ)
+file_names files = map (λ r. r.name) files
 
 -- the names that are appended to a command
 abbrev pub appended : Bool → List RecordData → List (List ℕ)
 appended false files = []
-appended true files = fitting max_appended (names_of files)
+appended true files = fitting max_appended (file_names files)
 
 -- the first so many of some things; all of them without a limit
 abbrev pub taken : {A : Type 0} → Option ℕ → List A → List A
@@ -84,13 +84,13 @@ taken None xs = xs
 taken (Some limit) xs = take limit xs
 
 -- the names of files, each with a newline
-abbrev pub lines_of : List RecordData → List ℕ
-lines_of files = flat_map (λ r. r.name ++ codes "\n") files
+abbrev pub name_lines : List RecordData → List ℕ
+name_lines files = flat_map (λ r. r.name ++ codes "\n") files
 
 -- the input of a command, of these files
 abbrev pub input_text : InputData → InstanceData → Bound → List RecordData → List ℕ
 input_text no_input instance from files = []
-input_text names instance from files = lines_of files
+input_text names instance from files = name_lines files
 input_text (objects fields) instance from files =
     compact_text (files_data fields instance from files) ++ codes "\n"
 

@@ -2,7 +2,7 @@
 ghost use Rattle.std.specs.Prelude.{◌≡◌, is_err};
 ghost use Rattle.wq_clock.specs.Instance.{instance_data};
 ghost use Rattle.wq_follow.specs.Followed.{trigger_data};
-ghost use Rattle.wq_follow.specs.Launcher.{Asks};
+ghost use Rattle.wq_follow.specs.Launcher.{AsksRun};
 ghost use Rattle.wq_follow.specs.Round.{Agrees, FiredData, Fires, is_short};
 
 use crate::launch::Launch;
@@ -49,7 +49,7 @@ impl Trigger {
 
     /// Whether its command does not run.
     fn is_free<L: Launch>(&self, launcher: &mut L) -> bool
-        ensures { Asks self.now.running result (L.shown launcher.old) (L.shown launcher.new) }
+        ensures { AsksRun self.now.running result (L.shown launcher.old) (L.shown launcher.new) }
     {
         match self.running {
             Some(run) => launcher.ended(run),

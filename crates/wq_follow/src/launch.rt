@@ -1,6 +1,6 @@
 //! The launcher: it starts the commands of triggers. How it does that is not said here.
 ghost use Rattle.std.specs.Prelude.{◌≡◌, IfErr};
-ghost use Rattle.wq_follow.specs.Launcher.{Ends, Rose, Starts, run_of};
+ghost use Rattle.wq_follow.specs.Launcher.{EndsRun, Rose, StartsRun, run_of};
 ghost use Rattle.wq_follow.specs.Started.{start_data};
 
 use crate::starting::Start;
@@ -28,12 +28,12 @@ pub trait Launch {
     /// rose in this call, or it is at the greatest number that can be told.
     fn start(&mut self, start: Start) -> Result<u32, LaunchFault>
         ensures counted { IfErr result (λ _. Rose (failures_of self.old) (failures_of self.new)) }
-        ensures told { Starts (shown self.old) (start_data start) (run_of result)
+        ensures told { StartsRun (shown self.old) (start_data start) (run_of result)
             (shown self.new) };
 
     /// Whether the run that was given this number last has ended.
     fn ended(&mut self, run: u32) -> bool
-        ensures told { Ends (shown self.old) run result (shown self.new) }
+        ensures told { EndsRun (shown self.old) run result (shown self.new) }
         ensures counted { failures_of self.new ≡ failures_of self.old };
 
     /// How often it failed so far.

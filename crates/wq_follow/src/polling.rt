@@ -3,7 +3,7 @@ ghost use Rattle.std.specs.Prelude.{◌≡◌, ◌≤◌, IfErr, IfOk, List, fal
 ghost use Rattle.wq_base.specs.Limit.{max_number};
 ghost use Rattle.wq_view.specs.RecordData.{RecordData};
 ghost use Rattle.wq_query.specs.Query.{planned};
-ghost use Rattle.wq_follow.specs.Batch.{begun, is_told, last_or, listing, nothing, polled, told};
+ghost use Rattle.wq_follow.specs.Batch.{untold, is_told, last_or, listing, nothing, polled, told_up_to};
 ghost use Rattle.wq_follow.specs.Followed.{follower_data};
 ghost use Rattle.wq_follow.specs.Follower.{IsBatch};
 
@@ -16,7 +16,7 @@ use wq_view::View;
 impl Follower {
     /// A follower that was told nothing yet. Its first batch is the list of the plan.
     pub fn new(plan: Plan) -> Follower
-        ensures { follower_data result ≡ begun (planned plan) }
+        ensures { follower_data result ≡ untold (planned plan) }
     {
         Follower { plan, last: None }
     }
@@ -57,7 +57,7 @@ impl Follower {
     /// The batch was told: the next one begins at its end. It takes no memory.
     pub fn commit(&mut self, batch: &Batch)
         requires { batch.now.tick ≤ max_number }
-        ensures { follower_data self.new ≡ told batch.now.tick (follower_data self.old) }
+        ensures { follower_data self.new ≡ told_up_to batch.now.tick (follower_data self.old) }
     {
         self.plan.tell_from(batch.tick);
         self.last = Some(batch.tick);

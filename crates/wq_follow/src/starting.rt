@@ -6,7 +6,7 @@ ghost use Rattle.wq_query.specs.Listing.{AreWithin};
 ghost use Rattle.wq_view.specs.Position.{records_at};
 ghost use Rattle.wq_follow.specs.Follower.{batch_at};
 ghost use Rattle.wq_follow.specs.Start.{appended, cuts, cuts_input, env_of, fitting, input_text};
-ghost use Rattle.wq_follow.specs.Start.{lines_of, max_appended, names_of};
+ghost use Rattle.wq_follow.specs.Start.{name_lines, max_appended, file_names};
 ghost use Rattle.wq_follow.specs.Start.{objects, since_text, start_of, taken};
 ghost use Rattle.wq_follow.specs.Started.{IsClocked, env_data, input_data, order_data, start_data};
 
@@ -46,8 +46,8 @@ pub struct Start {
 /// which there is room.
 pub(crate) fn fitting(view: &View, places: &[u32]) -> usize
     requires { AreWithin view.now.records places.now }
-    ensures front { names_of (records_at view.now.records (take result places.now))
-        ≡ fitting max_appended (names_of (records_at view.now.records places.now)) }
+    ensures front { file_names (records_at view.now.records (take result places.now))
+        ≡ fitting max_appended (file_names (records_at view.now.records places.now)) }
     ensures within { result ≤ length places.now }
 {
     let mut room = MAX_APPENDED;
@@ -100,7 +100,7 @@ fn put_names(
 ) -> Result<(), AllocError>
     requires { AreWithin view.now.records places.now }
     ensures { OnOk result (args.new
-        ≡ args.old ++ names_of (records_at view.now.records places.now)) }
+        ≡ args.old ++ file_names (records_at view.now.records places.now)) }
 {
     for place in places {
         let name = view.get(*place as usize).name.as_str();
@@ -118,7 +118,7 @@ fn args(
     count: usize,
 ) -> Result<Table<Text>, AllocError>
     requires within { AreWithin view.now.records places.now }
-    requires front { names_of (records_at view.now.records (take count places.now))
+    requires front { file_names (records_at view.now.records (take count places.now))
         ≡ appended (order_data order.now).appends (records_at view.now.records places.now) }
     requires count { count ≤ length places.now }
     ensures { IfOk result (λ args. args ≡ (order_data order.now).command
@@ -133,7 +133,7 @@ fn args(
 /// The count of the files at these places whose names are appended.
 fn appended(order: &Order, view: &View, places: &[u32]) -> usize
     requires { AreWithin view.now.records places.now }
-    ensures front { names_of (records_at view.now.records (take result places.now))
+    ensures front { file_names (records_at view.now.records (take result places.now))
         ≡ appended (order_data order.now).appends (records_at view.now.records places.now) }
     ensures within { result ≤ length places.now }
 {
@@ -195,7 +195,7 @@ fn objects(
 /// The names of the files at these places, each with a newline.
 fn names(alloc: Global, view: &View, places: &[u32]) -> Result<Table<u8>, AllocError>
     requires { AreWithin view.now.records places.now }
-    ensures { IfOk result (λ text. text ≡ lines_of (records_at view.now.records places.now)) }
+    ensures { IfOk result (λ text. text ≡ name_lines (records_at view.now.records places.now)) }
 {
     let mut text = Vec::new(alloc);
     for place in places {

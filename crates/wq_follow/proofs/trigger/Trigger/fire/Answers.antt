@@ -2,7 +2,7 @@
 use Rattle.std.proofs.Common.{◌≡◌, ◌≢◌, length, true, false, is_err, None, rules, ap, subst, ◌∙◌}
 use Rattle.wq_clock.specs.Instance.{instance_data}
 use Rattle.wq_follow.specs.Followed.{follower_data, trigger_data}
-use Rattle.wq_follow.specs.Launcher.{Asks, Starts, run_of}
+use Rattle.wq_follow.specs.Launcher.{AsksRun, StartsRun, run_of}
 use Rattle.wq_follow.specs.Started.{start_data}
 use Rattle.wq_follow.proofs.Rounds.{does_runs, does_short_start, does_started, does_failed}
 use Rattle.wq_follow.proofs.trigger.Trigger.fire.Goals as goal
@@ -11,7 +11,7 @@ pub returns-then-not-is_free : goal.returns-then-not-is_free
 returns-then-not-is_free g c =
     let runs : c.is_free.result ≡ false = search rules in
     does_runs (instance_data c.args.instance.now) c.args.view.now (trigger_data c.args.self.now) (g.L.Launch.shown c.args.launcher.now) (g.L.Launch.shown c.is_free.new.launcher)
-    (subst (λ b. Asks c.args.self.now.running b (g.L.Launch.shown c.args.launcher.now) (g.L.Launch.shown c.is_free.new.launcher)) runs c.is_free.ensures)
+    (subst (λ b. AsksRun c.args.self.now.running b (g.L.Launch.shown c.args.launcher.now) (g.L.Launch.shown c.is_free.new.launcher)) runs c.is_free.ensures)
 
 pub returns-in_err-start : goal.returns-in_err-start
 returns-in_err-start g c =
@@ -20,7 +20,7 @@ returns-in_err-start g c =
     let errs : true ≡ is_err c.from_residual-in_err-start.result = search rules in
     let does = does_short_start (instance_data c.args.instance.now) c.args.view.now (trigger_data c.args.self.now) c.in_ok-batch.batch
     (g.L.Launch.shown c.args.launcher.now) (g.L.Launch.shown c.is_free.new.launcher)
-    (subst (λ b. Asks c.args.self.now.running b (g.L.Launch.shown c.args.launcher.now) (g.L.Launch.shown c.is_free.new.launcher)) free c.is_free.ensures)
+    (subst (λ b. AsksRun c.args.self.now.running b (g.L.Launch.shown c.args.launcher.now) (g.L.Launch.shown c.is_free.new.launcher)) free c.is_free.ensures)
     c.in_ok-batch.ensures.batch some in
     (does.0, does.1, does.2, does.3 ∙ errs)
 
@@ -31,9 +31,9 @@ returns-in_default g c =
     let fails : run_of c.start.result ≡ None = ap run_of c.in_default.is in
     does_failed (instance_data c.args.instance.now) c.args.view.now (trigger_data c.args.self.now) c.in_ok-batch.batch (start_data c.in_ok-start.start)
     (g.L.Launch.shown c.args.launcher.now) (g.L.Launch.shown c.is_free.new.launcher) (g.L.Launch.shown c.start.new.self)
-    (subst (λ b. Asks c.args.self.now.running b (g.L.Launch.shown c.args.launcher.now) (g.L.Launch.shown c.is_free.new.launcher)) free c.is_free.ensures)
+    (subst (λ b. AsksRun c.args.self.now.running b (g.L.Launch.shown c.args.launcher.now) (g.L.Launch.shown c.is_free.new.launcher)) free c.is_free.ensures)
     c.in_ok-batch.ensures.batch some c.in_ok-start.ensures
-    (subst (λ o. Starts (g.L.Launch.shown c.is_free.new.launcher) (start_data c.in_ok-start.start) o (g.L.Launch.shown c.start.new.self)) fails c.start.ensures.told)
+    (subst (λ o. StartsRun (g.L.Launch.shown c.is_free.new.launcher) (start_data c.in_ok-start.start) o (g.L.Launch.shown c.start.new.self)) fails c.start.ensures.told)
 
 pub returns : goal.returns
 returns g c =
@@ -41,5 +41,5 @@ returns g c =
     let some : length c.in_ok-batch.batch.files.items ≢ 0 = search rules in
     does_started (instance_data c.args.instance.now) c.args.view.now (trigger_data c.args.self.now) c.in_ok-batch.batch (follower_data c.commit-2.new.self) (start_data c.in_ok-start.start) c.in-Ok.run'
     (g.L.Launch.shown c.args.launcher.now) (g.L.Launch.shown c.is_free.new.launcher) (g.L.Launch.shown c.start.new.self)
-    (subst (λ b. Asks c.args.self.now.running b (g.L.Launch.shown c.args.launcher.now) (g.L.Launch.shown c.is_free.new.launcher)) free c.is_free.ensures)
+    (subst (λ b. AsksRun c.args.self.now.running b (g.L.Launch.shown c.args.launcher.now) (g.L.Launch.shown c.is_free.new.launcher)) free c.is_free.ensures)
     c.in_ok-batch.ensures.batch some c.in_ok-start.ensures c.in-Ok.ensures.told c.commit-2.ensures
