@@ -1,5 +1,5 @@
-//! What the threads of the server share: the shelf, the seats, and what crawls. Each stands under a lock of its own. Looking
-//! at files and listing them takes none.
+//! What the threads of the server share: the shelf, the seats, and what crawls. Each stands under a
+//! lock of its own. Looking at files and listing them takes none.
 
 use crate::clients::MAX_SESSIONS;
 use crate::failing::Failing;
@@ -48,7 +48,8 @@ where
     S: Seconds + Drop,
     O: Notices + Drop,
 {
-    /// A server over this crawler and this shelf, with a seat for each session that may be and one for idle moments.
+    /// A server over this crawler and this shelf, with a seat for each session that may be and one
+    /// for idle moments.
     pub fn new(
         rt: R,
         alloc: Global,
