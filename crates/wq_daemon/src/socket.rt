@@ -1,15 +1,17 @@
 //! The server's socket in the file system: how it comes, so that nobody else can connect to it, and
 //! how it goes.
 
+use mio::net::UnixStream;
 use std::alloc::{AllocError, Global};
 use std::fs::{self, DirBuilder, Files, Permissions};
 use std::io::{self, Error, ErrorKind};
 use std::net::Net;
 use std::os::unix::fs::{DirBuilderExt, FileTypeExt, MetadataExt, PermissionsExt};
-use std::os::unix::net::{SocketAddr, UnixListener, UnixStream};
+use std::os::unix::net::{SocketAddr, UnixListener};
 
-/// How many names are tried for the directory in which the socket is made.
-const TRIES: u32 = 100;
+/// How many names are tried for the directory in which the socket is made. A server that is killed
+/// at the wrong moment leaves one that has such a name.
+const TRIES: u32 = 10_000;
 
 /// Only the owner may read and write, which connecting asks for.
 const SOCKET_MODE: u32 = 0o600;
@@ -109,6 +111,8 @@ fn clear<R: Files + Net>(rt: &R, path: &str, aside: &str) -> io::Result<()> {
 }
 
 /// Why a socket is not to be removed, if it is not: somebody listens on it, or that cannot be told.
+/// It waits for nobody: a server that hangs, and that so many clients wait for as may wait, is one
+/// that listens.
 fn in_use<R: Net>(rt: &R, path: &str) -> Option<Error> {
     match UnixStream::connect(rt, path) {
         Ok(_) => Some(Error::from(ErrorKind::AddrInUse)),
