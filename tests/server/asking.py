@@ -8,7 +8,7 @@ from typing import List
 
 import built
 from client import PATIENCE, VERSION, same
-from gone import fill_folder
+from gone import fill_directory
 
 # More lines than a server takes before one is answered, with replies that are longer than a socket holds.
 FILES = 10_000
@@ -16,16 +16,16 @@ LINES = 15
 LINE_BYTES = 100_000
 
 
-def command(folder: Path, *lines: str) -> List[str]:
-    return [str(built.TOP / "ask"), str(folder), *lines]
+def command(directory: Path, *lines: str) -> List[str]:
+    return [str(built.TOP / "ask"), str(directory), *lines]
 
 
 def environment() -> dict:
     return {**os.environ, "WQD": str(built.program_path())}
 
 
-def query_line(folder: Path, query: dict) -> str:
-    return json.dumps(["query", str(folder), query])
+def query_line(directory: Path, query: dict) -> str:
+    return json.dumps(["query", str(directory), query])
 
 
 def check_ask(tally: built.Tally, room: Path) -> None:
@@ -41,7 +41,7 @@ def check_ask(tally: built.Tally, room: Path) -> None:
 def check_ask_much(tally: built.Tally, room: Path) -> None:
     """Long lines with long replies: none of the two sides waits for the other for ever."""
     root = room / "tree"
-    fill_folder(root, FILES)
+    fill_directory(root, FILES)
     line = query_line(root, {"fields": ["name", "size"]}).ljust(LINE_BYTES)
     ended = subprocess.run(command(root, *[line] * LINES), stdout=subprocess.PIPE, env=environment(), timeout=PATIENCE)
     counts = [len(json.loads(reply).get("files", [])) for reply in ended.stdout.splitlines()]

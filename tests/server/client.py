@@ -9,7 +9,7 @@ import sys
 import tempfile
 import time
 from pathlib import Path
-from typing import Callable, List, Tuple
+from typing import Callable, List, Optional, Sequence, Tuple
 
 import built
 
@@ -106,13 +106,19 @@ class Client:
 
 
 class Server:
-    """A server whose socket stands in a folder. One that is plain reads no more than any user, though root starts it."""
+    """A server whose socket is in a directory. One that is plain reads no more than any user, though root starts it. With no
+    interval, the server takes its own. Other words may begin the command."""
 
-    def __init__(self, room: Path, interval: int = 1000, is_plain: bool = False) -> None:
+    def __init__(
+        self, room: Path, interval: Optional[int] = 1000, is_plain: bool = False, through: Sequence[str] = ()
+    ) -> None:
         self.sockname = str(room / "socket")
         self.said = tempfile.TemporaryFile()
-        words = ["serve", "--sockname", self.sockname, "--start", "7", "--pid", "9", "--interval", str(interval)]
-        through = [sys.executable, str(PLAIN)] if is_plain else []
+        words = ["serve", "--sockname", self.sockname, "--start", "7", "--pid", "9"]
+        if interval is not None:
+            words += ["--interval", str(interval)]
+        if is_plain:
+            through = [sys.executable, str(PLAIN)]
         command = [*through, str(built.program_path()), *words]
         self.process = subprocess.Popen(command, stderr=self.said, env=ENVIRONMENT)
         if not self.says(f"listening on {self.sockname}\n".encode()):
@@ -212,9 +218,9 @@ def walked(root: Path) -> List[Row]:
     return sorted(rows, key=lambda row: row[0].encode())
 
 
-def walk_into(folder: bytes, above: bytes, rows: List[Row]) -> None:
+def walk_into(directory: bytes, above: bytes, rows: List[Row]) -> None:
     try:
-        names = os.listdir(folder)
+        names = os.listdir(directory)
     except OSError:
         return
     for name in names:
@@ -223,11 +229,11 @@ def walk_into(folder: bytes, above: bytes, rows: List[Row]) -> None:
             text = whole.decode()
         except UnicodeDecodeError:
             continue
-        found = os.lstat(os.path.join(folder, name))
+        found = os.lstat(os.path.join(directory, name))
         letter = letter_of(found.st_mode)
         rows.append((text, letter, found.st_size, found.st_mtime_ns // 1_000_000))
         if letter == "d":
-            walk_into(os.path.join(folder, name), whole + b"/", rows)
+            walk_into(os.path.join(directory, name), whole + b"/", rows)
 
 
 def letter_of(mode: int) -> str:

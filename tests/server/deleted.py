@@ -5,7 +5,7 @@ from typing import List
 
 import built
 from client import A_HOUR, PATIENCE, Client, Server
-from gone import fill_folder
+from gone import fill_directory
 
 FILES = 20_000
 ROOTS = 8
@@ -18,7 +18,7 @@ def check_roots_that_are_deleted(tally: built.Tally, room: Path) -> None:
     together take little more than one."""
     roots = [room / f"tree{number}" for number in range(ROOTS)]
     for root in roots:
-        fill_folder(root, FILES)
+        fill_directory(root, FILES)
     with Server(room, interval=A_HOUR) as server, server.client() as client:
         memory = [memory_with(server, client, root) for root in roots]
     tally.check("memory of roots that were deleted", memory[-1] <= MOST_GROWTH * memory[0], [f"{memory}"])
@@ -27,7 +27,7 @@ def check_roots_that_are_deleted(tally: built.Tally, room: Path) -> None:
 def check_a_view_that_goes(tally: built.Tally, room: Path) -> None:
     """The view of a root that was deleted goes with the next round, though nothing is published."""
     root = room / "tree"
-    fill_folder(root, FILES)
+    fill_directory(root, FILES)
     with Server(room) as server, server.client() as client:
         client.ask("watch", str(root))
         before = server.least_memory()
@@ -39,8 +39,8 @@ def check_what_sessions_keep(tally: built.Tally, room: Path) -> None:
     """A session keeps nothing of what it was told of a deletion. So where another client deletes a second root after it,
     the view of that goes too, though the session never looks again."""
     small, large = room / "small", room / "large"
-    fill_folder(small, 1)
-    fill_folder(large, FILES)
+    fill_directory(small, 1)
+    fill_directory(large, FILES)
     for leaves in (False, True):
         with Server(room) as server, server.client() as other:
             other.ask("version")

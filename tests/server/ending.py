@@ -6,7 +6,7 @@ from typing import List, NamedTuple
 
 import built
 from client import Client, Server, same
-from gone import fill_folder
+from gone import fill_directory
 
 FILES = 10_000
 ROOTS = 16
@@ -17,15 +17,15 @@ TRIES = 3
 def check_an_end_within_a_round(tally: built.Tally, room: Path) -> None:
     """A server that is told to end when the first of sixteen roots was crawled ends before it would have crawled half of
     them: walks that have not begun are not waited for. It is tried anew where something else held it up."""
-    folder = room / "tree"
-    fill_folder(folder, FILES)
+    directory = room / "tree"
+    fill_directory(directory, FILES)
     # Each link is a root of its own.
     roots = [room / f"root{number:02}" for number in range(ROOTS)]
     for root in roots:
-        root.symlink_to(folder)
-    tries = [end_during_a_round(tally, room, folder, roots)]
+        root.symlink_to(directory)
+    tries = [end_during_a_round(tally, room, directory, roots)]
     while len(tries) < TRIES and not tries[-1].is_soon():
-        tries.append(end_during_a_round(tally, room, folder, roots))
+        tries.append(end_during_a_round(tally, room, directory, roots))
     tally.check("an end during a round", tries[-1].is_soon(), [f"{one}" for one in tries])
 
 
@@ -39,12 +39,12 @@ class Times(NamedTuple):
         return self.end < self.whole / 2
 
 
-def end_during_a_round(tally: built.Tally, room: Path, folder: Path, roots: List[Path]) -> Times:
+def end_during_a_round(tally: built.Tally, room: Path, directory: Path, roots: List[Path]) -> Times:
     """Starts a server that watches these roots, and ends it when it has crawled the first of them by itself."""
     with Server(room, interval=10) as server, server.client() as client:
         for root in roots:
             client.ask("watch", str(root))
-        sights = [moment_of_a_sight(client, folder, roots[0]) for _ in range(SIGHTS)]
+        sights = [moment_of_a_sight(client, directory, roots[0]) for _ in range(SIGHTS)]
         status = server.shut_down(client)
         ended = time.monotonic()
     same(tally, "the status after an end during a round", status, 0)
@@ -52,9 +52,9 @@ def end_during_a_round(tally: built.Tally, room: Path, folder: Path, roots: List
     return Times(min(after - before for before, after in zip(sights, sights[1:])), ended - sights[-1])
 
 
-def moment_of_a_sight(client: Client, folder: Path, root: Path) -> float:
+def moment_of_a_sight(client: Client, directory: Path, root: Path) -> float:
     """Makes a file, and gives the moment at which the server has seen it in a root by itself."""
     before = client.ask("clock", str(root))
-    (folder / f"made after {before['clock']}").touch()
+    (directory / f"made after {before['clock']}").touch()
     client.ask_until("clock", str(root), {}, lambda reply: reply != before)
     return time.monotonic()

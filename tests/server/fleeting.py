@@ -10,26 +10,26 @@ from client import Server, query_of_names, same
 
 # The longest path that the system takes, in bytes.
 LONGEST_PATH = 4095
-# Names of folders in folders, which lead far beyond it.
-FOLDER = "f" * 200
+# Names of directories in directories, which lead far beyond it.
+DIRECTORY = "f" * 200
 DEPTH = 25
 WALKS = 200
 FLEETING = 50
 
 
-def make_deep_folders(root: Path) -> List[str]:
-    """Folders in folders, each with a file, and their names below the root. Each is made from its folder, since the paths of
-    some are too long."""
+def make_deep_directories(root: Path) -> List[str]:
+    """Directories in directories, each with a file, and their names below the root. Each is made from its directory, since
+    the paths of some are too long."""
     names, below = [], ""
-    folder = os.open(root, os.O_RDONLY)
+    directory = os.open(root, os.O_RDONLY)
     for _ in range(DEPTH):
-        os.close(os.open("file", os.O_WRONLY | os.O_CREAT, dir_fd=folder))
-        os.mkdir(FOLDER, dir_fd=folder)
-        names += [below + "file", below + FOLDER]
-        below += FOLDER + "/"
-        folder, upper = os.open(FOLDER, os.O_RDONLY, dir_fd=folder), folder
+        os.close(os.open("file", os.O_WRONLY | os.O_CREAT, dir_fd=directory))
+        os.mkdir(DIRECTORY, dir_fd=directory)
+        names += [below + "file", below + DIRECTORY]
+        below += DIRECTORY + "/"
+        directory, upper = os.open(DIRECTORY, os.O_RDONLY, dir_fd=directory), directory
         os.close(upper)
-    os.close(folder)
+    os.close(directory)
     return names
 
 
@@ -37,7 +37,7 @@ def check_paths_that_are_too_long(tally: built.Tally, room: Path) -> None:
     """Files whose path with that of the root the system takes are listed, and no others."""
     root = room / "tree"
     root.mkdir()
-    names = make_deep_folders(root)
+    names = make_deep_directories(root)
     short = sorted(name for name in names if len(str(root)) + 1 + len(name) <= LONGEST_PATH)
     with Server(room) as server, server.client() as client:
         client.ask("watch", str(root))
@@ -48,11 +48,11 @@ def check_paths_that_are_too_long(tally: built.Tally, room: Path) -> None:
 
 
 class Blinking(threading.Thread):
-    """Makes files in a folder and takes them away again, until it is told to end."""
+    """Makes files in a directory and takes them away again, until it is told to end."""
 
-    def __init__(self, folder: Path) -> None:
+    def __init__(self, directory: Path) -> None:
         super().__init__()
-        self.files = [folder / f"fleeting{number:02}" for number in range(FLEETING)]
+        self.files = [directory / f"fleeting{number:02}" for number in range(FLEETING)]
         self.ends = threading.Event()
 
     def run(self) -> None:
@@ -66,15 +66,15 @@ class Blinking(threading.Thread):
 def check_files_that_go_during_walks(tally: built.Tally, room: Path) -> None:
     """While files come and go, each walk goes on: a reply has all files that stay, and besides none but those."""
     root = room / "tree"
-    folder = root / "folder"
-    folder.mkdir(parents=True)
+    directory = root / "directory"
+    directory.mkdir(parents=True)
     for number in range(FLEETING):
-        (folder / f"stays{number:02}").touch()
-    stays = sorted(["folder"] + [f"folder/stays{number:02}" for number in range(FLEETING)])
+        (directory / f"stays{number:02}").touch()
+    stays = sorted(["directory"] + [f"directory/stays{number:02}" for number in range(FLEETING)])
     with Server(room) as server, server.client() as client:
         client.ask("watch", str(root))
-        blinking = Blinking(folder)
-        fleeting = {f"folder/{file.name}" for file in blinking.files}
+        blinking = Blinking(directory)
+        fleeting = {f"directory/{file.name}" for file in blinking.files}
         blinking.start()
         try:
             replies = [client.ask("query", str(root), query_of_names()) for _ in range(WALKS)]

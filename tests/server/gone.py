@@ -1,5 +1,6 @@
-"""Roots whose folder goes and comes back."""
+"""Roots whose directory goes and comes back."""
 
+import json
 import shutil
 import time
 from pathlib import Path
@@ -12,15 +13,15 @@ NOT_WATCHED = {"error": "E14: root is not watched", **VERSION}
 
 
 def check_roots_that_go(tally: built.Tally, room: Path) -> None:
-    """A root that can no longer be read is told of once. When it is back it is crawled again, and when it goes again it
-    is told of anew."""
-    root, away = room / "tree", room / "away"
+    """A root that can no longer be read is told of once, in a line in which it is JSON. When it is back it is crawled
+    again, and when it goes again it is told of anew."""
+    root, away = room / 'a "tree"\nof two lines \u00fc', room / "away"
     root.mkdir()
     (root / "a").touch()
     with Server(room, interval=20) as server, server.client() as client:
         client.ask("watch", str(root))
         shutil.move(root, away)
-        line = f"{root}: the root cannot be read\n".encode()
+        line = told_of(root)
         said = f"listening on {server.sockname}\n".encode() + line
         tally.check("it is told of", server.says(said))
         shutil.move(away, root)
@@ -37,7 +38,7 @@ def check_roots_that_go(tally: built.Tally, room: Path) -> None:
 
 
 def check_a_root_that_went(tally: built.Tally, room: Path) -> None:
-    """A root that is shown and whose folder went between two crawls: its view stays."""
+    """A root that is shown and whose directory went between two crawls: its view stays."""
     root = room / "tree"
     root.mkdir()
     (root / "a").touch()
@@ -48,7 +49,7 @@ def check_a_root_that_went(tally: built.Tally, room: Path) -> None:
 
 
 def check_its_view(tally: built.Tally, client: Client, root: Path) -> None:
-    """A root whose folder is gone is watched, and what does not crawl it is answered."""
+    """A root whose directory is gone is watched, and what does not crawl it is answered."""
     clock = {"clock": "c:7:9:1:1", **VERSION}
     reply = client.ask("watch", str(root))
     same(tally, "a watch of a root that went", reply, {"watch": str(root), "watcher": "poll", **VERSION})
@@ -67,7 +68,7 @@ def check_a_root_that_goes_during_walks(tally: built.Tally, room: Path) -> None:
     operator is told that it could not be read."""
     root, away = room / "tree", room / "away"
     for number in range(40):
-        fill_folder(root / f"folder{number:02}", 500)
+        fill_directory(root / f"directory{number:02}", 500)
     with Server(room, interval=20) as server, server.client() as client:
         client.ask("watch", str(root))
         first = client.ask("clock", str(root))["clock"]
@@ -79,7 +80,12 @@ def check_a_root_that_goes_during_walks(tally: built.Tally, room: Path) -> None:
             time.sleep(max(0.1, 2 * seconds))
         reply = client.ask("query", str(root), {"since": first, **query_of_names()})
         same(tally, "a root that went during walks", (reply["files"], reply["clock"]), ([], first))
-        tally.check("walks found it gone", server.says(f"{root}: the root cannot be read\n".encode()))
+        tally.check("walks found it gone", server.says(told_of(root)))
+
+
+def told_of(root: Path) -> bytes:
+    """The line by which the operator is told of a root that cannot be read."""
+    return f"{json.dumps(str(root), ensure_ascii=False)}: the root cannot be read\n".encode()
 
 
 def seconds_of_a_crawl(client: Client, root: Path) -> float:
@@ -89,10 +95,10 @@ def seconds_of_a_crawl(client: Client, root: Path) -> float:
     return time.monotonic() - began
 
 
-def fill_folder(folder: Path, count: int) -> None:
-    folder.mkdir(parents=True)
+def fill_directory(directory: Path, count: int) -> None:
+    directory.mkdir(parents=True)
     for number in range(count):
-        (folder / f"file{number:03}").touch()
+        (directory / f"file{number:03}").touch()
 
 
 def check_its_end(tally: built.Tally, client: Client, root: Path) -> None:

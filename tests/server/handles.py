@@ -8,9 +8,9 @@ from pathlib import Path
 
 import built
 from client import A_HOUR, Client, Server, query_of_names, same
-from gone import UNREADABLE, fill_folder
+from gone import UNREADABLE, fill_directory
 
-FOLDERS = 100
+DIRECTORIES = 100
 FILES = 40
 ROUNDS = 60
 
@@ -45,10 +45,10 @@ class Scarcity:
 
 
 def check_no_handles(tally: built.Tally, room: Path) -> None:
-    """Folders of a tree that cannot be opened for want of handles: no file of it is told as gone."""
+    """Directories of a tree that cannot be opened for want of handles: no file of it is told as gone."""
     root = room / "tree"
-    for folder in range(FOLDERS):
-        fill_folder(root / f"folder{folder:03}", FILES)
+    for directory in range(DIRECTORIES):
+        fill_directory(root / f"directory{directory:03}", FILES)
     with Server(room, interval=A_HOUR) as server, server.client() as client:
         client.ask("watch", str(root))
         first = client.ask("clock", str(root))["clock"]

@@ -9,8 +9,8 @@ import built
 from client import A_HOUR, VERSION, Server, query_of_names, same
 
 MOST_FILES = 1_000_000
-FOLDERS = 20
-# A folder in memory makes a million names in a fourth of the time that a disk takes.
+DIRECTORIES = 20
+# A directory in memory makes a million names in a fourth of the time that a disk takes.
 MEMORY = Path("/dev/shm")
 
 
@@ -25,31 +25,31 @@ def check_a_million(tally: built.Tally, room: Path) -> None:
             subprocess.run(["rm", "-rf", str(root)], check=True)
 
 
-def has_room(folder: Path) -> bool:
-    """Whether names can be made in a folder, and so many that a fifth is left over. A link in memory takes an inode."""
-    return os.access(folder, os.W_OK) and os.statvfs(folder).f_favail > MOST_FILES * 6 // 5
+def has_room(directory: Path) -> bool:
+    """Whether names can be made in a directory, and so many that a fifth is left over. A link in memory takes an inode."""
+    return os.access(directory, os.W_OK) and os.statvfs(directory).f_favail > MOST_FILES * 6 // 5
 
 
 def make_names(root: Path) -> None:
-    """Folders with as many names each, all of which are links to one link: a row each, and no file."""
-    for number in range(FOLDERS):
-        folder = root / f"folder{number:02}"
-        folder.mkdir(parents=True)
-        opened = os.open(folder, os.O_RDONLY)
+    """Directories with as many names each, all of which are links to one link: a row each, and no file."""
+    for number in range(DIRECTORIES):
+        directory = root / f"directory{number:02}"
+        directory.mkdir(parents=True)
+        opened = os.open(directory, os.O_RDONLY)
         os.symlink("nothing", "0", dir_fd=opened)
-        for name in range(1, MOST_FILES // FOLDERS - 1):
+        for name in range(1, MOST_FILES // DIRECTORIES - 1):
             os.link("0", str(name), src_dir_fd=opened, dst_dir_fd=opened, follow_symlinks=False)
         os.close(opened)
 
 
 def check_most_files(tally: built.Tally, room: Path, root: Path) -> None:
     named = {"path": [{"path": "", "depth": 0}], **query_of_names()}
-    folders = [f"folder{number:02}" for number in range(FOLDERS)]
+    directories = [f"directory{number:02}" for number in range(DIRECTORIES)]
     too_many = {"error": "E12: too many files", **VERSION}
     with Server(room, interval=A_HOUR) as server, server.client() as client:
         client.ask("watch", str(root))
         reply = client.ask("query", str(root), {"sync_timeout": 0, **named})
-        same(tally, "a root of 1,000,000 files", (reply.get("files"), reply.get("clock")), (folders, "c:7:9:1:1"))
+        same(tally, "a root of 1,000,000 files", (reply.get("files"), reply.get("clock")), (directories, "c:7:9:1:1"))
         (root / "more").touch()
         same(tally, "a root of one more", client.ask("query", str(root), named), too_many)
         again = client.ask("query", str(root), {"sync_timeout": 0, **named})

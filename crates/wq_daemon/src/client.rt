@@ -1,12 +1,13 @@
-//! The threads of one client: one reads its stream, one brings its idle moments, and one runs its session.
+//! The threads of one client: one reads its stream, one brings its idle moments, and one runs its
+//! session.
 
 use crate::host::Host;
-use crate::inbox::LinkInbox;
 use crate::link::Link;
+use crate::link_inbox::LinkInbox;
 use crate::moments::bring_moments;
-use crate::reading::read_all;
 use crate::refusal::refuse;
 use crate::server::Server;
+use crate::stream_reader::read_all;
 use std::alloc::Global;
 use std::sync::{Arc, Wait};
 use std::thread::{self, JoinHandle, Threads};
@@ -20,8 +21,8 @@ struct Bringers {
     idler: JoinHandle<()>,
 }
 
-/// Runs a client's session to its end, with threads that bring its events. Where the session asked for that, the server
-/// ends.
+/// Runs a client's session to its end, with threads that bring its events. Where the session asked
+/// for that, the server ends.
 ///
 /// Where no thread can be made, the client is told so and the session ends at once.
 pub(crate) fn run_client<R, H>(rt: R, alloc: Global, link: Arc<Link>, server: &Arc<Server<H>>)

@@ -16,8 +16,8 @@ use wq_session::Refusal;
 /// How many clients may be connected at once.
 pub const MAX_SESSIONS: usize = 32;
 
-/// How many seconds a write waits for a client that takes nothing. A write that wrote a part is followed by another, so a
-/// client is cut off after up to twice as long.
+/// How many seconds a write waits for a client that takes nothing. A write that wrote a part is
+/// followed by another, so a client is cut off after up to twice as long.
 const PATIENCE: u64 = 60;
 
 /// A client, and the thread of its session.
@@ -91,7 +91,8 @@ fn end<R: Threads + Wait>(rt: &R, client: Client) {
     client.session.join(rt);
 }
 
-/// Begins the session of a client; where no memory or no thread is left for it, the client is told so.
+/// Begins the session of a client; where no memory or no thread is left for it, the client is told
+/// so.
 fn begin<R, H>(rt: R, alloc: Global, stream: UnixStream, server: &Arc<Server<H>>) -> Option<Client>
 where
     R: Threads + Wait + Clock + Copy + Drop + Send + Sync + 'static,

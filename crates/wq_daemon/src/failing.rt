@@ -1,4 +1,5 @@
-//! The roots that could not be crawled when they were last crawled, and why, so that each fault is told of once.
+//! The roots that could not be crawled when they were last crawled, and why, so that each fault is
+//! told of once.
 
 use std::alloc::Global;
 use wq_crawl::CrawlFault;
@@ -24,7 +25,8 @@ impl Failing {
         }
     }
 
-    /// Adds a root and its fault. Where memory is wanted for it, the root is told of again after the next crawl.
+    /// Adds a root and its fault. Where memory is wanted for it, the root is told of again after
+    /// the next crawl.
     pub(crate) fn add(&mut self, root: String, fault: CrawlFault) {
         let _ = self.roots.push(Failed { root, fault });
     }

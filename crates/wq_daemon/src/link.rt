@@ -25,7 +25,8 @@ impl Link {
         })
     }
 
-    /// Ends the session and what reads and writes for it. What was written before still reaches the client.
+    /// Ends the session and what reads and writes for it. What was written before still reaches the
+    /// client.
     pub(crate) fn end<R: Wait>(&self, rt: &R) {
         self.queue.close(rt);
         // A client that has gone already leaves a stream that cannot be shut down.

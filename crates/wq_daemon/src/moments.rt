@@ -20,8 +20,9 @@ pub struct RootNumbers {
 }
 
 impl RootNumbers {
-    /// The numbers for which there is an idle moment once so many roots were ever started: those that were shown at this
-    /// moment, and then those that were given since. No number is used again, so each that is shown by then is among them.
+    /// The numbers for which there is an idle moment once so many roots were ever started: those
+    /// that were shown at this moment, and then those that were given since. No number is used
+    /// again, so each that is shown by then is among them.
     fn due(&self, given: u64) -> Result<Vec<u64>, AllocError>
         ensures { IfOk result (λ due. due.items
             ≡ self.now.shown.items ++ range_with_len (self.now.given + 1) (given - self.now.given)) }
@@ -34,8 +35,8 @@ impl RootNumbers {
     }
 }
 
-/// Puts an idle moment for each root that is due into a session's queue, once in each interval, as long as the queue is
-/// open. The first interval begins where the roots were these.
+/// Puts an idle moment for each root that is due into a session's queue, once in each interval, as
+/// long as the queue is open. The first interval begins where the roots were these.
 ///
 /// Where memory is refused for them, they are due an interval later.
 pub(crate) fn bring_moments<R, H>(rt: &R, server: &Server<H>, numbers: RootNumbers, queue: &Queue)
@@ -57,14 +58,16 @@ where
     }
 }
 
-/// The roots as they are now, and the numbers that are due since then; none where memory is refused.
+/// The roots as they are now, and the numbers that are due since then; none where memory is
+/// refused.
 fn due_by_now<H: Host>(host: &H, then: &RootNumbers) -> Option<(RootNumbers, Vec<u64>)> {
     let now = host.numbers()?;
     let due = then.due(now.given).ok()?;
     Some((now, due))
 }
 
-/// Puts an idle moment for each of these numbers into the queue, and says whether the queue is open.
+/// Puts an idle moment for each of these numbers into the queue, and says whether the queue is
+/// open.
 fn put_moments<R: Wait>(rt: &R, numbers: &[u64], queue: &Queue) -> bool {
     for &number in numbers {
         if !queue.put(rt, Event::Idle(number)) {

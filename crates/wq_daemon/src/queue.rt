@@ -1,5 +1,5 @@
-//! The bounded queue between those who bring events and the session that takes them. No contract says that anything
-//! arrives.
+//! The bounded queue between those who bring events and the session that takes them. No contract
+//! says that anything arrives.
 
 use std::alloc::{AllocError, Global};
 use std::sync::{Condvar, Mutex, Wait};
@@ -25,8 +25,8 @@ impl Queue {
         })
     }
 
-    /// Puts an event behind the others as soon as there is room, and says whether it stands there. Where it does not, the
-    /// queue is closed.
+    /// Puts an event behind the others as soon as there is room, and says whether it stands there.
+    /// Where it does not, the queue is closed.
     pub(crate) fn put<R: Wait>(&self, rt: &R, event: Event) -> bool {
         let lock = self.waiting.lock(rt);
         let mut waiting = self.changed.wait_while(rt, lock, |it| it.is_full());

@@ -14,9 +14,9 @@ use std::time::{Clock, Duration};
 /// How many milliseconds are waited after a connection that could not be accepted.
 const PAUSE: u64 = 100;
 
-/// Serves clients, and crawls the roots that are watched with a pause of the interval between two rounds. A session gets idle
-/// moments at such intervals. It returns when a client asked that the server ends: all sessions have ended then, and all
-/// threads.
+/// Serves clients, and crawls the roots that are watched with a pause of the interval between two
+/// rounds. A session gets idle moments at such intervals. It returns when a client asked that the
+/// server ends: all sessions have ended then, and all threads.
 ///
 /// # Errors
 /// What the server needs could not be made, and nothing was served.

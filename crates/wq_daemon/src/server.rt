@@ -10,7 +10,8 @@ use std::time::Duration;
 pub(crate) struct Server<H: Host + Drop> {
     pub(crate) host: H,
     pub(crate) stop: Stop,
-    /// How long it waits between two rounds of crawls, and a client's session between two idle moments of a root.
+    /// How long it waits between two rounds of crawls, and a client's session between two idle
+    /// moments of a root.
     pub(crate) interval: Duration,
 }
 

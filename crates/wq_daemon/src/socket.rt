@@ -1,20 +1,23 @@
-//! The server's socket in the file system: how it comes, so that nobody else can connect to it, and how it goes.
+//! The server's socket in the file system: how it comes, so that nobody else can connect to it, and
+//! how it goes.
 
+use mio::net::UnixStream;
 use std::alloc::{AllocError, Global};
 use std::fs::{self, DirBuilder, Files, Permissions};
 use std::io::{self, Error, ErrorKind};
 use std::net::Net;
 use std::os::unix::fs::{DirBuilderExt, FileTypeExt, MetadataExt, PermissionsExt};
-use std::os::unix::net::{SocketAddr, UnixListener, UnixStream};
+use std::os::unix::net::{SocketAddr, UnixListener};
 
-/// How many names are tried for the folder in which the socket is made.
-const TRIES: u32 = 100;
+/// How many names are tried for the directory in which the socket is made. A server that is killed
+/// at the wrong moment leaves one that has such a name.
+const TRIES: u32 = 10_000;
 
 /// Only the owner may read and write, which connecting asks for.
 const SOCKET_MODE: u32 = 0o600;
 
 /// Only the owner may enter.
-const FOLDER_MODE: u32 = 0o700;
+const DIRECTORY_MODE: u32 = 0o700;
 
 /// A socket that is listened on.
 #[derive(Drop)]
@@ -45,16 +48,16 @@ impl FileId {
 
 /// Listens on a socket at a path, which only the owner can connect to.
 ///
-/// The folder has to be there. A socket at the path that nobody listens on is replaced; one that somebody listens on, and any
-/// other file, is an error and stays. The socket is made in a folder beside it that nobody else can enter, gets its mode
-/// there, and is then given its name.
+/// The directory has to be there. A socket at the path that nobody listens on is replaced; one that
+/// somebody listens on, and any other file, is an error and stays. The socket is made in a
+/// directory beside it that nobody else can enter, gets its mode there, and is then given its name.
 pub fn listen<R: Files + Net>(rt: &R, alloc: Global, path: &str) -> io::Result<Listening> {
     // A path that is too long for clients is refused.
     SocketAddr::from_pathname(path)?;
     let kept_path = String::from_str(alloc, path)?;
-    let folder = make_folder(rt, alloc, path)?;
-    let listened = listen_in(rt, alloc, &folder, path);
-    let _ = fs::remove_dir(rt, folder.as_str());
+    let directory = make_directory(rt, alloc, path)?;
+    let listened = listen_in(rt, alloc, &directory, path);
+    let _ = fs::remove_dir(rt, directory.as_str());
     let (listener, file) = listened?;
     Ok(Listening {
         listener,
@@ -63,22 +66,23 @@ pub fn listen<R: Files + Net>(rt: &R, alloc: Global, path: &str) -> io::Result<L
     })
 }
 
-/// Removes the file of a socket, unless another stands in its place. Where no memory is left for that, it stays, as a stale one.
+/// Removes the file of a socket, unless another stands in its place. Where no memory is left for
+/// that, it stays, as a stale one.
 pub fn remove<R: Files>(rt: &R, alloc: Global, listening: &Listening) {
     let path = listening.path.as_str();
     if FileId::at(rt, path).ok() != Some(listening.file) {
         return;
     }
-    if let Ok(folder) = make_folder(rt, alloc, path) {
-        if let Ok(aside) = format!(in alloc; "{folder}/s") {
+    if let Ok(directory) = make_directory(rt, alloc, path) {
+        if let Ok(aside) = format!(in alloc; "{directory}/s") {
             remove_aside(rt, &aside, listening);
         }
-        let _ = fs::remove_dir(rt, folder.as_str());
+        let _ = fs::remove_dir(rt, directory.as_str());
     }
 }
 
-/// Removes the file of a socket by way of a path where nobody else comes: since it was looked at, another server may have put
-/// its own in its place, and that one's gets its name back.
+/// Removes the file of a socket by way of a path where nobody else comes: since it was looked at,
+/// another server may have put its own in its place, and that one's gets its name back.
 fn remove_aside<R: Files>(rt: &R, aside: &str, listening: &Listening) {
     let path = listening.path.as_str();
     if fs::rename(rt, path, aside).is_err() {
@@ -107,6 +111,8 @@ fn clear<R: Files + Net>(rt: &R, path: &str, aside: &str) -> io::Result<()> {
 }
 
 /// Why a socket is not to be removed, if it is not: somebody listens on it, or that cannot be told.
+/// It waits for nobody: a server that hangs, and that so many clients wait for as may wait, is one
+/// that listens.
 fn in_use<R: Net>(rt: &R, path: &str) -> Option<Error> {
     match UnixStream::connect(rt, path) {
         Ok(_) => Some(Error::from(ErrorKind::AddrInUse)),
@@ -115,8 +121,8 @@ fn in_use<R: Net>(rt: &R, path: &str) -> Option<Error> {
     }
 }
 
-/// Removes a socket on which nobody listened. It is moved aside and tried once more there: another server may have replaced
-/// it meanwhile, and that one's gets its name back.
+/// Removes a socket on which nobody listened. It is moved aside and tried once more there: another
+/// server may have replaced it meanwhile, and that one's gets its name back.
 fn take_away<R: Files + Net>(rt: &R, path: &str, aside: &str) -> io::Result<()> {
     fs::rename(rt, path, aside)?;
     let in_use = in_use(rt, aside);
@@ -131,19 +137,19 @@ fn take_away<R: Files + Net>(rt: &R, path: &str, aside: &str) -> io::Result<()> 
     }
 }
 
-/// Makes a folder beside a path that nobody else can enter, and gives its path.
-fn make_folder<R: Files>(rt: &R, alloc: Global, path: &str) -> io::Result<String> {
+/// Makes a directory beside a path that nobody else can enter, and gives its path.
+fn make_directory<R: Files>(rt: &R, alloc: Global, path: &str) -> io::Result<String> {
     let beside = match path.rfind('/') {
         Some(slash) => path.split_at(slash + 1).0,
         None => "",
     };
     for number in 0..TRIES {
-        let folder = format!(in alloc; "{beside}.wqd{number}")?;
+        let directory = format!(in alloc; "{beside}.wqd{number}")?;
         match DirBuilder::new()
-            .mode(FOLDER_MODE)
-            .create(rt, folder.as_str())
+            .mode(DIRECTORY_MODE)
+            .create(rt, directory.as_str())
         {
-            Ok(()) => return Ok(folder),
+            Ok(()) => return Ok(directory),
             Err(error) if error.kind() == ErrorKind::AlreadyExists => {}
             Err(error) => return Err(error),
         }
@@ -151,15 +157,15 @@ fn make_folder<R: Files>(rt: &R, alloc: Global, path: &str) -> io::Result<String
     Err(Error::from(ErrorKind::AlreadyExists))
 }
 
-/// Listens on a socket that is made in a folder of its own, and then named by a path at which no more than a stale socket may
-/// stand. Says which file it is.
+/// Listens on a socket that is made in a directory of its own, and then named by a path at which no
+/// more than a stale socket may stand. Says which file it is.
 fn listen_in<R: Files + Net>(
     rt: &R,
     alloc: Global,
-    folder: &str,
+    directory: &str,
     path: &str,
 ) -> io::Result<(UnixListener, FileId)> {
-    let made = format!(in alloc; "{folder}/s")?;
+    let made = format!(in alloc; "{directory}/s")?;
     clear(rt, path, &made)?;
     let listener = UnixListener::bind(rt, made.as_str())?;
     let named = name(rt, &made, path);
@@ -167,8 +173,8 @@ fn listen_in<R: Files + Net>(
     Ok((listener, named?))
 }
 
-/// Gives a socket its mode and its name, and says which file it is: once it has its name, another server may move it aside for a
-/// moment, to see whether somebody listens.
+/// Gives a socket its mode and its name, and says which file it is: once it has its name, another
+/// server may move it aside for a moment, to see whether somebody listens.
 fn name<R: Files>(rt: &R, made: &str, path: &str) -> io::Result<FileId> {
     fs::set_permissions(rt, made, Permissions::from_mode(SOCKET_MODE))?;
     let file = FileId::at(rt, made)?;

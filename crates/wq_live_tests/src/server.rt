@@ -1,4 +1,4 @@
-//! A server and a client of it in one process, over a socket in a folder of its own.
+//! A server and a client of it in one process, over a socket in a directory of its own.
 ghost use Rattle.std.specs.Prelude.{◌≡◌};
 
 use crate::session::{SameFiles, Still};
@@ -18,7 +18,7 @@ use wq_clock::Run;
 use wq_daemon::{Listening, Notices, Parts, SEATS, listen, remove, serve_clients};
 use wq_live::{Blank, Named};
 
-/// How many folders are tried that may stand already.
+/// How many directories are tried that may stand already.
 const TRIES: u32 = 100;
 
 /// What a client sends.
@@ -52,7 +52,7 @@ impl Notices for Operator {
     }
 }
 
-/// Makes a folder that stood nowhere before, and gives its path.
+/// Makes a directory that stood nowhere before, and gives its path.
 pub(crate) fn make_room(rt: &HostRuntime) -> io::Result<String> {
     let above = env::temp_dir(rt)?;
     let process = process::id(rt.process());

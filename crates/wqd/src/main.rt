@@ -1,13 +1,13 @@
-//! The file watch server's program: the command line, files, standard streams and exit statuses. The server stands in
-//! `wq_daemon` and what walks trees for it in `wq_walk`; what replays a script in `wq_replay`, and what is said of program
-//! files in `wq_check`.
+//! The file watch server's program: the command line, files, standard streams and exit statuses.
+//! The server stands in `wq_daemon` and what walks trees for it in `wq_walk`; what replays a script
+//! in `wq_replay`, and what is said of program files in `wq_check`.
 #![tactic(auto)]
 
 mod command_line;
-mod serving;
+mod machine;
 
 use command_line::{CommandLineFault, Task};
-use serving::{Machine, StandardError, serve};
+use machine::{Machine, StandardError, serve};
 use std::env;
 use std::fs::File;
 use std::io::{self, BufReader, BufWriter, ErrorKind, Read, Write};
@@ -90,7 +90,8 @@ fn check_file(rt: &HostRuntime, path: &str) -> u8 {
     check(rt.alloc(), &bytes, &mut io::writer(rt))
 }
 
-/// The bytes of a file, if it can be read and has at most [`MAX_FILE`] of them. No more than one byte over that is read.
+/// The bytes of a file, if it can be read and has at most [`MAX_FILE`] of them. No more than one
+/// byte over that is read.
 fn file_bytes(rt: &HostRuntime, path: &str) -> Option<Vec<u8>> {
     let mut bytes = Vec::new(rt.alloc());
     let file = File::open(rt, path).ok()?;

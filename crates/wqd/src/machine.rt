@@ -46,7 +46,8 @@ pub(crate) struct Machine<T: Tree + Drop, S: Seconds + Drop, O: Notices + Drop> 
     pub(crate) notices: O,
 }
 
-/// Serves clients until one of them asks that the server ends, and gives the exit status. Threads wait by the second handle.
+/// Serves clients until one of them asks that the server ends, and gives the exit status. Threads
+/// wait by the second handle.
 pub(crate) fn serve<R, T, S, O>(
     rt: &HostRuntime,
     threads: R,

@@ -1,4 +1,5 @@
-//! What brings the events of a client's stream into its session's queue. What they ask is not looked at here.
+//! What brings the events of a client's stream into its session's queue. What they ask is not
+//! looked at here.
 
 use crate::queue::Queue;
 use std::alloc::{AllocError, Global};
@@ -13,7 +14,8 @@ const PIECE: usize = 65_536;
 /// How many milliseconds are waited before what was refused memory is tried again.
 const PAUSE: u64 = 50;
 
-/// Reads a stream to its end, as long as the queue is open. The last event that it puts is the stream's end or its fault.
+/// Reads a stream to its end, as long as the queue is open. The last event that it puts is the
+/// stream's end or its fault.
 ///
 /// Where memory is refused, it waits and tries the same bytes again.
 pub(crate) fn read_all<R: Wait + Clock, S: Read>(
@@ -68,7 +70,8 @@ fn put_events<R: Wait + Clock>(
     true
 }
 
-/// The events of a piece. Where memory is refused it is tried again after a moment; none where the queue is closed.
+/// The events of a piece. Where memory is refused it is tried again after a moment; none where the
+/// queue is closed.
 fn split<R: Wait + Clock>(
     rt: &R,
     splitter: &mut Splitter,

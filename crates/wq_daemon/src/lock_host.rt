@@ -1,11 +1,12 @@
-//! What the threads of the server share: the shelf, the seats, and what crawls. Each stands under a lock of its own. Looking
-//! at files and listing them takes none.
+//! What the threads of the server share: the shelf, the seats, and what crawls. Each stands under a
+//! lock of its own. Looking at files and listing them takes none.
 
 use crate::clients::MAX_SESSIONS;
 use crate::failing::Failing;
 use crate::host::{Host, Notices};
 use crate::moments::RootNumbers;
 use crate::refusal::refuse;
+use serde_json::Value;
 use std::alloc::{AllocError, Global};
 use std::io::Write;
 use std::sync::atomic::{AtomicBool, Ordering};
@@ -49,7 +50,8 @@ where
     S: Seconds + Drop,
     O: Notices + Drop,
 {
-    /// A server over this crawler and this shelf, with a seat for each session that may be and one for idle moments.
+    /// A server over this crawler and this shelf, with a seat for each session that may be and one
+    /// for idle moments.
     pub fn new(
         rt: R,
         alloc: Global,
@@ -126,10 +128,17 @@ where
         if self.failing.lock(&self.rt).has(root, fault) {
             return;
         }
-        if let Ok(line) = format!(in self.alloc; "{root}: {fault}") {
+        if let Ok(line) = fault_line(self.alloc, root, fault) {
             self.notices.tell(&line);
         }
     }
+}
+
+/// The line by which the operator is told of a root's fault. The root stands in it as JSON, so it
+/// stays one line whatever the root's bytes are.
+fn fault_line(alloc: Global, root: &str, fault: CrawlFault) -> Result<String, AllocError> {
+    let root = Value::try_from_str(alloc, root)?.to_string(alloc)?;
+    Ok(format!(in alloc; "{root}: {fault}")?)
 }
 
 /// A seat for each session that may be, one for idle moments, and the crawler, as threads share it.
@@ -204,6 +213,7 @@ where
             return false;
         };
         let Some(seat) = self.take_seat() else {
+            refuse(writer, Refusal::TooManySessions);
             return false;
         };
         let ended = serve(

@@ -2,7 +2,7 @@
 ghost use Rattle.std.specs.Prelude.{◌≡◌};
 
 use crate::host::Notices;
-use crate::hosting::LockHost;
+use crate::lock_host::LockHost;
 use crate::running::run;
 use crate::socket::Listening;
 use std::alloc::Global;
@@ -32,11 +32,13 @@ pub struct Parts<T: Tree + Drop, S: Seconds + Drop, O: Notices + Drop> {
     pub notices: O,
     /// The name of the socket, as clients are told it.
     pub sockname: String,
-    /// How long the server waits between two rounds of crawls, and a session between two idle moments of a root.
+    /// How long the server waits between two rounds of crawls, and a session between two idle
+    /// moments of a root.
     pub interval: Duration,
 }
 
-/// Serves the clients of a socket until one asks that the server ends. The operator is told that it listens.
+/// Serves the clients of a socket until one asks that the server ends. The operator is told that it
+/// listens.
 ///
 /// # Errors
 /// What the server needs could not be made, and nothing was served.

@@ -1,0 +1,58 @@
+"""Sockets and directories that a server finds when it starts."""
+
+import os
+import socket
+import subprocess
+from pathlib import Path
+
+import built
+from client import PATIENCE, VERSION, Server, same
+
+LEFT = 100
+
+
+def check_a_server_that_hangs(tally: built.Tally, room: Path) -> None:
+    """Somebody listens on the socket and accepts nobody, and so many wait there that no more may: a new server says at once
+    that it cannot listen. That socket stays."""
+    path = str(room / "socket")
+    with socket.socket(socket.AF_UNIX, socket.SOCK_STREAM) as hanging:
+        hanging.bind(path)
+        hanging.listen(0)
+        waiting = fill(path)
+        number = os.stat(path).st_ino
+        command = [str(built.program_path()), "serve", "--sockname", path, "--start", "7", "--pid", "9"]
+        try:
+            ended = subprocess.run(command, stderr=subprocess.PIPE, timeout=PATIENCE)
+            same(tally, "a start beside a server that hangs", (ended.returncode, ended.stderr), (1, b"cannot listen\n"))
+        except subprocess.TimeoutExpired:
+            tally.check("a start beside a server that hangs", False, ["it waits for that server"])
+        same(tally, "the socket of a server that hangs", os.stat(path).st_ino, number)
+        for stream in waiting:
+            stream.close()
+    same(tally, "what is left beside it", os.listdir(room), ["socket"])
+
+
+def fill(path: str) -> list:
+    """Clients that wait at a socket, as many as may."""
+    waiting = []
+    while True:
+        stream = socket.socket(socket.AF_UNIX, socket.SOCK_STREAM)
+        stream.setblocking(False)
+        try:
+            stream.connect(path)
+        except BlockingIOError:
+            stream.close()
+            return waiting
+        waiting.append(stream)
+
+
+def check_directories_that_were_left(tally: built.Tally, room: Path) -> None:
+    """Servers that were killed while they started left their directories: another one starts, ends, and leaves those."""
+    left = [room / f".wqd{number}" for number in range(LEFT)]
+    for directory in left:
+        directory.mkdir()
+    with Server(room) as server, server.client() as client:
+        same(tally, "a server beside directories that were left", client.ask("version"), VERSION)
+        same(tally, "what it makes beside them", len(os.listdir(room)), LEFT + 1)
+        same(tally, "its end", server.shut_down(client), 0)
+    same(tally, "the directories that were left", sorted(os.listdir(room)), sorted(one.name for one in left))
