@@ -86,6 +86,7 @@ impl<'a> Iterator for Pairs<'a> {
 
     ghost remaining = { item_count pairs_left };
 
+    #[inline(always)]
     #[tactic(auto, using(crate::proofs::NameOrder::order_of_same, crate::proofs::NameOrder::less_from_lt, crate::proofs::NameOrder::order_of_others))]
     fn next(&mut self) -> Option<Pair<'a>> {
         match (self.records.split_first(), self.rows.split_first()) {
