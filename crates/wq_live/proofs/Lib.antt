@@ -12,4 +12,3 @@ mod Comparing
 mod Sharing
 mod Spending
 mod Fullness
-mod Numbers

@@ -1,9 +1,10 @@
 -- What happened to roots, in order: their starts, the passes over them and their ends. From that
 -- follows which roots are shown, and which passes each of them had.
 -- No public document is behind it.
-use Rattle.std.specs.Prelude.{◌≡◌, ◌≤◌, ◌==◌, ℕ, Bool, false, not, if◌then◌else◌, All, List, [], ◌∷◌, length, map, filter, find, bytes_eq, Option, Some, None}
+use Rattle.std.specs.Prelude.{◌≡◌, ◌≤◌, ◌⊎◌, ◌==◌, ℕ, Bool, false, not, if◌then◌else◌, All, List, [], ◌∷◌, length, map, filter, find, bytes_eq, Option, Some, None, option_map}
 use Rattle.std.specs.FinMap.{len}
 use Rattle.std.specs.List.{filter_map, list_any, range_with_len}
+use Rattle.wq_base.specs.Limit.{max_number, max_roots}
 use Rattle.wq_view.specs.Listing.{PassData}
 use Rattle.wq_view.specs.History.{History, Differ}
 use Rattle.wq_live.specs.declared.event.RootEvent.{RootEvent}
@@ -54,6 +55,14 @@ is_shown events number = list_any (λ root. root.number == number) (shown events
 -- the root of this text, where one is shown
 abbrev pub shown_root : List ℕ → List RootEvent → Option Root
 shown_root text events = find (λ root. bytes_eq root.text text) (shown events)
+
+-- its number
+abbrev pub number_of : List ℕ → List RootEvent → Option ℕ
+number_of text events = option_map (λ root. root.number) (shown_root text events)
+
+-- no more root can be started: as many are shown as may be, or the last number was given
+abbrev pub IsFull : List RootEvent → Type 0
+IsFull events = (length (shown events) ≡ max_roots) ⊎ (length (started events) ≡ max_number)
 
 -- the passes over the root of this number
 abbrev pub passes_over : ℕ → List RootEvent → History

@@ -1,7 +1,8 @@
 -- The table of all roots: each root that is shown, with the view of the passes over it.
 -- No public document is behind it.
-use Rattle.std.specs.Prelude.{◌≡◌, ◌≢◌, ◌==◌, ◌⊎◌, ◌+◌, ℕ, Bool, true, false, if◌then◌else◌, not, All, List, [], ◌∷◌, ◌++◌, length, map, filter, bytes_eq, refl}
+use Rattle.std.specs.Prelude.{◌≡◌, ◌≢◌, ◌==◌, ◌⊎◌, ◌+◌, ℕ, Bool, true, false, if◌then◌else◌, not, All, List, [], ◌∷◌, ◌++◌, length, map, filter, find, bytes_eq, Option, option_map, refl}
 use Rattle.std.specs.Coded.{Coded, code_by, coded×, coded_ℕ, coded_list}
+use Rattle.wq_base.specs.Limit.{max_number, max_roots}
 use Rattle.wq_view.specs.Limit.{max_tick}
 use Rattle.wq_view.specs.Listing.{PassData}
 use Rattle.wq_view.specs.History.{last_stats}
@@ -53,6 +54,18 @@ has_number number root = root.number == number
 -- whether the root has this text
 abbrev pub has_text : List ℕ → RootView → Bool
 has_text text root = bytes_eq root.text text
+
+-- the root of this text in a table, if it is there
+abbrev pub root_by_text : List ℕ → TableData → Option RootView
+root_by_text text table = find (has_text text) table.roots
+
+-- its number
+abbrev pub number_by_text : List ℕ → TableData → Option ℕ
+number_by_text text table = option_map (λ root. root.number) (root_by_text text table)
+
+-- no more root can be started, by the table
+abbrev pub IsFullTable : TableData → Type 0
+IsFullTable table = (length table.roots ≡ max_roots) ⊎ (table.given ≡ max_number)
 
 -- the root, with this view where it has this number
 abbrev pub with_view : ℕ → ViewData → RootView → RootView

@@ -1,10 +1,11 @@
 //! The publisher: the one that changes the list of events, and shows what follows from it.
-ghost use Rattle.std.specs.Prelude.{if◌then◌else◌, ◌+◌, ◌↔◌, None, option_map, ◌≡◌, ◌⊎◌, ◌++◌, ◌∷◌, [], Err, IfErr, IfOk, MatchResult, Some, drop, false, length, nat_lt, true};
+ghost use Rattle.std.specs.Prelude.{if◌then◌else◌, ◌+◌, ◌↔◌, None, option_map, ◌≡◌, ◌<◌, ◌⊎◌, ◌++◌, ◌∷◌, [], Err, IfErr, IfOk, MatchResult, Some, drop, false, length, nat_lt, true};
 ghost use Rattle.left_right.specs.Sides.{view};
 ghost use Rattle.wq_live.specs.Log.{AgreeAs, BeginsLog, head_of};
 ghost use Rattle.wq_base.specs.Limit.{max_number, max_roots};
+ghost use Rattle.wq_view.specs.Limit.{max_tick};
 ghost use Rattle.wq_live.specs.declared.event.RootEvent.TheVariants.{Ended, Passed};
-ghost use Rattle.wq_live.specs.Event.{first_history, is_shown, shown_root, shown, start_events, started};
+ghost use Rattle.wq_live.specs.Event.{first_history, is_shown, passes_over, shown_root, shown, start_events, started};
 ghost use Rattle.wq_live.specs.Table.{IsNews, IsNoNews, IsTableOf, WantsForTicks};
 
 use crate::event::RootEvent;
@@ -162,7 +163,8 @@ impl<N: Named, R: Wait + Drop> Publisher<N, R> {
     pub fn publish(&mut self, number: u64, pass: Pass) -> Result<Told<N>, ViewFault>
         ensures told { IfOk result (λ told. told ≡ self.new) }
         ensures added { IfOk result (λ _. (IsNoNews self.old number pass × (self.new ≡ self.old))
-            ⊎ (IsNews self.old number pass × (self.new ≡ self.old ++ Passed number pass ∷ []))) }
+            ⊎ (IsNews self.old number pass × (length (passes_over number self.old) < max_tick)
+            × (self.new ≡ self.old ++ Passed number pass ∷ []))) }
         ensures spent { (result ≡ Err ViewFault.TicksSpent) ↔ WantsForTicks self.old number pass }
         ensures err { IfErr result (λ _. self.new ≡ self.old) }
     {

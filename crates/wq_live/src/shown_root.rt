@@ -17,6 +17,8 @@ pub(crate) struct ShownRoot {
 }
 
 impl Model for ShownRoot {
+    ghost use Rattle.std.specs.Prelude.{◌≤◌};
+    ghost use Rattle.wq_base.specs.Limit.{max_number};
     ghost use Rattle.wq_live.specs.Table.{RootView, root_code};
 
     ghost Value = { RootView };
@@ -24,6 +26,8 @@ impl Model for ShownRoot {
     ghost coded = { root_code };
 
     ghost view = { λ r. record { number = r.number; text = r.text.value; view = r.view.value } };
+
+    ghost invariant = { λ r. r.number ≤ max_number };
 }
 
 impl ShownRoot {

@@ -7,8 +7,8 @@ ghost use Rattle.wq_live.specs.declared.event.RootEvent.TheVariants.{Ended, Pass
 ghost use Rattle.wq_view.specs.History.{History, last_stats};
 ghost use Rattle.wq_view.specs.Limit.{max_tick};
 ghost use Rattle.wq_view.specs.View.{IsViewOf};
-ghost use Rattle.wq_live.specs.Event.{first_history, is_shown, passes_over, start_events};
-ghost use Rattle.wq_live.specs.Table.{IsNews, IsNoNews, IsStarted, IsTableOf, WantsForTicks, has_number, has_text, with_view, without};
+ghost use Rattle.wq_live.specs.Event.{IsFull, first_history, is_shown, number_of, passes_over, start_events};
+ghost use Rattle.wq_live.specs.Table.{IsFullTable, IsNews, IsNoNews, IsStarted, IsTableOf, WantsForTicks, has_number, number_by_text, root_by_text, with_view, without};
 
 use crate::shown_root::ShownRoot;
 use std::alloc::{AllocError, Global};
@@ -96,13 +96,21 @@ impl RootTable {
         self.roots.is_empty()
     }
 
+    /// Whether no more root can be started: 16 are shown, or the number 2^62 was given.
+    pub fn is_full(&self) -> bool
+        ensures table { IsTrue result ↔ IsFullTable self.now }
+        ensures list { (events : List RootEvent) → IsTableOf events self.now
+            → (IsTrue result ↔ IsFull events) }
+    {
+        self.roots.len() == MAX_ROOTS || self.given == MAX_NUMBER
+    }
+
     /// The number and the view of the root of this text, if it is shown.
     pub fn root(&self, text: &str) -> Option<(u64, &View)>
-        ensures number { option_map (λ it. it.0) result
-            ≡ option_map (λ root. root.number) (find (has_text text.now) self.now.roots) }
+        ensures number { option_map (λ it. it.0) result ≡ number_by_text text.now self.now }
         ensures view { option_map (λ it. it.1.now) result
-            ≡ option_map (λ root. root.view) (find (has_text text.now) self.now.roots) }
-        ensures given { self.now.given ≤ max_number }
+            ≡ option_map (λ root. root.view) (root_by_text text.now self.now) }
+        ensures bound { IfSome result (λ it. it.0 ≤ max_number) }
     {
         let root = self.root_of_text(text)?;
         Some((root.number, &root.view))
@@ -111,10 +119,10 @@ impl RootTable {
     /// The number of the root of this text, and a share of its view, if it is shown. Refused where no share can be had.
     pub fn share(&self, text: &str) -> Result<Option<(u64, Arc<View>)>, AllocError>
         ensures number { IfOk result (λ it. option_map (λ it. it.0) it
-            ≡ option_map (λ root. root.number) (find (has_text text.now) self.now.roots)) }
+            ≡ number_by_text text.now self.now) }
         ensures view { IfOk result (λ it. option_map (λ it. it.1.value) it
-            ≡ option_map (λ root. root.view) (find (has_text text.now) self.now.roots)) }
-        ensures given { self.now.given ≤ max_number }
+            ≡ option_map (λ root. root.view) (root_by_text text.now self.now)) }
+        ensures bound { IfOk result (λ it. IfSome it (λ it. it.0 ≤ max_number)) }
     {
         match self.root_of_text(text) {
             Some(root) => Ok(Some((root.number, root.view.clone()?))),
@@ -124,7 +132,10 @@ impl RootTable {
 
     /// The number of the root of this text, if it is shown.
     pub fn number_of(&self, text: &str) -> Option<u64>
-        ensures { result ≡ option_map (λ root. root.number) (find (has_text text.now) self.now.roots) }
+        ensures table { result ≡ number_by_text text.now self.now }
+        ensures list { (events : List RootEvent) → IsTableOf events self.now
+            → result ≡ number_of text.now events }
+        ensures bound { IfSome result (λ number. number ≤ max_number) }
     {
         let root = self.root_of_text(text)?;
         Some(root.number)
@@ -162,8 +173,7 @@ impl RootTable {
 
     /// The root of this text.
     fn root_of_text(&self, text: &str) -> Option<&ShownRoot>
-        ensures found { option_map (λ root. root.now) result ≡ find (has_text text.now) self.now.roots }
-        ensures given { self.now.given ≤ max_number }
+        ensures { option_map (λ root. root.now) result ≡ root_by_text text.now self.now }
     {
         self.roots
             .iter()
@@ -182,14 +192,14 @@ impl RootTable {
     ///
     /// Refused where 16 roots are shown or the number 2^62 was given.
     pub fn with_start(&self, text: &str, pass: &Pass) -> Result<RootTable, StartFault>
-        requires new { find (has_text text.now) self.now.roots ≡ None }
+        requires new { root_by_text text.now self.now ≡ None }
         ensures started { (events : List RootEvent) → IsTableOf events self.now
             → IfOk result (IsTableOf (events ++ start_events (self.now.given + 1) text.now pass.now)) }
         ensures number { IfOk result (λ table. table.given ≡ self.now.given + 1) }
         ensures full { (result ≡ Err StartFault.TooManyRoots)
-            ↔ ((length self.now.roots ≡ max_roots) ⊎ (self.now.given ≡ max_number)) }
+            ↔ IsFullTable self.now }
     {
-        if self.roots.len() == MAX_ROOTS || self.given == MAX_NUMBER {
+        if self.is_full() {
             return Err(StartFault::TooManyRoots);
         }
         Ok(self.with_root(text, pass)?)
