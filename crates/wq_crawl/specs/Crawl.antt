@@ -2,7 +2,7 @@
 -- it is refused.
 -- No public document is behind it.
 use Rattle.std.specs.Prelude.{◌≡◌, ◌≤◌, ◌⊎◌, ℕ, ℤ, refl, List}
-use Rattle.std.specs.Prelude.{Option, Some, None, IsSome, Result, Ok, Err}
+use Rattle.std.specs.Prelude.{Option, Some, None, Result, Ok, Err}
 use Rattle.std.specs.Coded.{Coded, code_by, coded×, coded_ℕ, coded_ℤ, coded_option}
 use Rattle.wq_view.specs.Listing.{PassData, listing_fault, listing_of}
 use Rattle.wq_view.specs.Seen.{SeenData}
@@ -13,7 +13,8 @@ use Rattle.wq_view.specs.declared.listing.PassFault.TheVariants.{NoMemory as NoP
 use Rattle.wq_live.specs.Log.{events_code}
 use Rattle.wq_live.specs.declared.event.RootEvent.{RootEvent}
 use Rattle.wq_crawl.specs.Device.{Gave}
-use Rattle.wq_crawl.specs.Publish.{Ends, IsFull, IsNotTakenIn, Passes, number_of, with_start}
+use Rattle.wq_live.specs.Event.{number_of}
+use Rattle.wq_crawl.specs.Publish.{Ends, IsNotTakenIn, IsPlace, Passes, with_start}
 use Rattle.wq_crawl.specs.Tree.{IsCounted, ListedData, Lists, listed_code}
 use Rattle.wq_crawl.specs.declared.tree.TreeFault.{TreeFault}
 use Rattle.wq_crawl.specs.declared.tree.TreeFault.TheVariants.{Unreadable as UnreadableTree}
@@ -22,6 +23,8 @@ use Rattle.wq_crawl.specs.declared.tree.TreeFault.TheVariants.{NoMemory as NoTre
 use Rattle.wq_crawl.specs.declared.fault.CrawlFault.{CrawlFault}
 use Rattle.wq_crawl.specs.declared.fault.CrawlFault.TheVariants.{Unreadable, TooManyFiles}
 use Rattle.wq_crawl.specs.declared.fault.CrawlFault.TheVariants.{TooManyRoots, NoMemory}
+use Rattle.wq_crawl.specs.declared.place.Place.{Place}
+use Rattle.wq_crawl.specs.declared.place.Place.TheVariants.{Shown, Full, Free}
 
 -- what a crawler shows: the list of events that is published, what its clock told last and how often
 -- it told something, the same of what its tree listed, where they are shown, and how often its tree
@@ -127,20 +130,19 @@ Began text before (Ok told) after =
 Began text before (Err fault) after =
     (after.events ≡ before.events) × (IsNoPassOver text before fault after ⊎ (fault ≡ NoMemory))
 
--- a root that is not shown was started; or, where no more can be started, refused before it was
--- listed
-abbrev pub BeganIfRoom : List ℕ → CrawlerData → Result (List RootEvent) CrawlFault → CrawlerData
-    → Type 0
-BeganIfRoom text before result after =
-    (IsFull before.events × (result ≡ Err TooManyRoots) × (after ≡ before))
-    ⊎ ((IsFull before.events → ⊥) × Began text before result after)
+-- a root was watched that was found so: of one that is shown the list is told; where no more can be
+-- started, it is refused before it is listed; any other was started
+abbrev pub WatchedAt : Place → List ℕ → CrawlerData → Result (List RootEvent) CrawlFault
+    → CrawlerData → Type 0
+WatchedAt (Shown number) text before result after = Shared before result after
+WatchedAt Full text before result after = (result ≡ Err TooManyRoots) × (after ≡ before)
+WatchedAt Free text before result after = Began text before result after
 
--- a root was watched: of one that is shown the list is told, and any other was started
+-- a root was watched
 abbrev pub Watched : List ℕ → CrawlerData → Result (List RootEvent) CrawlFault → CrawlerData
     → Type 0
 Watched text before result after =
-    (IsSome (number_of text before.events) × Shared before result after)
-    ⊎ ((number_of text before.events ≡ None) × BeganIfRoom text before result after)
+    (place : Place) × IsPlace text before.events place × WatchedAt place text before result after
 
 -- a root was unwatched by its number: its end is added where it is shown, and the list is told;
 -- where it is refused, nothing is added

@@ -1,32 +1,34 @@
 -- What may be added to the one list of events of all roots, and when a pass or a start is refused
--- there.
+-- there. A crawler publishes by these words, and a script plays by them.
 -- No public document is behind it.
-use Rattle.std.specs.Prelude.{◌≡◌, ◌⊎◌, ◌+◌, true, false, ℕ, List, [], ◌∷◌, ◌++◌, length}
-use Rattle.std.specs.Prelude.{Option, option_map}
-use Rattle.wq_base.specs.Limit.{max_number, max_roots}
+use Rattle.std.specs.Prelude.{◌≡◌, ◌<◌, ◌⊎◌, ◌+◌, true, false, ℕ, List, [], ◌∷◌, ◌++◌, length}
+use Rattle.std.specs.Prelude.{None, Some}
+use Rattle.wq_view.specs.Limit.{max_tick}
 use Rattle.wq_view.specs.Listing.{PassData}
-use Rattle.wq_live.specs.Event.{is_shown, shown_root, shown, start_events, started}
+use Rattle.wq_live.specs.Event.{IsFull, is_shown, number_of, passes_over, start_events, started}
 use Rattle.wq_live.specs.Table.{IsNews, IsNoNews, WantsForTicks}
 use Rattle.wq_live.specs.declared.event.RootEvent.{RootEvent}
 use Rattle.wq_live.specs.declared.event.RootEvent.TheVariants.{Ended, Passed}
 use Rattle.wq_crawl.specs.declared.fault.CrawlFault.{CrawlFault}
 use Rattle.wq_crawl.specs.declared.fault.CrawlFault.TheVariants.{NoMemory, TicksSpent}
+use Rattle.wq_crawl.specs.declared.place.Place.{Place}
+use Rattle.wq_crawl.specs.declared.place.Place.TheVariants.{Shown, Full, Free}
 
--- no more root can be started: as many are shown as may be, or the last number was given
-abbrev pub IsFull : List RootEvent → Type 0
-IsFull events = (length (shown events) ≡ max_roots) ⊎ (length (started events) ≡ max_number)
+-- how a root of this text is found that is to be shown: it is, under this number; or it is not, and
+-- no more root can be started, or one can
+abbrev pub IsPlace : List ℕ → List RootEvent → Place → Type 0
+IsPlace text events (Shown number) = number_of text events ≡ Some number
+IsPlace text events Full = (number_of text events ≡ None) × IsFull events
+IsPlace text events Free = (number_of text events ≡ None) × (IsFull events → ⊥)
 
--- the number of the root of this text, where it is shown
-abbrev pub number_of : List ℕ → List RootEvent → Option ℕ
-number_of text events = option_map (λ root. root.number) (shown_root text events)
-
--- a pass over the root of this number is added, unless it tells nothing
+-- a pass over the root of this number is added, which has a tick left for it, unless it tells nothing
 abbrev pub Passes : List RootEvent → ℕ → PassData → List RootEvent → Type 0
 Passes before number pass after =
     (IsNoNews before number pass × (after ≡ before))
-    ⊎ (IsNews before number pass × (after ≡ before ++ Passed number pass ∷ []))
+    ⊎ (IsNews before number pass × (length (passes_over number before) < max_tick)
+    × (after ≡ before ++ Passed number pass ∷ []))
 
--- why a pass over a root is not published: it wants for ticks; or it does not, and memory ran out
+-- why a pass over a root is not added: it wants for ticks; or it does not, and memory ran out
 abbrev pub IsNotTakenIn : List RootEvent → ℕ → PassData → CrawlFault → Type 0
 IsNotTakenIn events number pass fault =
     ((fault ≡ TicksSpent) × WantsForTicks events number pass)

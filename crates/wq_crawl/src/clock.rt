@@ -1,21 +1,34 @@
 //! The machine's clock, which tells the second of a pass.
+ghost use Rattle.std.specs.Prelude.{◌≡◌, ℤ, Option, int_le, pos, true};
+ghost use Rattle.wq_crawl.specs.Second.{next_second};
 
 use crate::seconds::Seconds;
+use std::marker::Model;
 use std::time::{Clock, SystemTime, UNIX_EPOCH};
 use wq_base::MAX_NUMBER;
 
 /// The seconds of the Unix epoch by the machine's clock, which never fall: where it was set back, cannot be read or stands before
 /// the epoch, the last second that it told is told again. So who asks what changed since a second may be told too much, and
-/// misses nothing.
+/// misses nothing. Contracts see the last second that it told, 0 before the first.
 #[derive(Drop)]
 pub struct MachineClock<R: Clock + Drop> {
     rt: R,
     last: i64,
 }
 
+impl<R: Clock + Drop> Model for MachineClock<R> {
+    ghost use Rattle.std.specs.Prelude.{ℤ};
+
+    ghost Value = { ℤ };
+
+    ghost view = { λ c. c.last };
+}
+
 impl<R: Clock + Drop> MachineClock<R> {
     /// A clock that told no second yet.
-    pub fn new(rt: R) -> MachineClock<R> {
+    pub fn new(rt: R) -> MachineClock<R>
+        ensures { result ≡ pos 0 }
+    {
         MachineClock { rt, last: 0 }
     }
 
@@ -27,11 +40,25 @@ impl<R: Clock + Drop> MachineClock<R> {
     }
 }
 
+/// The second that is told after this one, when the clock shows that, or cannot be read.
+fn next_second(last: i64, now: Option<i64>) -> i64
+    ensures next { result ≡ next_second last now }
+    ensures rises { int_le last result ≡ true }
+{
+    match now {
+        Some(now) if last <= now => now,
+        _ => last,
+    }
+}
+
 impl<R: Clock + Drop> Seconds for MachineClock<R> {
-    fn second(&mut self) -> i64 {
-        if let Some(now) = self.now() {
-            self.last = self.last.max(now);
-        }
+    fn second(&mut self) -> i64
+        ensures rises { int_le self.old result ≡ true }
+        ensures told { self.new ≡ result }
+        ensures next { (now : Option ℤ) × (result ≡ next_second self.old now) }
+    {
+        let now = self.now();
+        self.last = next_second(self.last, now);
         self.last
     }
 }

@@ -1,18 +1,19 @@
 //! What lists roots and publishes what is seen: a tree, a clock and a publisher, of which one crawl after the other
 //! takes hold.
 ghost use Rattle.std.specs.Prelude.{◌≡◌, ◌≢◌, ◌⊎◌, ◌↔◌, Err, IfErr, IfOk, IsTrue, MatchResult, None};
+ghost use Rattle.wq_live.specs.Event.{IsFull, number_of};
 ghost use Rattle.wq_crawl.specs.Tree.{IsCounted, Lists, rows_given};
 ghost use Rattle.wq_crawl.specs.Crawl.{Began, Crawled, CrawledAt, IsNoPassOver, IsPassOver};
 ghost use Rattle.wq_crawl.specs.Crawl.{Shared, Unwatched, Watched};
-ghost use Rattle.wq_crawl.specs.Publish.{IsFull, IsNotTakenIn, Passes, number_of, with_start};
+ghost use Rattle.wq_crawl.specs.Publish.{IsNotTakenIn, Passes, with_start};
 
 use crate::fault::{CrawlFault, no_pass, not_listed};
+use crate::place::{Place, place_for};
 use crate::seconds::Seconds;
 use crate::tree::{Tree, TreeFault};
 use std::alloc::AllocError;
 use std::marker::Model;
 use std::sync::Wait;
-use wq_base::{MAX_NUMBER, MAX_ROOTS};
 use wq_live::{Named, Publisher, Seat, StartFault, Told};
 use wq_view::{Pass, Seen, ViewFault};
 
@@ -94,13 +95,11 @@ impl<N: Named, R: Wait + Drop, T: Tree + Drop, S: Seconds + Drop> Crawler<N, R, 
     pub fn watch(&mut self, root: &str) -> Result<Told<N>, CrawlFault>
         ensures { Watched root.now self.old result self.new }
     {
-        if self.publisher.find(root).is_some() {
-            return self.told();
+        match place_for(self.publisher.table(), root) {
+            Place::Shown(_) => self.told(),
+            Place::Full => Err(CrawlFault::TooManyRoots),
+            Place::Free => self.begin(root),
         }
-        if self.is_full() {
-            return Err(CrawlFault::TooManyRoots);
-        }
-        self.begin(root)
     }
 
     /// Publishes the end of the root of this number, if it is shown, and tells the list.
@@ -131,13 +130,6 @@ impl<N: Named, R: Wait + Drop, T: Tree + Drop, S: Seconds + Drop> Crawler<N, R, 
             Ok(told) => Ok(told),
             Err(_) => Err(CrawlFault::NoMemory),
         }
-    }
-
-    /// Whether no more root can be started.
-    fn is_full(&self) -> bool
-        ensures { IsTrue result ↔ IsFull (self.now).events }
-    {
-        self.publisher.len() == MAX_ROOTS || self.publisher.table().given() == MAX_NUMBER
     }
 
     /// Crawls the root of this number and text, which is shown.

@@ -2,11 +2,13 @@
 //! share it. How a tree is walked is not said here, nor what a session asks for.
 #![tactic(auto)]
 
+mod begun;
 mod clock;
 mod crawler;
 mod fault;
 mod lock_roots;
 mod memory_roots;
+mod place;
 mod roots;
 mod seconds;
 mod shared_crawler;
@@ -17,6 +19,7 @@ pub use crawler::Crawler;
 pub use fault::CrawlFault;
 pub use lock_roots::LockRoots;
 pub use memory_roots::MemoryRoots;
+pub use place::{Place, place_for};
 pub use roots::Roots;
 pub use seconds::Seconds;
 pub use shared_crawler::SharedCrawler;

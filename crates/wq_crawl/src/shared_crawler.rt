@@ -1,11 +1,12 @@
 //! A crawler that threads share: one crawls at a time, and those that asked before it began go by what it told.
-ghost use Rattle.std.specs.Prelude.{◌≡◌, ◌⊎◌, None, nat_eq, nat_le, false};
+ghost use Rattle.std.specs.Prelude.{◌≡◌, None, nat_eq, nat_le, false};
 ghost use Rattle.std.specs.Option.{option_map_or};
-ghost use Rattle.lru.specs.LruCache.{lru_cache, put_entries};
 ghost use Rattle.std.specs.Map.{lookup};
-ghost use Rattle.wq_crawl.specs.Crawl.{CrawledAt, CrawledOnce, tells};
+ghost use Rattle.wq_crawl.specs.Count.{Keeps, KeepsOf, KeepsRaised};
+ghost use Rattle.wq_crawl.specs.Crawl.{CrawledAt, CrawledOnce, Unwatched, Watched, tells};
 ghost use Rattle.wq_crawl.specs.Roots.{RootsGive, ending, passing, showing};
 
+use crate::begun::{Begun, Counts};
 use crate::crawler::Crawler;
 use crate::fault::CrawlFault;
 use crate::seconds::Seconds;
@@ -13,7 +14,6 @@ use crate::tree::Tree;
 use lru::LruCache;
 use std::alloc::{AllocError, Global};
 use std::num::NonZeroUsize;
-use std::sync::atomic::{AtomicU64, Ordering};
 use std::sync::{Mutex, Wait};
 use wq_base::MAX_ROOTS;
 use wq_live::{Named, Told};
@@ -21,8 +21,7 @@ use wq_live::{Named, Told};
 /// A crawler that threads share. Each call waits until it has the crawler for itself.
 #[derive(Drop)]
 pub struct SharedCrawler<N: Named, R: Wait + Drop, T: Tree + Drop, S: Seconds + Drop> {
-    /// How many crawls have begun.
-    begun: AtomicU64,
+    begun: Begun,
     crawls: Mutex<LastCrawls<N, R, T, S>>,
 }
 
@@ -41,7 +40,7 @@ impl<N: Named, R: Wait + Drop, T: Tree + Drop, S: Seconds + Drop> SharedCrawler<
         crawler: Crawler<N, R, T, S>,
     ) -> Result<SharedCrawler<N, R, T, S>, AllocError> {
         Ok(SharedCrawler {
-            begun: AtomicU64::new(0),
+            begun: Begun::new(),
             crawls: Mutex::new(LastCrawls {
                 crawler,
                 last: LruCache::new(alloc, most_roots())?,
@@ -55,22 +54,21 @@ impl<N: Named, R: Wait + Drop, T: Tree + Drop, S: Seconds + Drop> SharedCrawler<
     pub fn crawl(&self, rt: &R, root: &str) -> Result<Option<Told<N>>, CrawlFault>
         ensures { RootsGive None (passing root.now) result None }
     {
-        let asked = self.begun.load(Ordering::SeqCst);
-        self.crawls.lock(rt).crawl(&self.begun, asked, root)
+        crawl_for(&self.begun, &self.crawls, rt, root)
     }
 
     /// Finds the root of this text, or lists it and starts it, and tells the list of events.
     pub fn watch(&self, rt: &R, root: &str) -> Result<Told<N>, CrawlFault>
         ensures { RootsGive None (showing root.now) (tells result) None }
     {
-        self.crawls.lock(rt).crawler.watch(root)
+        self.crawls.lock(rt).watch(root)
     }
 
     /// Publishes the end of the root of this number, if it is shown, and tells the list of events.
     pub fn unwatch(&self, rt: &R, number: u64) -> Result<Told<N>, CrawlFault>
         ensures { RootsGive None (ending number) (tells result) None }
     {
-        self.crawls.lock(rt).crawler.unwatch(number)
+        self.crawls.lock(rt).unwatch(number)
     }
 
     /// Lets go of the views that only what was published before the last time has ([`Crawler::let_go`]).
@@ -80,15 +78,18 @@ impl<N: Named, R: Wait + Drop, T: Tree + Drop, S: Seconds + Drop> SharedCrawler<
 }
 
 impl<N: Named, R: Wait + Drop, T: Tree + Drop, S: Seconds + Drop> LastCrawls<N, R, T, S> {
-    /// Crawls a root for those that asked when so many crawls had begun, unless the last crawl of it does for them.
-    fn crawl(
+    /// Crawls a root for those that read this count, unless the last crawl of it does for them.
+    fn crawl<C: Counts>(
         &mut self,
-        begun: &AtomicU64,
+        begun: &C,
         asked: u64,
         root: &str,
     ) -> Result<Option<Told<N>>, CrawlFault>
-        ensures { CrawledOnce root.now asked (λ number. lookup (nat_eq number) self.old.last.entries)
+        requires asked { C.read asked }
+        ensures crawled { CrawledOnce root.now asked
+            (λ number. lookup (nat_eq number) self.old.last.entries)
             self.old.crawler result self.new.crawler }
+        ensures kept { KeepsRaised C.raised root.now self.old.crawler self.old.last result self.new.last }
     {
         let Some(number) = self.crawler.number(root) else {
             return Ok(None);
@@ -96,22 +97,34 @@ impl<N: Named, R: Wait + Drop, T: Tree + Drop, S: Seconds + Drop> LastCrawls<N, 
         if self.has_begun_since(asked, number) {
             return Ok(Some(self.crawler.told()?));
         }
-        Ok(Some(self.crawl_at(begun, number, root)?))
+        let raised = begun.raise(&self.crawler);
+        Ok(Some(self.crawl_at(raised, number, root)?))
     }
 
     /// Crawls the root of this number and text, which is shown, and keeps how many crawls had begun before.
-    fn crawl_at(
-        &mut self,
-        begun: &AtomicU64,
-        number: u64,
-        root: &str,
-    ) -> Result<Told<N>, CrawlFault>
-        ensures { CrawledAt number root.now self.old.crawler result self.new.crawler }
+    fn crawl_at(&mut self, raised: u64, number: u64, root: &str) -> Result<Told<N>, CrawlFault>
+        ensures crawled { CrawledAt number root.now self.old.crawler result self.new.crawler }
+        ensures kept { KeepsOf self.old.last number raised result self.new.last }
     {
-        let before = begun.fetch_add(1, Ordering::SeqCst);
         let told = self.crawler.crawl_at(number, root)?;
-        self.keep(number, before);
+        self.keep(number, raised);
         Ok(told)
+    }
+
+    /// Finds the root of this text, or lists it and starts it ([`Crawler::watch`]).
+    fn watch(&mut self, root: &str) -> Result<Told<N>, CrawlFault>
+        ensures watched { Watched root.now self.old.crawler result self.new.crawler }
+        ensures kept { self.new.last ≡ self.old.last }
+    {
+        self.crawler.watch(root)
+    }
+
+    /// Publishes the end of the root of this number, if it is shown ([`Crawler::unwatch`]).
+    fn unwatch(&mut self, number: u64) -> Result<Told<N>, CrawlFault>
+        ensures unwatched { Unwatched number self.old.crawler result self.new.crawler }
+        ensures kept { self.new.last ≡ self.old.last }
+    {
+        self.crawler.unwatch(number)
     }
 
     /// Whether the last crawl of the root of this number began when so many had begun, or later.
@@ -129,14 +142,33 @@ impl<N: Named, R: Wait + Drop, T: Tree + Drop, S: Seconds + Drop> LastCrawls<N, 
     /// each thread crawls for itself.
     fn keep(&mut self, number: u64, before: u64)
         ensures crawler { self.new.crawler ≡ self.old.crawler }
-        ensures last { (self.new.last ≡ self.old.last)
-            ⊎ (self.new.last ≡ lru_cache (put_entries nat_eq self.old.last number before) self.old.last.cap) }
+        ensures last { Keeps self.old.last number before self.new.last }
     {
         match self.last.put(number, before) {
             Ok(_) => {}
             Err(_) => {}
         }
     }
+}
+
+/// Crawls a root for who asks now, by what is under the lock.
+fn crawl_for<C, N, R, T, S>(
+    begun: &C,
+    crawls: &Mutex<LastCrawls<N, R, T, S>>,
+    rt: &R,
+    root: &str,
+) -> Result<Option<Told<N>>, CrawlFault>
+where
+    C: Counts,
+    N: Named,
+    R: Wait + Drop,
+    T: Tree + Drop,
+    S: Seconds + Drop,
+    ensures { RootsGive None (passing root.now) result None }
+{
+    // The count is read before the lock is waited for.
+    let asked = begun.read();
+    crawls.lock(rt).crawl(begun, asked, root)
 }
 
 /// How many roots may be shown.

@@ -3,6 +3,6 @@ use Rattle.std.proofs.Common.{Ok, sym, subst}
 use Rattle.wq_crawl.specs.Crawl.{CrawledAt}
 use Rattle.wq_crawl.proofs.shared_crawler.LastCrawls.crawl_at.Goals as goal
 
-pub returns : goal.returns
-returns g c =
+pub returns-clause-crawled : goal.returns-clause-crawled
+returns-clause-crawled g c =
     subst (CrawledAt c.args.number c.args.root.now c.args.self.now.crawler (Ok c.in_ok-told.told)) (sym c.keep.ensures.crawler) c.in_ok-told.ensures
