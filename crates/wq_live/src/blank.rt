@@ -39,7 +39,8 @@ impl Model for Blank {
 }
 
 impl Blank {
-    /// A shared view with room for so many seats at once.
+    /// A shared view with room for so many seats at once. It shows its first value once more, so that the writer has the
+    /// room that later values take.
     pub fn new<R: Wait>(alloc: Global, rt: &R, seats: usize) -> Result<Blank, AllocError>
         requires { (0 < seats) × (seats < 2 ^ 32) }
         ensures { IfOk result (λ blank. blank.log ≡ []) }
@@ -51,8 +52,13 @@ impl Blank {
         let second = first.again()?;
         let next = first.again()?;
         let writer = Writer::new(alloc, first, second, seats)?;
+        let (writer, shown) = show(rt, writer, next);
+        if let Err(error) = shown {
+            writer.take(rt);
+            return Err(error);
+        }
         Ok(Blank {
-            writer: show(rt, writer, next),
+            writer,
             head,
             alloc,
         })

@@ -200,8 +200,10 @@ impl<N: Named, R: Wait + Drop> Publisher<N, R> {
         if !self.keeps_older {
             return;
         }
-        if let Ok(again) = self.writer.published().again() {
-            self.show(again);
+        let Ok(again) = self.writer.published().again() else {
+            return;
+        };
+        if self.show(again).is_ok() {
             self.keeps_older = false;
         }
     }
@@ -220,19 +222,19 @@ impl<N: Named, R: Wait + Drop> Publisher<N, R> {
             return Err(AllocError);
         }
         let told = Shown::new(told, log.again());
-        self.show(Shown::new(table, log));
+        self.show(Shown::new(table, log))?;
         self.keeps_older = true;
         Ok(Told::new(told))
     }
 
-    /// Shows the next value, the list of which goes on from what is shown.
-    fn show(&mut self, next: Shown)
+    /// Shows the next value, the list of which goes on from what is shown. Refused where there is no room to line it up.
+    fn show(&mut self, next: Shown) -> Result<(), AllocError>
         requires { BeginsLog (record { book = N.book; log = self.old }) next }
-        ensures { self.new ≡ next.log }
+        ensures { MatchResult result (λ _. self.new ≡ next.log) (λ _. self.new ≡ self.old) }
     {
         mem::replace_with(&mut self.writer, (&self.rt, next), |writer, (rt, next)| {
-            (show(rt, writer, next), ())
-        });
+            show(rt, writer, next)
+        })
     }
 }
 

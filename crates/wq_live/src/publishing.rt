@@ -1,5 +1,5 @@
 //! How the writer of the shared value shows the next one.
-ghost use Rattle.std.specs.Prelude.{◌≡◌, ◌++◌, ◌∷◌, [], Some, drop};
+ghost use Rattle.std.specs.Prelude.{◌≡◌, ◌∷◌, [], MatchResult, Some, drop};
 ghost use Rattle.left_right.specs.Sides.{view};
 ghost use Rattle.wq_live.specs.Log.{BeginsLog};
 
@@ -7,6 +7,7 @@ use crate::kept::{Kept, Knowing};
 use crate::log::Log;
 use crate::shown::Shown;
 use left_right::writer::Writer;
+use std::alloc::AllocError;
 use std::sync::Wait;
 
 /// The writer of the shared value.
@@ -14,30 +15,25 @@ pub(crate) type ShownWriter = Writer<Shown, Shown, Option<Log>, Kept>;
 
 /// Shows the next value, the list of which goes on from what is shown. It waits for those that still look at the
 /// value before the last one.
-pub(crate) fn show<R: Wait>(rt: &R, writer: ShownWriter, next: Shown) -> ShownWriter
+///
+/// Refused where there is no room to line it up. Then the writer shows what it did.
+pub(crate) fn show<R: Wait>(
+    rt: &R,
+    mut writer: ShownWriter,
+    next: Shown,
+) -> (ShownWriter, Result<(), AllocError>)
     requires ready { drop writer.behind writer.log.items ≡ [] }
     requires goes_on { BeginsLog writer.desk.shown.value next }
-    ensures shown { result.desk.shown.value ≡ next }
-    ensures known { view result.desk.place ≡ Some next }
-    ensures ready { drop result.behind result.log.items ≡ [] }
+    ensures shown { MatchResult result.1
+        (λ _. (result.0.desk.shown.value ≡ next) × (view result.0.desk.place ≡ Some next))
+        (λ _. result.0.desk ≡ writer.desk) }
+    ensures ready { drop result.0.behind result.0.log.items ≡ [] }
 {
     let log = next.log().again();
-    publish_pending(rt, append(rt, writer, next), &log)
-}
-
-/// Lines the next value up. A refused growth is tried again.
-fn append<R: Wait>(rt: &R, mut writer: ShownWriter, mut next: Shown) -> ShownWriter
-    ensures desk { result.desk ≡ writer.desk }
-    ensures pending { drop result.behind result.log.items
-        ≡ drop writer.behind writer.log.items ++ next ∷ [] }
-{
-    for _ in rt.forever() {
-        match writer.append(next) {
-            Ok(()) => return writer,
-            Err(refused) => next = refused,
-        }
+    match writer.append(next) {
+        Ok(()) => (publish_pending(rt, writer, &log), Ok(())),
+        Err(_) => (writer, Err(AllocError)),
     }
-    unreachable!()
 }
 
 /// Shows what is lined up. A refused growth is tried again.
