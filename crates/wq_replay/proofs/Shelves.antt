@@ -1,43 +1,43 @@
 -- The shelf of a world, as the calls that were accepted.
-use Rattle.std.proofs.Common.{◌≡◌, ◌+◌, ℕ, Bool, true, false, List, [], ◌∷◌, ◌++◌, Option, Some, None, Result, Ok, Err, inl, inr, refl, sym, ap, ◌∙◌}
+use Rattle.std.proofs.Common.{◌≡◌, ℕ, List, [], ◌∷◌, ◌++◌, Option, Some, None, Result, Ok, Err, inl, inr, refl, sym, ap, ◌∙◌}
+use Rattle.wq_live.specs.Event.{number_of}
 use Rattle.wq_live.specs.Table.{TableData}
+use Rattle.wq_crawl.specs.declared.place.Place.{Place}
+use Rattle.wq_crawl.specs.declared.place.Place.TheVariants.{Shown, Full, Free}
 use Rattle.wq_registry.specs.History.{after_all}
 use Rattle.wq_session.specs.Accepted.{CallNow, AnswersAreCalls}
-use Rattle.wq_session.specs.Crawl.{crawl_refusal}
 use Rattle.wq_session.specs.Need.{need_of}
 use Rattle.wq_session.specs.Out.{OutData}
-use Rattle.wq_session.specs.At.{AtData, ShelfNow}
+use Rattle.wq_session.specs.At.{ShelfNow}
 use Rattle.wq_session.specs.declared.ask.Ask.{Ask}
 use Rattle.wq_crawl.specs.declared.fault.CrawlFault.{CrawlFault}
-use Rattle.wq_session.specs.declared.refusal.Refusal.TheVariants.{NoMemory}
 use Rattle.wq_view.specs.Listing.{PassData}
 use Rattle.wq_replay.specs.Accepted.{AcceptsAt, AcceptsOf, AcceptsUnless, RunsWith, ShelvesAreCalls}
-use Rattle.wq_replay.specs.World.{AnswersInWorld, Crawls, CrawlsAt, Does, GetsAt, GetsFor, HappeningData, crawl, watching, asked, WatchesAt, Runs, SentData, Starts, WorldData, ending, fault_for, looked, new_world, number_in, shows}
+use Rattle.wq_replay.specs.World.{Crawls, CrawlsAt, Does, GetsAt, GetsFor, HappeningData, crawl, watching, asked, WatchesAt, Runs, SentData, Starts, WorldData, ending, fault_for, new_world}
 
 -- a crawl leaves the shelf
 at_number : (number : Option ℕ) (world : WorldData) (root : List ℕ) (pass : PassData) (after : WorldData)
     → CrawlsAt number world root pass after → after.shelf ≡ world.shelf
 at_number None world root pass after is = ap (λ w. w.shelf) is
-at_number (Some number) world root pass after (inl (same, is)) = ap (λ w. w.shelf) is
-at_number (Some number) world root pass after (inr (inl (new, room, is))) = ap (λ w. w.shelf) is
-at_number (Some number) world root pass after (inr (inr (new, spent, is))) = ap (λ w. w.shelf) is
+at_number (Some number) world root pass after (inl (events, passes, is)) = ap (λ w. w.shelf) is
+at_number (Some number) world root pass after (inr (spent, is)) = ap (λ w. w.shelf) is
 
 crawls : (world : WorldData) (root : List ℕ) (seen : Result PassData CrawlFault) (after : WorldData)
     → Crawls world root seen after → after.shelf ≡ world.shelf
-crawls world root (Ok pass) after (table, is, goes) = at_number (number_in root table) world root pass after goes
+crawls world root (Ok pass) after goes = at_number (number_of root world.events) world root pass after goes
 crawls world root (Err fault) after is = ap (λ w. w.shelf) is
 
 -- and so does a watching
-starts : (number : ℕ) (world : WorldData) (root : List ℕ) (seen : Result PassData CrawlFault) (after : WorldData)
-    → Starts number world root seen after → after.shelf ≡ world.shelf
-starts number world root (Ok pass) after is = ap (λ w. w.shelf) is
-starts number world root (Err fault) after is = ap (λ w. w.shelf) is
+starts : (world : WorldData) (root : List ℕ) (seen : Result PassData CrawlFault) (after : WorldData)
+    → Starts world root seen after → after.shelf ≡ world.shelf
+starts world root (Ok pass) after is = ap (λ w. w.shelf) is
+starts world root (Err fault) after is = ap (λ w. w.shelf) is
 
-opens : (shown : Bool) (table : TableData) (world : WorldData) (root : List ℕ) (seen : Result PassData CrawlFault) (after : WorldData)
-    → WatchesAt shown table world root seen after → after.shelf ≡ world.shelf
-opens true table world root seen after is = ap (λ w. w.shelf) is
-opens false table world root seen after (inl (full, is)) = ap (λ w. w.shelf) is
-opens false table world root seen after (inr (room, goes)) = starts (table.given + 1) world root seen after goes
+watches : (place : Place) (world : WorldData) (root : List ℕ) (seen : Result PassData CrawlFault) (after : WorldData)
+    → WatchesAt place world root seen after → after.shelf ≡ world.shelf
+watches (Shown number) world root seen after is = ap (λ w. w.shelf) is
+watches Full world root seen after is = ap (λ w. w.shelf) is
+watches Free world root seen after goes = starts world root seen after goes
 
 module _ (answers_are_calls : AnswersAreCalls) where
   -- what an ask gets
@@ -62,7 +62,7 @@ module _ (answers_are_calls : AnswersAreCalls) where
   does : (world : WorldData) (happening : HappeningData) (sent : List SentData) (after : WorldData) → Does world happening sent after
       → (calls : List CallNow) × AcceptsOf world happening sent calls × (after.shelf ≡ after_all calls world.shelf)
   does world (crawl root seen) sent after (none, goes) = ([], refl, crawls world root seen after goes)
-  does world (watching root seen) sent after (none, (table, is, goes)) = ([], refl, opens (shows root table) table world root seen after goes)
+  does world (watching root seen) sent after (none, (place, is, goes)) = ([], refl, watches place world root seen after goes)
   does world (asked client ask) sent after (out, (table, is, gets), same) =
       let it = gets_for (fault_for (need_of ask) table world.refused) table world ask out after gets in
       (it.0, (out, (table, is, it.1), same), it.2)

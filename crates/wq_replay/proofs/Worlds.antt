@@ -1,7 +1,8 @@
 -- How worlds go on.
-use Rattle.std.proofs.Common.{◌≡◌, ◌+◌, ℕ, true, false, List, [], ◌∷◌, ◌++◌, length, arith, inr, Option, Some, None, Result, Ok, Err, IfOk, IfSome, OnOk, MatchOption, Vec, map, option_map, refl, sym, ap, subst, ◌∙◌}
+use Rattle.std.proofs.Common.{◌≡◌, ℕ, List, [], ◌∷◌, ◌++◌, length, arith, Option, Some, None, Result, Ok, Err, IfOk, IfSome, OnOk, MatchOption, Vec, map, option_map, refl, sym, ap, subst, ◌∙◌}
 use Rattle.std.proofs.lemmas.List.{append-nil, append_assoc}
 use Rattle.wq_clock.specs.Instance.{InstanceData}
+use Rattle.wq_live.specs.Event.{number_of}
 use Rattle.wq_live.specs.Table.{TableData, IsTableOf}
 use Rattle.wq_session.specs.Answer.{AnswersAsk, MayRefuse}
 use Rattle.wq_session.specs.Crawl.{crawl_refusal}
@@ -9,10 +10,12 @@ use Rattle.wq_session.specs.Need.{NeedData, need_of}
 use Rattle.wq_session.specs.Out.{OutData}
 use Rattle.wq_session.specs.At.{AtData, ShelfNow}
 use Rattle.wq_session.specs.declared.ask.Ask.{Ask}
+use Rattle.wq_crawl.specs.Publish.{IsPlace}
 use Rattle.wq_crawl.specs.declared.fault.CrawlFault.{CrawlFault}
+use Rattle.wq_crawl.specs.declared.place.Place.{Place}
+use Rattle.wq_crawl.specs.declared.place.Place.TheVariants.{Free}
 use Rattle.wq_session.specs.declared.refusal.Refusal.{Refusal}
 use Rattle.wq_view.specs.Listing.{PassData}
-use Rattle.wq_view.specs.View.{ViewData}
 use Rattle.std.specs.declared.alloc.Global.{Global}
 use Rattle.std.specs.declared.alloc.AllocError.{AllocError}
 use Rattle.wq_replay.specs.Stands.{Leads, Stands, happening_data, sent_data, sent_list}
@@ -21,7 +24,7 @@ use Rattle.wq_replay.specs.declared.happening.Happening.{Happening}
 use Rattle.wq_replay.specs.declared.sent.Sent.{Sent}
 use Rattle.wq_replay.specs.declared.world.World.{World}
 use Rattle.wq_clock.specs.Run.{RunData, instance_of}
-use Rattle.wq_replay.specs.World.{AnswersInWorld, Crawls, CrawlsAt, Does, EndsAt, Gets, GetsAt, GetsFor, HappeningData, IsFull, Watches, WatchesAt, WatchesNew, RefusedData, Runs, SentData, Starts, WorldData, at_end, ending, fault_for, looked, number_in, shows, unrefused}
+use Rattle.wq_replay.specs.World.{AnswersInWorld, Crawls, CrawlsAt, Does, EndsAt, Gets, GetsAt, GetsFor, HappeningData, RefusedData, Runs, SentData, Starts, Watches, WatchesAt, WorldData, at_end, ending, fault_for, looked, unrefused}
 
 some_same : {X : Type 0} {x y : X} → Some x ≡ Some y → x ≡ y
 some_same h = cc h
@@ -42,43 +45,24 @@ pub runs_one : (world after : WorldData) (happening : HappeningData) (sent : Lis
 runs_one world after happening sent does = (after, sent, [], does, sym (append-nil sent), (refl, refl))
 
 -- a crawl of a root that is not shown
-pub crawls_none : (before : WorldData) (root : List ℕ) (pass : PassData) (table : TableData) → IsTableOf before.events table
-    → number_in root table ≡ None → Crawls before root (Ok pass) (unrefused before)
-crawls_none before root pass table is none =
-    (table, is, subst (λ n. CrawlsAt n before root pass (unrefused before)) (sym none) refl)
+pub crawls_none : (before : WorldData) (root : List ℕ) (pass : PassData) → number_of root before.events ≡ None
+    → Crawls before root (Ok pass) (unrefused before)
+crawls_none before root pass none = subst (λ n. CrawlsAt n before root pass (unrefused before)) (sym none) refl
 
 -- a crawl of a root that is shown
-pub crawls_shown : (before after : WorldData) (root : List ℕ) (pass : PassData) (table : TableData) (number : ℕ)
-    → IsTableOf before.events table → number_in root table ≡ Some number → CrawlsAt (Some number) before root pass after
+pub crawls_shown : (before after : WorldData) (root : List ℕ) (pass : PassData) (number : ℕ)
+    → number_of root before.events ≡ Some number → CrawlsAt (Some number) before root pass after
     → Crawls before root (Ok pass) after
-crawls_shown before after root pass table number is some crawls =
-    (table, is, subst (λ n. CrawlsAt n before root pass after) (sym some) crawls)
+crawls_shown before after root pass number some crawls = subst (λ n. CrawlsAt n before root pass after) (sym some) crawls
 
--- a watching of a root that is shown
-pub opens_shown : (before : WorldData) (root : List ℕ) (seen : Result PassData CrawlFault) (table : TableData)
-    → IsTableOf before.events table → shows root table ≡ true → Watches before root seen (unrefused before)
-opens_shown before root seen table is shown =
-    (table, is, subst (λ b. WatchesAt b table before root seen (unrefused before)) (sym shown) refl)
-
--- a watching of a root that is not shown
-pub opens_new : (before after : WorldData) (root : List ℕ) (seen : Result PassData CrawlFault) (table : TableData)
-    → IsTableOf before.events table → shows root table ≡ false → WatchesNew table before root seen after → Watches before root seen after
-opens_new before after root seen table is new opens =
-    (table, is, subst (λ b. WatchesAt b table before root seen after) (sym new) opens)
-
--- a watching by which a root starts with a pass
-pub opens_start : (before : WorldData) (root : List ℕ) (pass : PassData) (seen : Result PassData CrawlFault) (table : TableData)
-    (result : Result (Unit {0}) AllocError) (Then : WorldData → Type 0) → IsTableOf before.events table → shows root table ≡ false
-    → (IsFull table → ⊥) → seen ≡ Ok pass
-    → OnOk result ((after : WorldData) × Starts (table.given + 1) before root (Ok pass) after × Then after)
+-- a watch by which a root starts
+pub watches_free : (before : WorldData) (root : List ℕ) (seen : Result PassData CrawlFault) (place : Place)
+    (result : Result (Unit {0}) AllocError) (Then : WorldData → Type 0) → IsPlace root before.events place → place ≡ Free
+    → OnOk result ((after : WorldData) × Starts before root seen after × Then after)
     → OnOk result ((after : WorldData) × Watches before root seen after × Then after)
-opens_start before root pass seen table (Err error) Then is new room same starts = tt
-opens_start before root pass seen table (Ok done) Then is new room same (after, starts, holds) = (
-  after,
-  opens_new before after root seen table is new
-      (inr (room, subst (λ s. Starts (table.given + 1) before root s after) (sym same) starts)),
-  holds,
-)
+watches_free before root seen place (Err error) Then found free starts = tt
+watches_free before root seen place (Ok done) Then found free (after, starts, holds) =
+    (after, (place, found, subst (λ p. WatchesAt p before root seen after) (sym free) starts), holds)
 
 -- the fault that is found in the code's values
 pub fault_is : (said need : NeedData) (table : TableData) (taken worlds : Option RefusedData) (got : Option CrawlFault)

@@ -11,7 +11,6 @@ use Rattle.wq_replay.specs.World.{HappeningData, crawl, watching, asked, SentDat
 use Rattle.wq_replay.specs.declared.happening.Happening.{Happening}
 use Rattle.wq_replay.specs.declared.happening.Happening.TheVariants.{Crawl, Watch, Asked}
 use Rattle.wq_replay.specs.declared.refused.Refused.{Refused}
-use Rattle.wq_clock.specs.declared.run.Run.{Run}
 use Rattle.wq_replay.specs.declared.sent.Sent.{Sent}
 use Rattle.wq_replay.specs.declared.world.World.{World}
 

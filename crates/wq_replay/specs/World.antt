@@ -1,14 +1,15 @@
--- The world that sessions play in: what happened to its roots, and what all clients share; what may happen there, and what is sent then.
--- Crawls and openings before answers are from Watchman's documentation of synchronisation
+-- The world that sessions play in: what happened to its roots, and what all clients share; what may
+-- happen there, and what is sent then.
+-- Crawls and watches before answers are from Watchman's documentation of synchronisation
 -- (`sync_timeout`), of `watch` and of `watch-del`; the rest is this server's own.
-use Rattle.std.specs.Prelude.{◌≡◌, ◌⊎◌, ◌<◌, ◌+◌, ℕ, ℤ, Bool, true, false, List, [], ◌∷◌, ◌++◌, find}
-use Rattle.std.specs.Prelude.{length, codes, bytes_eq, is_some, if◌then◌else◌, Option, Some, None, option_map, Result, Ok, Err}
-use Rattle.wq_base.specs.Limit.{max_number, max_roots}
+use Rattle.std.specs.Prelude.{◌≡◌, ◌⊎◌, ℕ, ℤ, Bool, List, [], ◌∷◌, ◌++◌}
+use Rattle.std.specs.Prelude.{codes, bytes_eq, is_some, if◌then◌else◌}
+use Rattle.std.specs.Prelude.{Option, Some, None, option_map, Result, Ok, Err}
 use Rattle.wq_clock.specs.Run.{RunData, instance_of}
-use Rattle.wq_live.specs.Event.{passes_over, start_events}
-use Rattle.wq_live.specs.Table.{RootView, TableData, IsTableOf, IsNews, IsNoNews, has_text}
+use Rattle.wq_live.specs.Event.{number_of}
+use Rattle.wq_live.specs.Table.{RootView, TableData, IsTableOf, number_by_text, root_by_text}
 use Rattle.wq_live.specs.declared.event.RootEvent.{RootEvent}
-use Rattle.wq_live.specs.declared.event.RootEvent.TheVariants.{Started, Passed, Ended}
+use Rattle.wq_live.specs.declared.event.RootEvent.TheVariants.{Started, Ended}
 use Rattle.wq_registry.specs.Shelf.{blank, root_added}
 use Rattle.wq_session.specs.Answer.{AnswersAsk, MayRefuse}
 use Rattle.wq_session.specs.Crawl.{crawl_refusal}
@@ -18,8 +19,10 @@ use Rattle.wq_session.specs.At.{AtData, ShelfNow}
 use Rattle.wq_session.specs.declared.ask.Ask.{Ask}
 use Rattle.wq_crawl.specs.declared.fault.CrawlFault.{CrawlFault}
 use Rattle.wq_crawl.specs.declared.fault.CrawlFault.TheVariants.{TicksSpent, TooManyRoots}
+use Rattle.wq_crawl.specs.Publish.{IsNotTakenIn, IsPlace, Passes, with_start}
+use Rattle.wq_crawl.specs.declared.place.Place.{Place}
+use Rattle.wq_crawl.specs.declared.place.Place.TheVariants.{Shown, Full, Free}
 use Rattle.wq_session.specs.declared.refusal.Refusal.TheVariants.{NoMemory}
-use Rattle.wq_view.specs.Limit.{max_tick}
 use Rattle.wq_view.specs.Listing.{PassData}
 
 -- a crawl or a watching of a root that was refused
@@ -74,65 +77,44 @@ refusing root fault world = record world { refused = Some (record { root = root;
 abbrev pub unrefused : WorldData → WorldData
 unrefused world = record world { refused = None }
 
--- the world with these events behind the others
-abbrev pub with_events : List RootEvent → WorldData → WorldData
-with_events events world = record world { events = world.events ++ events }
+-- the world where this happened to roots
+abbrev pub at_events : List RootEvent → WorldData → WorldData
+at_events events world = record world { events = events }
 
--- the root of a text, if it is shown
-abbrev pub root_in : List ℕ → TableData → Option RootView
-root_in root table = find (has_text root) table.roots
-
--- its number
-abbrev pub number_in : List ℕ → TableData → Option ℕ
-number_in root table = option_map (λ r. r.number) (root_in root table)
-
--- whether it is shown
+-- whether the root of a text is shown
 abbrev pub shows : List ℕ → TableData → Bool
-shows root table = is_some (number_in root table)
+shows root table = is_some (number_by_text root table)
 
--- a crawl of a root that listed this. A root that is not shown stays so; what tells nothing adds
--- nothing; else the pass is added where the root has a tick left for it, and refused where it has
--- none
+-- a crawl of a root that listed this. A root that is not shown stays so. Else the pass is added,
+-- unless it tells nothing; or it is refused, since it wants for ticks
 abbrev pub CrawlsAt : Option ℕ → WorldData → List ℕ → PassData → WorldData → Type 0
 CrawlsAt None world root pass after = after ≡ unrefused world
 CrawlsAt (Some number) world root pass after =
-    (IsNoNews world.events number pass × (after ≡ unrefused world))
-    ⊎ (IsNews world.events number pass × (length (passes_over number world.events) < max_tick)
-    × (after ≡ unrefused (with_events (Passed number pass ∷ []) world)))
-    ⊎ (IsNews world.events number pass × (length (passes_over number world.events) ≡ max_tick)
-    × (after ≡ refusing root TicksSpent world))
+    ((events : List RootEvent) × Passes world.events number pass events
+    × (after ≡ unrefused (at_events events world)))
+    ⊎ (IsNotTakenIn world.events number pass TicksSpent × (after ≡ refusing root TicksSpent world))
 
 -- a crawl of a root
 abbrev pub Crawls : WorldData → List ℕ → Result PassData CrawlFault → WorldData → Type 0
-Crawls world root (Ok pass) after = (table : TableData) × IsTableOf world.events table
-    × CrawlsAt (number_in root table) world root pass after
+Crawls world root (Ok pass) after = CrawlsAt (number_of root world.events) world root pass after
 Crawls world root (Err fault) after = after ≡ refusing root fault world
 
--- no other root may be shown: as many are as may be, or the last number was given
-abbrev pub IsFull : TableData → Type 0
-IsFull table = (length table.roots ≡ max_roots) ⊎ (table.given ≡ max_number)
+-- a root starts, by a watch that listed this; or the watch is refused
+abbrev pub Starts : WorldData → List ℕ → Result PassData CrawlFault → WorldData → Type 0
+Starts world root (Ok pass) after =
+    after ≡ unrefused (at_events (with_start root pass world.events) world)
+Starts world root (Err fault) after = after ≡ refusing root fault world
 
--- a root starts under the next number, by a watching that listed this; or the watching is refused
-abbrev pub Starts : ℕ → WorldData → List ℕ → Result PassData CrawlFault → WorldData → Type 0
-Starts number world root (Ok pass) after =
-    after ≡ unrefused (with_events (start_events number root pass) world)
-Starts number world root (Err fault) after = after ≡ refusing root fault world
+-- a watch of a root that was found so: one that is shown stays as it is
+abbrev pub WatchesAt : Place → WorldData → List ℕ → Result PassData CrawlFault → WorldData → Type 0
+WatchesAt (Shown number) world root seen after = after ≡ unrefused world
+WatchesAt Full world root seen after = after ≡ refusing root TooManyRoots world
+WatchesAt Free world root seen after = Starts world root seen after
 
--- a watching of a root that is not shown
-abbrev pub WatchesNew : TableData → WorldData → List ℕ → Result PassData CrawlFault → WorldData → Type 0
-WatchesNew table world root seen after =
-    (IsFull table × (after ≡ refusing root TooManyRoots world))
-    ⊎ ((IsFull table → ⊥) × Starts (table.given + 1) world root seen after)
-
--- a watching of a root: one that is shown stays as it is
-abbrev pub WatchesAt : Bool → TableData → WorldData → List ℕ → Result PassData CrawlFault → WorldData → Type 0
-WatchesAt true table world root seen after = after ≡ unrefused world
-WatchesAt false table world root seen after = WatchesNew table world root seen after
-
--- a watching of a root
+-- a watch of a root
 abbrev pub Watches : WorldData → List ℕ → Result PassData CrawlFault → WorldData → Type 0
-Watches world root seen after = (table : TableData) × IsTableOf world.events table
-    × WatchesAt (shows root table) table world root seen after
+Watches world root seen after =
+    (place : Place) × IsPlace root world.events place × WatchesAt place world root seen after
 
 -- why the crawl or the watching of this root was refused that came last, if it was
 abbrev pub refused_fault : List ℕ → Option RefusedData → Option CrawlFault
@@ -148,7 +130,7 @@ fault_for _ table refused = None
 
 -- the number of the root that an ask ends, if it is shown
 abbrev pub ending : NeedData → TableData → Option ℕ
-ending (unwatch root) table = number_in root table
+ending (unwatch root) table = number_by_text root table
 ending _ table = None
 
 -- a root as it is looked at
@@ -162,9 +144,9 @@ at_end run number = record { instance = instance_of run number; view = None }
 -- what an ask is answered at that ends no root: the root that it names, if it names one that is
 -- shown
 abbrev pub looked : NeedData → RunData → TableData → Option AtData
-looked (look root) run table = option_map (at_root run) (root_in root table)
-looked (crawl_of root) run table = option_map (at_root run) (root_in root table)
-looked (watch_of root) run table = option_map (at_root run) (root_in root table)
+looked (look root) run table = option_map (at_root run) (root_by_text root table)
+looked (crawl_of root) run table = option_map (at_root run) (root_by_text root table)
+looked (watch_of root) run table = option_map (at_root run) (root_by_text root table)
 looked _ run table = None
 
 -- an answer at what is looked at, and at what all clients share
@@ -176,7 +158,8 @@ AnswersInWorld at world ask out after = (shelf : ShelfNow) × AnswersAsk ask at 
 -- over it
 abbrev pub EndsAt : ℕ → WorldData → Ask → OutData → WorldData → Type 0
 EndsAt number world ask out after =
-    AnswersInWorld (Some (at_end world.run number)) (with_events (Ended number ∷ []) world) ask out after
+    AnswersInWorld (Some (at_end world.run number))
+    (at_events (world.events ++ Ended number ∷ []) world) ask out after
     ⊎ (MayRefuse NoMemory out × (after ≡ unrefused world))
 
 -- the answer to an ask that ends this root, or none

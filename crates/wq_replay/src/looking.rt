@@ -1,16 +1,14 @@
 //! What an ask finds of the roots of a world.
-ghost use Rattle.std.specs.Prelude.{◌≡◌, ◌↔◌, ℕ, IsTrue, List, Some, option_map};
+ghost use Rattle.std.specs.Prelude.{◌≡◌, option_map};
 ghost use Rattle.wq_clock.specs.Instance.{instance_data};
-ghost use Rattle.wq_live.specs.Table.{IsTableOf};
-ghost use Rattle.wq_live.specs.declared.event.RootEvent.{RootEvent};
+ghost use Rattle.wq_live.specs.Table.{number_by_text, root_by_text};
 ghost use Rattle.wq_session.specs.Needed.{need_data};
 ghost use Rattle.wq_session.specs.At.{at_data};
 ghost use Rattle.wq_clock.specs.Run.{instance_of, run_data};
 ghost use Rattle.wq_replay.specs.Stands.{refused_data};
-ghost use Rattle.wq_replay.specs.World.{IsFull, at_root, ending, fault_for, refused_fault, looked, number_in, root_in, shows};
+ghost use Rattle.wq_replay.specs.World.{at_root, ending, fault_for, looked, refused_fault, shows};
 
 use crate::refused::Refused;
-use wq_base::{MAX_NUMBER, MAX_ROOTS};
 use wq_clock::{Instance, Run};
 use wq_crawl::CrawlFault;
 use wq_live::RootTable;
@@ -21,13 +19,6 @@ pub(crate) fn shows(table: &RootTable, root: &str) -> bool
     ensures { result ≡ shows root.now table.now }
 {
     table.number_of(root).is_some()
-}
-
-/// Whether no other root may be shown.
-pub(crate) fn is_full(table: &RootTable) -> bool
-    ensures { IsTrue result ↔ IsFull table.now }
-{
-    table.len() == MAX_ROOTS || table.given() == MAX_NUMBER
 }
 
 /// Why the crawl or the watching was refused that an ask needs, if it needs one and that was refused.
@@ -59,7 +50,7 @@ fn fault_of(root: &str, refused: Option<Refused>) -> Option<CrawlFault>
 
 /// The root that an ask ends, if it is shown.
 pub(crate) fn ending(need: Need<'_>, run: Run, table: &RootTable) -> Option<Instance>
-    ensures { (events : List RootEvent) → IsTableOf events table.now → option_map instance_data result
+    ensures { option_map instance_data result
         ≡ option_map (instance_of (run_data run)) (ending (need_data need.entry) table.now) }
 {
     match need {
@@ -70,32 +61,16 @@ pub(crate) fn ending(need: Need<'_>, run: Run, table: &RootTable) -> Option<Inst
 
 /// The root of this text, if it is shown.
 fn shown(run: Run, table: &RootTable, root: &str) -> Option<Instance>
-    ensures { (events : List RootEvent) → IsTableOf events table.now → option_map instance_data result
-        ≡ option_map (instance_of (run_data run)) (number_in root.now table.now) }
+    ensures { option_map instance_data result
+        ≡ option_map (instance_of (run_data run)) (number_by_text root.now table.now) }
 {
     let number = table.number_of(root)?;
-    Some(instance(run, table, number))
-}
-
-/// The root of this number, which is one of those that are shown.
-fn instance(run: Run, table: &RootTable, number: u64) -> Instance
-    ensures { (events : List RootEvent) → IsTableOf events table.now → (root : List ℕ)
-        → number_in root table.now ≡ Some number
-        → instance_data result ≡ instance_of (run_data run) number }
-{
-    // No root has a greater number than was given.
-    let given = table.given();
-    if number <= given {
-        run.instance(number)
-    } else {
-        run.instance(given)
-    }
+    Some(run.instance(number))
 }
 
 /// What is looked at for an ask that ends no root: the root that it names, if that is shown.
 pub(crate) fn looked<'a>(need: Need<'_>, run: Run, table: &'a RootTable) -> Option<At<'a>>
-    ensures { (events : List RootEvent) → IsTableOf events table.now → option_map at_data result
-        ≡ looked (need_data need.entry) (run_data run) table.now }
+    ensures { option_map at_data result ≡ looked (need_data need.entry) (run_data run) table.now }
 {
     match need {
         Need::None | Need::Unwatch(_) => None,
@@ -105,11 +80,12 @@ pub(crate) fn looked<'a>(need: Need<'_>, run: Run, table: &'a RootTable) -> Opti
 
 /// A root as it is looked at, if it is shown.
 fn at_root<'a>(run: Run, table: &'a RootTable, root: &str) -> Option<At<'a>>
-    ensures { (events : List RootEvent) → IsTableOf events table.now → option_map at_data result
-        ≡ option_map (at_root (run_data run)) (root_in root.now table.now) }
+    ensures { option_map at_data result
+        ≡ option_map (at_root (run_data run)) (root_by_text root.now table.now) }
 {
     let (number, view) = table.root(root)?;
-    let instance = instance(run, table, number);
-    let view = Some(view);
-    Some(At { instance, view })
+    Some(At {
+        instance: run.instance(number),
+        view: Some(view),
+    })
 }

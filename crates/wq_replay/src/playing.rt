@@ -4,24 +4,24 @@ ghost use Rattle.std.specs.Prelude.{◌≡◌, ◌+◌, ◌++◌, ◌∷◌, Lis
 ghost use Rattle.std.specs.Prelude.{IfOk, IsErr, OnErr, OnOk};
 ghost use Rattle.std.specs.Prelude.{None, pos};
 ghost use Rattle.wq_clock.specs.Instance.{instance_data};
-ghost use Rattle.wq_live.specs.Table.{IsTableOf};
+ghost use Rattle.wq_live.specs.Table.{IsFullTable, IsTableOf, root_by_text};
 ghost use Rattle.wq_live.specs.declared.event.RootEvent.TheVariants.{Started};
 ghost use Rattle.wq_session.specs.Need.{need_of};
 ghost use Rattle.wq_view.specs.Listing.{listing_of};
 ghost use Rattle.wq_clock.specs.Run.{instance_of, run_data};
 ghost use Rattle.wq_replay.specs.Stands.{Leads, Stands, crawl_data, happening_data, sent_data, sent_list};
-ghost use Rattle.wq_replay.specs.World.{AnswersInWorld, Crawls, Does, EndsAt, Gets, HappeningData, IsFull, Watches, Runs, SentData, Starts};
-ghost use Rattle.wq_replay.specs.World.{WorldData, looked, new_world, root_text, sent_to, shows};
+ghost use Rattle.wq_replay.specs.World.{AnswersInWorld, Crawls, Does, EndsAt, Gets, HappeningData, Watches, Runs, SentData, Starts};
+ghost use Rattle.wq_replay.specs.World.{WorldData, looked, new_world, root_text, sent_to};
 
 use crate::happening::Happening;
-use crate::looking::{ending, fault_for, is_full, looked, shows};
+use crate::looking::{ending, fault_for, looked};
 use crate::refused::Refused;
 use crate::sent::Sent;
 use crate::world::World;
 use std::alloc::{AllocError, Global};
 use wq_base::Text;
 use wq_clock::{Instance, Run};
-use wq_crawl::CrawlFault;
+use wq_crawl::{CrawlFault, Place, place_for};
 use wq_live::RootTable;
 use wq_registry::{Cache, Shelf};
 use wq_session::{Ask, At, Out, Refusal, Session};
@@ -175,17 +175,30 @@ impl World {
             (after : WorldData) × Watches before root (crawl_data seen.entry) after
             × Stands after self.new) }
     {
-        if shows(&self.table, root.as_str()) {
-            self.refused = None;
-            return Ok(());
+        match place_for(&self.table, root.as_str()) {
+            Place::Shown(_) => {
+                self.refused = None;
+                Ok(())
+            }
+            Place::Full => {
+                let fault = CrawlFault::TooManyRoots;
+                self.refused = Some(Refused { root, fault });
+                Ok(())
+            }
+            Place::Free => self.start(root, seen),
         }
-        if is_full(&self.table) {
-            let fault = CrawlFault::TooManyRoots;
-            self.refused = Some(Refused { root, fault });
-            return Ok(());
-        }
+    }
+
+    /// A root that is not shown starts, and lists this, or could not be read.
+    fn start(&mut self, root: Text, seen: Result<&Pass, CrawlFault>) -> Result<(), AllocError>
+        requires new { root_by_text root self.old.table ≡ None }
+        requires room { IsFullTable self.old.table → ⊥ }
+        ensures { (before : WorldData) → Stands before self.old → OnOk result (
+            (after : WorldData) × Starts before root (crawl_data seen.entry) after
+            × Stands after self.new) }
+    {
         match seen {
-            Ok(pass) => self.start(root, pass),
+            Ok(pass) => self.start_with(root, pass),
             Err(fault) => {
                 self.refused = Some(Refused { root, fault });
                 Ok(())
@@ -194,12 +207,11 @@ impl World {
     }
 
     /// A root that is not shown starts with this pass.
-    fn start(&mut self, root: Text, pass: &Pass) -> Result<(), AllocError>
-        requires new { shows root self.old.table ≡ false }
-        requires room { IsFull self.old.table → ⊥ }
+    fn start_with(&mut self, root: Text, pass: &Pass) -> Result<(), AllocError>
+        requires new { root_by_text root self.old.table ≡ None }
+        requires room { IsFullTable self.old.table → ⊥ }
         ensures { (before : WorldData) → Stands before self.old → OnOk result (
-            (after : WorldData) × Starts (self.old.table.given + 1) before root (Ok pass.now) after
-            × Stands after self.new) }
+            (after : WorldData) × Starts before root (Ok pass.now) after × Stands after self.new) }
     {
         match self.table.with_start(root.as_str(), pass) {
             Ok(table) => {
@@ -207,6 +219,7 @@ impl World {
                 self.refused = None;
                 Ok(())
             }
+            // A root may be started, so that only memory can be lacking.
             Err(_) => Err(AllocError),
         }
     }

@@ -4,6 +4,6 @@ use Rattle.wq_clock.specs.Run.{instance_of, run_data}
 use Rattle.wq_replay.proofs.looking.shown.Goals as goal
 
 pub returns : goal.returns
-returns c = λ events is.
-    let there = sym c.number_of.ensures ∙ c.in_ok-number.was in
-    ap Some (c.instance.ensures events is c.args.root.now there) ∙ ap (option_map (instance_of (run_data c.args.run))) (sym there)
+returns c =
+    let there = sym c.number_of.ensures.table ∙ c.in_ok-number.was in
+    ap Some c.instance.ensures ∙ ap (option_map (instance_of (run_data c.args.run))) (sym there)

@@ -25,7 +25,7 @@ returns-in-Some-ending c = λ before stands.
     let mid : Stands (unrefused before) (record c.args.self.now { refused = c.take-refused.new.self }) = record { run = stands.run; roots = stands.roots; shelf = stands.shelf; refused = sym (ap (option_map refused_data) c.take-refused.ensures.after); whole = stands.whole } in
     let instance = c.in-Some-ending.instance in
     let found = ends_some (run_data c.args.self.now.run) (need_data c.need-2.result) (need_of c.args.ask) c.args.self.now.table (instance_data instance)
-    (sym (ap (option_map instance_data) c.in-Some-ending.is) ∙ c.ending.ensures before.events stands.roots) c.need-2.ensures in
+    (sym (ap (option_map instance_data) c.in-Some-ending.is) ∙ c.ending.ensures) c.need-2.ensures in
     let got = c.answer_ended.ensures (unrefused before) mid (found.1 ∙ ap (λ run. instance_of run c.in-Some-ending.instance.root) (sym stands.run)) in (
       got.0,
       gets_ended before got.0 c.args.ask c.answer_ended.result c.args.self.now.table c.in-Some-ending.instance.root stands.roots (fault ∙ c.in_default.is) found.0 got.1,
@@ -38,7 +38,7 @@ returns-in-None c = λ before stands.
     c.fault_for.ensures c.need.ensures (stands.refused ∙ ap (option_map refused_data) (sym c.take-refused.ensures.value)) in
     let mid : Stands (unrefused before) (record c.args.self.now { refused = c.take-refused.new.self }) = record { run = stands.run; roots = stands.roots; shelf = stands.shelf; refused = sym (ap (option_map refused_data) c.take-refused.ensures.after); whole = stands.whole } in
     let none = ends_none (run_data c.args.self.now.run) (need_data c.need-2.result) (need_of c.args.ask) c.args.self.now.table
-    (sym (ap (option_map instance_data) c.in-None.is) ∙ c.ending.ensures before.events stands.roots) c.need-2.ensures in
+    (sym (ap (option_map instance_data) c.in-None.is) ∙ c.ending.ensures) c.need-2.ensures in
     let got = c.answer_at.ensures (unrefused before) mid in (
       got.0,
       gets_looked before got.0 c.args.ask c.answer_at.result c.args.self.now.table stands.roots (fault ∙ c.in_default.is) none got.1,

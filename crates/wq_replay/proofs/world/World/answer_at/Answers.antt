@@ -12,7 +12,7 @@ use Rattle.wq_replay.proofs.world.World.answer_at.Goals as goal
 pub returns : goal.returns
 returns c = λ before stands.
     let same = looked_is (need_data c.need.result) (need_of c.args.ask) (run_data c.args.self.now.run) before.run c.args.self.now.table (option_map at_data c.looked-at.result)
-    (c.looked-at.ensures before.events stands.roots) c.need.ensures stands.run in (
+    c.looked-at.ensures c.need.ensures stands.run in (
       record { run = before.run; events = before.events; shelf = c.on.new.shelf; refused = None },
       (
         c.on.new.shelf,

@@ -1,13 +1,17 @@
--- The world after a start.
-use Rattle.std.proofs.Common.{ℕ, ◌+◌, List, ◌++◌, refl, subst}
-use Rattle.wq_live.specs.Event.{start_events}
-use Rattle.wq_live.specs.Table.{IsTableOf}
-use Rattle.wq_replay.specs.World.{with_events, unrefused}
+-- A watch that is refused leaves what happened to roots.
+use Rattle.std.proofs.Common.{OnOk, refl, sym, ap, subst}
+use Rattle.wq_replay.specs.Stands.{Stands, crawl_data}
+use Rattle.wq_replay.specs.World.{Starts, WorldData, refusing}
 use Rattle.wq_replay.proofs.world.World.start.Goals as goal
 
 pub returns-in-Ok : goal.returns-in-Ok
-returns-in-Ok c = λ before stands. (
-  unrefused (with_events (start_events (c.args.self.now.table.given + 1) c.args.root c.args.pass.now) before),
-  refl,
-  record { run = stands.run; roots = subst (λ (text : List ℕ). IsTableOf (before.events ++ start_events (c.args.self.now.table.given + 1) text c.args.pass.now) c.in-Ok.table) c.as_str.ensures (c.in-Ok.ensures.started before.events stands.roots); shelf = stands.shelf; refused = refl; whole = stands.whole },
+returns-in-Ok c = λ before stands.
+    subst (λ seen. OnOk c.start_with.result ((after : WorldData) × Starts before c.args.root seen after × Stands after c.start_with.new.self))
+    (sym (ap crawl_data c.in-Ok.is)) (c.start_with.ensures before stands)
+
+pub returns-in-Err : goal.returns-in-Err
+returns-in-Err c = λ before stands. (
+  refusing c.args.root c.in-Err.fault before,
+  subst (λ seen. Starts before c.args.root seen (refusing c.args.root c.in-Err.fault before)) (sym (ap crawl_data c.in-Err.is)) refl,
+  record { run = stands.run; roots = stands.roots; shelf = stands.shelf; refused = refl; whole = stands.whole },
 )
