@@ -1,12 +1,19 @@
 -- What comes of a root that was listed and then published.
-use Rattle.std.proofs.Common.{◌≡◌, ℕ, List, Result, Ok, Err, MatchResult, inr, sym, ap, subst, ◌∙◌}
+use Rattle.std.proofs.Common.{◌≡◌, ℕ, List, Result, Ok, Err, MatchResult, inl, inr, sym, ap, subst, ◌∙◌}
 use Rattle.wq_crawl.specs.Device.{Gave}
 use Rattle.wq_live.specs.declared.event.RootEvent.{RootEvent}
 use Rattle.wq_view.specs.Listing.{PassData}
 use Rattle.wq_crawl.specs.declared.fault.CrawlFault.{CrawlFault}
 use Rattle.wq_crawl.specs.declared.fault.CrawlFault.TheVariants.{NoMemory}
-use Rattle.wq_crawl.specs.Crawl.{Began, CrawledAt, CrawlerData, IsOfRows, IsPassOver}
+use Rattle.wq_crawl.specs.Crawl.{Began, CrawledAt, CrawlerData, IsNoPassOver, IsOfRows, IsPassOver}
 use Rattle.wq_crawl.specs.Publish.{IsNotTakenIn, Passes, with_start}
+
+-- a root that is shown, and of which there is no pass
+pub not_crawled_at : (text : List ℕ) (before after : CrawlerData) (number : ℕ) (result : Result (List RootEvent) CrawlFault)
+    (told fault : CrawlFault) → result ≡ Err told → told ≡ fault → after.events ≡ before.events
+    → IsNoPassOver text before fault after → CrawledAt number text before result after
+not_crawled_at text before after number result told fault is same kept none =
+    subst (λ r. CrawledAt number text before r after) (sym (is ∙ ap Err same)) (kept, inl none)
 
 module _ (text : List ℕ) (before mid after : CrawlerData) (pass : PassData) where
   -- a pass over a root stays one where nothing more is listed, and the clock is not asked again

@@ -2,14 +2,13 @@
 -- it is refused.
 -- No public document is behind it.
 use Rattle.std.specs.Prelude.{◌≡◌, ◌≤◌, ◌⊎◌, ℕ, ℤ, refl, List}
-use Rattle.std.specs.Prelude.{Option, Some, None, Result, Ok, Err}
+use Rattle.std.specs.Prelude.{Option, Some, None, IsSome, IsTrue, Result, Ok, Err}
+use Rattle.std.specs.List.{list_all}
 use Rattle.std.specs.Coded.{Coded, code_by, coded×, coded_ℕ, coded_ℤ, coded_option}
-use Rattle.wq_view.specs.Listing.{PassData, listing_fault, listing_of}
-use Rattle.wq_view.specs.Seen.{SeenData}
+use Rattle.wq_view.specs.Listing.{PassData, is_of_whole, listing_fault, listing_of}
+use Rattle.wq_view.specs.Seen.{SeenData, is_lawful_row}
 use Rattle.wq_view.specs.declared.listing.PassFault.{PassFault}
-use Rattle.wq_view.specs.declared.listing.PassFault.TheVariants.{BadName, NameTwice, TooManyRows}
-use Rattle.wq_view.specs.declared.listing.PassFault.TheVariants.{OutOfRange}
-use Rattle.wq_view.specs.declared.listing.PassFault.TheVariants.{NoMemory as NoPassMemory}
+use Rattle.wq_view.specs.declared.listing.PassFault.TheVariants.{TooManyRows}
 use Rattle.wq_live.specs.Log.{events_code}
 use Rattle.wq_live.specs.declared.event.RootEvent.{RootEvent}
 use Rattle.wq_crawl.specs.Device.{Gave}
@@ -56,13 +55,11 @@ not_listed UnreadableTree = Unreadable
 not_listed TooManyTreeRows = TooManyFiles
 not_listed NoTreeMemory = NoMemory
 
--- why a root is not crawled of which the rows make no pass
+-- why a root is not crawled of which the rows, each of them lawful, make no pass: they are too many;
+-- or a name is there twice, or the second is out of range
 abbrev pub no_pass : PassFault → CrawlFault
-no_pass BadName = Unreadable
-no_pass NameTwice = Unreadable
-no_pass OutOfRange = Unreadable
 no_pass TooManyRows = TooManyFiles
-no_pass NoPassMemory = NoMemory
+no_pass _ = Unreadable
 
 -- a pass is of the rows that the tree gave of a root, where it shows what it gives
 abbrev pub IsOfRows : Option (ℕ × ListedData) → List ℕ → PassData → Option (ℕ × ListedData)
@@ -79,7 +76,8 @@ IsPassOver text before pass after =
     IsOfRows before.listed text pass after.listed × Gave before.clock pass.second after.clock
 
 -- a root was to be listed, and this is why there is no pass over it: the tree did not list it, and
--- the clock was not asked; or what it listed makes none at the second that the clock told
+-- the clock was not asked; or the rows that it listed, each of them lawful, make none together at
+-- the second that the clock told
 abbrev pub IsNoPassOver : List ℕ → CrawlerData → CrawlFault → CrawlerData → Type 0
 IsNoPassOver text before fault after =
     ((why : TreeFault) × Lists before.listed text (Err why) after.listed
@@ -87,6 +85,7 @@ IsNoPassOver text before fault after =
     × (fault ≡ not_listed why))
     ⊎ ((rows : List SeenData) × (second : ℤ) × (why : PassFault)
     × Lists before.listed text (Ok rows) after.listed × Gave before.clock second after.clock
+    × IsTrue (list_all is_lawful_row rows) × IsTrue (is_of_whole why)
     × (listing_fault rows second ≡ Some why) × (fault ≡ no_pass why))
 
 -- a root that is shown was crawled: it was listed, and a pass over it is added, unless that tells

@@ -2,6 +2,8 @@
 //! takes hold.
 ghost use Rattle.std.specs.Prelude.{◌≡◌, ◌≢◌, ◌⊎◌, ◌↔◌, Err, IfErr, IfOk, IsTrue, MatchResult, None};
 ghost use Rattle.wq_live.specs.Event.{IsFull, number_of};
+ghost use Rattle.std.specs.List.{list_all};
+ghost use Rattle.wq_view.specs.Seen.{is_lawful_row};
 ghost use Rattle.wq_crawl.specs.Tree.{IsCounted, Lists, rows_given};
 ghost use Rattle.wq_crawl.specs.Crawl.{Began, Crawled, CrawledAt, IsNoPassOver, IsPassOver};
 ghost use Rattle.wq_crawl.specs.Crawl.{Shared, Unwatched, Watched};
@@ -199,11 +201,7 @@ impl<N: Named, R: Wait + Drop, T: Tree + Drop, S: Seconds + Drop> Crawler<N, R, 
             Err(fault) => return Err(not_listed(fault)),
         };
         let second = self.seconds.second();
-        let made = match self.publisher.table().root(root) {
-            Some((_number, last)) => Pass::again(rows, second, last),
-            None => Pass::new(rows, second),
-        };
-        match made {
+        match Pass::of_lawful(rows, second) {
             Ok(pass) => Ok(pass),
             Err(fault) => Err(no_pass(fault)),
         }
@@ -214,6 +212,7 @@ impl<N: Named, R: Wait + Drop, T: Tree + Drop, S: Seconds + Drop> Crawler<N, R, 
         ensures events { (self.new).events ≡ (self.old).events }
         ensures clock { (self.new).clock ≡ (self.old).clock }
         ensures counted { IfErr result (IsCounted (self.old).failed (self.new).failed) }
+        ensures lawful { IfOk result (λ rows. IsTrue (list_all is_lawful_row rows.items)) }
         ensures listed { Lists (self.old).listed root.now (rows_given result) (self.new).listed }
     {
         match self.publisher.table().root(root) {

@@ -1,5 +1,6 @@
 //! Why a root could not be crawled, watched or unwatched.
-ghost use Rattle.std.specs.Prelude.{◌≡◌};
+ghost use Rattle.std.specs.Prelude.{◌≡◌, IsTrue};
+ghost use Rattle.wq_view.specs.Listing.{is_of_whole};
 ghost use Rattle.wq_crawl.specs.Crawl.{no_pass, not_listed};
 
 use crate::tree::TreeFault;
@@ -9,7 +10,7 @@ use wq_view::PassFault;
 /// Why a root could not be crawled, watched or unwatched. It is then shown as before, or not shown as before.
 #[derive(Clone, Copy, Debug, PartialEq, Eq, Drop, Error)]
 pub enum CrawlFault {
-    /// The root could not be read, or a row of its listing is refused.
+    /// The root could not be read, a name of its listing is there twice, or the second is out of range.
     #[error("the root cannot be read")]
     Unreadable,
     /// The root has more files than a view may have.
@@ -37,13 +38,14 @@ pub(crate) fn not_listed(fault: TreeFault) -> CrawlFault
     }
 }
 
-/// Why a root is not crawled of which the rows make no pass.
+/// Why a root is not crawled of which the rows, each of them lawful, make no pass.
 pub(crate) fn no_pass(fault: PassFault) -> CrawlFault
+    requires { IsTrue (is_of_whole fault) }
     ensures { result ≡ no_pass fault }
 {
     match fault {
-        PassFault::BadName | PassFault::NameTwice | PassFault::OutOfRange => CrawlFault::Unreadable,
         PassFault::TooManyRows => CrawlFault::TooManyFiles,
-        PassFault::NoMemory => CrawlFault::NoMemory,
+        PassFault::NameTwice | PassFault::OutOfRange => CrawlFault::Unreadable,
+        PassFault::BadName | PassFault::NoMemory => unreachable!(),
     }
 }

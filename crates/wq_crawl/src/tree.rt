@@ -1,5 +1,7 @@
 //! What lists the files below a root. How a tree is walked is not said here.
-ghost use Rattle.std.specs.Prelude.{◌≡◌, IfErr};
+ghost use Rattle.std.specs.Prelude.{◌≡◌, IfErr, IfOk, IsTrue};
+ghost use Rattle.std.specs.List.{list_all};
+ghost use Rattle.wq_view.specs.Seen.{is_lawful_row};
 ghost use Rattle.wq_crawl.specs.Tree.{IsCounted, Lists, rows_given};
 
 use std::alloc::AllocError;
@@ -44,18 +46,20 @@ pub trait Tree {
     // How often it listed something so far, and what it listed last, where it shows that.
     ghost listed: { Self → Option (ℕ × ListedData) } = { λ _. None };
 
-    /// The rows of the files below a root, in any order.
+    /// The rows of the files below a root, in any order. Each has a valid name, and its numbers are in range.
     ///
     /// A root is unreadable only where the count of failures rose in this call, or stands at the greatest number that
     /// it can tell.
     fn list(&mut self, root: &str) -> Result<Vec<Seen>, TreeFault>
         ensures counted { IfErr result (IsCounted (failed self.old) (failed self.new)) }
+        ensures lawful { IfOk result (λ rows. IsTrue (list_all is_lawful_row rows.items)) }
         ensures listed { Lists (listed self.old) root.now (rows_given result) (listed self.new) };
 
     /// The rows of the files below a root, as [`Tree::list`] gives them. What was last known of the root is handed in: rows
     /// may share its names.
     fn list_again(&mut self, root: &str, _last: &View) -> Result<Vec<Seen>, TreeFault>
         ensures counted { IfErr result (IsCounted (failed self.old) (failed self.new)) }
+        ensures lawful { IfOk result (λ rows. IsTrue (list_all is_lawful_row rows.items)) }
         ensures listed { Lists (listed self.old) root.now (rows_given result) (listed self.new) }
     {
         self.list(root)

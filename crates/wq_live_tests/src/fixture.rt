@@ -1,5 +1,7 @@
 //! Passes over a made-up tree, what a publisher does, and what a seat sees.
-ghost use Rattle.std.specs.Prelude.{◌≡◌};
+ghost use Rattle.std.specs.Prelude.{◌≡◌, IfOk};
+ghost use Rattle.wq_view.specs.Name.{is_valid_name};
+ghost use Rattle.wq_view.specs.Seen.{is_lawful_row};
 
 use itoa::Buffer;
 use std::alloc::{AllocError, Global};
@@ -17,7 +19,9 @@ fn row(alloc: Global, number: u64) -> Result<Seen, AllocError> {
 }
 
 /// The row of a file of this name.
-pub(crate) fn named_row(alloc: Global, name: &[u8]) -> Result<Seen, AllocError> {
+pub(crate) fn named_row(alloc: Global, name: &[u8]) -> Result<Seen, AllocError>
+    ensures { IfOk result (λ row. is_lawful_row row ≡ is_valid_name name.now) }
+{
     Ok(Seen {
         name: ArcSlice::from_slice(alloc, name)?,
         kind: Kind::File,

@@ -1,5 +1,7 @@
 //! Sessions over memory, one after the other: their lines, and what they write.
-ghost use Rattle.std.specs.Prelude.{◌≡◌};
+ghost use Rattle.std.specs.Prelude.{◌≡◌, IfOk, IsTrue};
+ghost use Rattle.std.specs.List.{list_all};
+ghost use Rattle.wq_view.specs.Seen.{is_lawful_row};
 
 use crate::fixture::named_row;
 use std::alloc::{AllocError, Global};
@@ -13,7 +15,7 @@ use wq_live::{Blank, Named, Seat};
 use wq_registry::{Cache, Shelf};
 use wq_serve::{Desk, LockDesk, MemoryDesk, MemoryInbox, SharedShelf, serve};
 use wq_stream::Splitter;
-use wq_view::Seen;
+use wq_view::{Seen, is_valid_name};
 
 /// A tree each root of which has the same files.
 #[derive(Drop)]
@@ -34,11 +36,15 @@ impl Tree for SameFiles {
     }
 }
 
-/// The rows of files of these names.
-pub(crate) fn rows_of(alloc: Global, names: &[&[u8]]) -> Result<Vec<Seen>, AllocError> {
+/// The rows of files of those of these names that are valid.
+pub(crate) fn rows_of(alloc: Global, names: &[&[u8]]) -> Result<Vec<Seen>, AllocError>
+    ensures { IfOk result (λ rows. IsTrue (list_all is_lawful_row rows.items)) }
+{
     let mut rows = Vec::with_capacity(alloc, names.len())?;
     for name in names {
-        rows.push(named_row(alloc, name)?)?;
+        if is_valid_name(name) {
+            rows.push(named_row(alloc, name)?)?;
+        }
     }
     Ok(rows)
 }

@@ -1,6 +1,6 @@
 -- What one pass over a tree of files saw: a finite map from names to stats, and when.
 -- A pass is made from a list of rows, whose first fault refuses it.
-use Rattle.std.specs.Prelude.{ℕ, ℤ, ◌≤◌, IsTrue, nat_lt, not, if◌then◌else◌, List, [], ◌∷◌, length, map, bytes_eq, refl, Option, Some, None}
+use Rattle.std.specs.Prelude.{ℕ, ℤ, Bool, true, false, ◌≤◌, IsTrue, nat_lt, not, if◌then◌else◌, List, [], ◌∷◌, length, map, bytes_eq, refl, Option, Some, None}
 use Rattle.std.specs.Coded.{Coded, code_by, coded×, coded_ℕ, coded_ℤ, coded_list}
 use Rattle.std.specs.List.{list_any, list_all}
 use Rattle.std.specs.declared.cmp.Ordering.{Ordering}
@@ -49,6 +49,14 @@ listing_fault rows second =
     if nat_lt max_listing_rows (length rows) then Some TooManyRows
     else if not (is_count second) then Some OutOfRange
     else row_fault [] rows
+
+-- whether a fault is one of a whole listing, and not of a row by itself: there are too many rows, the
+-- second is out of range, or a name is there twice
+abbrev pub is_of_whole : PassFault → Bool
+is_of_whole TooManyRows = true
+is_of_whole OutOfRange = true
+is_of_whole NameTwice = true
+is_of_whole _ = false
 
 -- the names of rows
 abbrev pub names_of : List SeenData → List (List ℕ)

@@ -34,13 +34,6 @@ impl<'a> Known<'a> {
         Ok(Some(ArcSlice::from_slice(alloc, name)?))
     }
 
-    /// Whether a name is known to be one that a pass takes: that of a record here which is not passed.
-    pub(crate) fn has(&mut self, name: &[u8]) -> bool
-        ensures { IsTrue result → IsTrue (is_valid_name name.now) }
-    {
-        self.find(name).is_some()
-    }
-
     /// The name of the record of these bytes, if it is not passed. The records below it are passed now.
     #[tactic(auto, using(crate::proofs::NameOrder::same_bytes, crate::proofs::NameOrder::same_valid))]
     fn find(&mut self, name: &[u8]) -> Option<&'a Name>

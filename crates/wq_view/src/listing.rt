@@ -1,16 +1,14 @@
 //! Listings of a tree: rows as a walker saw them, and the pass that rows without a fault make.
 //! Nothing here reads a directory.
-ghost use Rattle.std.specs.Prelude.{◌≡◌, ◌<◌, ◌↔◌, false, Some, None, MatchResult, IfSome, IfNone, List, [], length, ◌≤◌, IfOk, map, take, bytes_eq, slice_get, IsTrue, IsPermutation};
+ghost use Rattle.std.specs.Prelude.{◌≡◌, ◌<◌, ◌↔◌, false, Some, None, MatchResult, IfSome, IfNone, IfErr, List, [], length, ◌≤◌, IfOk, map, take, bytes_eq, slice_get, IsTrue, IsPermutation};
 ghost use Rattle.std.specs.FinMap.{entries, is_sorted};
 ghost use Rattle.std.specs.List.{list_all, IsDistinct};
 ghost use Rattle.wq_view.specs.Seen.{entry_of, is_lawful_row, is_count, is_time};
-ghost use Rattle.wq_view.specs.Listing.{name_cmp, names_of, listing_of, listing_fault, row_fault};
+ghost use Rattle.wq_view.specs.Listing.{name_cmp, names_of, listing_of, listing_fault, is_of_whole, row_fault};
 
 use crate::kind::Kind;
-use crate::known::Known;
 use crate::limit::MAX_LISTING_ROWS;
 use crate::name::is_valid_name;
-use crate::view::View;
 use std::marker::Model;
 use std::sync::ArcSlice;
 use thiserror::Error;
@@ -84,52 +82,47 @@ impl Pass {
     ///
     /// The first fault refuses them: too many rows, then the second, and then row by row a name that is
     /// not valid, a number out of range, a name that an earlier row has. It takes no memory.
-    pub fn new(rows: Vec<Seen>, second: i64) -> Result<Pass, PassFault>
+    pub fn new(mut rows: Vec<Seen>, second: i64) -> Result<Pass, PassFault>
         ensures fault { MatchResult result
             (λ _. listing_fault rows.items second ≡ None)
             (λ fault. listing_fault rows.items second ≡ Some fault) }
         ensures pass { IfOk result (λ pass. pass ≡ listing_of rows.items second) }
     {
-        Pass::of(rows, second, Known { records: &[] })
+        let count = rows.len();
+        if count > MAX_LISTING_ROWS {
+            return Err(PassFault::TooManyRows);
+        }
+        match first_unlawful(&rows) {
+            Some(at) if is_count(second) => Err(first_fault(&mut rows, at)),
+            Some(_) => Err(PassFault::OutOfRange),
+            None => Pass::of_few(rows, second),
+        }
     }
 
-    /// The pass that these rows make, as [`Pass::new`] makes it. It takes less time where names rise as those of the last view
-    /// do, and are mostly the same: these need no test.
-    pub fn again(rows: Vec<Seen>, second: i64, last: &View) -> Result<Pass, PassFault>
+    /// The pass that these rows make, none of which has a fault of its own, as [`Pass::new`] makes it. No row is tested:
+    /// what is left to refuse them is too many rows, the second, and then a name that an earlier row has.
+    pub fn of_lawful(rows: Vec<Seen>, second: i64) -> Result<Pass, PassFault>
+        requires { IsTrue (list_all is_lawful_row rows.items) }
         ensures fault { MatchResult result
             (λ _. listing_fault rows.items second ≡ None)
             (λ fault. listing_fault rows.items second ≡ Some fault) }
-        ensures pass { IfOk result (λ pass. pass ≡ listing_of rows.items second) }
-    {
-        let records = last.records();
-        Pass::of(rows, second, Known { records })
-    }
-
-    /// The pass that these rows make, some of whose names may be known.
-    fn of(mut rows: Vec<Seen>, second: i64, known: Known<'_>) -> Result<Pass, PassFault>
-        ensures fault { MatchResult result
-            (λ _. listing_fault rows.items second ≡ None)
-            (λ fault. listing_fault rows.items second ≡ Some fault) }
+        ensures whole { IfErr result (λ fault. IsTrue (is_of_whole fault)) }
         ensures pass { IfOk result (λ pass. pass ≡ listing_of rows.items second) }
     {
         if rows.len() > MAX_LISTING_ROWS {
             return Err(PassFault::TooManyRows);
         }
-        match first_unlawful(&rows, known) {
-            Some(at) if is_count(second) => Err(first_fault(&mut rows, at)),
-            Some(_) => Err(PassFault::OutOfRange),
-            None => Pass::of_lawful(rows, second),
-        }
+        Pass::of_few(rows, second)
     }
 
-    /// The pass that these rows make, none of which has a fault of its own: what is left to test is the second, and then
-    /// whether a name stands twice.
-    fn of_lawful(mut rows: Vec<Seen>, second: i64) -> Result<Pass, PassFault>
+    /// The pass that these rows make, which are not too many, and none of which has a fault of its own.
+    fn of_few(mut rows: Vec<Seen>, second: i64) -> Result<Pass, PassFault>
         requires few { length rows.items ≤ MAX_LISTING_ROWS }
         requires lawful { IsTrue (list_all is_lawful_row rows.items) }
         ensures fault { MatchResult result
             (λ _. listing_fault rows.items second ≡ None)
             (λ fault. listing_fault rows.items second ≡ Some fault) }
+        ensures whole { IfErr result (λ fault. IsTrue (is_of_whole fault)) }
         ensures pass { IfOk result (λ pass. pass ≡ listing_of rows.items second) }
     {
         if !is_count(second) {
@@ -161,17 +154,16 @@ impl Pass {
 }
 
 impl Seen {
-    /// Whether the row is without a fault of its own. A name that is known is valid.
-    fn is_lawful(&self, known: &mut Known<'_>) -> bool
+    /// Whether the row is without a fault of its own.
+    fn is_lawful(&self) -> bool
         ensures { result ≡ is_lawful_row self.now }
     {
-        let has_valid_name = known.has(&self.name) || is_valid_name(&self.name);
-        has_valid_name && is_count(self.size) && is_time(self.mtime_ms)
+        is_valid_name(&self.name) && is_count(self.size) && is_time(self.mtime_ms)
     }
 }
 
 /// The place of the first row that has a fault of its own.
-fn first_unlawful(rows: &[Seen], mut known: Known<'_>) -> Option<usize>
+fn first_unlawful(rows: &[Seen]) -> Option<usize>
     ensures none { IfNone result (IsTrue (list_all is_lawful_row rows.now)) }
     ensures bound { IfSome result (λ at. at < length rows.now) }
     ensures before { IfSome result (λ at. IsTrue (list_all is_lawful_row (take at rows.now))) }
@@ -179,7 +171,7 @@ fn first_unlawful(rows: &[Seen], mut known: Known<'_>) -> Option<usize>
         IfSome (slice_get rows.now at) (λ row. is_lawful_row row ≡ false)) }
 {
     for (at, row) in rows.iter().enumerate() {
-        if !row.is_lawful(&mut known) {
+        if !row.is_lawful() {
             return Some(at);
         }
     }

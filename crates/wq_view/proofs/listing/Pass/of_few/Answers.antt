@@ -12,7 +12,7 @@ use Rattle.wq_view.specs.Seen.{SeenData, is_lawful_row, is_count}
 use Rattle.wq_view.specs.declared.limit.TheConstants.{MAX_LISTING_ROWS}
 use Rattle.wq_view.proofs.Faults.{fault_when_lawful}
 use Rattle.wq_view.proofs.Listings.{sorted_listing, is_pass}
-use Rattle.wq_view.proofs.listing.Pass.of_lawful.Goals as goal
+use Rattle.wq_view.proofs.listing.Pass.of_few.Goals as goal
 
 -- the second as it was passed
 is_second : (second : ℤ) (r : Bool) → SFits w64 second → r ≡ is_count (to_z w64 (of_z w64 second)) → r ≡ true → is_count second ≡ true
