@@ -5,3 +5,4 @@ mod Grammar
 mod Order
 mod Tokens
 mod Places
+mod Subscribed
