@@ -1,4 +1,4 @@
-mod Names
+pub mod Names
 mod Keys
 mod Paths
 mod Grammar
