@@ -33,15 +33,15 @@ has_bad_length (Some (string name)) = not (is_trigger_name name)
 has_bad_length _ = false
 
 -- whether an object has a key that would change what is done and is left out
-abbrev pub has_left_out_key : Data → Bool
-has_left_out_key d =
+abbrev pub has_left_out_trigger_key : Data → Bool
+has_left_out_trigger_key d =
     is_some (get (codes "stdout") d) || (is_some (get (codes "stderr") d)
     || (is_some (get (codes "chdir") d) || is_some (get (codes "relative_root") d)))
 
 -- the name, which is a text
-abbrev pub name_of : Option Data → Option (List ℕ)
-name_of (Some (string name)) = Some name
-name_of _ = None
+abbrev pub trigger_name_of : Option Data → Option (List ℕ)
+trigger_name_of (Some (string name)) = Some name
+trigger_name_of _ = None
 
 -- a text, unless a byte of it is 0
 abbrev pub without_byte_0 : List ℕ → Option (List ℕ)
@@ -89,9 +89,9 @@ input_of (Some (string word)) = input_named word
 input_of (Some d) = list_input d
 
 -- a count: a whole number from 0 to 2^62
-abbrev pub count_of : Data → Option ℕ
-count_of (number (unsigned n)) = if nat_le n max_number then Some n else None
-count_of _ = None
+abbrev pub file_count_of : Data → Option ℕ
+file_count_of (number (unsigned n)) = if nat_le n max_number then Some n else None
+file_count_of _ = None
 
 -- the limit of a count; 0 is none
 abbrev pub limit_from : ℕ → Option ℕ
@@ -101,7 +101,7 @@ limit_from (suc n) = Some (suc n)
 -- the greatest count of files on the input: none if it is not there
 abbrev pub limit_of : Option Data → Option (Option ℕ)
 limit_of None = Some None
-limit_of (Some d) = option_map limit_from (count_of d)
+limit_of (Some d) = option_map limit_from (file_count_of d)
 
 -- whether the program is a text, or not there
 abbrev pub is_text_or_absent : Option Data → Bool
@@ -120,9 +120,9 @@ pub record ShapeData : Type 0 where
 -- what an object says of a command, if its keys have values of these kinds
 abbrev pub shape_of : Data → Result ShapeData TriggerFault
 shape_of d =
-    unless_fault BadShape (not (has_left_out_key d)) (
+    unless_fault BadShape (not (has_left_out_trigger_key d)) (
     unless_fault BadShape (is_text_or_absent (get (codes "program") d)) (
-    or_fault BadShape (name_of (get (codes "name") d)) (λ name.
+    or_fault BadShape (trigger_name_of (get (codes "name") d)) (λ name.
     or_fault BadShape (flag_of (get (codes "append_files") d)) (λ appends.
     or_fault BadShape (limit_of (get (codes "max_files_stdin") d)) (λ limit.
     or_fault BadShape (command_of (get (codes "command") d)) (λ command.

@@ -24,7 +24,7 @@ pub use definition::Definition;
 pub use fault::TriggerFault;
 pub use follower::Follower;
 pub use launch::{Launch, LaunchFault};
-pub use law::{intervals_adjoin, longest_front};
+pub use law::{intervals_adjoin, longest_front, nothing_is_missed, views_are_reached};
 pub use order::{Input, Order};
 pub use shape::MAX_TRIGGER_NAME;
 pub use starting::{Env, MAX_APPENDED, Start};

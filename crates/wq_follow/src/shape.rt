@@ -2,10 +2,10 @@
 ghost use Rattle.std.specs.Prelude.{◌≡◌, option_map, IfOk};
 ghost use Rattle.serde_json.specs.View.{view as data_of, items_view};
 ghost use Rattle.wq_follow.specs.Defined.{GivesShape};
-ghost use Rattle.wq_follow.specs.Definition.{argument_of, arguments_in, command_of, count_of};
-ghost use Rattle.wq_follow.specs.Definition.{has_bad_length, has_left_out_key, input_named};
+ghost use Rattle.wq_follow.specs.Definition.{argument_of, arguments_in, command_of, file_count_of};
+ghost use Rattle.wq_follow.specs.Definition.{has_bad_length, has_left_out_trigger_key, input_named};
 ghost use Rattle.wq_follow.specs.Definition.{input_of, is_text_or_absent, is_trigger_name};
-ghost use Rattle.wq_follow.specs.Definition.{limit_from, limit_of, list_input, name_of};
+ghost use Rattle.wq_follow.specs.Definition.{limit_from, limit_of, list_input, trigger_name_of};
 ghost use Rattle.wq_follow.specs.Definition.{names_program, shape_of, without_byte_0};
 ghost use Rattle.wq_follow.specs.Started.{input_data};
 
@@ -83,7 +83,7 @@ fn is_trigger_name(name: &str) -> bool
 
 /// Whether an object has a key that would change what is done and is left out.
 fn has_left_out_key(object: &Value) -> bool
-    ensures { result ≡ has_left_out_key (data_of object.now) }
+    ensures { result ≡ has_left_out_trigger_key (data_of object.now) }
 {
     object.get("stdout").is_some()
         || object.get("stderr").is_some()
@@ -94,7 +94,7 @@ fn has_left_out_key(object: &Value) -> bool
 /// The name, which is a text.
 fn name(value: Option<&Value>) -> Option<&str>
     ensures { option_map (λ name. name.now) result
-        ≡ name_of (option_map (λ v. data_of v.now) value.entry) }
+        ≡ trigger_name_of (option_map (λ v. data_of v.now) value.entry) }
 {
     match value {
         Some(Value::String(name)) => Some(name.as_str()),
@@ -131,7 +131,7 @@ fn limit_from(count: u64) -> Option<u64>
 
 /// A count: a whole number from 0 to 2^62.
 fn count(value: &Value) -> Option<u64>
-    ensures { result ≡ count_of (data_of value.now) }
+    ensures { result ≡ file_count_of (data_of value.now) }
 {
     let count = value.as_u64()?;
     if count <= MAX_NUMBER {

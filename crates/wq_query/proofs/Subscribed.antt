@@ -15,12 +15,12 @@ use Rattle.wq_query.specs.Law.{ValuesAskWhatTheyWrite}
 use Rattle.wq_query.specs.Query.{QueryData, SinceData, at_bound, at_cursor, since_cursor}
 use Rattle.wq_query.specs.Reading.{asks, cursor_in}
 use Rattle.wq_query.specs.Subscribed.{SubscriptionsArePlain, comes_first, has_cursor}
-use Rattle.wq_query.specs.Subscribed.{has_generator, without}
+use Rattle.wq_query.specs.Subscribed.{has_generator, without_generators}
 use Rattle.wq_query.proofs.Grammar.{cursor-reads}
 
 -- what a subscription asks its object asks as a query, without a generator and without a cursor
 kept : (asked : Result QueryData QueryFault) (generator cursor : Bool) (query : QueryData)
-    → without asked generator cursor ≡ Ok query
+    → without_generators asked generator cursor ≡ Ok query
     → (asked ≡ Ok query) × (generator ≡ false) × (cursor ≡ false)
 kept (Ok q) false false query is = (is, refl, refl)
 kept (Ok q) false true query is = absurd (cc is)

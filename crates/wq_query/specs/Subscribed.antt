@@ -37,18 +37,18 @@ fails_first (Err fault) = comes_first fault
 
 -- what a subscription asks, from what its object asks as a query, whether that has a generator and
 -- whether it has a cursor
-abbrev pub without : Result QueryData QueryFault → Bool → Bool → Result QueryData QueryFault
-without asked generator cursor =
+abbrev pub without_generators : Result QueryData QueryFault → Bool → Bool → Result QueryData QueryFault
+without_generators asked generator cursor =
     if fails_first asked then asked
     else if generator then Err BadGenerator
     else if cursor then Err BadClockSpec else asked
 
 -- what the object of a subscription asks at an instance: its faults are looked for in this order
 abbrev pub subscribes : InstanceData → Data → Result QueryData QueryFault
-subscribes instance d = without (asks instance d) (has_generator d) (has_cursor d)
+subscribes instance d = without_generators (asks instance d) (has_generator d) (has_cursor d)
 
 -- a query has neither suffixes nor paths nor a cursor
-pub record IsPlain (query : QueryData) : Type 0 where
+pub record HasBoundAlone (query : QueryData) : Type 0 where
   pub suffix : query.suffix ≡ None
   pub path : query.path ≡ None
   pub since : since_cursor query.since ≡ None
@@ -56,4 +56,4 @@ pub record IsPlain (query : QueryData) : Type 0 where
 -- so it is with each query of a subscription
 abbrev pub SubscriptionsArePlain : Type 0
 SubscriptionsArePlain = (instance : InstanceData) (d : Data) (query : QueryData)
-    → subscribes instance d ≡ Ok query → IsPlain query
+    → subscribes instance d ≡ Ok query → HasBoundAlone query

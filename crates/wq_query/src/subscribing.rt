@@ -5,7 +5,7 @@ ghost use Rattle.wq_clock.specs.Instance.{instance_data};
 ghost use Rattle.wq_query.specs.Outcome.{GivesQuery};
 ghost use Rattle.wq_query.specs.Query.{asked_of};
 ghost use Rattle.wq_query.specs.Subscribed.{comes_first, has_cursor, has_generator, subscribes};
-ghost use Rattle.wq_query.specs.Subscribed.{without};
+ghost use Rattle.wq_query.specs.Subscribed.{without_generators};
 
 use crate::fault::QueryFault;
 use crate::query::Query;
@@ -27,15 +27,15 @@ impl Query {
         ensures { GivesQuery result (subscribes (instance_data instance.now) (data_of value.now)) }
     {
         match Query::read(alloc, value, instance) {
-            Ok(query) => without(value, query),
+            Ok(query) => without_generators(value, query),
             Err(fault) => Err(first_fault(value, fault)),
         }
     }
 }
 
 /// The query of an object, unless that has a generator or a cursor.
-fn without(value: &Value, query: Query) -> Result<Query, QueryFault>
-    ensures { GivesQuery result (without (Ok (asked_of query))
+fn without_generators(value: &Value, query: Query) -> Result<Query, QueryFault>
+    ensures { GivesQuery result (without_generators (Ok (asked_of query))
         (has_generator (data_of value.now)) (has_cursor (data_of value.now))) }
 {
     if has_generator(value) {
@@ -49,7 +49,7 @@ fn without(value: &Value, query: Query) -> Result<Query, QueryFault>
 
 /// The fault of an object as a subscription, which has this one as a query.
 fn first_fault(value: &Value, fault: QueryFault) -> QueryFault
-    ensures { without (Err fault) (has_generator (data_of value.now))
+    ensures { without_generators (Err fault) (has_generator (data_of value.now))
         (has_cursor (data_of value.now)) ≡ Err result }
 {
     if comes_first(fault) {
