@@ -124,9 +124,7 @@ impl Subscription {
         ensures stays { OnErr result (subscription_data self.new ≡ subscription_data self.old) }
     {
         let batch = self.poll(alloc, view)?;
-        let text = self.list(alloc, instance, view, &batch)?;
-        self.commit(&batch);
-        Ok(text)
+        self.send(alloc, instance, view, &batch)
     }
 
     /// The list at a view of the root, if files changed. After it the subscription is caught up with
@@ -153,9 +151,30 @@ impl Subscription {
             self.commit(&batch);
             return Ok(None);
         }
-        let text = self.list(alloc, instance, view, &batch)?;
-        self.commit(&batch);
-        Ok(Some(text))
+        Ok(Some(self.send(alloc, instance, view, &batch)?))
+    }
+
+    /// The list of a batch of this view, which the subscription was then told.
+    fn send(
+        &mut self,
+        alloc: Global,
+        instance: &Instance,
+        view: &View,
+        batch: &Batch,
+    ) -> Result<Vec<u8>, AllocError>
+        requires within { AreWithin view.now.records batch.now.files.items }
+        requires tick { batch.now.tick ≤ max_number }
+        ensures list { IfOk result (λ text. text.items ≡ compact_text (list_data
+            (subscription_data self.old).root (subscription_data self.old).name
+            ((subscription_data self.old).follower).plan (instance_data instance.now)
+            view.now.tick (records_at view.now.records batch.now.files.items))) }
+        ensures moved { OnOk result (subscription_data self.new
+            ≡ sent_up_to batch.now.tick (subscription_data self.old)) }
+        ensures stays { OnErr result (subscription_data self.new ≡ subscription_data self.old) }
+    {
+        let text = self.list(alloc, instance, view, batch)?;
+        self.commit(batch);
+        Ok(text)
     }
 
     /// The line that ends the subscription, without its end: its root is no longer watched.
