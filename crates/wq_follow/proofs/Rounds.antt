@@ -101,7 +101,7 @@ pub does_short : (instance : InstanceData) (view : ViewData) (t : TriggerData) (
 does_short instance view t before shown asks wants = (short, (wants, refl), agrees_short t.running before shown asks, refl)
 
 -- a follower with files to tell is polled at a newer view
-wants_memory : (f : FollowerData) (view : ViewData) → (polled f view).files ≢ [] → is_told f.last view.tick ≡ false
+pub wants_memory : (f : FollowerData) (view : ViewData) → (polled f view).files ≢ [] → is_told f.last view.tick ≡ false
 wants_memory f view some = at (is_told f.last view.tick) refl
   where
     at : (b : Bool) → is_told f.last view.tick ≡ b → is_told f.last view.tick ≡ false
@@ -118,12 +118,12 @@ does_short_start instance view t batch before shown asks is some =
 pub does_quiet : (instance : InstanceData) (view : ViewData) (t : TriggerData) (batch : Batch) (next : FollowerData) (before shown : Option LauncherData)
     → AsksRun t.running true before shown → IsBatch view.records (batch_of t view) batch → length batch.files.items ≡ 0
     → next ≡ told_up_to batch.tick t.follower
-    → Does instance view t (record { order = t.order; follower = next; running = None }) before shown false
+    → Does instance view t (record { order = t.order; follower = next; object = t.object; running = None }) before shown false
 does_quiet instance view t batch next before shown asks is none moves = (
   quiet,
   (
     no_files view.records (batch_of t view) batch is none,
-    ap (λ f. record { order = t.order; follower = f; running = None }) (followed view t batch next is moves),
+    ap (λ f. record { order = t.order; follower = f; object = t.object; running = None }) (followed view t batch next is moves),
   ),
   agrees_quiet t.running before shown asks,
   refl,
@@ -133,12 +133,12 @@ pub does_started : (instance : InstanceData) (view : ViewData) (t : TriggerData)
     → AsksRun t.running true before mid → IsBatch view.records (batch_of t view) batch → length batch.files.items ≢ 0
     → start ≡ start_of t.order instance (batch_at view.records batch) → StartsRun mid start (Some run) shown
     → next ≡ told_up_to batch.tick t.follower
-    → Does instance view t (record { order = t.order; follower = next; running = Some run }) before shown false
+    → Does instance view t (record { order = t.order; follower = next; object = t.object; running = Some run }) before shown false
 does_started instance view t batch next start run before mid shown asks is some made starts moves = (
   started run start,
   (
     (some_files view.records (batch_of t view) batch is some, made ∙ ap (start_of t.order instance) is.0),
-    ap (λ f. record { order = t.order; follower = f; running = Some run }) (followed view t batch next is moves),
+    ap (λ f. record { order = t.order; follower = f; object = t.object; running = Some run }) (followed view t batch next is moves),
   ),
   agrees_started t.running run start before mid shown asks starts,
   refl,

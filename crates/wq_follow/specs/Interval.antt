@@ -38,13 +38,18 @@ changed_in from now r = nat_lt from r.otick && nat_le r.otick now
 abbrev pub is_matched : PlanData → RecordData → Bool
 is_matched plan r = is_meant plan.program (plan.query).expression r
 
--- a batch tells an interval that begins at this tick: it ends no earlier, and has the files of its
--- view that match and whose last change lies in it, deleted ones too, each once, in the order of
--- the view
+-- the later of two ticks
+abbrev pub later_tick : ℕ → ℕ → ℕ
+later_tick a b = if nat_le b a then a else b
+
+-- a batch tells an interval that begins at this tick: it ends at the tick of its view, unless that is
+-- earlier, and has the files of its view that match and whose last change lies in it, deleted ones
+-- too, each once, in the order of the view
 pub record TellsFrom (last : ℕ) (matches : RecordData → Bool) (t : ToldData) : Type 0 where
   pub from : (t.batch).from ≡ Tick last
   pub fresh : (t.batch).fresh ≡ false
   pub forth : last ≤ (t.batch).now
+  pub now : (t.batch).now ≡ later_tick last (t.view).tick
   pub files : (t.batch).files
       ≡ filter (λ r. changed_in last (t.batch).now r && matches r) (t.view).records
 

@@ -2,16 +2,19 @@
 -- From Watchman's documentation of `trigger`; that a failed start tells nothing is this server's
 -- own.
 use Rattle.std.specs.Prelude.{◌≡◌, ◌≢◌, ℕ, Bool, true, false, [], Option, Some, None}
+use Rattle.serde_json.specs.Data.{Data}
 use Rattle.wq_clock.specs.Instance.{InstanceData}
 use Rattle.wq_view.specs.View.{ViewData}
 use Rattle.wq_follow.specs.Batch.{BatchData, FollowerData, is_told, polled, told_up_to}
 use Rattle.wq_follow.specs.Launcher.{LauncherData, StartsRun, goes_on}
 use Rattle.wq_follow.specs.Start.{OrderData, StartData, start_of}
 
--- a trigger: how it starts its command, its follower, and the run of its command, if that runs
+-- a trigger: how it starts its command, its follower, the object that defines it, and the run of its
+-- command, if that runs
 pub record TriggerData : Type 0 where
   pub order : OrderData
   pub follower : FollowerData
+  pub object : Data
   pub running : Option ℕ
 
 -- what a round does for it
@@ -36,12 +39,14 @@ abbrev pub moved : Option ℕ → ViewData → TriggerData → TriggerData
 moved running view t = record {
   order = t.order;
   follower = told_up_to (batch_of t view).now t.follower;
+  object = t.object;
   running = running;
 }
 
 -- the trigger when its command does not run
 abbrev pub stopped : TriggerData → TriggerData
-stopped t = record { order = t.order; follower = t.follower; running = None }
+stopped t =
+    record { order = t.order; follower = t.follower; object = t.object; running = None }
 
 -- a start of its command tells the files of its batch, of which there are some
 abbrev pub IsStartFor : InstanceData → ViewData → TriggerData → StartData → Type 0

@@ -1,5 +1,6 @@
 //! Laws of followers, each a function without a body whose contract is the law.
 ghost use Rattle.wq_follow.specs.Interval.{IntervalsAdjoin};
+ghost use Rattle.wq_follow.specs.Missing.{NothingIsMissed, ViewsAreReached};
 ghost use Rattle.wq_follow.specs.Start.{LongestFront};
 
 /// The intervals of all batches that are told adjoin. Each batch has the matching files whose last
@@ -12,4 +13,18 @@ pub fn intervals_adjoin()
 /// The names that are appended to a command are the longest front for which there is room.
 pub fn longest_front()
     ensures { LongestFront }
+{}
+
+/// No file of the view of a history changed last at a later tick than that of the view.
+#[tactic(auto, using(crate::proofs::Passes::views_are_reached))]
+pub fn views_are_reached()
+    ensures { ViewsAreReached }
+{}
+
+/// Nothing is missed between the first batch and the last. Each matching file that changed last after
+/// the end of the first, and no later than that of the last, is in exactly one of the batches after
+/// the first, as it is now.
+#[tactic(auto, using(crate::proofs::Missed::nothing_is_missed))]
+pub fn nothing_is_missed()
+    ensures { NothingIsMissed }
 {}

@@ -3,19 +3,30 @@
 #![tactic(auto)]
 
 mod batch;
+mod copy;
+mod defining;
+mod definition;
+mod fault;
 mod firing;
 mod follower;
 mod launch;
 mod law;
 mod order;
 mod polling;
+mod shape;
 mod starting;
+mod subscription;
+mod telling;
 mod trigger;
 
 pub use batch::Batch;
+pub use definition::Definition;
+pub use fault::TriggerFault;
 pub use follower::Follower;
 pub use launch::{Launch, LaunchFault};
-pub use law::{intervals_adjoin, longest_front};
+pub use law::{intervals_adjoin, longest_front, nothing_is_missed, views_are_reached};
 pub use order::{Input, Order};
+pub use shape::MAX_TRIGGER_NAME;
 pub use starting::{Env, MAX_APPENDED, Start};
+pub use subscription::Subscription;
 pub use trigger::Trigger;

@@ -11,6 +11,7 @@ ghost use Rattle.wq_follow.specs.Start.{objects, since_text, start_of, taken};
 ghost use Rattle.wq_follow.specs.Started.{IsClocked, env_data, input_data, order_data, start_data};
 
 use crate::batch::Batch;
+use crate::copy::copy;
 use crate::order::{Input, Order};
 use std::alloc::{AllocError, Global};
 use wq_base::{Table, Text};
@@ -72,13 +73,6 @@ fn since(instance: &Instance, from: Bound) -> Option<ClockText>
         Bound::Tick(tick) => Some(print(instance, tick)),
         Bound::Fresh | Bound::Second(_) => None,
     }
-}
-
-/// A copy of a text.
-fn copy(alloc: Global, text: &str) -> Result<Text, AllocError>
-    ensures { IfOk result (λ copy. copy ≡ text.now) }
-{
-    Ok(Text::from_string(String::from_str(alloc, text)?))
 }
 
 /// Puts copies of texts after the arguments.

@@ -1,15 +1,19 @@
-//! A command that is started when files changed, as it is kept. Its functions are in `firing`.
+//! A command that is started when files changed, as it is kept. Its functions are in `defining`
+//! and in `firing`.
 ghost use Rattle.wq_query.specs.Query.{planned};
 ghost use Rattle.wq_follow.specs.Started.{IsClocked};
 
 use crate::follower::Follower;
 use crate::order::Order;
+use serde_json::Value;
 
 /// A command that is started when files changed.
 #[derive(Drop)]
 pub struct Trigger {
     pub(crate) order: Order,
     pub(crate) follower: Follower,
+    /// The object of its definition, with the known keys.
+    pub(crate) object: Value,
     pub(crate) running: Option<u32>,
     ghost clocked: { IsClocked (planned follower.plan).bound },
 }

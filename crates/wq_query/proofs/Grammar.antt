@@ -225,7 +225,7 @@ cursor-found law (string text) name e = at (clock_spec_of text) refl
     at None is = absurd (none_or_some name (sym (ap (option_and_then spec_cursor) is) ∙ e))
 cursor-found law _ name e = cc
 
-cursor-reads : TextsSayWhatTheySpell → (d : Data) (name : List ℕ) → IsCursor name d → cursor_in d ≡ Some name
+pub cursor-reads : TextsSayWhatTheySpell → (d : Data) (name : List ℕ) → IsCursor name d → cursor_in d ≡ Some name
 cursor-reads law (string text) name h = ap (option_and_then spec_cursor) ((law text (named_cursor name)).1 h)
 cursor-reads law _ name h = absurd h
 

@@ -10,3 +10,4 @@ pub mod Grammar
 pub mod Law
 pub mod Meaning
 pub mod Following
+pub mod Subscribed

@@ -15,10 +15,12 @@ mod query;
 mod reading;
 mod reply;
 mod room;
+mod subscribing;
 
 pub use fault::QueryFault;
 pub use field::Field;
 pub use following::{files_text, print_list};
-pub use law::values_ask_what_they_write;
+pub use law::{subscriptions_are_plain, values_ask_what_they_write};
 pub use query::{Plan, Query};
+pub use reading::{flag, some_fields};
 pub use reply::{answer, answer_bytes};

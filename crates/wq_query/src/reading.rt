@@ -1,5 +1,5 @@
 //! Reading the keys of a query from a JSON object, one function for each.
-ghost use Rattle.std.specs.Prelude.{◌≡◌, map, option_map, IfOk, IsTrue};
+ghost use Rattle.std.specs.Prelude.{◌≡◌, Some, map, option_map, IfOk, IsTrue};
 ghost use Rattle.serde_json.specs.View.{view as data_of, items_view};
 ghost use Rattle.wq_clock.specs.Instance.{instance_data};
 ghost use Rattle.wq_term.specs.Expr.{always, term_of};
@@ -103,7 +103,7 @@ pub(crate) fn since(
 }
 
 /// The name of the cursor that a value says, if it says one.
-fn cursor(value: &Value) -> Option<&str>
+pub(crate) fn cursor(value: &Value) -> Option<&str>
     ensures { option_map (λ name. name.now) result ≡ cursor_in (data_of value.now) }
 {
     match parse(value.as_str()?) {
@@ -131,7 +131,7 @@ fn copy(alloc: Global, text: &str) -> Result<Text, AllocError>
 }
 
 /// Whether a key that is there is true or false, and which; false where it is not there.
-pub(crate) fn flag(value: Option<&Value>) -> Option<bool>
+pub fn flag(value: Option<&Value>) -> Option<bool>
     ensures { result ≡ flag_of (option_map (λ v. data_of v.now) value.entry) }
 {
     match value {
@@ -168,6 +168,16 @@ pub(crate) fn fields(alloc: Global, value: Option<&Value>) -> Result<Vec<Field>,
         let default = [Field::Name, Field::Exists, Field::New, Field::Size];
         return Ok(Vec::from_slice(alloc, &default)?);
     };
+    some_fields(alloc, value)
+}
+
+/// The fields that a value names: a list of names that is not empty.
+///
+/// # Errors
+/// [`QueryFault::UnknownField`], and [`QueryFault::NoMemory`].
+pub fn some_fields(alloc: Global, value: &Value) -> Result<Vec<Field>, QueryFault>
+    ensures { GivesFields result (fields_of (Some (data_of value.now))) }
+{
     let Some(names) = value.as_array() else {
         return Err(QueryFault::UnknownField);
     };
