@@ -1,2 +1,3 @@
 mod Searches
 mod Sets
+mod Numbers

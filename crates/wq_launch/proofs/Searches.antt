@@ -2,16 +2,16 @@
 use Rattle.std.proofs.Common.{◌≡◌, ℕ, suc, zero, ◌+◌, ◌<◌, ◌≤◌, ◌-◌, List, true, false, Some, None}
 use Rattle.std.proofs.Common.{ap, refl, rules, sym, ◌∙◌}
 use native.Mathlib.Omega.{arith}
-use Rattle.wq_launch.specs.Runs.{first_free, has_number, number_after}
+use Rattle.wq_launch.specs.Runs.{first_free, is_running, number_after}
 
 -- a number that is taken is passed over
-passed : (count number : ℕ) (running : List ℕ) → has_number number running ≡ true
+pub passed : (count number : ℕ) (running : List ℕ) → is_running number running ≡ true
     → first_free (suc count) number running ≡ first_free count (number_after number) running
 unfolding first_free
 passed count number running taken = search (rules, taken)
 
 -- a number that is free is found
-taken_at : (count number : ℕ) (running : List ℕ) → has_number number running ≡ false
+pub taken_at : (count number : ℕ) (running : List ℕ) → is_running number running ≡ false
     → first_free (suc count) number running ≡ Some number
 unfolding first_free
 taken_at count number running free = search (rules, free)
@@ -22,7 +22,7 @@ one-less count tried less = omega (arith, less)
 
 -- a number that is taken is passed over
 pub goes_on : (count tried number : ℕ) (running : List ℕ) → tried < count
-    → has_number number running ≡ true
+    → is_running number running ≡ true
     → first_free (count - (tried + 1)) (number_after number) running
     ≡ first_free (count - tried) number running
 goes_on count tried number running less taken =
@@ -31,21 +31,21 @@ goes_on count tried number running less taken =
 
 -- a number that is free is found
 pub found : (count tried number : ℕ) (running : List ℕ) → tried < count
-    → has_number number running ≡ false → first_free (count - tried) number running ≡ Some number
+    → is_running number running ≡ false → first_free (count - tried) number running ≡ Some number
 found count tried number running less free =
     ap (λ n. first_free n number running) (one-less count tried less)
     ∙ taken_at (count - (tried + 1)) number running free
 
 -- none is left
-none : (number : ℕ) (running : List ℕ) → first_free zero number running ≡ None
+pub none_at : (number : ℕ) (running : List ℕ) → first_free zero number running ≡ None
 unfolding first_free
-none number running = refl
+none_at number running = refl
 
 -- none of no numbers is found
 pub none_left : (count tried number : ℕ) (running : List ℕ) → count ≤ tried
     → first_free (count - tried) number running ≡ None
 none_left count tried number running all =
-    ap (λ n. first_free n number running) (nothing count tried all) ∙ none number running
+    ap (λ n. first_free n number running) (nothing count tried all) ∙ none_at number running
   where
     nothing : (count tried : ℕ) → count ≤ tried → count - tried ≡ 0
     nothing count tried all = omega (arith, all)

@@ -24,12 +24,12 @@ is_known failed starts =
     list_any (λ f. is_start_of failed.root failed.trigger f && bytes_eq failed.words f.words) starts
 
 -- the failing starts but those of a trigger
-abbrev pub without_start : List ℕ → List ℕ → List FailedStart → List FailedStart
-without_start root trigger starts = filter (λ f. not (is_start_of root trigger f)) starts
+abbrev pub without_failure : List ℕ → List ℕ → List FailedStart → List FailedStart
+without_failure root trigger starts = filter (λ f. not (is_start_of root trigger f)) starts
 
 -- the starts with one more, and without the first one if there is no room
-abbrev pub with_start : FailedStart → List FailedStart → List FailedStart
-with_start failed starts =
+abbrev pub with_failure : FailedStart → List FailedStart → List FailedStart
+with_failure failed starts =
     (if nat_lt (length starts) max_failing then starts else drop 1 starts) ++ failed ∷ []
 
 -- a text as a JSON string
@@ -38,16 +38,16 @@ quoted text = compact_text (string text)
 
 -- the line that tells of a failing start. The root and the trigger are JSON strings in it, so it is
 -- one line whatever they are called
-abbrev pub line_of : FailedStart → List ℕ
-line_of f =
+abbrev pub failure_line : FailedStart → List ℕ
+failure_line f =
     quoted f.root ++ (codes ": trigger " ++ (quoted f.trigger
     ++ (codes " could not be started: " ++ f.words)))
 
 -- the failing starts after one of this trigger did not fail
 abbrev pub after_success : List ℕ → List ℕ → FailingData → FailingData
 after_success root trigger f = record {
-  told = without_start root trigger f.told;
-  untold = without_start root trigger f.untold;
+  told = without_failure root trigger f.told;
+  untold = without_failure root trigger f.untold;
 }
 
 -- the failing starts after one failed: if it did not fail so before, the operator is to be told
@@ -55,12 +55,12 @@ abbrev pub after_failure : FailedStart → FailingData → FailingData
 after_failure failed f =
     if is_known failed f.told || is_known failed f.untold then f
     else record {
-      told = without_start failed.root failed.trigger f.told;
-      untold = with_start failed (without_start failed.root failed.trigger f.untold);
+      told = without_failure failed.root failed.trigger f.told;
+      untold = with_failure failed (without_failure failed.root failed.trigger f.untold);
     }
 
 -- the operator is told of the first failing start of which he was not told, if there is one
 abbrev pub TellsFirst : FailingData → Option (List ℕ) → FailingData → Type 0
 TellsFirst old None new = (old.untold ≡ []) × (new ≡ old)
 TellsFirst old (Some line) new = (f : FailedStart) × (old.untold ≡ f ∷ new.untold)
-    × (line ≡ line_of f) × (new.told ≡ with_start f old.told)
+    × (line ≡ failure_line f) × (new.told ≡ with_failure f old.told)

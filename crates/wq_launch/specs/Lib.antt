@@ -2,5 +2,5 @@ pub mod Limit
 pub mod Runs
 pub mod Command
 pub mod Failing
-pub mod RunData
+pub mod StartedRun
 pub mod Launching

@@ -3,8 +3,8 @@ ghost use Rattle.std.specs.Prelude.{◌≡◌, ◌≤◌, ◌&&◌, ◌||◌, If
 ghost use Rattle.std.specs.Prelude.{string_bytes, vec_capacity, vec_len};
 ghost use Rattle.std.specs.Str.{bytes_eq};
 ghost use Rattle.wq_launch.specs.Failing.{TellsFirst, after_failure, after_success, is_known};
-ghost use Rattle.wq_launch.specs.Failing.{is_start_of, line_of, quoted, with_start};
-ghost use Rattle.wq_launch.specs.Failing.{without_start};
+ghost use Rattle.wq_launch.specs.Failing.{is_start_of, failure_line, quoted, with_failure};
+ghost use Rattle.wq_launch.specs.Failing.{without_failure};
 ghost use Rattle.wq_launch.specs.Limit.{max_failing};
 
 use crate::words::Words;
@@ -43,7 +43,7 @@ impl FailedStart {
 
     /// The line that tells of it.
     fn line(&self, alloc: Global) -> Result<Text, AllocError>
-        ensures { IfOk result (λ line. line ≡ line_of self.now) }
+        ensures { IfOk result (λ line. line ≡ failure_line self.now) }
     {
         let root = quoted(alloc, self.root.as_str())?;
         let trigger = quoted(alloc, self.trigger.as_str())?;
@@ -145,7 +145,7 @@ fn is_known(starts: &[FailedStart], failed: &FailedStart) -> bool
 
 /// Takes out the failing starts of a trigger.
 fn drop_start(starts: &mut Vec<FailedStart>, root: &str, trigger: &str)
-    ensures others { starts.new.items ≡ without_start root.now trigger.now starts.old.items }
+    ensures others { starts.new.items ≡ without_failure root.now trigger.now starts.old.items }
     ensures shorter { vec_len starts.new ≤ vec_len starts.old }
     ensures room { vec_capacity starts.new ≡ vec_capacity starts.old }
 {
@@ -156,7 +156,7 @@ fn drop_start(starts: &mut Vec<FailedStart>, root: &str, trigger: &str)
 fn put_start(starts: &mut Vec<FailedStart>, failed: FailedStart)
     requires room { max_failing ≤ vec_capacity starts.old }
     requires within { vec_len starts.old ≤ max_failing }
-    ensures put { starts.new.items ≡ with_start failed starts.old.items }
+    ensures put { starts.new.items ≡ with_failure failed starts.old.items }
     ensures within { vec_len starts.new ≤ max_failing }
     ensures room { vec_capacity starts.new ≡ vec_capacity starts.old }
 {

@@ -4,7 +4,7 @@ ghost use Rattle.std.specs.Prelude.{length, option_to_list, OnSome};
 ghost use Rattle.wq_follow.specs.Launcher.{Rose, StartsRun, run_of};
 ghost use Rattle.wq_follow.specs.Started.{env_data, start_data};
 ghost use Rattle.wq_launch.specs.Failing.{TellsFirst, after_success};
-ghost use Rattle.wq_launch.specs.Launching.{Fails, given_back, with_start};
+ghost use Rattle.wq_launch.specs.Launching.{KeepsFailure, given_back, with_waiting};
 ghost use Rattle.wq_launch.specs.Limit.{max_runs};
 
 use crate::failing::{FailedStart, Failing};
@@ -140,7 +140,7 @@ impl<S: Spawn + Drop, R: Wait + Drop> Launcher<S, R> {
 
     /// Keeps why a start of a trigger failed.
     fn fail(&mut self, env: Env, error: &io::Error)
-        ensures failing { Fails (env_data env) self.old.failing self.new.failing }
+        ensures failing { KeepsFailure (env_data env) self.old.failing self.new.failing }
         ensures failures { self.new.failures ≡ self.old.failures }
         ensures waiting { self.new.waiting ≡ self.old.waiting }
     {
@@ -162,11 +162,11 @@ impl<S: Spawn + Drop, R: Wait + Drop> Launch for Launcher<S, R> {
     fn start(&mut self, start: Start) -> Result<u32, LaunchFault>
         ensures counted { IfErr result (λ _. Rose self.old.failures self.new.failures) }
         ensures told { StartsRun None (start_data start) (run_of result) None }
-        ensures waiting { self.new.waiting ≡ with_start (start_data start) result self.old.waiting }
+        ensures waiting { self.new.waiting ≡ with_waiting (start_data start) result self.old.waiting }
         ensures ok { OnOk result ((self.new.failures ≡ self.old.failures)
             × (self.new.failing ≡ after_success start.env.root start.env.trigger
             self.old.failing)) }
-        ensures err { OnErr result (Fails (start_data start).env self.old.failing
+        ensures err { OnErr result (KeepsFailure (start_data start).env self.old.failing
             self.new.failing) }
     {
         match self.begin(&start) {

@@ -8,6 +8,7 @@ mod attending;
 mod command;
 mod failing;
 mod launcher;
+mod law;
 mod run;
 mod runs;
 mod spawning;
@@ -15,6 +16,7 @@ mod words;
 
 pub use attending::attend;
 pub use launcher::Launcher;
+pub use law::numbers_are_free;
 pub use run::Run;
 pub use runs::{MAX_RUNS, Runs};
 pub use spawning::{Spawn, System};

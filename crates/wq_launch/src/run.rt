@@ -15,9 +15,9 @@ pub struct Run {
 }
 
 impl Model for Run {
-    ghost use Rattle.wq_launch.specs.RunData.{RunData};
+    ghost use Rattle.wq_launch.specs.StartedRun.{StartedRun};
 
-    ghost Value = { RunData };
+    ghost Value = { StartedRun };
 
     ghost view = { λ r. record { number = r.number; input = r.input } };
 }

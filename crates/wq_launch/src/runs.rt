@@ -1,8 +1,8 @@
 //! The commands that run, by the numbers of their runs.
 ghost use Rattle.std.specs.Prelude.{◌≡◌, ◌+◌, ◌≤◌, IfOk, [], vec_capacity, vec_len};
 ghost use Rattle.wq_launch.specs.Limit.{max_runs};
-ghost use Rattle.wq_launch.specs.Runs.{GivesNumber, first_free, has_number, number_after};
-ghost use Rattle.wq_launch.specs.Runs.{without_number};
+ghost use Rattle.wq_launch.specs.Runs.{GivesNumber, first_free, is_running, number_after};
+ghost use Rattle.wq_launch.specs.Runs.{without_run};
 
 use std::alloc::{AllocError, Global};
 use std::marker::Model;
@@ -45,7 +45,7 @@ impl RunTable {
 
     /// Whether the command of this number runs.
     fn has(&self, run: u32) -> bool
-        ensures { result ≡ has_number run self.now.running }
+        ensures { result ≡ is_running run self.now.running }
     {
         self.running.contains(&run)
     }
@@ -83,7 +83,7 @@ impl RunTable {
     fn end(&mut self, run: u32)
         ensures { self.new ≡ record {
           last = self.old.last;
-          running = without_number run self.old.running;
+          running = without_run run self.old.running;
         } }
     {
         drop_number(&mut self.running, run);
@@ -92,7 +92,7 @@ impl RunTable {
 
 /// Takes a number out of a list.
 fn drop_number(running: &mut Vec<u32>, run: u32)
-    ensures others { running.new.items ≡ without_number run running.old.items }
+    ensures others { running.new.items ≡ without_run run running.old.items }
     ensures shorter { vec_len running.new ≤ vec_len running.old }
     ensures room { vec_capacity running.new ≡ vec_capacity running.old }
 {
