@@ -1,0 +1,3 @@
+mod Searches
+mod Sets
+mod Numbers

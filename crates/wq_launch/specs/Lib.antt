@@ -1,0 +1,6 @@
+pub mod Limit
+pub mod Runs
+pub mod Command
+pub mod Failing
+pub mod StartedRun
+pub mod Launching

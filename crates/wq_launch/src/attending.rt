@@ -1,0 +1,99 @@
+//! The thread that attends a command: it writes its input, and waits for its end. It is made before
+//! the command is handed to it, so that no command is lost if no thread can be made.
+ghost use Rattle.std.specs.Prelude.{◌≡◌, IfSome};
+
+use crate::run::Run;
+use crate::runs::Runs;
+use std::alloc::Global;
+use std::io::Write;
+use std::mem;
+use std::sync::{Arc, Condvar, Mutex, Wait};
+use std::thread::{self, Threads};
+
+/// The place from which a thread takes its command.
+#[derive(Drop)]
+struct Post {
+    run: Mutex<Option<Run>>,
+    changed: Condvar,
+}
+
+impl Post {
+    /// A place at which no command is.
+    fn new() -> Post {
+        Post {
+            run: Mutex::new(None),
+            changed: Condvar::new(),
+        }
+    }
+
+    /// Hands a command over.
+    fn put<R: Wait>(&self, rt: &R, run: Run) {
+        *self.run.lock(rt) = Some(run);
+        self.changed.notify_all();
+    }
+
+    /// Waits for the command, and takes it.
+    fn take<R: Wait>(&self, rt: &R) -> Option<Run> {
+        let lock = self.run.lock(rt);
+        let mut run = self.changed.wait_while(rt, lock, |it| it.is_none());
+        mem::replace(&mut *run, None)
+    }
+}
+
+/// Has a thread of its own attend a command: it writes the input and waits for the end, which it
+/// tells to the runs.
+///
+/// If no thread can be made, it gives the command back. Nobody waits for a command but its thread,
+/// which ends with it.
+pub fn attend<R>(rt: R, alloc: Global, runs: &Arc<Runs>, run: Run) -> Option<Run>
+where
+    R: Threads + Wait + Copy + Drop + Send + Sync + 'static,
+    ensures { IfSome result (λ it. it ≡ run) }
+{
+    match begin(rt, alloc, runs) {
+        Some(post) => {
+            post.put(&rt, run);
+            None
+        }
+        None => Some(run),
+    }
+}
+
+/// Makes a thread that attends the command which it is handed.
+fn begin<R>(rt: R, alloc: Global, runs: &Arc<Runs>) -> Option<Arc<Post>>
+where
+    R: Threads + Wait + Copy + Drop + Send + Sync + 'static,
+{
+    let post = Arc::new(alloc, Post::new()).ok()?;
+    let (theirs, runs) = (post.clone().ok()?, runs.clone().ok()?);
+    match thread::spawn(&rt, move || see_through(&rt, &*theirs, &*runs)) {
+        // Nobody joins it: it ends by itself, once its command has.
+        Ok(_) => Some(post),
+        Err(_) => None,
+    }
+}
+
+/// Takes a command, and attends it until it has ended.
+fn see_through<R: Wait>(rt: &R, post: &Post, runs: &Runs) {
+    if let Some(run) = post.take(rt) {
+        let number = run.number;
+        wait_for(run);
+        runs.end(rt, number);
+    }
+}
+
+/// Writes the input of a command, as far as it takes it, and waits for its end.
+fn wait_for(run: Run) {
+    let Run {
+        number: _,
+        mut child,
+        input,
+    } = run;
+    if let Some(mut pipe) = child.stdin.take() {
+        // A command that reads no further has closed its input, or has ended.
+        let _ = pipe.write_all(input.as_slice());
+    }
+    drop(input);
+    // A command that cannot be waited for has no end that could be told.
+    let _ = child.wait();
+}

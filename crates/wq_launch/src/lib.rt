@@ -1,0 +1,22 @@
+//! Starting the commands of triggers by the system, and hearing of their ends.
+//!
+//! A [`Launcher`] starts commands and keeps them. Who runs it takes each of them afterwards and has
+//! a thread attend it ([`attend`]), and tells the operator its lines.
+#![tactic(auto)]
+
+mod attending;
+mod command;
+mod failing;
+mod launcher;
+mod law;
+mod run;
+mod runs;
+mod spawning;
+mod words;
+
+pub use attending::attend;
+pub use launcher::Launcher;
+pub use law::numbers_are_free;
+pub use run::Run;
+pub use runs::{MAX_RUNS, Runs};
+pub use spawning::{Spawn, System};
