@@ -53,7 +53,7 @@ class Asking:
         return self
 
     def __exit__(self, *_: object) -> None:
-        for name in self.runtime.glob("*/socket"):
+        for name in self.runtime.glob("*/*.socket"):
             try:
                 with Client(str(name)) as client:
                     client.ask("shutdown-server")
@@ -75,8 +75,11 @@ class Asking:
     def room(self) -> Path:
         return next(self.runtime.iterdir())
 
+    def note(self) -> List[str]:
+        return (self.room() / "note").read_text().splitlines()
+
     def client(self) -> Client:
-        return Client(str(self.room() / "socket"))
+        return Client(self.note()[2])
 
     def watched(self) -> bytes:
         return f'{{"version":"wq-1","watch":"{self.root}","watcher":"poll"}}\n'.encode()
@@ -103,13 +106,14 @@ def check_unproved(tally: built.Tally, room: Path) -> None:
             same(tally, "no root is left", client.ask("watch-list"), {"roots": [], **VERSION})
         (asking.top / "crates" / "wqd" / "src" / "main.rt").write_text("fn main() { }\n")
         same(tally, "sources that changed", (asking.ask('["version"]'), asking.compilations()), (first, 2))
-        note = asking.room() / "note"
-        sources, end = note.read_text().split()
+        sources, end, sockname = asking.note()
         same(tally, "when it ends", 500 < int(end) - time.time() <= 600, True)
-        note.write_text(f"{sources} {int(time.time()) + 30}\n")
+        note = asking.room() / "note"
+        note.write_text(f"{sources}\n{int(time.time()) + 30}\n{sockname}\n")
         same(tally, "a server with little time left", (asking.ask('["version"]'), asking.compilations()), (first, 3))
-        note.write_text("nonsense")
-        same(tally, "a note that is none", (asking.ask('["version"]'), asking.compilations()), (first, 4))
+        with asking.client() as client:
+            client.ask("shutdown-server")
+        same(tally, "a server that is gone", (asking.ask('["version"]'), asking.compilations()), (first, 4))
         shut = asking.ask('["shutdown-server"]', '["version"]')
         same(tally, "the end of the server", (shut.status, b"ask: a line was not answered\n" in shut.output), (1, True))
         same(tally, "a call after the end", (asking.ask('["version"]'), asking.compilations()), (first, 5))
@@ -137,7 +141,7 @@ def check_compilation(tally: built.Tally, room: Path) -> None:
             status = ended(call).status
             same(tally, f"{number.name} to a call that compiles", status in (128 + number, -number, 130), True)
             time.sleep(0.6)
-            same(tally, "its server", (asking.room() / "socket").exists(), False)
+            same(tally, "its server", list(asking.room().glob("*.socket")), [])
         missing = asking.ask(PATH=f"{Path(os.path.realpath('/bin/sh')).parent}:{python_folder()}")
         words = b"ask: the Rattle kit is missing: its command rt is not on the PATH\n"
         same(tally, "no kit", missing, built.Ended(words, b"", 1))
