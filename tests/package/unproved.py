@@ -4,6 +4,7 @@ program as `rt try` does."""
 import os
 import signal
 import subprocess
+import sys
 import time
 from pathlib import Path
 from typing import Dict, List
@@ -151,7 +152,7 @@ def check_compilation(tally: built.Tally, room: Path) -> None:
 
 
 def python_folder() -> str:
-    return os.path.dirname(os.path.realpath(os.sys.executable))
+    return os.path.dirname(os.path.realpath(sys.executable))
 
 
 def wait_until(is_so) -> None:
