@@ -3,11 +3,12 @@
 import os
 import shutil
 import subprocess
+import sys
 from pathlib import Path
 from typing import List, Tuple
 
 import built
-from client import PATIENCE, Server, same
+from client import PATIENCE, PLAIN, Server, same
 from installed import call
 
 GOOD = {"sockname": "/nothing/here", "start": "0", "pid": str(2**62), "interval": "10", "workers": "16"}
@@ -80,6 +81,7 @@ def check_refused_sockets(tally: built.Tally, room: Path) -> None:
     for path, reason in cases:
         refused = f"cannot listen\nwqd: {reason}\n".encode()
         same(tally, f"a socket at {path!r}", call(room, "wqd", *serve(sockname=path)), built.Ended(b"", refused, 1))
+    check_locked(tally, room)
     joined = ["serve", *(f"--{name}={value}" for name, value in GOOD.items())]
     refused = b"cannot listen\nwqd: there is no directory /nothing\n"
     same(tally, "words with their values joined", call(room, "wqd", *joined), built.Ended(b"", refused, 1))
@@ -89,6 +91,17 @@ def check_refused_sockets(tally: built.Tally, room: Path) -> None:
         same(tally, "a socket that is in use", call(room, "wqd", *words), built.Ended(b"", refused, 1))
         server.kill()
         check_stale(tally, room, words, server.sockname)
+
+
+def check_locked(tally: built.Tally, room: Path) -> None:
+    """A directory that may not be written, by somebody without the powers of root."""
+    locked = room / "locked"
+    locked.mkdir(mode=0o500)
+    command = [sys.executable, str(PLAIN), str(built.TOP / "wqd"), *serve(sockname=str(locked / "s"))]
+    environment = {**os.environ, "WQD": str(built.program_path())}
+    ended = subprocess.run(command, stderr=subprocess.PIPE, env=environment)
+    refused = f"cannot listen\nwqd: you may not write into {locked}\n".encode()
+    same(tally, "a directory that is locked", (ended.returncode, ended.stderr), (1, refused))
 
 
 def check_stale(tally: built.Tally, room: Path, words: List[str], sockname: str) -> None:
@@ -109,14 +122,17 @@ def check_unbuilt_command(tally: built.Tally, room: Path) -> None:
     environment = {name: value for name, value in os.environ.items() if name != "WQD"}
     environment["PATH"] = str(tools(room))
 
-    def ended(*words: str) -> built.Ended:
-        done = subprocess.run([str(room / "wqd"), *words], stdout=subprocess.PIPE, stderr=subprocess.PIPE, env=environment)
+    def ended(*words: str, name: str = "wqd") -> built.Ended:
+        done = subprocess.run([str(room / name), *words], stdout=subprocess.PIPE, stderr=subprocess.PIPE, env=environment)
         return built.Ended(done.stdout, done.stderr, done.returncode)
 
     refused = b"wqd: wrong command line\nwqd: check takes one file\n"
     same(tally, "wrong words", ended("check"), built.Ended(b"", refused, 2))
     missing = b"wqd: the Rattle kit is missing: its command rt is not on the PATH\n"
     same(tally, "no kit", ended("replay"), built.Ended(b"", missing, 1))
+    prefix = room / "prefix"
+    same(tally, "no kit to install", ended(str(prefix), name="install"), built.Ended(b"", missing, 1))
+    same(tally, "what that leaves", prefix.exists(), False)
     same(tally, "help", ended("--help"), call(room, "wqd", "--help"))
     same(tally, "the version", ended("--version"), call(room, "wqd", "--version"))
     same(tally, "nothing is built", ended("--is-built"), built.Ended(b"", b"", 1))
@@ -124,7 +140,7 @@ def check_unbuilt_command(tally: built.Tally, room: Path) -> None:
 
 def bare(room: Path) -> None:
     """A copy of the scripts at the top, beside one crate of one file, in which nothing is built."""
-    for name in ("ask", "wqd", "CHANGELOG.md", "crates.txt"):
+    for name in ("ask", "install", "wqd", "CHANGELOG.md", "crates.txt"):
         shutil.copy(built.TOP / name, room / name)
     shutil.copytree(built.TOP / "contrib", room / "contrib")
     for part in ("src", "specs", "proofs"):
