@@ -12,7 +12,7 @@ COMMENT = re.compile(r"<!--.*?-->", re.DOTALL)
 LINK = re.compile(r"\[([^\]]*)\]\(([^)]*)\)")
 # The parts of a line: code, bold, slanted, a link.
 INLINE = re.compile(r"`([^`]+)`|\*\*(.+?)\*\*|\*([^* ][^*]*)\*|" + LINK.pattern)
-# Where each other page of docs/ is to be found.
+# The pages of docs/ that are pages of man.
 PAGES = {"SERVER.md": "wqd(1)", "PROTOCOL.md": "wqd-protocol(7)"}
 # Lines are not stretched, and words are not cut: most are code.
 LAYOUT = [".ad l", ".nh"]

@@ -28,8 +28,9 @@ WRONG: List[Tuple[List[str], str]] = [
 ]
 NUMBERS = {"start": "0 to 2^62", "pid": "0 to 2^62", "interval": "10 to 3600000", "workers": "1 to 16"}
 WRONG_NUMBERS = [
-    ("start", "-1"), ("start", "01"), ("start", str(2**62 + 1)), ("start", "5" * 19), ("start", "1" * 20), ("start", str(2**64)),
-    ("pid", "x"), ("pid", ""), ("pid", " 1"), ("pid", "1 "), ("pid", "+1"), ("interval", "9"), ("interval", "3600001"),
+    ("start", "-1"), ("start", "01"), ("start", str(2**62 + 1)), ("start", "5" * 19), ("start", "1" * 20),
+    ("start", str(2**64)), ("pid", "x"), ("pid", ""), ("pid", " 1"), ("pid", "1 "), ("pid", "+1"),
+    ("interval", "9"), ("interval", "3600001"),
     ("workers", "0"), ("workers", "17"), ("workers", "1.5"), ("workers", "0x1"), ("workers", "*"),
 ]
 
@@ -71,9 +72,9 @@ def check_refused_sockets(tally: built.Tally, room: Path) -> None:
     long = "x" * (108 - len(str(room)) - 1)
     deep = room / ("y" * (100 - len(str(room)) - 1))
     deep.mkdir()
-    cases = [
-        ("/nothing/here", "there is no directory /nothing"), (str(file), f"{file} is there already, and is no socket"),
-        (str(room / "link"), f"{room}/link is there already, and is no socket"), (str(room), f"{room} is there already, and is no socket"),
+    cases = [(str(path), f"{path} is there already, and is no socket") for path in (file, room / "link", room)]
+    cases += [
+        ("/nothing/here", "there is no directory /nothing"),
         (str(room / long), "the path of the socket has over 107 bytes"),
         (str(deep / "s"), "the path of the socket's directory has over 99 bytes"),
         (str(file / "s"), f"there is no directory {file}"), ("", "the path of the socket is empty"),
@@ -117,7 +118,7 @@ def check_stale(tally: built.Tally, room: Path, words: List[str], sockname: str)
 
 
 def check_unbuilt_command(tally: built.Tally, room: Path) -> None:
-    """Where nothing is built, wrong words are refused before anything is proved, and help and version need no program."""
+    """If nothing is built, wrong words are refused before anything is proved, and help and version need no program."""
     bare(room)
     environment = {name: value for name, value in os.environ.items() if name != "WQD"}
     environment["PATH"] = str(tools(room))
@@ -152,6 +153,6 @@ def tools(room: Path) -> Path:
     """A directory with the commands that the scripts need, and no other."""
     folder = room / "bin"
     folder.mkdir()
-    for name in ("sh", "dirname", "sed", "head", "find", "cat", "awk", "wc", "date", "mktemp", "rm", "touch", "env", "python3"):
+    for name in "sh dirname sed head find cat awk wc date mktemp rm touch env python3".split():
         (folder / name).symlink_to(shutil.which(name))
     return folder

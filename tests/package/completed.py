@@ -1,4 +1,4 @@
-"""The completion of words in bash, where there is one."""
+"""The completion of words in bash, if it is there."""
 
 import shutil
 import subprocess

@@ -54,7 +54,7 @@ def check_git(tally: built.Tally, room: Path) -> None:
     """Files that are added, changed, removed and renamed, at the top and in directories."""
     with Server(room) as server:
         repository = Repository(room, server.sockname)
-        for name in ("kept", "changed", "removed", "moved", "renamed", "deep/in/changed", "deep/in/removed", "gone/a", "gone/b"):
+        for name in "kept changed removed moved renamed deep/in/changed deep/in/removed gone/a gone/b".split():
             repository.write(name, f"{name}\n" * 9)
         repository.git("add", ".")
         repository.git("commit", "-qm", "first")
@@ -86,7 +86,7 @@ def check_git(tally: built.Tally, room: Path) -> None:
 
 
 def check_hook(tally: built.Tally, repository: Repository) -> None:
-    """What the hook writes: the next token and the names, each with a byte 0 behind it."""
+    """What the hook writes: the next token and the names, each with a byte 0 after it."""
     fresh = repository.hook("2", "").output.split(b"\0")
     same(tally, "all files, without a token", fresh[1:], [b"/", b""])
     same(tally, "all files, with the token of another", repository.hook("2", "123").output.split(b"\0")[1:], [b"/", b""])

@@ -38,7 +38,7 @@ def check_install(tally: built.Tally, room: Path) -> None:
     before = listing(prefix)
     for turn in ("", ", over an earlier one"):
         ended = call(room, "install", str(prefix))
-        printed = [line for line in ended.output.decode().split("\n\n")[0].splitlines()]
+        printed = ended.output.decode().split("\n\n")[0].splitlines()
         same(tally, f"the files that ./install tells of{turn}", sorted(printed), [str(prefix / path) for path in FILES])
         same(tally, f"the files of ./install{turn}", modes(prefix, FILES), FILES)
         same(tally, f"how many files are there{turn}", len(listing(prefix)) - len(before), len(added_by(prefix, before)))
@@ -47,10 +47,12 @@ def check_install(tally: built.Tally, room: Path) -> None:
     same(tally, "how ./install --remove ends", (removed.status, removed.errors), (0, b""))
     same(tally, "what ./install --remove leaves", listing(prefix), before)
     again = call(room, "install", "--remove", str(prefix))
-    same(tally, "a second one", (again.status, again.errors), (1, f"install: nothing is installed below {prefix}\n".encode()))
+    nothing = f"install: nothing is installed below {prefix}\n".encode()
+    same(tally, "a second one", (again.status, again.errors), (1, nothing))
     same(tally, "words that are wrong", call(room, "install", "--frob").status, 1)
     bad = call(room, "install", str(room / "a$b"))
-    same(tally, "a prefix that no unit can name", (bad.status, bad.errors.count(b"\n"), (room / "a$b").exists()), (1, 1, False))
+    found = (bad.status, bad.errors.count(b"\n"), (room / "a$b").exists())
+    same(tally, "a prefix that no unit can name", found, (1, 1, False))
 
 
 def check_default_prefix(tally: built.Tally, room: Path) -> None:

@@ -1,5 +1,5 @@
-"""./ask where nothing is built: a server that a kit compiles without proof. In place of the kit stands a script that starts the
-program as `rt try` does."""
+"""./ask if nothing is built: a server that the kit compiles without proof. A script takes the place of the kit, and starts
+the program as `rt try` does."""
 
 import os
 import signal
