@@ -24,22 +24,27 @@ To start a server:
 END
 }
 
+# Writes a line as it is, with its backslashes.
+say() {
+    printf '%s\n' "$*"
+}
+
 # Answers the words that ask for help or the version, and ends then.
 answer_help() {
     case "$#:${1-}:${2-}" in
         1:--help: | 1:-h: | 2:serve:--help | 2:replay:--help | 2:check:--help) usage; exit ;;
-        1:--version:) echo "wqd $version"; exit ;;
+        1:--version:) say "wqd $version"; exit ;;
     esac
 }
 
 # Says which of the words is wrong, if one is. The program decides that too, and says no more than that its line is wrong.
 word_fault() {
     case "${1-}" in
-        '') echo "there is no command; wqd --help says which there are" ;;
-        replay) [ "$#" -eq 1 ] || echo "replay takes no further words, and its script on standard input" ;;
-        check) [ "$#" -eq 2 ] || echo "check takes one file" ;;
+        '') say "there is no command; wqd --help says which there are" ;;
+        replay) [ "$#" -eq 1 ] || say "replay takes no further words, and its script on standard input" ;;
+        check) [ "$#" -eq 2 ] || say "check takes one file" ;;
         serve) shift; serve_fault "$@" ;;
-        *) echo "there is no command $1; wqd --help says which there are" ;;
+        *) say "there is no command $1; wqd --help says which there are" ;;
     esac
 }
 
@@ -49,27 +54,27 @@ serve_fault() {
         case "$1" in
             --sockname=* | --start=* | --pid=* | --interval=* | --workers=*) name=${1%%=*} value=${1#*=} ;;
             --sockname | --start | --pid | --interval | --workers)
-                if [ "$#" -eq 1 ]; then echo "$1 needs a value"; return; fi
+                if [ "$#" -eq 1 ]; then say "$1 needs a value"; return; fi
                 name=$1 value=$2
                 shift ;;
-            *) echo "serve takes no word $1"; return ;;
+            *) say "serve takes no word $1"; return ;;
         esac
         shift
-        case "$seen" in *"$name "*) echo "$name is given twice"; return ;; esac
+        case "$seen" in *"$name "*) say "$name is given twice"; return ;; esac
         seen="$seen$name "
         value_fault || return
     done
     for name in --sockname --start --pid; do
-        case "$seen" in *"$name "*) ;; *) echo "serve needs $name"; return ;; esac
+        case "$seen" in *"$name "*) ;; *) say "serve needs $name"; return ;; esac
     done
 }
 
 # Says whether the value of a word is wrong, and fails then.
 value_fault() {
     case "$name" in
-        --start | --pid) is_number 0 4611686018427387904 || { echo "$name takes a number from 0 to 2^62"; return 1; } ;;
-        --interval) is_number 10 3600000 || { echo "$name takes a number from 10 to 3600000"; return 1; } ;;
-        --workers) is_number 1 16 || { echo "$name takes a number from 1 to 16"; return 1; } ;;
+        --start | --pid) is_number 0 4611686018427387904 || { say "$name takes a number from 0 to 2^62"; return 1; } ;;
+        --interval) is_number 10 3600000 || { say "$name takes a number from 10 to 3600000"; return 1; } ;;
+        --workers) is_number 1 16 || { say "$name takes a number from 1 to 16"; return 1; } ;;
     esac
 }
 
@@ -100,19 +105,19 @@ socket_fault() {
         *) directory=. ;;
     esac
     if [ -z "$1" ]; then
-        echo "the path of the socket is empty"
+        say "the path of the socket is empty"
     elif [ "$(printf %s "$1" | wc -c)" -gt 107 ]; then
-        echo "the path of the socket has over 107 bytes"
+        say "the path of the socket has over 107 bytes"
     elif [ "$(printf %s "$directory" | wc -c)" -gt 99 ]; then
-        echo "the path of the socket's directory has over 99 bytes"
+        say "the path of the socket's directory has over 99 bytes"
     elif [ ! -d "$directory" ]; then
-        echo "there is no directory $directory"
+        say "there is no directory $directory"
     elif [ ! -w "$directory" ] || [ ! -x "$directory" ]; then
-        echo "you may not write into $directory"
+        say "you may not write into $directory"
     elif [ -S "$1" ] && [ ! -L "$1" ]; then
-        if is_listened_on "$1"; then echo "a server listens on $1 already"; fi
+        if is_listened_on "$1"; then say "a server listens on $1 already"; fi
     elif [ -e "$1" ] || [ -L "$1" ]; then
-        echo "$1 is there already, and is no socket"
+        say "$1 is there already, and is no socket"
     fi
 }
 
@@ -145,6 +150,6 @@ run() {
     if [ -z "$fault" ]; then exec "$program" "$@"; fi
     "$program" "$@"
     status=$?
-    if [ "$status" -eq "$refused" ]; then echo "wqd: $fault" >&2; fi
+    if [ "$status" -eq "$refused" ]; then say "wqd: $fault" >&2; fi
     exit "$status"
 }

@@ -22,7 +22,7 @@ WRONG: List[Tuple[List[str], str]] = [
     (["check"], "check takes one file"),
     (["check", "a", "b"], "check takes one file"),
     (["serve"], "serve needs --sockname"),
-    (["serve", "frob"], "serve takes no word frob"),
+    (["serve", "fr\\nob"], "serve takes no word fr\\nob"),
     (["serve", "--frob", "1"], "serve takes no word --frob"),
     (["serve", "--sockname"], "--sockname needs a value"),
 ]
