@@ -1,0 +1,155 @@
+# What the command does around the program. ./wqd reads this file, and the installed command has it inside. Both set
+# `program`, the path of the program, and `version` first.
+
+usage() {
+    cat << 'END'
+usage: wqd serve --sockname PATH --start N --pid N [--interval MS] [--workers N]
+       wqd replay < SCRIPT
+       wqd check FILE
+       wqd --help | --version
+
+  serve    watches directories, and answers clients on a Unix socket until one of them ends it
+  replay   reads a script, and writes what each client in it is sent
+  check    says whether a program file may run, and what it can cost
+
+  --sockname PATH   the path of the socket: at most 107 bytes, and that of its directory at most 99
+  --start N         the second of the start and
+  --pid N           the number of the process: they name this run in clock ids. Each is 0 to 2^62
+  --interval MS     the pause between two rounds of crawls in milliseconds, 10 to 3600000. It is 1000 if left out
+  --workers N       how many threads a query may use, 1 to 16. It is 1 if left out
+
+To start a server:
+
+  sh -c 'exec wqd serve --sockname "${XDG_RUNTIME_DIR:-$HOME}/wqd.sock" --start "$(date +%s)" --pid $$'
+END
+}
+
+# Writes a line as it is, with its backslashes.
+say() {
+    printf '%s\n' "$*"
+}
+
+# Answers the words that ask for help or the version, and ends then.
+answer_help() {
+    case "$#:${1-}:${2-}" in
+        1:--help: | 1:-h: | 2:serve:--help | 2:replay:--help | 2:check:--help) usage; exit ;;
+        1:--version:) say "wqd $version"; exit ;;
+    esac
+}
+
+# Says which of the words is wrong, if one is. The program decides that too, and says no more than that its line is wrong.
+word_fault() {
+    case "${1-}" in
+        '') say "there is no command; wqd --help says which there are" ;;
+        replay) [ "$#" -eq 1 ] || say "replay takes no further words, and its script on standard input" ;;
+        check) [ "$#" -eq 2 ] || say "check takes one file" ;;
+        serve) shift; serve_fault "$@" ;;
+        *) say "there is no command $1; wqd --help says which there are" ;;
+    esac
+}
+
+serve_fault() {
+    seen=
+    while [ "$#" -gt 0 ]; do
+        case "$1" in
+            --sockname=* | --start=* | --pid=* | --interval=* | --workers=*) name=${1%%=*} value=${1#*=} ;;
+            --sockname | --start | --pid | --interval | --workers)
+                if [ "$#" -eq 1 ]; then say "$1 needs a value"; return; fi
+                name=$1 value=$2
+                shift ;;
+            *) say "serve takes no word $1"; return ;;
+        esac
+        shift
+        case "$seen" in *"$name "*) say "$name is given twice"; return ;; esac
+        seen="$seen$name "
+        value_fault || return
+    done
+    for name in --sockname --start --pid; do
+        case "$seen" in *"$name "*) ;; *) say "serve needs $name"; return ;; esac
+    done
+}
+
+# Says whether the value of a word is wrong, and fails then.
+value_fault() {
+    case "$name" in
+        --start | --pid) is_number 0 4611686018427387904 || { say "$name takes a number from 0 to 2^62"; return 1; } ;;
+        --interval) is_number 10 3600000 || { say "$name takes a number from 10 to 3600000"; return 1; } ;;
+        --workers) is_number 1 16 || { say "$name takes a number from 1 to 16"; return 1; } ;;
+    esac
+}
+
+# Whether the value is a decimal number in this range. What has more than 19 digits, or 5 and more as the first of 19, is
+# beyond 2^62.
+is_number() {
+    case "$value" in
+        '' | *[!0-9]* | 0?* | ????????????????????* | [5-9]??????????????????) return 1 ;;
+    esac
+    [ "$value" -ge "$1" ] && [ "$value" -le "$2" ]
+}
+
+# The path after --sockname. Words after which there is a fault have none.
+sockname_of() {
+    while [ "$#" -gt 0 ]; do
+        case "$1" in
+            --sockname=*) printf %s "${1#*=}"; return ;;
+            --sockname) printf %s "$2"; return ;;
+        esac
+        shift
+    done
+}
+
+# Says why nobody can listen at this path, if that can be seen.
+socket_fault() {
+    case "$1" in
+        */*) directory=${1%/*} directory=${directory:-/} ;;
+        *) directory=. ;;
+    esac
+    if [ -z "$1" ]; then
+        say "the path of the socket is empty"
+    elif [ "$(printf %s "$1" | wc -c)" -gt 107 ]; then
+        say "the path of the socket has over 107 bytes"
+    elif [ "$(printf %s "$directory" | wc -c)" -gt 99 ]; then
+        say "the path of the socket's directory has over 99 bytes"
+    elif [ ! -d "$directory" ]; then
+        say "there is no directory $directory"
+    elif [ ! -w "$directory" ] || [ ! -x "$directory" ]; then
+        say "you may not write into $directory"
+    elif [ -S "$1" ] && [ ! -L "$1" ]; then
+        if is_listened_on "$1"; then say "a server listens on $1 already"; fi
+    elif [ -e "$1" ] || [ -L "$1" ]; then
+        say "$1 is there already, and is no socket"
+    fi
+}
+
+# Whether somebody listens on a socket, as far as python3 can tell.
+is_listened_on() {
+    python3 -c '
+import socket, sys
+stream = socket.socket(socket.AF_UNIX)
+stream.setblocking(False)
+try:
+    stream.connect(sys.argv[1])
+except BlockingIOError:
+    pass
+except OSError:
+    sys.exit(1)' "$1" 2> /dev/null
+}
+
+# Runs the program in place of this shell, so that it keeps the number of the process. If it will refuse its words or its
+# socket, it runs below the shell, which then says the reason.
+# Memory that the program frees goes back to the system or is used again, whichever thread freed it, unless the
+# environment says otherwise.
+run() {
+    export MALLOC_ARENA_MAX="${MALLOC_ARENA_MAX:-2}" MALLOC_MMAP_THRESHOLD_="${MALLOC_MMAP_THRESHOLD_:-131072}"
+    refused=2
+    fault=$(word_fault "$@")
+    if [ -z "$fault" ] && [ "$1" = serve ]; then
+        refused=1
+        fault=$(socket_fault "$(sockname_of "$@")")
+    fi
+    if [ -z "$fault" ]; then exec "$program" "$@"; fi
+    "$program" "$@"
+    status=$?
+    if [ "$status" -eq "$refused" ]; then say "wqd: $fault" >&2; fi
+    exit "$status"
+}

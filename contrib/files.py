@@ -1,0 +1,91 @@
+"""What is installed: each file with its path below the prefix and its mode. `./install` and `./package` take it from here."""
+
+import os
+import subprocess
+import sys
+from pathlib import Path
+from typing import List, NamedTuple
+
+import manual
+
+TOP = Path(__file__).resolve().parent.parent
+COMMAND = str(TOP / "wqd")
+# The command's path in contrib/wqd.service, which is right for the prefix ~/.local.
+UNIT_COMMAND = "%h/.local/bin/wqd"
+# What could end a quotation in the unit.
+UNSAFE = "\"'\\`$%\n"
+
+HEAD = """#!/bin/sh
+# Runs the program wqd, which is installed beside this file.
+program=$(dirname "$(readlink -f "$0")")/../lib/wqd/wqd
+version={version}
+
+"""
+TAIL = """
+answer_help "$@"
+run "$@"
+"""
+LICENCES = "You may use wqd under the MIT license or under the Apache License, Version 2.0, whichever you like.\n\n"
+
+
+class File(NamedTuple):
+    path: str
+    mode: int
+    data: bytes
+
+
+def version() -> str:
+    """The version of the project, as `./wqd --version` says it."""
+    return said("--version").split()[1]
+
+
+def said(word: str) -> str:
+    return subprocess.run([COMMAND, word], stdout=subprocess.PIPE, check=True).stdout.decode()
+
+
+def built_program() -> bytes:
+    """The program that the variable WQD names, or else the proved one, which is built if it is not built yet."""
+    named = os.environ.get("WQD")
+    if not named and subprocess.run([COMMAND, "--is-built"]).returncode != 0:
+        if subprocess.run([COMMAND, "replay"], stdin=subprocess.DEVNULL).returncode != 0:
+            sys.exit(1)
+    return Path(named or TOP / "crates" / "wqd" / "out" / "wqd").read_bytes()
+
+
+def files(prefix: str) -> List[File]:
+    """The files for a prefix."""
+    return [
+        File("bin/wqd", 0o755, (HEAD.format(version=version()) + text("contrib/command.sh") + TAIL).encode()),
+        File("lib/wqd/wqd", 0o755, built_program()),
+        File("lib/wqd/git-fsmonitor-hook", 0o755, text("contrib/git-fsmonitor-hook").encode()),
+        File("share/man/man1/wqd.1", 0o644, server_manual().encode()),
+        File("share/man/man7/wqd-protocol.7", 0o644, protocol_manual().encode()),
+        File("share/systemd/user/wqd.service", 0o644, unit(prefix).encode()),
+        File("share/bash-completion/completions/wqd", 0o644, text("contrib/wqd.bash").encode()),
+        File("share/doc/wqd/CHANGELOG.md", 0o644, text("CHANGELOG.md").encode()),
+        File("share/doc/wqd/copyright", 0o644, (LICENCES + text("LICENSE-MIT") + "\n" + text("LICENSE-APACHE")).encode()),
+    ]
+
+
+def text(path: str) -> str:
+    return (TOP / path).read_text(encoding="utf-8")
+
+
+def server_manual() -> str:
+    summary = "a file watch server that speaks Watchman's JSON commands"
+    return manual.page(text("docs/SERVER.md"), "wqd", 1, summary, version(), said("--help"))
+
+
+def protocol_manual() -> str:
+    summary = "what a client of wqd may ask, and what it is answered"
+    return manual.page(text("docs/PROTOCOL.md"), "wqd-protocol", 7, summary, version())
+
+
+def unit(prefix: str) -> str:
+    """The unit, with the path of the command below the prefix."""
+    if any(letter in prefix for letter in UNSAFE):
+        sys.exit("wqd: the prefix may have no quotation mark, backslash, dollar, percent sign and newline")
+    found = text("contrib/wqd.service")
+    if Path(prefix) == Path.home() / ".local":
+        return found
+    return found.replace(UNIT_COMMAND, f"{prefix}/bin/wqd")

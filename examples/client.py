@@ -1,0 +1,54 @@
+#!/usr/bin/env python3
+"""Prints the files below a directory, and after each Return that you press those that changed since. With a program file it
+prints only those for which the program says yes. The variable WQD_SOCK names the socket of the server.
+
+    examples/client.py DIRECTORY [PROGRAM]
+"""
+
+import base64
+import json
+import os
+import socket
+import sys
+from pathlib import Path
+
+
+class Client:
+    """Sends a JSON array on a line, and reads a JSON object on a line."""
+
+    def __init__(self, sockname: str) -> None:
+        stream = socket.socket(socket.AF_UNIX)
+        stream.connect(sockname)
+        self.lines = stream.makefile("rw", encoding="utf-8")
+
+    def ask(self, *command: object) -> dict:
+        self.lines.write(json.dumps(command) + "\n")
+        self.lines.flush()
+        reply = json.loads(self.lines.readline())
+        if "error" in reply:
+            sys.exit(reply["error"])
+        return reply
+
+
+def main() -> None:
+    client = Client(os.environ["WQD_SOCK"])
+    root = os.path.realpath(sys.argv[1])
+    query = {"fields": ["name", "exists"]}
+    if len(sys.argv) > 2:
+        text = base64.b64encode(Path(sys.argv[2]).read_bytes()).decode()
+        client.ask("program-add", "example", text)
+        query["program"] = "example"
+    client.ask("watch", root)
+    query["since"] = show(client.ask("query", root, query))
+    for _ in sys.stdin:
+        query["since"] = show(client.ask("query", root, query))
+
+
+def show(reply: dict) -> str:
+    """Prints the files of a reply, deleted ones with a minus, and gives its clock."""
+    for file in reply["files"]:
+        print(("  " if file["exists"] else "- ") + file["name"], flush=True)
+    return reply["clock"]
+
+
+main()

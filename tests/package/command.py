@@ -1,0 +1,158 @@
+"""The command around the program: what it says of its words, of its version, and of a path on which nobody can listen."""
+
+import os
+import shutil
+import subprocess
+import sys
+from pathlib import Path
+from typing import List, Tuple
+
+import built
+from client import PATIENCE, PLAIN, Server, same
+from installed import call
+
+GOOD = {"sockname": "/nothing/here", "start": "0", "pid": str(2**62), "interval": "10", "workers": "16"}
+WRONG: List[Tuple[List[str], str]] = [
+    ([], "there is no command; wqd --help says which there are"),
+    (["frob"], "there is no command frob; wqd --help says which there are"),
+    (["--help", "me"], "there is no command --help; wqd --help says which there are"),
+    (["help"], "there is no command help; wqd --help says which there are"),
+    ([""], "there is no command; wqd --help says which there are"),
+    (["replay", "now"], "replay takes no further words, and its script on standard input"),
+    (["check"], "check takes one file"),
+    (["check", "a", "b"], "check takes one file"),
+    (["serve"], "serve needs --sockname"),
+    (["serve", "fr\\nob"], "serve takes no word fr\\nob"),
+    (["serve", "--frob", "1"], "serve takes no word --frob"),
+    (["serve", "--sockname"], "--sockname needs a value"),
+]
+NUMBERS = {"start": "0 to 2^62", "pid": "0 to 2^62", "interval": "10 to 3600000", "workers": "1 to 16"}
+WRONG_NUMBERS = [
+    ("start", "-1"), ("start", "01"), ("start", str(2**62 + 1)), ("start", "5" * 19), ("start", "1" * 20),
+    ("start", str(2**64)), ("pid", "x"), ("pid", ""), ("pid", " 1"), ("pid", "1 "), ("pid", "+1"),
+    ("interval", "9"), ("interval", "3600001"),
+    ("workers", "0"), ("workers", "17"), ("workers", "1.5"), ("workers", "0x1"), ("workers", "*"),
+]
+
+
+def serve(**values: str) -> List[str]:
+    return ["serve", *(word for name, value in {**GOOD, **values}.items() for word in (f"--{name}", value))]
+
+
+def check_help(tally: built.Tally, room: Path) -> None:
+    text = call(room, "wqd", "--help")
+    same(tally, "help", (text.status, text.errors), (0, b""))
+    for word in ("serve", "replay", "check", "--version", *(f"--{name}" for name in GOOD)):
+        same(tally, f"{word} in the help", word.encode() in text.output, True)
+    for words in (["-h"], ["serve", "--help"], ["replay", "--help"], ["check", "--help"]):
+        same(tally, f"help by {words}", call(room, "wqd", *words), text)
+    changes = (built.TOP / "CHANGELOG.md").read_text()
+    version = next(line.split()[1].rstrip(",") for line in changes.splitlines() if line.startswith("## "))
+    same(tally, "the version", call(room, "wqd", "--version"), built.Ended(f"wqd {version}\n".encode(), b"", 0))
+
+
+def check_wrong_words(tally: built.Tally, room: Path) -> None:
+    """Each line is refused by the program, which says no more than that; then the command says which word it is."""
+    cases = list(WRONG)
+    for name, value in WRONG_NUMBERS:
+        cases.append((serve(**{name: value}), f"--{name} takes a number from {NUMBERS[name]}"))
+    for name in ("sockname", "start", "pid"):
+        cases.append(([word for word in serve() if word not in (f"--{name}", GOOD[name])], f"serve needs --{name}"))
+    cases.append((serve() + ["--pid", "1"], "--pid is given twice"))
+    for words, reason in cases:
+        refused = f"wqd: wrong command line\nwqd: {reason}\n".encode()
+        same(tally, f"the words {words}", call(room, "wqd", *words), built.Ended(b"", refused, 2))
+
+
+def check_refused_sockets(tally: built.Tally, room: Path) -> None:
+    """Paths on which nobody can listen. That the words are good shows in that the program tells of the path."""
+    file = room / "file"
+    file.write_text("mine")
+    (room / "link").symlink_to(room / "nothing")
+    long = "x" * (108 - len(str(room)) - 1)
+    deep = room / ("y" * (100 - len(str(room)) - 1))
+    deep.mkdir()
+    cases = [(str(path), f"{path} is there already, and is no socket") for path in (file, room / "link", room)]
+    cases += [
+        ("/nothing/here", "there is no directory /nothing"),
+        (str(room / long), "the path of the socket has over 107 bytes"),
+        (str(deep / "s"), "the path of the socket's directory has over 99 bytes"),
+        (str(file / "s"), f"there is no directory {file}"), ("", "the path of the socket is empty"),
+    ]
+    for path, reason in cases:
+        refused = f"cannot listen\nwqd: {reason}\n".encode()
+        same(tally, f"a socket at {path!r}", call(room, "wqd", *serve(sockname=path)), built.Ended(b"", refused, 1))
+    check_locked(tally, room)
+    joined = ["serve", *(f"--{name}={value}" for name, value in GOOD.items())]
+    refused = b"cannot listen\nwqd: there is no directory /nothing\n"
+    same(tally, "words with their values joined", call(room, "wqd", *joined), built.Ended(b"", refused, 1))
+    with Server(room) as server:
+        words = serve(sockname=server.sockname)
+        refused = f"cannot listen\nwqd: a server listens on {server.sockname} already\n".encode()
+        same(tally, "a socket that is in use", call(room, "wqd", *words), built.Ended(b"", refused, 1))
+        server.kill()
+        check_stale(tally, room, words, server.sockname)
+
+
+def check_locked(tally: built.Tally, room: Path) -> None:
+    """A directory that may not be written, by somebody without the powers of root."""
+    locked = room / "locked"
+    locked.mkdir(mode=0o500)
+    command = [sys.executable, str(PLAIN), str(built.TOP / "wqd"), *serve(sockname=str(locked / "s"))]
+    environment = {**os.environ, "WQD": str(built.program_path())}
+    ended = subprocess.run(command, stderr=subprocess.PIPE, env=environment)
+    refused = f"cannot listen\nwqd: you may not write into {locked}\n".encode()
+    same(tally, "a directory that is locked", (ended.returncode, ended.stderr), (1, refused))
+
+
+def check_stale(tally: built.Tally, room: Path, words: List[str], sockname: str) -> None:
+    """A stale socket is no reason: the program takes the place of the shell, and ends with a signal to it."""
+    environment = {**os.environ, "WQD": str(built.program_path())}
+    process = subprocess.Popen([str(built.TOP / "wqd"), *words], stderr=subprocess.PIPE, env=environment)
+    try:
+        same(tally, "a stale socket", process.stderr.readline(), f"listening on {sockname}\n".encode())
+    finally:
+        process.terminate()
+        same(tally, "the end by a signal", process.wait(PATIENCE), -15)
+        process.stderr.close()
+
+
+def check_unbuilt_command(tally: built.Tally, room: Path) -> None:
+    """If nothing is built, wrong words are refused before anything is proved, and help and version need no program."""
+    bare(room)
+    environment = {name: value for name, value in os.environ.items() if name != "WQD"}
+    environment["PATH"] = str(tools(room))
+
+    def ended(*words: str, name: str = "wqd") -> built.Ended:
+        done = subprocess.run([str(room / name), *words], stdout=subprocess.PIPE, stderr=subprocess.PIPE, env=environment)
+        return built.Ended(done.stdout, done.stderr, done.returncode)
+
+    refused = b"wqd: wrong command line\nwqd: check takes one file\n"
+    same(tally, "wrong words", ended("check"), built.Ended(b"", refused, 2))
+    missing = b"wqd: the Rattle kit is missing: its command rt is not on the PATH\n"
+    same(tally, "no kit", ended("replay"), built.Ended(b"", missing, 1))
+    prefix = room / "prefix"
+    same(tally, "no kit to install", ended(str(prefix), name="install"), built.Ended(b"", missing, 1))
+    same(tally, "what that leaves", prefix.exists(), False)
+    same(tally, "help", ended("--help"), call(room, "wqd", "--help"))
+    same(tally, "the version", ended("--version"), call(room, "wqd", "--version"))
+    same(tally, "nothing is built", ended("--is-built"), built.Ended(b"", b"", 1))
+
+
+def bare(room: Path) -> None:
+    """A copy of the scripts at the top, beside one crate of one file, in which nothing is built."""
+    for name in ("ask", "install", "wqd", "CHANGELOG.md", "crates.txt"):
+        shutil.copy(built.TOP / name, room / name)
+    shutil.copytree(built.TOP / "contrib", room / "contrib")
+    for part in ("src", "specs", "proofs"):
+        (room / "crates" / "wqd" / part).mkdir(parents=True)
+    (room / "crates" / "wqd" / "src" / "main.rt").write_text("fn main() {}\n")
+
+
+def tools(room: Path) -> Path:
+    """A directory with the commands that the scripts need, and no other."""
+    folder = room / "bin"
+    folder.mkdir()
+    for name in "sh dirname sed head find cat awk wc date mktemp rm touch env python3".split():
+        (folder / name).symlink_to(shutil.which(name))
+    return folder

@@ -1,0 +1,34 @@
+"""The completion of words in bash, if it is there."""
+
+import shutil
+import subprocess
+from pathlib import Path
+from typing import List
+
+import built
+from client import same
+
+SCRIPT = '. "$1"; shift; COMP_WORDS=("$@"); COMP_CWORD=$(($# - 1)); _wqd; printf "%s\\n" "${COMPREPLY[@]}"'
+
+
+def check_completion(tally: built.Tally, room: Path) -> None:
+    if shutil.which("bash") is None:
+        return
+    (room / "a file").touch()
+    for words, expected in (
+        ([""], ["serve", "replay", "check", "--help", "--version"]),
+        (["s"], ["serve"]),
+        (["serve", ""], ["--sockname", "--start", "--pid", "--interval", "--workers"]),
+        (["serve", "--s"], ["--sockname", "--start"]),
+        (["serve", "--interval", "6"], ["60000", "600000"]),
+        (["serve", "--sockname", str(room) + "/a"], [str(room / "a file")]),
+        (["check", str(room) + "/a"], [str(room / "a file")]),
+        (["replay", ""], [""]),
+    ):
+        same(tally, f"the completion of {words}", completed(words), expected)
+
+
+def completed(words: List[str]) -> List[str]:
+    script = str(built.TOP / "contrib" / "wqd.bash")
+    ended = subprocess.run(["bash", "-c", SCRIPT, "bash", script, "wqd", *words], stdout=subprocess.PIPE)
+    return ended.stdout.decode().splitlines()

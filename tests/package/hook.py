@@ -1,0 +1,123 @@
+"""git's hook of contrib/, by a real git: what `git status` tells, and what the hook says if it cannot ask."""
+
+import os
+import subprocess
+from pathlib import Path
+from typing import Dict, List, Optional
+
+import built
+from client import PATIENCE, Server, same
+
+HOOK = built.TOP / "contrib" / "git-fsmonitor-hook"
+
+
+class Repository:
+    """A repository whose git asks the hook, if a socket is named."""
+
+    def __init__(self, room: Path, sockname: Optional[str]) -> None:
+        self.path = room / "repository"
+        self.environment: Dict[str, str] = {
+            "PATH": os.environ["PATH"], "HOME": str(room), "GIT_CONFIG_NOSYSTEM": "1", "LC_ALL": "C",
+        }
+        if sockname is not None:
+            self.environment["WQD_SOCK"] = sockname
+        self.path.mkdir()
+        self.git("init", "-q")
+        for name, value in (("user.name", "a"), ("user.email", "a@b"), ("core.fsmonitorHookVersion", "2")):
+            self.git("config", name, value)
+        self.git("config", "core.fsmonitor", str(HOOK))
+
+    def git(self, *words: str) -> built.Ended:
+        command = ["git", "-C", str(self.path), *words]
+        ended = subprocess.run(
+            command, stdout=subprocess.PIPE, stderr=subprocess.PIPE, env=self.environment, timeout=PATIENCE
+        )
+        return built.Ended(ended.stdout, ended.stderr, ended.returncode)
+
+    def write(self, name: str, text: str) -> None:
+        path = self.path / name
+        path.parent.mkdir(parents=True, exist_ok=True)
+        path.write_text(text)
+
+    def status(self) -> List[str]:
+        return self.git("status", "--porcelain", "--untracked-files=all").output.decode().splitlines()
+
+    def hook(self, *words: str) -> built.Ended:
+        """The hook as git runs it."""
+        ended = subprocess.run(
+            [str(HOOK), *words], cwd=self.path, stdout=subprocess.PIPE, stderr=subprocess.PIPE, env=self.environment
+        )
+        return built.Ended(ended.stdout, ended.stderr, ended.returncode)
+
+
+def check_git(tally: built.Tally, room: Path) -> None:
+    """Files that are added, changed, removed and renamed, at the top and in directories."""
+    with Server(room) as server:
+        repository = Repository(room, server.sockname)
+        for name in "kept changed removed moved renamed deep/in/changed deep/in/removed gone/a gone/b".split():
+            repository.write(name, f"{name}\n" * 9)
+        repository.git("add", ".")
+        repository.git("commit", "-qm", "first")
+        same(tally, "nothing changed", repository.status(), [])
+        same(tally, "git goes by the hook", repository.git("ls-files", "-f", "kept").output, b"h kept\n")
+        repository.write("added", "")
+        repository.write("deep/new/\u00e4 b", "")
+        repository.write("changed", "other")
+        repository.write("deep/in/changed", "other")
+        for name in ("removed", "deep/in/removed", "gone/a", "gone/b"):
+            (repository.path / name).unlink()
+        (repository.path / "gone").rmdir()
+        repository.git("mv", "moved", "deep/moved")
+        (repository.path / "renamed").rename(repository.path / "deep" / "renamed")
+        expected = [
+            "R  moved -> deep/moved", " M changed", " M deep/in/changed", " D deep/in/removed", " D gone/a", " D gone/b",
+            " D removed", " D renamed", "?? added", '?? "deep/new/\\303\\244 b"', "?? deep/renamed",
+        ]
+        same(tally, "files that changed", sorted(repository.status()), sorted(expected))
+        same(tally, "the same again", sorted(repository.status()), sorted(expected))
+        repository.git("add", "-A")
+        renamed = [line for line in repository.status() if line.startswith("R")]
+        same(tally, "renamed files", renamed, ["R  moved -> deep/moved", "R  renamed -> deep/renamed"])
+        repository.git("commit", "-qm", "second")
+        same(tally, "nothing changed since", repository.status(), [])
+        repository.write("kept", "other")
+        same(tally, "a change since", repository.status(), [" M kept"])
+        check_hook(tally, repository)
+
+
+def check_hook(tally: built.Tally, repository: Repository) -> None:
+    """What the hook writes: the next token and the names, each with a byte 0 after it."""
+    fresh = repository.hook("2", "").output.split(b"\0")
+    same(tally, "all files, without a token", fresh[1:], [b"/", b""])
+    same(tally, "all files, with the token of another", repository.hook("2", "123").output.split(b"\0")[1:], [b"/", b""])
+    same(tally, "no file", repository.hook("2", fresh[0].decode()).output, fresh[0] + b"\0")
+    repository.write("changed", "once more")
+    repository.write(".git/changed", "")
+    repository.write(".gitignore", "")
+    names = repository.hook("2", fresh[0].decode()).output.split(b"\0")[1:]
+    same(tally, "the files since a token", names, [b".gitignore", b"changed", b""])
+
+
+def check_hook_that_fails(tally: built.Tally, room: Path) -> None:
+    """A hook that cannot ask says so in one line, and git looks at all files."""
+    repository = Repository(room, None)
+    repository.write("a", "a")
+    unset = b"wqd: git looks at all files, since the variable WQD_SOCK does not name the socket of a server\n"
+    same(tally, "without WQD_SOCK", repository.hook("2", ""), built.Ended(b"", unset, 1))
+    ended = repository.git("status", "--porcelain")
+    same(tally, "git without WQD_SOCK", (ended.output, ended.errors, ended.status), (b"?? a\n", unset, 0))
+    repository.environment["WQD_SOCK"] = str(room / "socket")
+    nobody = f"wqd: git looks at all files, since {room}/socket does not answer: No such file or directory\n".encode()
+    same(tally, "without a server", repository.hook("2", ""), built.Ended(b"", nobody, 1))
+    ended = repository.git("status", "--porcelain")
+    same(tally, "git without a server", (ended.output, ended.status), (b"?? a\n", 0))
+    for words in (("1", "123"), (), ("2",)):
+        ended = repository.hook(*words)
+        same(tally, f"the words {words}", (ended.output, ended.status, ended.errors.count(b"\n")), (b"", 1, 1))
+    with Server(room) as server, server.client() as client:
+        for number in range(16):
+            (room / str(number)).mkdir()
+            client.ask("watch", str(room / str(number)))
+        ended = repository.hook("2", "")
+        refused = b"wqd: git looks at all files, since E13: too many roots\n"
+        same(tally, "a root that is refused", ended, built.Ended(b"", refused, 1))

@@ -1,0 +1,217 @@
+"""What ./install and ./package put below a prefix: the files, a server that the unit starts, and nothing after removal."""
+
+import os
+import shlex
+import shutil
+import subprocess
+import tarfile
+import time
+from io import BytesIO
+from pathlib import Path
+from typing import Dict, List, Tuple
+
+import built
+from client import MALLOC, PATIENCE, VERSION, Client, same
+
+FILES = {
+    "bin/wqd": 0o755,
+    "lib/wqd/files": 0o644,
+    "lib/wqd/git-fsmonitor-hook": 0o755,
+    "lib/wqd/wqd": 0o755,
+    "share/bash-completion/completions/wqd": 0o644,
+    "share/doc/wqd/CHANGELOG.md": 0o644,
+    "share/doc/wqd/copyright": 0o644,
+    "share/man/man1/wqd.1": 0o644,
+    "share/man/man7/wqd-protocol.7": 0o644,
+    "share/systemd/user/wqd.service": 0o644,
+}
+LIST = "lib/wqd/files"
+UNIT = "share/systemd/user/wqd.service"
+ADMIN = ("info", "updates", "triggers")
+
+
+def check_install(tally: built.Tally, room: Path) -> None:
+    """A prefix with a blank in it, in which somebody else has a file."""
+    prefix = room / "a prefix"
+    (prefix / "share" / "man").mkdir(parents=True)
+    (prefix / "share" / "man" / "other").write_text("mine")
+    before = listing(prefix)
+    for turn in ("", ", over an earlier one"):
+        ended = call(room, "install", str(prefix))
+        printed = ended.output.decode().split("\n\n")[0].splitlines()
+        same(tally, f"the files that ./install tells of{turn}", sorted(printed), [str(prefix / path) for path in FILES])
+        same(tally, f"the files of ./install{turn}", modes(prefix, FILES), FILES)
+        same(tally, f"how many files are there{turn}", len(listing(prefix)) - len(before), len(added_by(prefix, before)))
+    check_server(tally, "installed", room, (prefix / UNIT).read_text())
+    removed = call(room, "install", "--remove", str(prefix))
+    same(tally, "how ./install --remove ends", (removed.status, removed.errors), (0, b""))
+    same(tally, "what ./install --remove leaves", listing(prefix), before)
+    again = call(room, "install", "--remove", str(prefix))
+    nothing = f"install: nothing is installed below {prefix}\n".encode()
+    same(tally, "a second one", (again.status, again.errors), (1, nothing))
+    same(tally, "words that are wrong", call(room, "install", "--frob").status, 1)
+    bad = call(room, "install", str(room / "a$b"))
+    found = (bad.status, bad.errors.count(b"\n"), (room / "a$b").exists())
+    same(tally, "a prefix that no unit can name", found, (1, 1, False))
+
+
+def check_default_prefix(tally: built.Tally, room: Path) -> None:
+    """Without a prefix it is ~/.local, and the unit is the file of contrib/ as it is. The prefix may not be there before."""
+    same(tally, "how ./install ends", call(room, "install").status, 0)
+    prefix = room / ".local"
+    unit = (prefix / UNIT).read_text()
+    same(tally, "the unit for ~/.local", unit, (built.TOP / "contrib" / "wqd.service").read_text())
+    check_server(tally, "installed at home", room, unit)
+    link = room / "link"
+    link.symlink_to(prefix / "bin" / "wqd")
+    version = subprocess.run([link, "--version"], stdout=subprocess.PIPE).stdout
+    same(tally, "a link to the command", version, call(room, "wqd", "--version").output)
+    script = subprocess.run([link, "replay"], input=b'ask 1 ["version"]\n', stdout=subprocess.PIPE).stdout
+    same(tally, "the program by a link", script, b'1 {"version":"wq-1"}\n')
+    call(room, "install", "--remove")
+    same(tally, "a prefix that was made", prefix.exists(), False)
+
+
+def check_package(tally: built.Tally, room: Path) -> None:
+    """The package has the files of ./install. It is installed below a folder, by dpkg if that is there."""
+    ended = call(room, "package", str(room / "out"), SOURCE_DATE_EPOCH="1000000000")
+    path = Path(ended.output.decode().strip())
+    same(tally, "the name of the package", path.name, f"wqd_{version_of(room)}_amd64.deb")
+    call(room, "install", str(room / "prefix"))
+    (room / "prefix" / LIST).unlink()
+    check_members(tally, path, room / "prefix")
+    folder = room / "folder"
+    remove = install_package(path, folder)
+    expected = {path: mode for path, mode in FILES.items() if path != LIST}
+    same(tally, "the files of the package", modes(folder / "usr", expected), expected)
+    unit = (folder / "usr" / UNIT).read_text()
+    same(tally, "the unit of the package", 'exec "/usr/bin/wqd" serve' in unit, True)
+    check_server(tally, "of the package", room, unit.replace("/usr/bin/wqd", f"{folder}/usr/bin/wqd"))
+    remove()
+    same(tally, "what a removed package leaves", (folder / "usr").exists(), False)
+
+
+def check_members(tally: built.Tally, package: Path, prefix: Path) -> None:
+    """The archive of files, as Python reads it, against the files of ./install; all are root's, and of the second given."""
+    members = members_of(package)
+    same(tally, "the members of a package", list(members), ["debian-binary", "control.tar.gz", "data.tar.gz"])
+    with tarfile.open(fileobj=BytesIO(members["data.tar.gz"])) as archive:
+        entries = archive.getmembers()
+        found = {entry.name: archive.extractfile(entry).read() for entry in entries if entry.isfile()}
+    installed = {f"./usr/{path}": (prefix / path).read_bytes() for path in FILES if path not in (LIST, UNIT)}
+    found.pop(f"./usr/{UNIT}")
+    tally.check("a package has what ./install writes", found == installed, [f"{sorted(found)}", f"{sorted(installed)}"])
+    owners = {(entry.uid, entry.gid, entry.uname, entry.gname, entry.mtime) for entry in entries}
+    same(tally, "the owner and the second", owners, {(0, 0, "root", "root", 1_000_000_000)})
+
+
+def members_of(package: Path) -> Dict[str, bytes]:
+    """The members of an archive as `ar` writes it."""
+    data = package.read_bytes()
+    members, place = {}, 8
+    while place < len(data):
+        head = data[place:place + 60].decode()
+        size = int(head[48:58])
+        members[head[:16].strip()] = data[place + 60:place + 60 + size]
+        place += 60 + size + size % 2
+    return members
+
+
+def install_package(package: Path, folder: Path):
+    """Installs a package below a folder, and gives what removes it."""
+    if shutil.which("dpkg") is None:
+        with tarfile.open(fileobj=BytesIO(members_of(package)["data.tar.gz"])) as archive:
+            archive.extractall(folder)
+        return lambda: shutil.rmtree(folder / "usr")
+    admin = folder / "var" / "lib" / "dpkg"
+    for name in ADMIN:
+        (admin / name).mkdir(parents=True)
+    for name in ("status", "available"):
+        (admin / name).touch()
+    dpkg(folder, "--install", str(package))
+    return lambda: dpkg(folder, "--purge", "wqd")
+
+
+def dpkg(folder: Path, *words: str) -> None:
+    # The folder has no C library, and who runs this need not be root.
+    command = ["dpkg", f"--root={folder}", "--force-depends", "--force-not-root", "--force-bad-path", f"--log={folder}/log"]
+    ended = subprocess.run([*command, *words], stdout=subprocess.PIPE, stderr=subprocess.STDOUT)
+    if ended.returncode != 0:
+        raise ValueError(ended.stdout.decode())
+
+
+def check_server(tally: built.Tally, name: str, room: Path, unit: str) -> None:
+    """A server that the line of a unit starts: its socket, its two numbers, its environment, an answer, and its end."""
+    runtime = room / "runtime"
+    runtime.mkdir(mode=0o700, exist_ok=True)
+    root = room / "root"
+    root.mkdir(exist_ok=True)
+    (root / "a.c").touch()
+    began = int(time.time())
+    environment = {"PATH": os.environ["PATH"], "HOME": str(room)}
+    server = subprocess.Popen(words_of(unit, room, runtime), stderr=subprocess.DEVNULL, env=environment)
+    try:
+        with client_of(server, runtime / "wqd.sock") as client:
+            client.ask("watch", str(root))
+            reply = client.ask("query", str(root), {"fields": ["name"]})
+            _, start, pid, _, _ = reply["clock"].split(":")
+            is_named = began <= int(start) <= began + PATIENCE and int(pid) == server.pid
+            same(tally, f"{name}: the numbers of the run", is_named, True)
+            same(tally, f"{name}: the files", reply["files"], ["a.c"])
+            same(tally, f"{name}: the environment", MALLOC.items() <= environment_of(server).items(), True)
+            same(tally, f"{name}: its end", client.ask("shutdown-server"), {"shutdown-server": True, **VERSION})
+        same(tally, f"{name}: its status", server.wait(PATIENCE), 0)
+    finally:
+        server.kill()
+        server.wait()
+
+
+def words_of(unit: str, home: Path, runtime: Path) -> List[str]:
+    """The words of ExecStart as systemd reads them: specifiers, dollars, quotations."""
+    line = next(line for line in unit.splitlines() if line.startswith("ExecStart="))
+    for short, long in (("%h", str(home)), ("%t", str(runtime)), ("%%", "%"), ("$$", "$")):
+        line = line.replace(short, long)
+    return shlex.split(line[len("ExecStart="):])
+
+
+def client_of(server: subprocess.Popen, sockname: Path) -> Client:
+    """A client of a server that starts."""
+    end = time.monotonic() + PATIENCE
+    while not sockname.exists():
+        if server.poll() is not None or time.monotonic() > end:
+            raise ValueError("the server does not listen")
+        time.sleep(0.01)
+    return Client(str(sockname))
+
+
+def environment_of(server: subprocess.Popen) -> Dict[str, str]:
+    pairs = Path(f"/proc/{server.pid}/environ").read_bytes().split(b"\0")
+    return dict(pair.decode().split("=", 1) for pair in pairs if b"=" in pair)
+
+
+def call(home: Path, name: str, *words: str, **environment: str) -> built.Ended:
+    """Runs a script at the top of the repository, for somebody with this home."""
+    environment = {**os.environ, "WQD": str(built.program_path()), "HOME": str(home), **environment}
+    ended = subprocess.run(
+        [str(built.TOP / name), *words], stdout=subprocess.PIPE, stderr=subprocess.PIPE, env=environment, timeout=PATIENCE
+    )
+    return built.Ended(ended.stdout, ended.stderr, ended.returncode)
+
+
+def version_of(home: Path) -> str:
+    return call(home, "wqd", "--version").output.decode().split()[1]
+
+
+def modes(prefix: Path, paths: Dict[str, int]) -> Dict[str, int]:
+    return {path: (prefix / path).stat().st_mode & 0o777 for path in paths if (prefix / path).is_file()}
+
+
+def listing(prefix: Path) -> List[Tuple[str, int]]:
+    return sorted((str(path.relative_to(prefix)), path.lstat().st_mode) for path in prefix.rglob("*"))
+
+
+def added_by(prefix: Path, before: List[Tuple[str, int]]) -> List[str]:
+    """What the list of the installed files has that was not there before; the prefix itself was."""
+    names = {name for name, _ in before}
+    lines = (prefix / LIST).read_text().splitlines()
+    return [line for line in lines if line.rstrip("/") not in names]
