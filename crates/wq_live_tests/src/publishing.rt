@@ -1,4 +1,4 @@
-//! A session whose roots and whose writer publish while it calls them. A publish waits for those that look at the value
+//! A session whose roots, desk and writer publish while it calls them. A publish waits for those that look at the value
 //! before the last one: of two, the second would wait for ever for a look that the session has open.
 ghost use Rattle.std.specs.Prelude.{◌≡◌};
 
@@ -12,7 +12,8 @@ use std::sync::{Arc, Wait};
 use wq_clock::Run;
 use wq_crawl::{CrawlFault, Crawler, LockRoots, Roots, SharedCrawler, Tree, TreeFault};
 use wq_live::{Blank, Named, Told};
-use wq_serve::{LockDesk, MemoryInbox, serve};
+use wq_serve::{Desk, LockDesk, MemoryInbox, Unset, serve};
+use wq_session::{Ask, At, Cursor, Session, Work};
 use wq_stream::Splitter;
 use wq_view::Seen;
 
@@ -75,6 +76,29 @@ impl<N: Named, R: Wait + Drop> Roots<N> for Publishing<N, R> {
     }
 }
 
+/// A desk that publishes twice before it holds the shelf.
+#[derive(Drop)]
+struct Holding<N: Named, R: Wait + Drop> {
+    desk: LockDesk<R>,
+    roots: LockRoots<N, R, Blinking, Still>,
+}
+
+impl<N: Named, R: Wait + Drop> Desk for Holding<N, R> {
+    ghost use Rattle.std.specs.Prelude.{None};
+
+    ghost shelf = { λ _. None };
+
+    fn hold(&mut self, alloc: Global, session: &mut Session, ask: Ask, at: Option<At<'_>>) -> Work {
+        publish_twice(&mut self.roots);
+        self.desk.hold(alloc, session, ask, at)
+    }
+
+    fn unset(&mut self, cursor: Cursor) -> Unset {
+        publish_twice(&mut self.roots);
+        self.desk.unset(cursor)
+    }
+}
+
 /// A writer that publishes twice before it takes anything.
 #[derive(Drop)]
 struct Telling<N: Named, R: Wait + Drop> {
@@ -114,10 +138,13 @@ fn talk<N: Named, R: Wait + Copy + Drop>(
         bytes: Vec::new(alloc),
         roots: LockRoots::new(Arc::try_clone(&crawler).ok()?, rt),
     };
+    let mut desk = Holding {
+        desk: LockDesk::new(shared_shelf(alloc)?, rt),
+        roots: LockRoots::new(Arc::try_clone(&crawler).ok()?, rt),
+    };
     let mut roots = Publishing {
         roots: LockRoots::new(crawler, rt),
     };
-    let mut desk = LockDesk::new(shared_shelf(alloc)?, rt);
     let run = Run::new(7, 9);
     let ended = serve(
         alloc,
@@ -142,11 +169,11 @@ const LINES: &[u8] = br#"["watch","/r"]
 
 /// What is written to it.
 const WRITTEN: &[u8] = br#"{"version":"wq-1","watch":"/r","watcher":"poll"}
-{"clock":"c:7:9:1:7","files":["a","b"],"is_fresh_instance":true,"version":"wq-1"}
+{"clock":"c:7:9:1:9","files":["a","b"],"is_fresh_instance":true,"version":"wq-1"}
 {"root":"/r","version":"wq-1","watch-del":true}
 "#;
 
-/// Whether a client is written what it should while roots and writer publish.
+/// Whether a client is written what it should while roots, desk and writer publish.
 fn is_well<R: Wait + Copy + Drop>(rt: R, alloc: Global) -> bool {
     let Ok(blank) = Blank::new(alloc, &rt, 1) else {
         return false;
@@ -158,6 +185,6 @@ fn is_well<R: Wait + Copy + Drop>(rt: R, alloc: Global) -> bool {
 }
 
 #[test]
-fn no_look_is_open_while_roots_and_writer_are_called(rt: HostRuntime) {
+fn no_look_is_open_while_an_end_is_called(rt: HostRuntime) {
     assert!(rt; is_well(rt, rt.alloc()));
 }

@@ -2,7 +2,7 @@
 -- No public document is behind it.
 use Rattle.std.specs.Prelude.{◌≡◌, ◌⊎◌, List, Option, Some, None, Result, Ok, Err, option_map}
 use mathlib.Core.List.{IsPrefix}
-use Rattle.wq_clock.specs.Instance.{InstanceData}
+use Rattle.wq_clock.specs.Instance.{InstanceData, instance_data}
 use Rattle.wq_live.specs.declared.event.RootEvent.{RootEvent}
 use Rattle.wq_session.specs.Answer.{MayRefuse}
 use Rattle.wq_session.specs.Crawl.{crawl_refusal}
@@ -16,6 +16,14 @@ use Rattle.wq_serve.specs.Ready.{KnownData, Learns, ended}
 use Rattle.wq_crawl.specs.Crawl.{CrawlerData}
 use Rattle.wq_serve.specs.Run.{ShowsAt}
 use Rattle.wq_clock.specs.declared.run.Run.{Run}
+use Rattle.wq_serve.specs.declared.looking.SharedAt.{SharedAt}
+
+-- what is looked at, of a root with a share of its view
+abbrev pub shared_data : SharedAt → AtData
+shared_data shared = record {
+  instance = instance_data shared.instance;
+  view = Some (shared.view).value;
+}
 
 -- what is known of the roots, from its parts
 abbrev pub known : Option CrawlerData → List RootEvent → KnownData

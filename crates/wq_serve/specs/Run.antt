@@ -4,16 +4,21 @@ use Rattle.std.specs.Prelude.{◌≡◌, ℕ, List, Option, Some, None}
 use Rattle.wq_clock.specs.Run.{instance_of, run_data}
 use Rattle.wq_clock.specs.declared.run.Run.{Run}
 use Rattle.wq_view.specs.View.{IsViewOf, ViewData}
-use Rattle.wq_live.specs.Event.{Root, shown_root, passes_over}
+use Rattle.wq_live.specs.Event.{IsLawfulList, Root, shown_root, passes_over}
 use Rattle.wq_live.specs.declared.event.RootEvent.{RootEvent}
 use Rattle.wq_session.specs.At.{AtData}
 
--- what is looked at of a list of events: the root of this text with the view of the passes over it,
--- if it is shown there
-abbrev pub ShowsAt : Run → List ℕ → List RootEvent → Option AtData → Type 0
-ShowsAt run text events None = shown_root text events ≡ None
-ShowsAt run text events (Some at) =
+-- what a list of events shows of the root of this text: the root with the view of the passes over
+-- it, if it is shown there
+abbrev pub ShowsRoot : Run → List ℕ → List RootEvent → Option AtData → Type 0
+ShowsRoot run text events None = shown_root text events ≡ None
+ShowsRoot run text events (Some at) =
     (root : Root) × (shown_root text events ≡ Some root)
     × (at.instance ≡ instance_of (run_data run) root.number)
     × (view : ViewData) × (at.view ≡ Some view)
     × IsViewOf (passes_over root.number events) view
+
+-- what is looked at of the root of this text: the list of the look is lawful, as each that is
+-- published, and this is what it shows
+abbrev pub ShowsAt : Run → List ℕ → List RootEvent → Option AtData → Type 0
+ShowsAt run text events at = IsLawfulList events × ShowsRoot run text events at

@@ -1,7 +1,7 @@
 //! The answer to an ask: what it needs is done, its root is looked at, and the shelf is held.
 ghost use Rattle.std.specs.Prelude.{◌≡◌, Ok, Some, option_map};
 ghost use Rattle.wq_clock.specs.Instance.{instance_data};
-ghost use Rattle.wq_serve.specs.Answering.{AnswersAfter, AnswersEnd, IfUnwatches, SeesFirst, known};
+ghost use Rattle.wq_serve.specs.Answering.{AnswersAfter, AnswersEnd, IfUnwatches, SeesFirst, known, shared_data};
 ghost use Rattle.wq_serve.specs.Desk.{AnswersAt};
 ghost use Rattle.wq_serve.specs.Ready.{Learns};
 ghost use Rattle.wq_crawl.specs.Roots.{RootsGive, showing};
@@ -12,7 +12,7 @@ ghost use Rattle.wq_session.specs.Need.{need_of};
 ghost use Rattle.wq_session.specs.At.{at_data};
 
 use crate::desk::Desk;
-use crate::looking::{look_for, number_for};
+use crate::looking::{SharedAt, look_for, number_for, share_for};
 use std::alloc::Global;
 use wq_clock::{Instance, Run};
 use wq_crawl::{CrawlFault, Roots};
@@ -80,6 +80,9 @@ fn hold<D: Desk>(client: &mut Client, ask: Ask, at: Option<At<'_>>, desk: &mut D
 }
 
 /// Looks at the root that an ask needs, and answers it.
+///
+/// The look is left before the shelf is held: a share of the root's view outlives it, so that no publish waits while a reply
+/// is made. Where no share can be had, the look is open for as long as that takes.
 fn look_and_hold<N: Named, D: Desk>(
     client: &mut Client,
     ask: Ask,
@@ -91,12 +94,32 @@ fn look_and_hold<N: Named, D: Desk>(
     ensures run { client.new.run ≡ client.old.run }
 {
     match seat.look() {
-        Ok(look) => {
-            let at = look_for(client.run, &ask, &look);
-            let out = hold(client, ask, at, desk);
-            (look.leave(), out)
-        }
+        Ok(look) => match share_for(client.run, &ask, &look) {
+            Ok(shared) => (look.leave(), hold_shared(client, ask, shared, desk)),
+            Err(_) => {
+                let at = look_for(client.run, &ask, &look);
+                let out = hold(client, ask, at, desk);
+                (look.leave(), out)
+            }
+        },
         Err(seat) => (seat, hold(client, ask, None, desk)),
+    }
+}
+
+/// Answers an ask at a root with a share of its view, or at none.
+fn hold_shared<D: Desk>(
+    client: &mut Client,
+    ask: Ask,
+    shared: Option<SharedAt>,
+    desk: &mut D,
+) -> Out
+    ensures answers { AnswersAt (D.shelf desk.old) ask (option_map shared_data shared) result
+        (D.shelf desk.new) }
+    ensures run { client.new.run ≡ client.old.run }
+{
+    match &shared {
+        Some(shared) => hold(client, ask, Some(shared.at()), desk),
+        None => hold(client, ask, None, desk),
     }
 }
 

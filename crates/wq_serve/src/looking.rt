@@ -1,15 +1,37 @@
 //! What a session looks at for an ask.
-ghost use Rattle.std.specs.Prelude.{◌≡◌, Option, option_map};
-ghost use Rattle.wq_serve.specs.Answering.{SeesNumber, ShowsNeeded};
+ghost use Rattle.std.specs.Prelude.{◌≡◌, IfOk, Option, Some, option_map};
+ghost use Rattle.wq_serve.specs.Answering.{SeesNumber, ShowsNeeded, shared_data};
 ghost use Rattle.wq_serve.specs.Run.{ShowsAt};
 ghost use Rattle.wq_clock.specs.Instance.{instance_data};
 ghost use Rattle.wq_session.specs.Need.{need_of};
 ghost use Rattle.wq_session.specs.At.{AtData};
 ghost use Rattle.wq_session.specs.At.{at_data};
 
+use std::alloc::AllocError;
+use std::sync::Arc;
 use wq_clock::{Instance, Run};
 use wq_live::{Look, Named, Seat};
 use wq_session::{Ask, At, Need};
+use wq_view::View;
+
+/// A root that was looked at, with a share of its view, so that no look is open for it.
+#[derive(Drop)]
+pub(crate) struct SharedAt {
+    instance: Instance,
+    view: Arc<View>,
+}
+
+impl SharedAt {
+    /// What is looked at for an answer.
+    pub(crate) fn at(&self) -> At<'_>
+        ensures { at_data result ≡ shared_data self.now }
+    {
+        At {
+            instance: self.instance,
+            view: Some(&self.view),
+        }
+    }
+}
 
 /// The root that an ask needs, as a look shows it, if it does.
 pub(crate) fn look_for<'a, N: Named>(run: Run, ask: &Ask, look: &'a Look<N>) -> Option<At<'a>>
@@ -20,6 +42,40 @@ pub(crate) fn look_for<'a, N: Named>(run: Run, ask: &Ask, look: &'a Look<N>) -> 
         Need::Look(root) | Need::Crawl(root) | Need::Watch(root) | Need::Unwatch(root) => {
             root_at(run, root, look)
         }
+    }
+}
+
+/// The same with a share of the root's view. Refused where no share can be had.
+pub(crate) fn share_for<N: Named>(
+    run: Run,
+    ask: &Ask,
+    look: &Look<N>,
+) -> Result<Option<SharedAt>, AllocError>
+    ensures { IfOk result (λ at.
+        ShowsNeeded run (need_of ask.now) look.now (option_map shared_data at)) }
+{
+    match ask.need() {
+        Need::None => Ok(None),
+        Need::Look(root) | Need::Crawl(root) | Need::Watch(root) | Need::Unwatch(root) => {
+            share_of_root(run, root, look)
+        }
+    }
+}
+
+/// The root of this text with a share of its view, as a look shows it, if it does.
+fn share_of_root<N: Named>(
+    run: Run,
+    root: &str,
+    look: &Look<N>,
+) -> Result<Option<SharedAt>, AllocError>
+    ensures { IfOk result (λ at. ShowsAt run root.now look.now (option_map shared_data at)) }
+{
+    match look.share(root)? {
+        None => Ok(None),
+        Some((number, view)) => Ok(Some(SharedAt {
+            instance: run.instance(number),
+            view,
+        })),
     }
 }
 

@@ -32,7 +32,8 @@ pub struct Ended<N: Named> {
 ///
 /// For each line it first does what that needs: the roots are asked, and what they told is learnt; then it looks at the
 /// root; then the shelf is held while the line is taken. No look is open while the roots are asked, nor while a reply is
-/// written. Where a look is refused, the line is answered as at a root that is not watched.
+/// made and written, unless memory is wanted for a share of the root's view. Where a look is refused, the line is answered as
+/// at a root that is not watched.
 ///
 /// It ends where the client has gone, by a line with which a session ends, where the writer fails, and after 2^62 events.
 pub fn serve<N: Named, I: Inbox, W: Write, R: Roots<N>, D: Desk>(
