@@ -14,11 +14,6 @@ pub root_found : (found : Option Root) (number : ℕ) → Some number ≡ option
 root_found None number is = absurd cc
 root_found (Some root) number is = (root, refl, cc is)
 
--- none was found where no number was
-pub none_found : (found : Option Root) → None ≡ option_map (λ (root : Root). root.number) found → found ≡ None
-none_found None is = refl
-none_found (Some root) is = absurd (cc is)
-
 -- what is looked at, from what the look of a lawful list gives
 pub shows_it : (run : Run) (text : List ℕ) (events : List RootEvent) (number : ℕ) (at : AtData) (view : ViewData)
     → IsLawfulList events → Some number ≡ option_map (λ (root : Root). root.number) (shown_root text events)
@@ -27,10 +22,12 @@ pub shows_it : (run : Run) (text : List ℕ) (events : List RootEvent) (number :
 shows_it run text events number at view lawful found instance there views =
     let it = root_found (shown_root text events) number found in (
       lawful,
-      it.0,
-      it.1,
-      instance ∙ ap (instance_of (run_data run)) it.2,
-      view,
-      there,
-      subst (λ n. IsViewOf (passes_over n events) view) it.2 views,
+      (
+        it.0,
+        it.1,
+        instance ∙ ap (instance_of (run_data run)) it.2,
+        view,
+        there,
+        subst (λ n. IsViewOf (passes_over n events) view) it.2 views,
+      ),
     )
