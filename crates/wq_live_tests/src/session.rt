@@ -36,17 +36,48 @@ impl Tree for SameFiles {
     }
 }
 
+/// Rows that a tree may give.
+#[derive(Drop)]
+struct Rows {
+    rows: Vec<Seen>,
+    ghost lawful: { IsTrue (list_all is_lawful_row rows.items) },
+}
+
+impl Rows {
+    /// No row, with room for so many.
+    fn with_room(alloc: Global, room: usize) -> Result<Rows, AllocError> {
+        Ok(Rows {
+            rows: Vec::with_capacity(alloc, room)?,
+        })
+    }
+
+    /// Adds a row after the others.
+    fn add(&mut self, row: Seen) -> Result<(), AllocError>
+        requires { IsTrue (is_lawful_row row) }
+    {
+        self.rows.push(row)?;
+        Ok(())
+    }
+
+    /// The rows, in the order in which they were added.
+    fn into_rows(self) -> Vec<Seen>
+        ensures { IsTrue (list_all is_lawful_row result.items) }
+    {
+        self.rows
+    }
+}
+
 /// The rows of files of those of these names that are valid.
 pub(crate) fn rows_of(alloc: Global, names: &[&[u8]]) -> Result<Vec<Seen>, AllocError>
     ensures { IfOk result (λ rows. IsTrue (list_all is_lawful_row rows.items)) }
 {
-    let mut rows = Vec::with_capacity(alloc, names.len())?;
+    let mut rows = Rows::with_room(alloc, names.len())?;
     for name in names {
         if is_valid_name(name) {
-            rows.push(named_row(alloc, name)?)?;
+            rows.add(named_row(alloc, name)?)?;
         }
     }
-    Ok(rows)
+    Ok(rows.into_rows())
 }
 
 /// A clock that stands still.
