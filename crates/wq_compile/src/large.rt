@@ -9,7 +9,7 @@ use wq_term::{Expr, code_len};
 
 /// Whether the code of the expression and the end have too many instructions, or a list has too
 /// many entries.
-pub(crate) fn is_too_large(expr: &Expr) -> bool
+pub fn is_too_large(expr: &Expr) -> bool
     ensures { result ≡ is_too_large (term_of expr.now) }
 {
     code_len(expr) >= MAX_TABLE_ROWS as u64 || has_long_list(expr)

@@ -12,4 +12,5 @@ mod large;
 mod program;
 
 pub use fault::CompileFault;
+pub use large::is_too_large;
 pub use program::compile;

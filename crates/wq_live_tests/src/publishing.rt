@@ -13,8 +13,10 @@ use wq_clock::Run;
 use wq_crawl::{CrawlFault, Crawler, LockRoots, Roots, SharedCrawler, Tree, TreeFault};
 use wq_live::{Blank, Named, Told};
 use wq_serve::{Desk, LockDesk, MemoryInbox, Unset, serve};
-use wq_session::{Ask, At, Cursor, Session, Work};
+use wq_registry::{CacheKey, Compiled};
+use wq_session::{Cursor, Prepared, Session, Work};
 use wq_stream::Splitter;
+use wq_verify::Program;
 use wq_view::Seen;
 
 /// A tree that has two files, and one at every other listing.
@@ -88,9 +90,19 @@ impl<N: Named, R: Wait + Drop> Desk for Holding<N, R> {
 
     ghost shelf = { λ _. None };
 
-    fn hold(&mut self, alloc: Global, session: &mut Session, ask: Ask, at: Option<At<'_>>) -> Work {
+    fn find(&mut self, key: &CacheKey) -> Option<Arc<Program>> {
         publish_twice(&mut self.roots);
-        self.desk.hold(alloc, session, ask, at)
+        self.desk.find(key)
+    }
+
+    fn keep(&mut self, compiled: Compiled) {
+        publish_twice(&mut self.roots);
+        self.desk.keep(compiled);
+    }
+
+    fn hold(&mut self, alloc: Global, session: &mut Session, prepared: Prepared<'_>) -> Work {
+        publish_twice(&mut self.roots);
+        self.desk.hold(alloc, session, prepared)
     }
 
     fn unset(&mut self, cursor: Cursor) -> Unset {

@@ -20,6 +20,7 @@ use Rattle.wq_term.specs.Reading.{reads_as}
 use Rattle.wq_compile.specs.Large.{is_too_large}
 use Rattle.wq_compile.specs.Meaning.{AnswersMeaning}
 use Rattle.wq_registry.specs.declared.key.Key.{Key}
+use Rattle.wq_registry.specs.CacheKey.{CacheKeyData, Says}
 use Rattle.wq_registry.specs.Kept.{CacheData, StandsFor, KeepsMeanings, instance_at}
 
 module _ (instance : InstanceData) (text : List ℕ) (raw : Raw) (d : Data) (t : ExprData) (says : read text ≡ Some d) (reads : reads_as instance max_depth d ≡ Ok t) where
@@ -35,6 +36,15 @@ module _ (instance : InstanceData) (text : List ℕ) (raw : Raw) (d : Data) (t :
   pub stood : StandsFor instance text raw → AnswersMeaning raw t × (is_too_large t ≡ false)
   unfolding StandsFor
   stood stands = stands d t says reads
+
+module _ (key : CacheKeyData) (t : ExprData) (raw : Raw) (says : Says key t) where
+  -- a program that answers what the text of a key says stands for it
+  pub stands_for : AnswersMeaning raw t → is_too_large t ≡ false → StandsFor key.instance key.text raw
+  stands_for = stands key.instance key.text raw says.0 t says.1 says.2
+
+  -- and one that stands for it answers so
+  pub stood_for : StandsFor key.instance key.text raw → AnswersMeaning raw t × (is_too_large t ≡ false)
+  stood_for = stood key.instance key.text raw says.0 t says.1 says.2
 
 -- two keys are one where they are equal
 same_keys : (j k : Key) → (nat_eq j.root k.root && bytes_eq (string_bytes j.text) (string_bytes k.text)) ≡ true → (j.root ≡ k.root) × (string_bytes j.text ≡ string_bytes k.text)
@@ -83,10 +93,6 @@ module _ {Z : Type 0} (cache : CacheData) (old : LruCache Key (Arc Raw Z)) (key 
 pub shared : {Z E : Type 0} (instance : InstanceData) (text : List ℕ) (seen : Arc Raw Z) (o : Option (Arc Raw Z)) (r : Result (Arc Raw Z) E) → o ≡ result_ok r → IfOk r (λ a. a.value ≡ seen.value) → StandsFor instance text seen.value → IfSome o (λ p. StandsFor instance text p.value)
 shared instance text seen o (Ok a) is same stands = subst (λ o. IfSome o (λ p. StandsFor instance text p.value)) (sym is) (subst (λ (raw : Raw). StandsFor instance text raw) (sym same) stands)
 shared instance text seen o (Err e) is same stands = subst (λ o. IfSome o (λ p. StandsFor instance text p.value)) (sym is) tt
-
--- no program that is given is a refusal, and what is false does not hold
-pub neither : {A E : Type 0} (a : A) (e : E) (b : Bool) → b ≡ false → IsErrOf {T = A} (Ok a) e ↔ IsTrue b
-neither a e b h = (λ (none : IsErrOf (Ok a) e). absurd (let no : ⊥ = cc in no), λ (yes : IsTrue b). let no : true ≡ false = sym yes ∙ h in absurd (true≢false no))
 
 -- where a program is given, what would refuse it is false
 pub is_false : {A E : Type 0} (a : A) (e : E) (b : Bool) → (IsTrue b → IsErrOf {T = A} (Ok a) e) → b ≡ false

@@ -1,5 +1,6 @@
 pub mod Limit
 pub mod ByName
+pub mod CacheKey
 pub mod Entry
 pub mod Root
 pub mod Shelf

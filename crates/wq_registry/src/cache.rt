@@ -1,24 +1,21 @@
 //! The programs of expressions that were compiled before.
-ghost use Rattle.std.specs.Prelude.{◌≡◌, ◌↔◌, Ok, IfOk, IfSome, IsErrOf, IsTrue, string_bytes};
-ghost use Rattle.serde_json.specs.View.{view as data_of};
+ghost use Rattle.std.specs.Prelude.{◌≡◌, ◌↔◌, false, IfOk, IfSome, IsErrOf, IsTrue};
 ghost use Rattle.wq_compile.specs.Large.{is_too_large};
 ghost use Rattle.wq_compile.specs.Meaning.{AnswersMeaning};
 ghost use Rattle.wq_term.specs.Expr.{term_of};
 ghost use Rattle.wq_term.specs.Fits.{expr_fits};
-ghost use Rattle.wq_term.specs.Limit.{max_depth};
-ghost use Rattle.wq_term.specs.Reading.{reads_as};
+ghost use Rattle.wq_registry.specs.CacheKey.{Says};
 ghost use Rattle.wq_registry.specs.Kept.{StandsFor, instance_at};
 
-use crate::key::{Key, look_up, put};
+use crate::key::{CacheKey, Key, look_up, put};
 use crate::shelf::share;
 use lru::LruCache;
-use serde_json::Value;
 use std::alloc::{AllocError, Global};
 use std::marker::Model;
 use std::num::NonZeroUsize;
 use std::sync::Arc;
 use wq_compile::{CompileFault, compile};
-use wq_term::{Expr, read_expressions_fit, values_say_what_they_write};
+use wq_term::Expr;
 use wq_verify::Program;
 
 /// How many programs are kept.
@@ -59,70 +56,35 @@ impl Cache {
         })
     }
 
-    /// The second at which the server started.
-    pub fn start(&self) -> u64
-        ensures { result ≡ self.now.start }
-    {
-        self.start
-    }
-
-    /// The server's process.
-    pub fn pid(&self) -> u64
-        ensures { result ≡ self.now.pid }
-    {
-        self.pid
-    }
-
-    /// The program of an expression that was read from this value at this root: the one that is
-    /// kept, or one that is compiled, and kept where memory suffices.
-    ///
-    /// # Errors
-    /// Those of [`compile`].
-    pub fn program(
-        &mut self,
-        root: u64,
-        value: &Value,
-        expr: &Expr,
-    ) -> Result<Arc<Program>, CompileFault>
-        requires { reads_as (instance_at self.old root) max_depth (data_of value.now)
-            ≡ Ok (term_of expr.now) }
-
-        ensures meaning { IfOk result (λ program. AnswersMeaning program.value (term_of expr.now)) }
-        ensures large { IsErrOf result CompileFault.TooLarge
-            ↔ IsTrue (is_too_large (term_of expr.now)) }
+    /// The program that is kept of an expression, which is then the one that was asked for last.
+    pub fn get(&mut self, key: &CacheKey) -> Option<Arc<Program>>
+        ensures meaning { IfSome result (λ program.
+            StandsFor key.now.instance key.now.text program.value) }
         ensures same { self.new ≡ self.old }
     {
-        values_say_what_they_write();
-        read_expressions_fit();
-        let Ok(text) = value.to_string(self.alloc) else {
-            return compile_shared(self.alloc, expr);
-        };
-        let key = Key { root, text };
-        if let Some(program) = self.kept(&key) {
-            return Ok(program);
+        if !self.is_of(key) {
+            return None;
         }
-        let program = compile_shared(self.alloc, expr)?;
-        self.keep(key, &program);
-        Ok(program)
+        look_up(&mut self.kept, &key.key)
     }
 
-    /// The program that is kept under a key, which is then the one that was asked for last.
-    fn kept(&mut self, key: &Key) -> Option<Arc<Program>>
-        ensures meaning { IfSome result (λ program. StandsFor (instance_at self.old key.now.root)
-            (string_bytes key.now.text) program.value) }
-        ensures same { self.new ≡ self.old }
-    {
-        look_up(&mut self.kept, key)
-    }
-
-    /// Keeps a program under a key, in the place of the one that was asked for longest ago where
-    /// there are as many as may be. Where memory runs out it is not kept.
-    fn keep(&mut self, key: Key, program: &Arc<Program>)
-        requires { StandsFor (instance_at self.old key.root) (string_bytes key.text)
-            program.now.value }
+    /// Keeps a program, in the place of the one that was asked for longest ago where there are as
+    /// many as may be. A program of another run of the server is not kept, and none is where memory
+    /// runs out.
+    pub fn keep(&mut self, compiled: Compiled)
         ensures { self.new ≡ self.old }
     {
-        put(&mut self.kept, key, program);
+        if self.is_of(&compiled.key) {
+            put(&mut self.kept, compiled.key.key, &compiled.program);
+        }
+    }
+
+    /// Whether an expression was read in the run of the server that this cache is of.
+    fn is_of(&self, key: &CacheKey) -> bool
+        ensures { IsTrue result → key.now.instance
+            ≡ instance_at self.now (key.now.instance).root }
+    {
+        self.start == key.start && self.pid == key.pid
     }
 }
 
@@ -134,7 +96,42 @@ fn size() -> NonZeroUsize {
     }
 }
 
-/// The program of an expression, which can be shared, without a cache.
+/// A program that was compiled of an expression, and that a cache may keep.
+#[derive(Drop)]
+pub struct Compiled {
+    key: CacheKey,
+    program: Arc<Program>,
+}
+
+impl Model for Compiled {
+    ghost use Rattle.wq_registry.specs.CacheKey.{CompiledData};
+    ghost use Rattle.wq_registry.specs.Kept.{StandsFor};
+
+    ghost Value = { CompiledData };
+
+    ghost view = { λ c. record { key = c.key; program = (c.program).value } };
+
+    ghost invariant = { λ c. StandsFor (c.key).instance (c.key).text (c.program).value };
+}
+
+impl Compiled {
+    /// What a cache may keep of a program that answers what this expression means, which is looked
+    /// for by this key. It is none where the program cannot be shared.
+    pub fn new(key: CacheKey, expr: &Expr, program: &Arc<Program>) -> Option<Compiled>
+        requires says { Says key (term_of expr.now) }
+        requires meaning { AnswersMeaning program.now.value (term_of expr.now) }
+        requires small { is_too_large (term_of expr.now) ≡ false }
+        ensures { IfSome result (λ compiled.
+            compiled ≡ record { key = key; program = program.now.value }) }
+    {
+        let Ok(program) = Arc::try_clone(program) else {
+            return None;
+        };
+        Some(Compiled { key, program })
+    }
+}
+
+/// The program of an expression, which can be shared.
 ///
 /// # Errors
 /// Those of [`compile`].

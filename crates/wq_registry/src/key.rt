@@ -1,10 +1,61 @@
 //! Under what programs are kept.
-ghost use Rattle.std.specs.Prelude.{IfSome, string_bytes};
+ghost use Rattle.std.specs.Prelude.{◌≡◌, Ok, IfOk, IfSome, string_bytes};
+ghost use Rattle.serde_json.specs.View.{view as data_of};
+ghost use Rattle.wq_clock.specs.Instance.{instance_data};
+ghost use Rattle.wq_term.specs.Expr.{ExprData};
+ghost use Rattle.wq_term.specs.Limit.{max_depth};
+ghost use Rattle.wq_term.specs.Reading.{reads_as};
+ghost use Rattle.wq_registry.specs.CacheKey.{Says};
 ghost use Rattle.wq_registry.specs.Kept.{CacheData, KeepsMeanings, StandsFor, instance_at};
 
 use lru::LruCache;
+use serde_json::Value;
+use std::alloc::{AllocError, Global};
+use std::marker::Model;
 use std::sync::Arc;
+use wq_clock::Instance;
+use wq_term::values_say_what_they_write;
 use wq_verify::Program;
+
+/// An expression, as it is looked for among the programs that are kept: the instance at which it
+/// was read, since clock specs in it are read there, and its compact text.
+#[derive(Drop)]
+pub struct CacheKey {
+    pub(crate) start: u64,
+    pub(crate) pid: u64,
+    pub(crate) key: Key,
+}
+
+impl Model for CacheKey {
+    ghost use Rattle.std.specs.Prelude.{string_bytes};
+    ghost use Rattle.wq_registry.specs.CacheKey.{CacheKeyData};
+
+    ghost Value = { CacheKeyData };
+
+    ghost view = { λ k. record {
+      instance = record { start = k.start; pid = k.pid; root = (k.key).root };
+      text = string_bytes (k.key).text;
+    } };
+}
+
+impl CacheKey {
+    /// The key of the expression that is read from this value at this instance.
+    pub fn new(alloc: Global, instance: &Instance, value: &Value) -> Result<CacheKey, AllocError>
+        ensures { IfOk result (λ key. (t : ExprData)
+            → reads_as (instance_data instance.now) max_depth (data_of value.now) ≡ Ok t
+            → Says key t) }
+    {
+        values_say_what_they_write();
+        Ok(CacheKey {
+            start: instance.start,
+            pid: instance.pid,
+            key: Key {
+                root: instance.root,
+                text: value.to_string(alloc)?,
+            },
+        })
+    }
+}
 
 /// Under what the program of an expression is kept: the number of the root, at which the clock
 /// specs of the expression are read, and its compact text.

@@ -15,8 +15,9 @@ mod root;
 mod roots;
 mod shelf;
 
-pub use cache::{Cache, MAX_KEPT, compile_shared};
+pub use cache::{Cache, Compiled, MAX_KEPT, compile_shared};
 pub use fault::ShelfFault;
+pub use key::CacheKey;
 pub use law::{
     cursors_are_made, last_change_counts, names_stand_in_order, places_are_names,
     programs_are_made, the_greatest_tick_counts, triggers_are_made,

@@ -2,7 +2,7 @@
 ghost use Rattle.std.specs.Prelude.{◌≡◌, Ok, Some, option_map};
 ghost use Rattle.wq_clock.specs.Instance.{instance_data};
 ghost use Rattle.wq_serve.specs.Answering.{AnswersAfter, AnswersEnd, IfUnwatches, SeesFirst, known, shared_data};
-ghost use Rattle.wq_serve.specs.Desk.{AnswersAt};
+ghost use Rattle.wq_serve.specs.Desk.{AnswersAt, HoldsShelf};
 ghost use Rattle.wq_serve.specs.Ready.{Learns};
 ghost use Rattle.wq_crawl.specs.Roots.{RootsGive, showing};
 ghost use Rattle.wq_serve.specs.Serving.{IsAnswered};
@@ -10,6 +10,8 @@ ghost use Rattle.wq_session.specs.Answer.{MayRefuse};
 ghost use Rattle.wq_session.specs.Crawl.{crawl_refusal};
 ghost use Rattle.wq_session.specs.Need.{need_of};
 ghost use Rattle.wq_session.specs.At.{at_data};
+ghost use Rattle.wq_session.specs.Prepared.{IsPrepared, asked, asked_at};
+ghost use Rattle.wq_session.specs.Work.{work_data};
 
 use crate::desk::Desk;
 use crate::looking::{SharedAt, look_for, number_for, share_for};
@@ -17,7 +19,7 @@ use std::alloc::Global;
 use wq_clock::{Instance, Run};
 use wq_crawl::{CrawlFault, Roots};
 use wq_live::{Named, Seat, Told};
-use wq_session::{Ask, At, Need, Out, Refusal, Session};
+use wq_session::{Ask, At, Need, Out, Prepared, Refusal, Session, Work};
 
 /// What a server has for one client.
 #[derive(Drop)]
@@ -71,12 +73,46 @@ fn hold<D: Desk>(client: &mut Client, ask: Ask, at: Option<At<'_>>, desk: &mut D
         (D.shelf desk.new) }
     ensures run { client.new.run ≡ client.old.run }
 {
-    let work = desk.hold(client.alloc, &mut client.session, ask, at);
+    let work = take(client, ask, at, desk);
     let mut out = work.finish(client.alloc, at);
     if let Some(cursor) = client.session.settle(&mut out) {
         desk.unset(cursor);
     }
     out
+}
+
+/// Takes an ask at a root, or at none, at the shelf.
+fn take<D: Desk>(client: &mut Client, ask: Ask, at: Option<At<'_>>, desk: &mut D) -> Work
+    ensures held { HoldsShelf (D.shelf desk.old) ask (option_map at_data at.entry)
+        (work_data result) (D.shelf desk.new) }
+    ensures run { client.new.run ≡ client.old.run }
+{
+    let prepared = prepare(client.alloc, ask, at, desk);
+    desk.hold(client.alloc, &mut client.session, prepared)
+}
+
+/// An ask with its query read, and the program of that found at the desk, or compiled and kept there.
+fn prepare<'a, D: Desk>(
+    alloc: Global,
+    ask: Ask,
+    at: Option<At<'a>>,
+    desk: &mut D,
+) -> Prepared<'a>
+    ensures prepared { IsPrepared result }
+    ensures ask { asked result ≡ ask }
+    ensures at { asked_at result ≡ option_map at_data at.entry }
+    ensures same { D.shelf desk.new ≡ D.shelf desk.old }
+{
+    let prepared = ask.prepare(alloc, at);
+    let found = match prepared.key() {
+        Some(key) => desk.find(key),
+        None => None,
+    };
+    let (prepared, compiled) = prepared.compiled(alloc, found);
+    if let Some(compiled) = compiled {
+        desk.keep(compiled);
+    }
+    prepared
 }
 
 /// Looks at the root that an ask needs, and answers it.

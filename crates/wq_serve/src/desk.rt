@@ -1,15 +1,19 @@
 //! Where a session finds the shelf.
-ghost use Rattle.std.specs.Prelude.{◌≡◌, option_map};
+ghost use Rattle.std.specs.Prelude.{◌≡◌, IfSome};
+ghost use Rattle.wq_registry.specs.Kept.{StandsFor};
 ghost use Rattle.wq_serve.specs.Desk.{HoldsShelf, Unsets};
-ghost use Rattle.wq_session.specs.At.{at_data};
+ghost use Rattle.wq_session.specs.Prepared.{IsPrepared, asked, asked_at};
 ghost use Rattle.wq_session.specs.Work.{work_data};
 
 use crate::unset::Unset;
 use std::alloc::Global;
-use wq_registry::Shelf;
-use wq_session::{Ask, At, Cursor, Session, Work};
+use std::sync::Arc;
+use wq_registry::{CacheKey, Compiled, Shelf};
+use wq_session::{Cursor, Prepared, Session, Work};
+use wq_verify::Program;
 
-/// What holds the shelf for a session: for an ask, and where a cursor is to be unset.
+/// What holds the shelf for a session: for an ask, where a cursor is to be unset, and where a program is found in the cache or
+/// kept there. Each is a hold of its own, so that nothing is read or compiled while the shelf is held.
 ///
 /// It may show its shelf.
 pub trait Desk {
@@ -19,10 +23,21 @@ pub trait Desk {
     // The shelf, where it is shown.
     ghost shelf: { Self → Option ShelfNow };
 
+    /// The program that the shelf's cache keeps of an expression ([`Cache::get`](wq_registry::Cache::get)).
+    fn find(&mut self, key: &CacheKey) -> Option<Arc<Program>>
+        ensures found { IfSome result (λ program.
+            StandsFor key.now.instance key.now.text program.value) }
+        ensures same { shelf self.new ≡ shelf self.old };
+
+    /// Keeps a program in the shelf's cache ([`Cache::keep`](wq_registry::Cache::keep)).
+    fn keep(&mut self, compiled: Compiled)
+        ensures { shelf self.new ≡ shelf self.old };
+
     /// Takes an ask ([`Session::take`]) at the shelf as it stands.
-    fn hold(&mut self, alloc: Global, session: &mut Session, ask: Ask, at: Option<At<'_>>) -> Work
-        ensures { HoldsShelf (shelf self.old) ask (option_map at_data at.entry) (work_data result)
-            (shelf self.new) };
+    fn hold(&mut self, alloc: Global, session: &mut Session, prepared: Prepared<'_>) -> Work
+        requires { IsPrepared prepared }
+        ensures { HoldsShelf (shelf self.old) (asked prepared.entry) (asked_at prepared.entry)
+            (work_data result) (shelf self.new) };
 
     /// Unsets a cursor ([`Shelf::unset_cursor`]) on the shelf as it stands, and gives what only that makes.
     fn unset(&mut self, cursor: Cursor) -> Unset

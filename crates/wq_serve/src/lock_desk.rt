@@ -6,7 +6,9 @@ use crate::shared_shelf::SharedShelf;
 use crate::unset::Unset;
 use std::alloc::Global;
 use std::sync::{Arc, Mutex, Wait};
-use wq_session::{Ask, At, Cursor, Session, Work};
+use wq_registry::{CacheKey, Compiled};
+use wq_session::{Cursor, Prepared, Session, Work};
+use wq_verify::Program;
 
 /// A desk over a shelf that threads share. It shows no shelf, and keeps none.
 #[derive(Drop)]
@@ -29,8 +31,16 @@ impl<R: Wait + Drop> Desk for LockDesk<R> {
 
     ghost shelf = { λ _. None };
 
-    fn hold(&mut self, alloc: Global, session: &mut Session, ask: Ask, at: Option<At<'_>>) -> Work {
-        self.shelf.lock(&self.rt).take(alloc, session, ask, at)
+    fn find(&mut self, key: &CacheKey) -> Option<Arc<Program>> {
+        self.shelf.lock(&self.rt).find(key)
+    }
+
+    fn keep(&mut self, compiled: Compiled) {
+        self.shelf.lock(&self.rt).keep(compiled);
+    }
+
+    fn hold(&mut self, alloc: Global, session: &mut Session, prepared: Prepared<'_>) -> Work {
+        self.shelf.lock(&self.rt).take(alloc, session, prepared)
     }
 
     fn unset(&mut self, cursor: Cursor) -> Unset {

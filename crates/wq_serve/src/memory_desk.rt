@@ -4,8 +4,10 @@ ghost use Rattle.std.specs.Prelude.{◌≡◌};
 use crate::desk::Desk;
 use crate::unset::Unset;
 use std::alloc::Global;
-use wq_registry::Shelf;
-use wq_session::{Ask, At, Cursor, Session, Work};
+use std::sync::Arc;
+use wq_registry::{CacheKey, Compiled, Shelf};
+use wq_session::{Cursor, Prepared, Session, Work};
+use wq_verify::Program;
 
 /// A desk over a shelf that nothing else has. It shows the shelf.
 #[derive(Drop)]
@@ -19,8 +21,16 @@ impl Desk for MemoryDesk {
 
     ghost shelf = { λ d. Some d.shelf };
 
-    fn hold(&mut self, alloc: Global, session: &mut Session, ask: Ask, at: Option<At<'_>>) -> Work {
-        session.take(alloc, ask, at, &mut self.shelf)
+    fn find(&mut self, key: &CacheKey) -> Option<Arc<Program>> {
+        self.shelf.cache().get(key)
+    }
+
+    fn keep(&mut self, compiled: Compiled) {
+        self.shelf.cache().keep(compiled);
+    }
+
+    fn hold(&mut self, alloc: Global, session: &mut Session, prepared: Prepared<'_>) -> Work {
+        session.take(alloc, prepared, &mut self.shelf)
     }
 
     fn unset(&mut self, cursor: Cursor) -> Unset {

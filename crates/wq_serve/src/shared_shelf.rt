@@ -1,16 +1,19 @@
 //! A shelf that many sessions share, one at a time.
-ghost use Rattle.std.specs.Prelude.{◌≡◌, option_map, string_bytes};
+ghost use Rattle.std.specs.Prelude.{◌≡◌, IfSome, string_bytes};
+ghost use Rattle.wq_registry.specs.Kept.{StandsFor};
 ghost use Rattle.wq_registry.specs.Shelf.{blank, cursor_unset};
 ghost use Rattle.wq_serve.specs.Reached.{IsReached, ReachedByCalls};
 ghost use Rattle.wq_session.specs.Answer.{TakesAsk};
-ghost use Rattle.wq_session.specs.At.{at_data};
+ghost use Rattle.wq_session.specs.Prepared.{IsPrepared, asked, asked_at};
 ghost use Rattle.wq_session.specs.Work.{work_data};
 
 use crate::unset::Unset;
 use std::alloc::Global;
 use std::marker::Model;
-use wq_registry::{Cache, Root, Shelf};
-use wq_session::{Ask, At, Cursor, Session, Work, answers_are_calls};
+use std::sync::Arc;
+use wq_registry::{Cache, CacheKey, Compiled, Root, Shelf};
+use wq_session::{Cursor, Prepared, Session, Work, answers_are_calls};
+use wq_verify::Program;
 
 /// A shelf that is changed by what sessions take and unset there, and by nothing else: so that leads to it, from one on which
 /// nothing stands.
@@ -59,13 +62,30 @@ impl SharedShelf {
         &mut self,
         alloc: Global,
         session: &mut Session,
-        ask: Ask,
-        at: Option<At<'_>>,
+        prepared: Prepared<'_>,
     ) -> Work
+        requires { IsPrepared prepared }
         ensures reached { IsReached self.old }
-        ensures taken { TakesAsk ask (option_map at_data at.entry) self.old (work_data result) self.new }
+        ensures taken { TakesAsk (asked prepared.entry) (asked_at prepared.entry) self.old
+            (work_data result) self.new }
     {
-        session.take(alloc, ask, at, &mut self.shelf)
+        session.take(alloc, prepared, &mut self.shelf)
+    }
+
+    /// The program that the cache keeps of an expression.
+    pub(crate) fn find(&mut self, key: &CacheKey) -> Option<Arc<Program>>
+        ensures found { IfSome result (λ program.
+            StandsFor key.now.instance key.now.text program.value) }
+        ensures same { self.new ≡ self.old }
+    {
+        self.shelf.cache().get(key)
+    }
+
+    /// Keeps a program in the cache.
+    pub(crate) fn keep(&mut self, compiled: Compiled)
+        ensures { self.new ≡ self.old }
+    {
+        self.shelf.cache().keep(compiled);
     }
 
     /// Unsets a cursor ([`Shelf::unset_cursor`]).

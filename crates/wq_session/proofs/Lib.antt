@@ -8,3 +8,5 @@ mod Again
 mod Accepting
 mod Newlines
 pub mod Finishing
+mod Programs
+mod Before

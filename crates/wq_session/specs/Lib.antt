@@ -23,3 +23,4 @@ pub mod Answer
 pub mod Taking
 pub mod Law
 pub mod Accepted
+pub mod Prepared

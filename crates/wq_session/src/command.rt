@@ -8,6 +8,7 @@ ghost use Rattle.wq_session.specs.Begun.{takes_memory, tried};
 ghost use Rattle.wq_session.specs.Command.{command_named};
 ghost use Rattle.wq_session.specs.Need.{need_of, seen};
 ghost use Rattle.wq_session.specs.Needed.{need_data};
+ghost use Rattle.wq_session.specs.Prepared.{IsReadFor};
 ghost use Rattle.wq_session.specs.Reading.{Requests, request_of};
 ghost use Rattle.wq_session.specs.Refusal.{ends_session};
 ghost use Rattle.wq_session.specs.Work.{Begins};
@@ -22,6 +23,7 @@ use crate::ask::Ask;
 use crate::at::At;
 use crate::need::Need;
 use crate::outcome::Out;
+use crate::read_query::ReadQuery;
 use crate::refusal::Refusal;
 use crate::root::RootText;
 use crate::work::Work;
@@ -138,8 +140,10 @@ pub(crate) fn tried(
     alloc: Global,
     ask: Ask,
     at: Option<At<'_>>,
+    read: Option<Result<ReadQuery, Refusal>>,
     shelf: &mut Shelf<()>,
 ) -> Result<Work, Refusal>
+    requires { IsReadFor ask (option_map at_data at) read }
     ensures begun { Begins (tried ask (option_map at_data at.entry) shelf.old) shelf.old
         result shelf.new }
     ensures memory { IfErr result (λ refusal.
@@ -150,7 +154,7 @@ pub(crate) fn tried(
         Ask::Watch { root } => begin_watch(alloc, &root, at, shelf),
         Ask::ListRoots => begin_list(alloc, shelf),
         Ask::Unwatch { root } => begin_unwatch(alloc, &root, at, shelf),
-        Ask::Query { root, query, .. } => begin_query(alloc, &root, &query, at, shelf),
+        Ask::Query { root, .. } => begin_query(alloc, &root, read, at, shelf),
         Ask::Clock { root, .. } => begin_clock(alloc, &root, at, shelf),
         Ask::Version => Ok(Work::Says(Out::version())),
         Ask::SocketName => begin_socket(alloc, shelf),

@@ -3,6 +3,7 @@
 ghost use Rattle.std.specs.Prelude.{◌≡◌, option_map};
 ghost use Rattle.wq_session.specs.Answer.{AnswersAsk, CanFinish, Finishes, TakesAsk, settled};
 ghost use Rattle.wq_session.specs.At.{at_data};
+ghost use Rattle.wq_session.specs.Prepared.{IsPrepared, asked, asked_at};
 ghost use Rattle.wq_session.specs.Work.{work_data};
 
 use crate::ask::Ask;
@@ -10,6 +11,7 @@ use crate::at::At;
 use crate::command::{listed, tried};
 use crate::cursor::Cursor;
 use crate::outcome::Out;
+use crate::prepared::Prepared;
 use crate::work::Work;
 use std::alloc::Global;
 use wq_registry::Shelf;
@@ -26,21 +28,23 @@ impl Session {
     }
 
     /// The part of an answer for which the shelf is held: names are looked up, a cursor is moved, a command is done. No
-    /// file is looked at. A command that speaks of a root is refused where nothing is looked at, and also, but for
-    /// `watch`, where the root does not stand on the shelf under the number of what is looked at. `watch` puts it there
-    /// under that number.
+    /// file is looked at, and no query read or compiled. A command that speaks of a root is refused where nothing is
+    /// looked at, and also, but for `watch`, where the root does not stand on the shelf under the number of what is looked
+    /// at. `watch` puts it there under that number.
     ///
     /// Where memory runs out, that is the answer, and the shelf is as it was.
     pub fn take(
         &mut self,
         alloc: Global,
-        ask: Ask,
-        at: Option<At<'_>>,
+        prepared: Prepared<'_>,
         shelf: &mut Shelf<()>,
     ) -> Work
-        ensures { TakesAsk ask (option_map at_data at.entry) shelf.old (work_data result) shelf.new }
+        requires { IsPrepared prepared }
+        ensures { TakesAsk (asked prepared.entry) (asked_at prepared.entry) shelf.old
+            (work_data result) shelf.new }
     {
-        match tried(alloc, ask, at, shelf) {
+        let Prepared { ask, at, query } = prepared;
+        match tried(alloc, ask, at, query, shelf) {
             Ok(work) => work,
             Err(refusal) => Work::Says(Out::refused(alloc, refusal)),
         }
@@ -55,19 +59,58 @@ impl Session {
         out.unset.take()
     }
 
-    /// The answer whole: [`take`](Session::take), [`finish`](Work::finish), [`settle`](Session::settle), and the cursor
+    /// The answer whole: [`prepare`](Ask::prepare), [`take`](Session::take), [`finish`](Work::finish), [`settle`](Session::settle), and the cursor
     /// unset that it names.
     #[tactic(auto, using(crate::proofs::Finishing::can_finish))]
     pub fn on(&mut self, alloc: Global, ask: Ask, at: Option<At<'_>>, shelf: &mut Shelf<()>) -> Out
         ensures { AnswersAsk ask (option_map at_data at.entry) shelf.old result shelf.new }
     {
-        let work = self.take(alloc, ask, at, shelf);
+        let work = self.prepare_and_take(alloc, ask, at, shelf);
         let mut out = work.finish(alloc, at);
         if let Some(cursor) = self.settle(&mut out) {
             shelf.unset_cursor(cursor.root, cursor.name.as_str());
         }
         out
     }
+
+    /// The work of an ask that is prepared first.
+    fn prepare_and_take(
+        &mut self,
+        alloc: Global,
+        ask: Ask,
+        at: Option<At<'_>>,
+        shelf: &mut Shelf<()>,
+    ) -> Work
+        ensures { TakesAsk ask (option_map at_data at.entry) shelf.old (work_data result)
+            shelf.new }
+    {
+        let prepared = prepare(alloc, ask, at, shelf);
+        self.take(alloc, prepared, shelf)
+    }
+}
+
+/// An ask with its query read, and the program of that found in the cache of a shelf, or compiled and kept there.
+fn prepare<'a>(
+    alloc: Global,
+    ask: Ask,
+    at: Option<At<'a>>,
+    shelf: &mut Shelf<()>,
+) -> Prepared<'a>
+    ensures prepared { IsPrepared result }
+    ensures ask { asked result ≡ ask }
+    ensures at { asked_at result ≡ option_map at_data at.entry }
+    ensures same { shelf.new ≡ shelf.old }
+{
+    let prepared = ask.prepare(alloc, at);
+    let found = match prepared.key() {
+        Some(key) => shelf.cache().get(key),
+        None => None,
+    };
+    let (prepared, compiled) = prepared.compiled(alloc, found);
+    if let Some(compiled) = compiled {
+        shelf.cache().keep(compiled);
+    }
+    prepared
 }
 
 impl Work {

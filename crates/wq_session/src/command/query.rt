@@ -1,18 +1,16 @@
-//! `query`: which files there are, and which of them changed. While the shelf is held its program is found and its cursor
-//! moved; the files are listed without it.
-ghost use Rattle.std.specs.Prelude.{◌≡◌, ◌↔◌, Ok, Some, false, is_none, option_map, IfOk};
-ghost use Rattle.std.specs.Prelude.{IsErrOf, IsTrue};
+//! `query`: which files there are, and which of them changed. It is read, and its expression compiled, before the
+//! shelf is held; while it is held a program is looked up by its name and the cursor moved; the files are listed without it.
+ghost use Rattle.std.specs.Prelude.{◌≡◌, Some, false, is_none, option_map, IfOk};
+ghost use Rattle.serde_json.specs.Data.{Data};
 ghost use Rattle.serde_json.specs.View.{view as data_of, items_view};
 ghost use Rattle.wq_clock.specs.Instance.{instance_data};
-ghost use Rattle.wq_compile.specs.Large.{is_too_large};
-ghost use Rattle.wq_compile.specs.Meaning.{AnswersMeaning};
 ghost use Rattle.wq_query.specs.Query.{asked_of, planned};
-ghost use Rattle.wq_query.specs.Reading.{asks};
 ghost use Rattle.wq_registry.specs.Root.{numbered};
 ghost use Rattle.wq_session.specs.Answer.{Finishes};
 ghost use Rattle.wq_session.specs.Argument.{behind};
 ghost use Rattle.wq_session.specs.At.{at_data};
 ghost use Rattle.wq_session.specs.Query.{begun_query, crawls_first, moved_cursor, query_arguments, query_request};
+ghost use Rattle.wq_session.specs.Prepared.{AreRead, IsRead, IsReadAt};
 ghost use Rattle.wq_session.specs.Query.{synchronises, try_query};
 ghost use Rattle.wq_session.specs.Reading.{Requests};
 ghost use Rattle.wq_session.specs.Taking.{FindsCompiled, FindsNamed, FindsProgram, MovesCursor};
@@ -22,6 +20,7 @@ use crate::ask::Ask;
 use crate::at::{At, watched};
 use crate::cursor::Cursor;
 use crate::outcome::Out;
+use crate::read_query::ReadQuery;
 use crate::refusal::Refusal;
 use crate::root::RootText;
 use crate::words::{text, two_behind};
@@ -31,9 +30,8 @@ use std::alloc::{AllocError, Global};
 use std::sync::Arc;
 use wq_base::Text;
 use wq_clock::{Bound, Instance};
-use wq_compile::CompileFault;
-use wq_query::{Plan, Query, QueryFault, answer_bytes};
-use wq_registry::{Shelf, ShelfFault, compile_shared};
+use wq_query::{Plan, Query, answer_bytes};
+use wq_registry::{Shelf, ShelfFault};
 use wq_term::whole_number;
 use wq_verify::Program;
 use wq_view::View;
@@ -82,16 +80,17 @@ fn synchronises(value: Option<&Value>) -> bool
     }
 }
 
-/// `query`, of the root that it names.
+/// `query`, of the root that it names, as it was read at what is looked at.
 pub(super) fn begin_query(
     alloc: Global,
     root: &RootText,
-    object: &Value,
+    read: Option<Result<ReadQuery, Refusal>>,
     at: Option<At<'_>>,
     shelf: &mut Shelf<()>,
 ) -> Result<Work, Refusal>
-    ensures { Begins
-        (try_query root.now (data_of object.now) (option_map at_data at.entry) shelf.old)
+    requires { AreRead read }
+    ensures { (d : Data) → IsReadAt d (option_map at_data at.entry) read
+        → Begins (try_query root.now d (option_map at_data at.entry) shelf.old)
         shelf.old result shelf.new }
 {
     let Some(at) = watched(root, at, shelf) else {
@@ -100,48 +99,40 @@ pub(super) fn begin_query(
     let Some(view) = at.view else {
         return Err(Refusal::NotWatched);
     };
-    match Query::read(alloc, object, &at.instance) {
-        Ok(query) => begin_read(alloc, query, object, &at.instance, view.tick(), shelf),
-        Err(QueryFault::NoMemory) => Err(Refusal::NoMemory),
-        Err(fault) => Err(Refusal::Query(fault)),
+    match read {
+        Some(Ok(read)) => begin_read(alloc, read, at.instance.root, view.tick(), shelf),
+        Some(Err(refusal)) => Err(refusal),
+        None => Err(Refusal::NotWatched),
     }
 }
 
-/// A query that was read from this object, at a tick of its root.
+/// A query that was read, at a tick of its root.
 fn begin_read(
     alloc: Global,
-    query: Query,
-    object: &Value,
-    instance: &Instance,
+    read: ReadQuery,
+    root: u64,
     tick: u64,
     shelf: &mut Shelf<()>,
 ) -> Result<Work, Refusal>
-    requires read { asks (instance_data instance.now) (data_of object.now) ≡ Ok (asked_of query) }
-    requires watched { is_none (numbered instance.now.root shelf.old.roots) ≡ false }
-    ensures { Begins (begun_query instance.now.root tick (asked_of query) shelf.old) shelf.old
-        result shelf.new }
+    requires read { IsRead read }
+    requires watched { is_none (numbered root shelf.old.roots) ≡ false }
+    ensures { Begins (begun_query root tick (asked_of read.query) shelf.old) shelf.old result
+        shelf.new }
 {
-    let program = program_for(alloc, &query, object, instance, shelf)?;
-    let cursor = cursor_of(alloc, &query, instance.root)?;
-    let bound = move_cursor(&query, instance.root, tick, shelf)?;
-    Ok(Work::Evaluates(query.plan(bound, program), cursor))
+    let program = program_for(&read, shelf)?;
+    let cursor = cursor_of(alloc, &read.query, root)?;
+    let bound = move_cursor(&read.query, root, tick, shelf)?;
+    Ok(Work::Evaluates(read.query.plan(bound, program), cursor))
 }
 
 /// The program that says which files match a query.
-fn program_for(
-    alloc: Global,
-    query: &Query,
-    object: &Value,
-    instance: &Instance,
-    shelf: &mut Shelf<()>,
-) -> Result<Arc<Program>, Refusal>
-    requires { asks (instance_data instance.now) (data_of object.now) ≡ Ok (asked_of query.now) }
-    ensures found { FindsProgram (asked_of query.now) shelf.old result }
-    ensures same { shelf.new ≡ shelf.old }
+fn program_for(read: &ReadQuery, shelf: &Shelf<()>) -> Result<Arc<Program>, Refusal>
+    requires { IsRead read.now }
+    ensures { FindsProgram (asked_of (read.now).query) shelf.now result }
 {
-    match query.program() {
+    match read.query.program() {
         Some(name) => named(name, shelf),
-        None => compiled(alloc, query, object, instance, shelf),
+        None => compiled(read),
     }
 }
 
@@ -155,48 +146,18 @@ fn named(name: &str, shelf: &Shelf<()>) -> Result<Arc<Program>, Refusal>
     Ok(Arc::try_clone(program)?)
 }
 
-/// The program of the expression of a query that was read from this object.
-fn compiled(
-    alloc: Global,
-    query: &Query,
-    object: &Value,
-    instance: &Instance,
-    shelf: &mut Shelf<()>,
-) -> Result<Arc<Program>, Refusal>
-    requires { asks (instance_data instance.now) (data_of object.now) ≡ Ok (asked_of query.now) }
-    ensures found { FindsCompiled (asked_of query.now) result }
-    ensures same { shelf.new ≡ shelf.old }
+/// The program of the expression of a query, which was found or compiled before.
+fn compiled(read: &ReadQuery) -> Result<Arc<Program>, Refusal>
+    requires { IsRead read.now }
+    ensures { FindsCompiled (asked_of (read.now).query) result }
 {
-    match kept(alloc, query, object, instance, shelf) {
-        Ok(program) => Ok(program),
-        Err(CompileFault::TooLarge) => Err(Refusal::ProgramTooLarge),
-        Err(CompileFault::NoMemory) => Err(Refusal::NoMemory),
+    if read.is_large {
+        return Err(Refusal::ProgramTooLarge);
     }
-}
-
-/// The same, from the cache where that is of this run of the server.
-fn kept(
-    alloc: Global,
-    query: &Query,
-    object: &Value,
-    instance: &Instance,
-    shelf: &mut Shelf<()>,
-) -> Result<Arc<Program>, CompileFault>
-    requires { asks (instance_data instance.now) (data_of object.now) ≡ Ok (asked_of query.now) }
-    ensures meaning { IfOk result (λ program.
-        AnswersMeaning program.value (asked_of query.now).expression) }
-    ensures large { IsErrOf result CompileFault.TooLarge
-        ↔ IsTrue (is_too_large (asked_of query.now).expression) }
-    ensures same { shelf.new ≡ shelf.old }
-{
-    let Some(value) = object.get("expression") else {
-        return compile_shared(alloc, query.expr());
-    };
-    let cache = shelf.cache();
-    if cache.start() != instance.start || cache.pid() != instance.pid {
-        return compile_shared(alloc, query.expr());
+    match &read.program {
+        Some(program) => Ok(Arc::try_clone(program)?),
+        None => Err(Refusal::NoMemory),
     }
-    cache.program(instance.root, value, query.expr())
 }
 
 /// The cursor of a query, by a name of its own.

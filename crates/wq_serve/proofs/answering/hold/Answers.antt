@@ -7,10 +7,10 @@ use Rattle.wq_serve.proofs.answering.hold.Goals as goal
 
 pub returns-in-Some-clause-answers : goal.returns-in-Some-clause-answers
 returns-in-Some-clause-answers g c =
-    unset_answer _ _ _ c.args.ask (option_map at_data c.args.at) (work_data c.hold-work.result) c.finish-out.result c.settle.new.out c.in-Some.cursor
-    c.hold-work.ensures c.finish-out.ensures c.settle.ensures.taken (sym c.in-Some.ensures.named) c.unset.ensures.unset
+    unset_answer _ _ _ c.args.ask (option_map at_data c.args.at) (work_data c.take-work.result) c.finish-out.result c.settle.new.out c.in-Some.cursor
+    c.take-work.ensures.held c.finish-out.ensures c.settle.ensures.taken (sym c.in-Some.ensures.named) c.unset.ensures.unset
 
 pub returns-in_default-clause-answers : goal.returns-in_default-clause-answers
 returns-in_default-clause-answers g c =
-    kept_answer _ _ c.args.ask (option_map at_data c.args.at) (work_data c.hold-work.result) c.finish-out.result c.settle.new.out c.hold-work.ensures
+    kept_answer _ _ c.args.ask (option_map at_data c.args.at) (work_data c.take-work.result) c.finish-out.result c.settle.new.out c.take-work.ensures.held
     c.finish-out.ensures c.settle.ensures.taken (sym c.settle.ensures.named ∙ c.in_default.is)

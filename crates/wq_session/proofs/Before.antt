@@ -1,0 +1,155 @@
+-- What `query` comes to, of a query that was read before.
+use Rattle.std.proofs.Common.{◌≡◌, ℕ, Bool, true, false, List, Option, Some, None, Result, Ok, Err, if◌then◌else◌, refl, sym, ap, subst, ◌∙◌}
+use Rattle.serde_json.specs.Data.{Data}
+use Rattle.std.specs.Prelude.{codes}
+use Rattle.serde_json.specs.Find.{get}
+use Rattle.wq_base.specs.Fault.{or_fault, or_its_fault, unless_fault}
+use Rattle.wq_clock.specs.Instance.{InstanceData}
+use Rattle.wq_query.specs.Query.{QueryData, SinceData, asked_of}
+use Rattle.std.specs.Prelude.{not}
+use Rattle.wq_gen.specs.declared.generators.PathGen.{PathGen}
+use Rattle.wq_query.specs.Generator.{suffixes_of, paths_of}
+use Rattle.wq_query.specs.Reading.{asks as queries, expression_of, fields_of, flag_of, has_both, has_left_out_key}
+use Rattle.wq_query.specs.Reading.{is_whole_or_absent, program_name, since_of}
+use Rattle.wq_query.specs.declared.field.Field.{Field}
+use Rattle.wq_query.specs.declared.fault.QueryFault.TheVariants.{LeftOutKey, ExpressionAndProgram, Expression, UnknownField}
+use Rattle.wq_query.specs.declared.fault.QueryFault.TheVariants.{BadGenerator, BadClockSpec, WrongValue}
+use Rattle.wq_term.specs.Expr.{ExprData, always}
+use Rattle.wq_term.specs.declared.fault.TermFault.{TermFault}
+use Rattle.wq_query.specs.declared.fault.QueryFault.{QueryFault}
+use Rattle.wq_view.specs.View.{ViewData}
+use Rattle.wq_session.specs.At.{AtData, ShelfNow, is_watched, watched}
+use Rattle.wq_session.specs.Prepared.{AreRead, GivesRead, IsRead, IsReadAt, IsReadFor, IsReadOf}
+use Rattle.wq_session.specs.Query.{begun_query, try_query}
+use Rattle.serde_json.specs.View.{view as data_of}
+use Rattle.wq_session.specs.Answer.{TakesAsk}
+use Rattle.wq_session.specs.Work.{Begins, BegunData, WorkData}
+use Rattle.wq_session.specs.declared.ask.Ask.{Ask}
+use Rattle.wq_session.specs.declared.ask.Ask.TheVariants.{Refused, Watch, ListRoots, Unwatch}
+use Rattle.wq_session.specs.declared.ask.Ask.TheVariants.{Query as AsksQuery, Clock, Version}
+use Rattle.wq_session.specs.declared.ask.Ask.TheVariants.{SocketName, ShutDown, AddProgram, ListPrograms}
+use Rattle.wq_session.specs.declared.ask.Ask.TheVariants.{DeleteProgram, Leave, Nothing}
+use Rattle.wq_session.specs.declared.work.Work.{Work}
+use Rattle.wq_session.specs.declared.read_query.ReadQuery.{ReadQuery}
+use Rattle.wq_session.specs.declared.refusal.Refusal.{Refusal}
+use Rattle.wq_session.specs.declared.refusal.Refusal.TheVariants.{NotWatched, Query as BadQuery}
+
+-- what was read of an object is known
+pub are_read : (d : Data) (at : Option AtData) (read : Option (Result ReadQuery Refusal)) → IsReadAt d at read → AreRead read
+are_read d (Some at) (Some (Ok read)) is = of at.view is
+  where
+    of : (view : Option ViewData) → IsReadOf d at.instance view (Some (Ok read)) → IsRead read
+    of (Some view) is = is.1
+    of None is = elim is [ ]
+are_read d None (Some (Ok read)) is = elim is [ ]
+are_read d at (Some (Err refusal)) is = tt
+are_read d at None is = tt
+
+-- where none was read nothing has to be known
+none_read : (read : Option (Result ReadQuery Refusal)) → read ≡ None → AreRead read
+none_read None is = tt
+none_read (Some read) is = absurd cc
+
+-- what was read of an ask is known
+pub asked_read : (ask : Ask) (at : Option AtData) (read : Option (Result ReadQuery Refusal)) → IsReadFor ask at read → AreRead read
+asked_read (AsksQuery root crawl q) at read is = are_read (data_of q) at read is
+asked_read (Refused refusal) at read is = none_read read is
+asked_read (Watch root) at read is = none_read read is
+asked_read ListRoots at read is = none_read read is
+asked_read (Unwatch root) at read is = none_read read is
+asked_read (Clock root crawl) at read is = none_read read is
+asked_read Version at read is = none_read read is
+asked_read SocketName at read is = none_read read is
+asked_read ShutDown at read is = none_read read is
+asked_read (AddProgram name program) at read is = none_read read is
+asked_read ListPrograms at read is = none_read read is
+asked_read (DeleteProgram name) at read is = none_read read is
+asked_read Leave at read is = none_read read is
+asked_read Nothing at read is = none_read read is
+
+-- what is watched is what is looked at
+there : (root : List ℕ) (at : Option AtData) (shelf : ShelfNow) (a : AtData) → watched root at shelf ≡ Some a → at ≡ Some a
+there root (Some at) shelf a is = picked (is_watched root at shelf) is
+  where
+    picked : (test : Bool) → (if test then Some at else None) ≡ Some a → Some at ≡ Some a
+    picked true is = is
+    picked false is = absurd cc
+there root None shelf a is = is
+
+module _ (root : List ℕ) (d : Data) (at : Option AtData) (shelf : ShelfNow) (a : AtData) (is : watched root at shelf ≡ Some a) where
+  -- the query of an object at a root that is shown
+  pub at_view : (view : ViewData) → a.view ≡ Some view
+      → try_query root d at shelf ≡ or_its_fault BadQuery (queries a.instance d) (λ q. begun_query (a.instance).root view.tick q shelf)
+  at_view view shown =
+      ap (λ w. or_fault NotWatched w (λ (at : AtData). or_fault NotWatched at.view (λ view.
+      or_its_fault BadQuery (queries at.instance d) (λ q. begun_query (at.instance).root view.tick q shelf)))) is
+      ∙ ap (λ v. or_fault NotWatched v (λ (view : ViewData).
+      or_its_fault BadQuery (queries a.instance d) (λ q. begun_query (a.instance).root view.tick q shelf))) shown
+
+  -- it was read there
+  pub read_there : (view : ViewData) → a.view ≡ Some view → (read : Option (Result ReadQuery Refusal)) → IsReadAt d at read
+      → IsReadOf d a.instance (Some view) read
+  read_there view shown read said =
+      subst (λ v. IsReadOf d a.instance v read) shown (subst (λ at. IsReadAt d at read) (there root at shelf a is) said)
+
+  -- so what is begun of the query that was read is what `query` comes to
+  pub begins_read : (view : ViewData) → a.view ≡ Some view → (read : ReadQuery) → IsReadAt d at (Some (Ok read))
+      → (tick : ℕ) → tick ≡ view.tick → (result : Result Work Refusal) (after : ShelfNow)
+      → Begins (begun_query (a.instance).root tick (asked_of read.query) shelf) shelf result after
+      → Begins (try_query root d at shelf) shelf result after
+  begins_read view shown read said tick told result after begins =
+      subst (λ b. Begins b shelf result after)
+      (sym (at_view view shown
+      ∙ ap (λ r. or_its_fault BadQuery r (λ q. begun_query (a.instance).root view.tick q shelf)) (read_there view shown (Some (Ok read)) said).0
+      ∙ ap (λ t. begun_query (a.instance).root t (asked_of read.query) shelf) (sym told)))
+      begins
+
+-- what is taken of an ask that was prepared is taken of that ask
+pub taken_as : (ask asked : Ask) (at asked_at : Option AtData) (shelf same : ShelfNow) (work : WorkData) (after : ShelfNow) → asked ≡ ask
+    → asked_at ≡ at → same ≡ shelf → TakesAsk asked asked_at same work after → TakesAsk ask at shelf work after
+taken_as ask asked at asked_at shelf same work after is_ask is_at is_shelf takes =
+    subst (λ (a : Ask). TakesAsk a at shelf work after) is_ask
+    (subst (λ (a : Option AtData). TakesAsk asked a shelf work after) is_at
+    (subst (λ (s : ShelfNow). TakesAsk asked asked_at s work after) is_shelf takes))
+
+-- the expression of a query that was read
+expression_in : Result QueryData QueryFault → Result ExprData TermFault
+expression_in (Ok q) = Ok q.expression
+expression_in (Err fault) = Ok always
+
+-- all tests hold of a query that was read, and its parts are there
+has_expression : (one other last : Bool) (e : Result ExprData TermFault) (fields : Option (List Field)) (suffix : Option (Option (List (List ℕ))))
+    (path : Option (Option (List PathGen))) (since : Option SinceData) (program : Option (Option (List ℕ))) (flag : Option Bool) (q : QueryData)
+    → unless_fault LeftOutKey one (unless_fault ExpressionAndProgram other (or_its_fault Expression e (λ e.
+    or_fault UnknownField fields (λ fields. or_fault BadGenerator suffix (λ suffix. or_fault BadGenerator path (λ path.
+    or_fault BadClockSpec since (λ since. or_fault WrongValue program (λ program. or_fault WrongValue flag (λ flag.
+    unless_fault WrongValue last (Ok (record {
+      expression = e;
+      program = program;
+      fields = fields;
+      since = since;
+      suffix = suffix;
+      path = path;
+      empty_on_fresh_instance = flag;
+    }))))))))))) ≡ Ok q → e ≡ Ok q.expression
+unfolding expression_in
+has_expression true true true (Ok e) (Some fields) (Some suffix) (Some path) (Some since) (Some program) (Some flag) q is = ap expression_in is
+has_expression false other last e fields suffix path since program flag q is = absurd cc
+has_expression true false last e fields suffix path since program flag q is = absurd cc
+has_expression true true last (Err fault) fields suffix path since program flag q is = absurd cc
+has_expression true true last (Ok e) None suffix path since program flag q is = absurd cc
+has_expression true true last (Ok e) (Some fields) None path since program flag q is = absurd cc
+has_expression true true last (Ok e) (Some fields) (Some suffix) None since program flag q is = absurd cc
+has_expression true true last (Ok e) (Some fields) (Some suffix) (Some path) None program flag q is = absurd cc
+has_expression true true last (Ok e) (Some fields) (Some suffix) (Some path) (Some since) None flag q is = absurd cc
+has_expression true true last (Ok e) (Some fields) (Some suffix) (Some path) (Some since) (Some program) None q is = absurd cc
+has_expression true true false (Ok e) (Some fields) (Some suffix) (Some path) (Some since) (Some program) (Some flag) q is = absurd cc
+
+-- so it has the expression that its object says
+pub expression_asked : (instance : InstanceData) (d : Data) (q : QueryData) → queries instance d ≡ Ok q
+    → expression_of instance (get (codes "expression") d) ≡ Ok q.expression
+expression_asked instance d q is =
+    has_expression (not (has_left_out_key d)) (not (has_both d)) (is_whole_or_absent (get (codes "sync_timeout") d))
+    (expression_of instance (get (codes "expression") d)) (fields_of (get (codes "fields") d)) (suffixes_of (get (codes "suffix") d))
+    (paths_of (get (codes "path") d)) (since_of instance (get (codes "since") d)) (program_name (get (codes "program") d))
+    (flag_of (get (codes "empty_on_fresh_instance") d)) q is

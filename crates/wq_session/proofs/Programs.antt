@@ -1,0 +1,26 @@
+-- The program of a query that was read answers what its expression means.
+use Rattle.std.proofs.Common.{◌≡◌, Option, Some, None, IfSome, sym, subst, ◌∙◌}
+use Rattle.std.specs.Prelude.{false}
+use Rattle.std.specs.declared.alloc.Global.{Global}
+use Rattle.std.specs.declared.sync.Arc.{Arc}
+use Rattle.wq_code.specs.declared.raw.Raw.{Raw}
+use Rattle.wq_compile.specs.Large.{is_too_large}
+use Rattle.wq_compile.specs.Meaning.{AnswersMeaning}
+use Rattle.wq_query.specs.Query.{asked_of}
+use Rattle.wq_registry.proofs.Keeping.{stood_for}
+use Rattle.wq_registry.specs.CacheKey.{CacheKeyData, Says}
+use Rattle.wq_term.specs.Expr.{ExprData}
+use Rattle.wq_session.specs.Prepared.{IsFoundFor, IsRead}
+use Rattle.wq_session.specs.declared.read_query.ReadQuery.{ReadQuery}
+
+-- a program that was found does
+pub found_answers : (t : ExprData) (key : Option CacheKeyData) (program : Arc Raw Global) → IfSome key (λ key. Says key t)
+    → IsFoundFor key (Some program) → AnswersMeaning program.value t
+found_answers t (Some key) program says stands = (stood_for key t program.value says stands).0
+found_answers t None program says stands = elim stands [ ]
+
+-- one that is there does
+pub there_answers : (read : ReadQuery) (program : Arc Raw Global) → IsRead read → read.program ≡ Some program
+    → AnswersMeaning program.value (asked_of read.query).expression
+there_answers read program is there =
+    subst (λ (p : Option (Arc Raw Global)). IfSome p (λ program. AnswersMeaning program.value (asked_of read.query).expression)) there is.2

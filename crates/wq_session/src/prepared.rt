@@ -1,0 +1,101 @@
+//! Asks that are prepared: with all that is read of them before the shelf is held, so that it is held for looking up
+//! names alone.
+ghost use Rattle.std.specs.Prelude.{◌≡◌, option_map};
+ghost use Rattle.serde_json.specs.View.{view as data_of};
+ghost use Rattle.wq_session.specs.At.{at_data};
+ghost use Rattle.wq_session.specs.Prepared.{IsFoundFor, IsPrepared, IsReadAt, IsReadFor, asked, asked_at, key_in};
+
+use crate::ask::Ask;
+use crate::at::At;
+use crate::read_query::ReadQuery;
+use crate::refusal::Refusal;
+use serde_json::Value;
+use std::alloc::Global;
+use std::sync::Arc;
+use wq_registry::{CacheKey, Compiled};
+use wq_verify::Program;
+
+/// An ask, at the root that is looked at, with its query, if it has one, read there.
+#[derive(Drop)]
+pub struct Prepared<'a> {
+    pub(crate) ask: Ask,
+    pub(crate) at: Option<At<'a>>,
+    /// The query, where a view is shown at which it is read.
+    pub(crate) query: Option<Result<ReadQuery, Refusal>>,
+}
+
+impl Ask {
+    /// Reads what can be read of the ask without the shelf: its query, at the instance that is looked at. Where that has
+    /// a fault, or memory runs out, [`take`](crate::Session::take) says so.
+    pub fn prepare(self, alloc: Global, at: Option<At<'_>>) -> Prepared<'_>
+        ensures prepared { IsPrepared result }
+        ensures ask { asked result ≡ self }
+        ensures at { asked_at result ≡ option_map at_data at.entry }
+    {
+        let query = query_of(alloc, &self, at);
+        Prepared {
+            ask: self,
+            at,
+            query,
+        }
+    }
+}
+
+impl<'a> Prepared<'a> {
+    /// The expression that a program has to be found for. There is none where the ask is no query, or the key could not
+    /// be made.
+    pub fn key(&self) -> Option<&CacheKey>
+        ensures { option_map (λ key. key.now) result ≡ key_in (self.now).query }
+    {
+        match &self.query {
+            Some(Ok(read)) => read.key.as_ref(),
+            _ => None,
+        }
+    }
+
+    /// The ask with the program of its query's expression: the one that was found for its [`key`](Prepared::key), or one
+    /// that is compiled now, which is then given for the cache as well. Where memory runs out it has none, and
+    /// [`take`](crate::Session::take) says so.
+    pub fn compiled(
+        self,
+        alloc: Global,
+        found: Option<Arc<Program>>,
+    ) -> (Prepared<'a>, Option<Compiled>)
+        requires prepared { IsPrepared self }
+        requires found { IsFoundFor (key_in self.query) found }
+        ensures prepared { IsPrepared result.0 }
+        ensures ask { asked result.0 ≡ asked self.entry }
+        ensures at { asked_at result.0 ≡ asked_at self.entry }
+    {
+        let Prepared { ask, at, query } = self;
+        match query {
+            Some(Ok(read)) => {
+                let (read, compiled) = read.compiled(alloc, found);
+                let query = Some(Ok(read));
+                (Prepared { ask, at, query }, compiled)
+            }
+            query => (Prepared { ask, at, query }, None),
+        }
+    }
+}
+
+/// The query of an ask, at what is looked at.
+fn query_of(alloc: Global, ask: &Ask, at: Option<At<'_>>) -> Option<Result<ReadQuery, Refusal>>
+    ensures { IsReadFor ask.now (option_map at_data at.entry) result }
+{
+    match ask {
+        Ask::Query { query, .. } => read_at(alloc, query, at),
+        _ => None,
+    }
+}
+
+/// The query of an object, at what is looked at.
+fn read_at(alloc: Global, object: &Value, at: Option<At<'_>>) -> Option<Result<ReadQuery, Refusal>>
+    ensures { IsReadAt (data_of object.now) (option_map at_data at.entry) result }
+{
+    let at = at?;
+    if at.view.is_none() {
+        return None;
+    }
+    Some(ReadQuery::read(alloc, object, &at.instance))
+}
