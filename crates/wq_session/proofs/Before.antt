@@ -1,38 +1,35 @@
 -- What `query` comes to, of a query that was read before.
 use Rattle.std.proofs.Common.{◌≡◌, ℕ, Bool, true, false, List, Option, Some, None, Result, Ok, Err, if◌then◌else◌, refl, sym, ap, subst, ◌∙◌}
+use Rattle.std.specs.Prelude.{codes, not}
 use Rattle.serde_json.specs.Data.{Data}
-use Rattle.std.specs.Prelude.{codes}
 use Rattle.serde_json.specs.Find.{get}
+use Rattle.serde_json.specs.View.{view as data_of}
 use Rattle.wq_base.specs.Fault.{or_fault, or_its_fault, unless_fault}
 use Rattle.wq_clock.specs.Instance.{InstanceData}
-use Rattle.wq_query.specs.Query.{QueryData, SinceData, asked_of}
-use Rattle.std.specs.Prelude.{not}
-use Rattle.wq_gen.specs.declared.generators.PathGen.{PathGen}
 use Rattle.wq_query.specs.Generator.{suffixes_of, paths_of}
+use Rattle.wq_query.specs.Query.{QueryData, asked_of}
 use Rattle.wq_query.specs.Reading.{asks as queries, expression_of, fields_of, flag_of, has_both, has_left_out_key}
 use Rattle.wq_query.specs.Reading.{is_whole_or_absent, program_name, since_of}
-use Rattle.wq_query.specs.declared.field.Field.{Field}
+use Rattle.wq_query.specs.declared.fault.QueryFault.{QueryFault}
 use Rattle.wq_query.specs.declared.fault.QueryFault.TheVariants.{LeftOutKey, ExpressionAndProgram, Expression, UnknownField}
 use Rattle.wq_query.specs.declared.fault.QueryFault.TheVariants.{BadGenerator, BadClockSpec, WrongValue}
 use Rattle.wq_term.specs.Expr.{ExprData, always}
 use Rattle.wq_term.specs.declared.fault.TermFault.{TermFault}
-use Rattle.wq_query.specs.declared.fault.QueryFault.{QueryFault}
 use Rattle.wq_view.specs.View.{ViewData}
-use Rattle.wq_session.specs.At.{AtData, ShelfNow, is_watched, watched}
-use Rattle.wq_session.specs.Prepared.{AreRead, GivesRead, IsRead, IsReadAt, IsReadFor, IsReadOf}
-use Rattle.wq_session.specs.Query.{begun_query, try_query}
-use Rattle.serde_json.specs.View.{view as data_of}
 use Rattle.wq_session.specs.Answer.{TakesAsk}
-use Rattle.wq_session.specs.Work.{Begins, BegunData, WorkData}
+use Rattle.wq_session.specs.At.{AtData, ShelfNow, is_watched, watched}
+use Rattle.wq_session.specs.Prepared.{AreRead, IsRead, IsReadAt, IsReadFor, IsReadOf}
+use Rattle.wq_session.specs.Query.{begun_query, try_query}
+use Rattle.wq_session.specs.Work.{Begins, WorkData}
 use Rattle.wq_session.specs.declared.ask.Ask.{Ask}
 use Rattle.wq_session.specs.declared.ask.Ask.TheVariants.{Refused, Watch, ListRoots, Unwatch}
 use Rattle.wq_session.specs.declared.ask.Ask.TheVariants.{Query as AsksQuery, Clock, Version}
 use Rattle.wq_session.specs.declared.ask.Ask.TheVariants.{SocketName, ShutDown, AddProgram, ListPrograms}
 use Rattle.wq_session.specs.declared.ask.Ask.TheVariants.{DeleteProgram, Leave, Nothing}
-use Rattle.wq_session.specs.declared.work.Work.{Work}
 use Rattle.wq_session.specs.declared.read_query.ReadQuery.{ReadQuery}
 use Rattle.wq_session.specs.declared.refusal.Refusal.{Refusal}
 use Rattle.wq_session.specs.declared.refusal.Refusal.TheVariants.{NotWatched, Query as BadQuery}
+use Rattle.wq_session.specs.declared.work.Work.{Work}
 
 -- what was read of an object is known
 pub are_read : (d : Data) (at : Option AtData) (read : Option (Result ReadQuery Refusal)) → IsReadAt d at read → AreRead read
@@ -45,7 +42,7 @@ are_read d None (Some (Ok read)) is = elim is [ ]
 are_read d at (Some (Err refusal)) is = tt
 are_read d at None is = tt
 
--- where none was read nothing has to be known
+-- if none was read nothing has to be known
 none_read : (read : Option (Result ReadQuery Refusal)) → read ≡ None → AreRead read
 none_read None is = tt
 none_read (Some read) is = absurd cc
@@ -118,32 +115,26 @@ expression_in (Ok q) = Ok q.expression
 expression_in (Err fault) = Ok always
 
 -- all tests hold of a query that was read, and its parts are there
-has_expression : (one other last : Bool) (e : Result ExprData TermFault) (fields : Option (List Field)) (suffix : Option (Option (List (List ℕ))))
-    (path : Option (Option (List PathGen))) (since : Option SinceData) (program : Option (Option (List ℕ))) (flag : Option Bool) (q : QueryData)
+has_expression : {F S P C N G : Type 0} (one other last : Bool) (e : Result ExprData TermFault) (fields : Option F) (suffix : Option S)
+    (path : Option P) (since : Option C) (program : Option N) (flag : Option G) (made : ExprData → F → S → P → C → N → G → QueryData)
+    → ((e : ExprData) (f : F) (s : S) (p : P) (c : C) (n : N) (g : G) → (made e f s p c n g).expression ≡ e) → (q : QueryData)
     → unless_fault LeftOutKey one (unless_fault ExpressionAndProgram other (or_its_fault Expression e (λ e.
     or_fault UnknownField fields (λ fields. or_fault BadGenerator suffix (λ suffix. or_fault BadGenerator path (λ path.
     or_fault BadClockSpec since (λ since. or_fault WrongValue program (λ program. or_fault WrongValue flag (λ flag.
-    unless_fault WrongValue last (Ok (record {
-      expression = e;
-      program = program;
-      fields = fields;
-      since = since;
-      suffix = suffix;
-      path = path;
-      empty_on_fresh_instance = flag;
-    }))))))))))) ≡ Ok q → e ≡ Ok q.expression
+    unless_fault WrongValue last (Ok (made e fields suffix path since program flag))))))))))) ≡ Ok q → e ≡ Ok q.expression
 unfolding expression_in
-has_expression true true true (Ok e) (Some fields) (Some suffix) (Some path) (Some since) (Some program) (Some flag) q is = ap expression_in is
-has_expression false other last e fields suffix path since program flag q is = absurd cc
-has_expression true false last e fields suffix path since program flag q is = absurd cc
-has_expression true true last (Err fault) fields suffix path since program flag q is = absurd cc
-has_expression true true last (Ok e) None suffix path since program flag q is = absurd cc
-has_expression true true last (Ok e) (Some fields) None path since program flag q is = absurd cc
-has_expression true true last (Ok e) (Some fields) (Some suffix) None since program flag q is = absurd cc
-has_expression true true last (Ok e) (Some fields) (Some suffix) (Some path) None program flag q is = absurd cc
-has_expression true true last (Ok e) (Some fields) (Some suffix) (Some path) (Some since) None flag q is = absurd cc
-has_expression true true last (Ok e) (Some fields) (Some suffix) (Some path) (Some since) (Some program) None q is = absurd cc
-has_expression true true false (Ok e) (Some fields) (Some suffix) (Some path) (Some since) (Some program) (Some flag) q is = absurd cc
+has_expression true true true (Ok e) (Some fields) (Some suffix) (Some path) (Some since) (Some program) (Some flag) made kept q is =
+    ap Ok (sym (kept e fields suffix path since program flag)) ∙ ap expression_in is
+has_expression false other last e fields suffix path since program flag made kept q is = absurd cc
+has_expression true false last e fields suffix path since program flag made kept q is = absurd cc
+has_expression true true last (Err fault) fields suffix path since program flag made kept q is = absurd cc
+has_expression true true last (Ok e) None suffix path since program flag made kept q is = absurd cc
+has_expression true true last (Ok e) (Some fields) None path since program flag made kept q is = absurd cc
+has_expression true true last (Ok e) (Some fields) (Some suffix) None since program flag made kept q is = absurd cc
+has_expression true true last (Ok e) (Some fields) (Some suffix) (Some path) None program flag made kept q is = absurd cc
+has_expression true true last (Ok e) (Some fields) (Some suffix) (Some path) (Some since) None flag made kept q is = absurd cc
+has_expression true true last (Ok e) (Some fields) (Some suffix) (Some path) (Some since) (Some program) None made kept q is = absurd cc
+has_expression true true false (Ok e) (Some fields) (Some suffix) (Some path) (Some since) (Some program) (Some flag) made kept q is = absurd cc
 
 -- so it has the expression that its object says
 pub expression_asked : (instance : InstanceData) (d : Data) (q : QueryData) → queries instance d ≡ Ok q
@@ -152,4 +143,13 @@ expression_asked instance d q is =
     has_expression (not (has_left_out_key d)) (not (has_both d)) (is_whole_or_absent (get (codes "sync_timeout") d))
     (expression_of instance (get (codes "expression") d)) (fields_of (get (codes "fields") d)) (suffixes_of (get (codes "suffix") d))
     (paths_of (get (codes "path") d)) (since_of instance (get (codes "since") d)) (program_name (get (codes "program") d))
-    (flag_of (get (codes "empty_on_fresh_instance") d)) q is
+    (flag_of (get (codes "empty_on_fresh_instance") d))
+    (λ e fields suffix path since program flag. record {
+      expression = e;
+      program = program;
+      fields = fields;
+      since = since;
+      suffix = suffix;
+      path = path;
+      empty_on_fresh_instance = flag;
+    }) (λ e fields suffix path since program flag. refl) q is

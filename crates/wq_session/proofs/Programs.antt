@@ -1,10 +1,8 @@
 -- The program of a query that was read answers what its expression means.
-use Rattle.std.proofs.Common.{◌≡◌, Option, Some, None, IfSome, sym, subst, ◌∙◌}
-use Rattle.std.specs.Prelude.{false}
+use Rattle.std.proofs.Common.{◌≡◌, Option, Some, None, IfSome, subst}
 use Rattle.std.specs.declared.alloc.Global.{Global}
 use Rattle.std.specs.declared.sync.Arc.{Arc}
 use Rattle.wq_code.specs.declared.raw.Raw.{Raw}
-use Rattle.wq_compile.specs.Large.{is_too_large}
 use Rattle.wq_compile.specs.Meaning.{AnswersMeaning}
 use Rattle.wq_query.specs.Query.{asked_of}
 use Rattle.wq_registry.proofs.Keeping.{stood_for}

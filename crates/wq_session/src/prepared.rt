@@ -25,7 +25,7 @@ pub struct Prepared<'a> {
 }
 
 impl Ask {
-    /// Reads what can be read of the ask without the shelf: its query, at the instance that is looked at. Where that has
+    /// Reads all of the ask that can be read without the shelf: its query, at the instance that is looked at. If that has
     /// a fault, or memory runs out, [`take`](crate::Session::take) says so.
     pub fn prepare(self, alloc: Global, at: Option<At<'_>>) -> Prepared<'_>
         ensures prepared { IsPrepared result }
@@ -42,7 +42,7 @@ impl Ask {
 }
 
 impl<'a> Prepared<'a> {
-    /// The expression that a program has to be found for. There is none where the ask is no query, or the key could not
+    /// The expression that a program has to be found for. There is none if the ask is no query, or the key could not
     /// be made.
     pub fn key(&self) -> Option<&CacheKey>
         ensures { option_map (λ key. key.now) result ≡ key_in (self.now).query }
@@ -54,7 +54,7 @@ impl<'a> Prepared<'a> {
     }
 
     /// The ask with the program of its query's expression: the one that was found for its [`key`](Prepared::key), or one
-    /// that is compiled now, which is then given for the cache as well. Where memory runs out it has none, and
+    /// that is compiled now, which is then given for the cache as well. If memory runs out it has none, and
     /// [`take`](crate::Session::take) says so.
     pub fn compiled(
         self,

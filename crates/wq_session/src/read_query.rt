@@ -25,8 +25,8 @@ pub(crate) struct ReadQuery {
     pub(crate) query: Query,
     /// Whether its expression has no program, since that would be too large.
     pub(crate) is_large: bool,
-    /// Under what the program of its expression is kept. It is none where every file is asked for,
-    /// or memory ran out.
+    /// The key under which the program of its expression is kept. There is none if every file is
+    /// asked for, or memory ran out.
     pub(crate) key: Option<CacheKey>,
     /// A program that answers what its expression means, once it is found or compiled.
     pub(crate) program: Option<Arc<Program>>,
@@ -55,8 +55,8 @@ impl ReadQuery {
     }
 
     /// The query with the program of its expression: the one that was found, or one that is compiled
-    /// now, and is then given for the cache as well. There is none where the query names a program,
-    /// where it would be too large, or where memory ran out.
+    /// now, and is then given for the cache as well. There is none if the query names a program,
+    /// if it would be too large, or if memory ran out.
     pub(crate) fn compiled(
         self,
         alloc: Global,
@@ -86,7 +86,12 @@ impl ReadQuery {
         let Ok(program) = compile_shared(alloc, self.query.expr()) else {
             return (self, None);
         };
-        let ReadQuery { query, is_large, key, .. } = self;
+        let ReadQuery {
+            query,
+            is_large,
+            key,
+            ..
+        } = self;
         let compiled = match key {
             Some(key) => Compiled::new(key, query.expr(), &program),
             None => None,

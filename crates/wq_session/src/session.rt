@@ -33,12 +33,7 @@ impl Session {
     /// at. `watch` puts it there under that number.
     ///
     /// Where memory runs out, that is the answer, and the shelf is as it was.
-    pub fn take(
-        &mut self,
-        alloc: Global,
-        prepared: Prepared<'_>,
-        shelf: &mut Shelf<()>,
-    ) -> Work
+    pub fn take(&mut self, alloc: Global, prepared: Prepared<'_>, shelf: &mut Shelf<()>) -> Work
         requires { IsPrepared prepared }
         ensures { TakesAsk (asked prepared.entry) (asked_at prepared.entry) shelf.old
             (work_data result) shelf.new }
@@ -59,8 +54,8 @@ impl Session {
         out.unset.take()
     }
 
-    /// The answer whole: [`prepare`](Ask::prepare), [`take`](Session::take), [`finish`](Work::finish), [`settle`](Session::settle), and the cursor
-    /// unset that it names.
+    /// The answer whole: [`prepare`](Ask::prepare), [`take`](Session::take), [`finish`](Work::finish),
+    /// [`settle`](Session::settle), and the cursor unset that it names.
     #[tactic(auto, using(crate::proofs::Finishing::can_finish))]
     pub fn on(&mut self, alloc: Global, ask: Ask, at: Option<At<'_>>, shelf: &mut Shelf<()>) -> Out
         ensures { AnswersAsk ask (option_map at_data at.entry) shelf.old result shelf.new }
@@ -90,12 +85,7 @@ impl Session {
 }
 
 /// An ask with its query read, and the program of that found in the cache of a shelf, or compiled and kept there.
-fn prepare<'a>(
-    alloc: Global,
-    ask: Ask,
-    at: Option<At<'a>>,
-    shelf: &mut Shelf<()>,
-) -> Prepared<'a>
+fn prepare<'a>(alloc: Global, ask: Ask, at: Option<At<'a>>, shelf: &mut Shelf<()>) -> Prepared<'a>
     ensures prepared { IsPrepared result }
     ensures ask { asked result ≡ ask }
     ensures at { asked_at result ≡ option_map at_data at.entry }

@@ -1,5 +1,5 @@
 -- The ask that was prepared is the one that is taken, at the same shelf.
-use Rattle.std.proofs.Common.{option_map, subst}
+use Rattle.std.proofs.Common.{option_map}
 use Rattle.wq_session.proofs.Before.{taken_as}
 use Rattle.wq_session.specs.At.{at_data}
 use Rattle.wq_session.specs.Prepared.{asked, asked_at}
