@@ -12,8 +12,8 @@ use std::sync::{Arc, Wait};
 use wq_clock::Run;
 use wq_crawl::{CrawlFault, Crawler, LockRoots, Roots, SharedCrawler, Tree, TreeFault};
 use wq_live::{Blank, Named, Told};
-use wq_serve::{Desk, LockDesk, MemoryInbox, Unset, serve};
 use wq_registry::{CacheKey, Compiled};
+use wq_serve::{Desk, LockDesk, MemoryInbox, Unset, serve};
 use wq_session::{Cursor, Prepared, Session, Work};
 use wq_stream::Splitter;
 use wq_verify::Program;
@@ -78,7 +78,7 @@ impl<N: Named, R: Wait + Drop> Roots<N> for Publishing<N, R> {
     }
 }
 
-/// A desk that publishes twice before it holds the shelf.
+/// A desk that publishes twice before it holds the shelf, also to find a program or to keep one.
 #[derive(Drop)]
 struct Holding<N: Named, R: Wait + Drop> {
     desk: LockDesk<R>,
@@ -175,7 +175,7 @@ fn talk<N: Named, R: Wait + Copy + Drop>(
 
 /// What a client says.
 const LINES: &[u8] = br#"["watch","/r"]
-["query","/r",{"fields":["name"]}]
+["query","/r",{"expression":["type","f"],"fields":["name"]}]
 ["watch-del","/r"]
 "#;
 

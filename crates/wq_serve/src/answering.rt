@@ -92,12 +92,7 @@ fn take<D: Desk>(client: &mut Client, ask: Ask, at: Option<At<'_>>, desk: &mut D
 }
 
 /// An ask with its query read, and the program of that found at the desk, or compiled and kept there.
-fn prepare<'a, D: Desk>(
-    alloc: Global,
-    ask: Ask,
-    at: Option<At<'a>>,
-    desk: &mut D,
-) -> Prepared<'a>
+fn prepare<'a, D: Desk>(alloc: Global, ask: Ask, at: Option<At<'a>>, desk: &mut D) -> Prepared<'a>
     ensures prepared { IsPrepared result }
     ensures ask { asked result ≡ ask }
     ensures at { asked_at result ≡ option_map at_data at.entry }
