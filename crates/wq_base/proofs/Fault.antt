@@ -1,4 +1,4 @@
--- What a chain of faults says of its parts where it comes to its end.
+-- A chain of faults that comes to its end: the facts about its parts.
 use Rattle.std.proofs.Common.{◌≡◌, Bool, true, false, List, [], ◌∷◌, ◌++◌, Option, Some, None}
 use Rattle.std.proofs.Common.{Result, Ok, Err}
 use Rattle.std.proofs.Common.{refl, ap}

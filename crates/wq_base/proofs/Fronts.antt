@@ -1,4 +1,4 @@
--- Bytes that are written behind others, whole or as a front.
+-- Bytes that are written after others, whole or as a front.
 use Rattle.std.proofs.Common.{◌≡◌, ◌≤◌, ◌<◌, ℕ, ◌+◌, ◌-◌, List, [], ◌++◌, length, take, drop, Option, Some, None, Result, Ok, Err, OnErr, refl, sym, ap, subst, ◌∙◌, arith, length-append}
 use Rattle.std.proofs.Math.Seq.{take-add}
 use Rattle.std.proofs.lemmas.List.{append-nil, append_assoc, take-append-drop, take_all, length-drop, length-take-le}
@@ -10,7 +10,7 @@ pub appends_none : (known : Option (List ℕ)) → Appends known known []
 appends_none None = tt
 appends_none (Some xs) = sym (append-nil xs)
 
--- bytes that are written behind others
+-- bytes that are written after others
 pub appends_then : (a b c : Option (List ℕ)) (xs ys : List ℕ) → Appends a b xs → Appends b c ys → Appends a c (xs ++ ys)
 appends_then None b c xs ys first second = tt
 appends_then (Some old) None c xs ys first second = absurd first
@@ -18,19 +18,19 @@ appends_then (Some old) (Some mid) None xs ys first second = absurd second
 appends_then (Some old) (Some mid) (Some new) xs ys first second =
     second ∙ ap (λ l. l ++ ys) first ∙ append_assoc old xs ys
 
--- what was kept was written nothing behind
+-- bytes that were written, and kept with nothing written after them
 pub appends_kept : (a b c : Option (List ℕ)) (xs : List ℕ) → Appends a b xs → Keeps b c → Appends a c xs
 appends_kept None b c xs first kept = tt
 appends_kept (Some old) None c xs first kept = absurd first
 appends_kept (Some old) (Some mid) None xs first kept = absurd kept
 appends_kept (Some old) (Some mid) (Some new) xs first kept = kept ∙ first
 
--- a front of some bytes is one of these and others behind them
+-- a front of some bytes is one of these and others after them
 pub front_before : (a b : Option (List ℕ)) (xs ys : List ℕ) → WritesFront a b xs → WritesFront a b (xs ++ ys)
 front_before a b xs ys (front, back, is, short, appends) =
     (front, back ++ ys, ap (λ l. l ++ ys) is ∙ append_assoc front back ys, omega (arith, short, length-append xs ys), appends)
 
--- a front of some bytes behind others that were written whole
+-- a front of some bytes after others that were written whole
 pub front_behind : (a b c : Option (List ℕ)) (xs ys : List ℕ) → Appends a b xs → WritesFront b c ys
     → WritesFront a c (xs ++ ys)
 front_behind a b c xs ys whole (front, back, is, short, appends) = (
@@ -41,7 +41,7 @@ front_behind a b c xs ys whole (front, back, is, short, appends) = (
   appends_then a b c xs front whole appends,
 )
 
--- a part of some bytes that was written behind the front of them before it
+-- a part of some bytes that was written after the front of them before it
 pub part_behind : (a b c : Option (List ℕ)) (bytes : List ℕ) (done count : ℕ) → done ≤ length bytes
     → count ≤ length (take (length bytes - done) (drop done bytes)) → Appends a b (take done bytes)
     → Appends b c (take count (take (length bytes - done) (drop done bytes)))
@@ -55,7 +55,7 @@ part_behind a b c bytes done count within fits first second =
           (appends_then a b c (take done bytes) (take count (drop done bytes)) first (subst (λ l. Appends b c (take count l)) rest second)),
     )
 
--- a writer that failed behind a front of some bytes
+-- a writer that failed after a front of some bytes
 pub front_kept : (a b c : Option (List ℕ)) (bytes : List ℕ) (done : ℕ) → done < length bytes → Appends a b (take done bytes)
     → Keeps b c → WritesFront a c bytes
 front_kept a b c bytes done short first kept = (

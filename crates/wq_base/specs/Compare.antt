@@ -8,7 +8,7 @@ use Rattle.wq_base.specs.declared.compare.Case.TheVariants.{Exact, Folded}
 use Rattle.wq_base.specs.declared.compare.Relation.{Relation}
 use Rattle.wq_base.specs.declared.compare.Relation.TheVariants.{Eq, Ne, Lt, Le, Gt, Ge}
 
--- whether the first number stands in this relation to the second
+-- whether this relation holds between the first number and the second
 abbrev pub compares : Relation → ℤ → ℤ → Bool
 compares Eq x y = int_eq x y
 compares Ne x y = not (int_eq x y)

@@ -6,7 +6,7 @@ use Rattle.wq_base.specs.Byte.{is_slash}
 use Rattle.wq_base.specs.Compare.{same_text}
 use Rattle.wq_base.specs.declared.compare.Case.{Case}
 
--- what follows a slash that stands first
+-- the text after a slash at its front
 abbrev pub after_slash : List ℕ → Option (List ℕ)
 after_slash [] = None
 after_slash (b ∷ rest) = if is_slash b then Some rest else None

@@ -1,5 +1,5 @@
 -- Chains of tests, each with the fault that it finds: they read as the `let .. else` of the code.
--- No public document is behind them.
+-- No public document defines them.
 use Rattle.std.specs.Prelude.{Bool, true, false, List, ◌∷◌, Option, Some, None, Result, Ok, Err}
 
 -- what follows a value that is there, and where it is not this fault

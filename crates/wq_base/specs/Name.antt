@@ -1,5 +1,5 @@
--- The parts of a name, and whole seconds of a time in milliseconds.
--- What a basename and a suffix are is said in Watchman's documentation of the expression terms.
+-- The parts of a name, and whole seconds of a time in milliseconds. Watchman's documentation of the
+-- expression terms says what a basename and a suffix are.
 use Rattle.std.specs.Prelude.{ℕ, ℤ, pos, if◌then◌else◌, List, []}
 use Rattle.std.specs.Int.{int_div_euclid}
 use Rattle.std.specs.List.{list_any, after_last}

@@ -1,5 +1,4 @@
--- Tables of names: which of several things a text names.
--- No public document is behind them.
+-- Tables of names: which of several things a text names. No public document defines them.
 use Rattle.std.specs.Prelude.{ℕ, List, bytes_eq, Option}
 use Rattle.std.specs.List.{find}
 

@@ -1,5 +1,4 @@
--- What a writer holds when it failed.
--- This server's own.
+-- The bytes that a writer holds when it failed. This server's own.
 use Rattle.std.specs.Prelude.{◌≡◌, ℕ, ◌<◌, List, ◌++◌, length, Option}
 use Rattle.std.specs.Io.KnownBytes.{Appends}
 

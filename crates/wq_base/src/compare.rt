@@ -3,7 +3,7 @@ ghost use Rattle.std.specs.Prelude.{◌≡◌};
 ghost use Rattle.std.specs.Str.{str_eq_ignore_ascii_case};
 ghost use Rattle.wq_base.specs.Compare.{compares, is_suffix, same_text};
 
-/// How the first of two numbers stands to the second.
+/// The relation of the first of two numbers to the second.
 #[derive(Clone, Copy, Debug)]
 pub enum Relation {
     /// It is equal to it.
@@ -30,7 +30,7 @@ pub enum Case {
 }
 
 impl Relation {
-    /// Whether the first number stands in this relation to the second.
+    /// Whether this relation holds between the first number and the second.
     pub fn holds(self, left: i64, right: i64) -> bool
         ensures { result ≡ compares self left right }
     {

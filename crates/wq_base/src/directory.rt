@@ -5,8 +5,8 @@ ghost use Rattle.wq_base.specs.Directory.{after_slash, rest_below};
 
 use crate::compare::Case;
 
-/// What follows the directory and a slash in a name strictly below it. Below the empty directory
-/// lies every name, whole.
+/// The part of a name strictly below the directory that follows the directory and a slash. Below
+/// the empty directory lies every name, whole.
 ///
 /// `rest_below(Case::Exact, b"src", b"src/a/b.c")` is `Some(b"a/b.c")`, and that of `b"src"` or
 /// `b"srcs/a"` is `None`.
@@ -25,7 +25,7 @@ pub fn rest_below<'a>(case: Case, dir: &[u8], name: &'a [u8]) -> Option<&'a [u8]
     }
 }
 
-/// What follows a slash that stands first.
+/// The text after a slash at its front.
 fn after_slash(text: &[u8]) -> Option<&[u8]>
     ensures value { option_map (λ rest. rest.now) result ≡ after_slash text.now }
     ensures bound { IfSome result (λ rest. length rest.now ≤ length text.now) }

@@ -1,7 +1,7 @@
-//! What several crates of the server need once: numbers in their one decimal text, and the limit of
-//! all numbers; how numbers and texts are compared, which names lie below a directory, and lists
-//! and texts that contracts see as plain lists; and how bytes are written whole. The bytes and
-//! parts of paths and the forms of definitions that more than one crate uses stand in `specs/`.
+//! The parts that several crates of the server share: numbers in their one decimal text with their
+//! limit, comparisons of numbers and texts, names below a directory. It also has lists and texts
+//! that contracts see as plain lists, and writes bytes whole. `specs/` has the bytes and parts of
+//! paths and the forms of definitions that more than one crate uses.
 #![tactic(auto)]
 
 mod compare;

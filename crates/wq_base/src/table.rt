@@ -29,7 +29,7 @@ impl<T: Drop> Table<T> {
         }
     }
 
-    /// Puts a row behind the others.
+    /// Puts a row after the others.
     pub fn push(&mut self, row: T) -> Result<(), AllocError>
         ensures ok { OnOk result (self.new ≡ self.old ++ row ∷ []) }
         ensures err { OnErr result (self.new ≡ self.old) }

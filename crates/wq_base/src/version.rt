@@ -1,4 +1,4 @@
 //! The version of the protocol.
 
-/// What every reply says under the key `version`.
+/// The text of the key `version` in every reply.
 pub const VERSION: &str = "wq-1";

@@ -114,7 +114,7 @@ fn record_text(alloc: Global, record: &Record) -> Result<String, AllocError> {
     Ok(text)
 }
 
-/// What was last seen of a file.
+/// The text of the last sight of a file.
 fn sight_text(alloc: Global, record: &Record) -> Result<String, AllocError> {
     let letter = char::from(record.kind.letter());
     let name = record.name.as_str();

@@ -1,12 +1,12 @@
-//! Cases of calls that no script shows: reads one case a line from standard input, a call with its
-//! arguments, and writes the line again with what the call answers behind ` -> `.
+//! Cases of calls that no script shows. The program reads one case a line from standard input: a
+//! call with its arguments. It writes the line again, with the call's answer after ` -> `.
 //!
 //! ```text
 //! parse "c:7:9:1:42" -> tick 42 of 7 9 1
 //! pattern wholename "a/**" "a/b" -> yes
 //! ```
 //!
-//! A text stands in quotes; `%20` in it is the byte of these hexadecimal digits. `"ab"*3` is
+//! A text is written in quotes; `%20` in it is the byte of these hexadecimal digits. `"ab"*3` is
 //! `"ababab"`, and `"a" + "b"` is `"ab"`. Empty lines and lines that begin with `#` are written as
 //! they are.
 #![tactic(auto)]
@@ -23,7 +23,7 @@ use anyhow::{Result, bail};
 use std::alloc::Global;
 use std::io::{BufRead, BufReader};
 
-/// What a case's call answers.
+/// The answer of a case's call.
 fn answer(alloc: Global, line: &str) -> Result<String> {
     let words = word::words_of(alloc, line)?;
     match word::text(&words, 0)? {
@@ -39,7 +39,7 @@ fn answer(alloc: Global, line: &str) -> Result<String> {
     }
 }
 
-/// What a case's call on files, views and streams answers.
+/// The answer of a case's call on files, views and streams.
 fn file_answer(alloc: Global, call: &str, words: &[Vec<u8>]) -> Result<String> {
     match call {
         "name" => file::name_case(alloc, words),

@@ -38,7 +38,7 @@ fn pattern(alloc: Global, words: &[Vec<u8>]) -> Result<Result<Pattern, PatternFa
     Ok(Pattern::parse(alloc, bytes(words, 2)?, flags))
 }
 
-/// How the case's pattern fits its text, the word behind it.
+/// How the case's pattern fits its text, the word after it.
 fn hit(alloc: Global, words: &[Vec<u8>]) -> Result<Hit> {
     let name = bytes(words, 3)?;
     if name.len() > MAX_MATCHED_TEXT {

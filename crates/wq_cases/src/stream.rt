@@ -30,7 +30,7 @@ pub(crate) fn pieces_case(alloc: Global, words: &[Vec<u8>]) -> Result<String> {
     Ok(answer)
 }
 
-/// Feeds a piece, and writes the events that it adds behind others.
+/// Feeds a piece, and writes the events that it adds after others.
 fn feed(alloc: Global, splitter: &mut Splitter, piece: &[u8], events: &mut String) -> Result<()> {
     for event in splitter.feed(piece)? {
         if !events.is_empty() {

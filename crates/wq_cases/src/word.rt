@@ -1,4 +1,4 @@
-//! The words of a case. What they say is not looked at here.
+//! The words of a case. Their meaning is for others.
 
 use anyhow::{Context, Result, bail};
 use percent_encoding::percent_decode;
@@ -8,9 +8,9 @@ use std::alloc::{AllocError, Global};
 #[derive(Drop)]
 struct Reading {
     words: Vec<Vec<u8>>,
-    /// Where the last text begins in the last word.
+    /// The place at which the last text begins in the last word.
     text_at: usize,
-    /// Whether a `+` stands behind the last word.
+    /// Whether a `+` follows the last word.
     is_joined: bool,
 }
 
@@ -32,7 +32,7 @@ pub(crate) fn words_of(alloc: Global, line: &str) -> Result<Vec<Vec<u8>>> {
 }
 
 impl Reading {
-    /// Takes a text in quotes, behind a `+` as more of the last word, and else as a new one.
+    /// Takes a text in quotes: after a `+` as more of the last word, else as a new one.
     fn take_text(&mut self, alloc: Global, piece: &str) -> Result<(), AllocError> {
         if !self.is_joined || self.words.is_empty() {
             self.words.push(Vec::new(alloc))?;
@@ -45,7 +45,7 @@ impl Reading {
         Ok(())
     }
 
-    /// Takes what stands between two texts.
+    /// Takes the characters between two texts.
     fn take_bare(&mut self, alloc: Global, piece: &str) -> Result<()> {
         for word in piece.split(' ') {
             if word == "+" {
@@ -68,7 +68,7 @@ impl Reading {
     }
 }
 
-/// Puts a text behind a word.
+/// Puts a text after a word.
 fn add_text(word: &mut Vec<u8>, piece: &str) -> Result<(), AllocError> {
     percent_decode(piece.as_bytes()).append_to(word)?;
     Ok(())
@@ -80,7 +80,7 @@ fn text_from(alloc: Global, word: &[u8], at: usize) -> Result<Vec<u8>> {
     Ok(Vec::from_slice(alloc, text)?)
 }
 
-/// Puts copies of its last text behind a word, until it has so many.
+/// Puts copies of its last text after a word, until it has so many.
 fn add_copies(word: &mut Vec<u8>, text: &[u8], times: usize) -> Result<(), AllocError> {
     for _ in 1..times {
         word.extend_from_slice(text)?;
@@ -114,7 +114,7 @@ pub(crate) fn number(text: &str) -> Result<i64> {
     Ok(text.trim().parse::<i64>()?)
 }
 
-/// What stands before the first such character of a text, and what follows it.
+/// The parts of a text before and after the first such character.
 pub(crate) fn cut(text: &str, mark: char) -> Result<(&str, &str)> {
     match text.split_once(mark) {
         Some(parts) => Ok(parts),

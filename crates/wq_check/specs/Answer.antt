@@ -1,5 +1,5 @@
--- What `check` says of the bytes of a program file, and its exit status.
--- It is this server's own.
+-- The answer of `check` for the bytes of a program file, and its exit status. It is this server's
+-- own.
 use Rattle.std.specs.Prelude.{◌≡◌, ◌≢◌, ◌⊎◌, ℕ, List, ◌++◌, length, codes, Option, Err}
 use Rattle.std.specs.Fmt.{decimal}
 use Rattle.std.specs.Io.KnownBytes.{Appends}
@@ -20,8 +20,8 @@ use Rattle.wq_check.specs.declared.answer.Answer.TheVariants.{Accepted, WrongFil
 abbrev pub longest_name : ℕ
 longest_name = 4096
 
--- what the bytes of a file are: a program that may run, or the first thing that is wrong with the
--- file or the program; or that memory ran out, for a program at place 0
+-- an answer for the bytes of a file: a program that may run, or the first fault of the file or the
+-- program. Or memory ran out, for a program at place 0
 abbrev pub IsAnswer : List ℕ → Answer → Type 0
 IsAnswer bytes (Accepted instructions budget) = (raw : Raw) × IsSpelling raw bytes × IsValid raw
     × (instructions ≡ length raw.code) × (budget ≡ budget_of raw longest_name)
@@ -44,8 +44,8 @@ status_of (Accepted _ _) = 0
 status_of (WrongFile _) = 3
 status_of (WrongProgram _ _) = 3
 
--- what was written of the line that says an answer: all of it, and the status is the answer's own;
--- or a front of it, but not all, and the status is 1
+-- the bytes that were written of the line of an answer: all of it, and the status is the answer's
+-- own. Or a front of it, but not all, and the status is 1
 abbrev pub Writes : Answer → Option (List ℕ) → Option (List ℕ) → ℕ → Type 0
 Writes answer before after status =
     (Appends before after (answer_line answer) × (status ≡ status_of answer))

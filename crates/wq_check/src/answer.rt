@@ -1,4 +1,4 @@
-//! What the bytes of a program file are.
+//! The answers for the bytes of program files.
 ghost use Rattle.std.specs.Prelude.{◌≡◌};
 ghost use Rattle.wq_check.specs.Answer.{IsAnswer, status_of};
 
@@ -12,7 +12,7 @@ pub const MAX_FILE: usize = 16_777_216;
 /// How many bytes the longest name of a file has: a budget is told for it.
 pub const LONGEST_NAME: u64 = 4096;
 
-/// What `check` says of a file.
+/// The answer of `check` for a file.
 #[derive(Clone, Copy, Debug, Drop)]
 pub enum Answer {
     /// The program may run: how many instructions it has, and the most that it can cost on a name
@@ -25,7 +25,7 @@ pub enum Answer {
 }
 
 impl Answer {
-    /// What the bytes of a file are.
+    /// The answer for the bytes of a file.
     pub fn of(alloc: Global, bytes: &[u8]) -> Answer
         ensures { IsAnswer bytes.now result }
     {

@@ -1,6 +1,6 @@
-//! What the command `check` says of the bytes of a program file: that the program may run, and what
-//! it can cost, or the first thing that is wrong with the file or the program. Opening files is
-//! left to the program above.
+//! The answer of the command `check` for the bytes of a program file. It is that the program may
+//! run, and its greatest cost; or the first fault of the file or the program. Opening files is left
+//! to the program above.
 #![tactic(auto)]
 
 mod answer;

@@ -16,7 +16,7 @@ use Rattle.wq_clock.specs.ClockSpec.{numbers_of}
 use Rattle.wq_base.proofs.Unsigned.{small, decimal_of}
 use Rattle.wq_base.proofs.Unsigned.{unsigned_of-decimal}
 
--- each of the numbers may stand in a clock id
+-- each of the numbers may be one of a clock id
 abbrev pub AllInRange : List ℕ → Type 0
 AllInRange ns = AllByRecursion (λ n. n ≤ max_number) ns
 

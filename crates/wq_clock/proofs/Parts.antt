@@ -24,7 +24,7 @@ numbers_of-push [] part ns n e is =
 numbers_of-push (first ∷ parts) part ns n e is =
     push_first (unsigned_of max_number first) (numbers_of parts) _ ns n e (λ ms e'. numbers_of-push parts part ms n e' is)
 
--- no numbers, whatever stands first
+-- no numbers, whatever comes first
 with_first-none : (o : Option ℕ) → with_first o None ≡ None
 with_first-none None = refl
 with_first-none (Some n) = refl

@@ -1,4 +1,4 @@
--- What a text says is what the grammar has it spell.
+-- A text says exactly the spec that the grammar has it spell.
 use Rattle.std.proofs.Common.{◌≡◌, ◌⊎◌, ℕ, Bool, true, false, cond, List, [], ◌∷◌, length, drop, map, Some, None, Option, Result, Ok, Err, refl, sym, ap, subst, ◌∙◌, inl, inr}
 use Rattle.std.specs.Prelude.{codes, nat_eq}
 use Rattle.std.specs.Fmt.{decimal}
@@ -18,7 +18,7 @@ use Rattle.std.specs.Result.{IfOk}
 use Rattle.wq_clock.specs.Law.{TextsSayWhatTheySpell, PrintedIdsReadBack, SameTextSameId}
 use Rattle.wq_clock.proofs.Joined.{AllInRange, slice_split-join, numbers_of-map, text_from_numbers}
 
--- what numbers with colons between them say behind `c:`
+-- the clock spec of numbers with colons between them, after `c:`
 id_of-join : (first : ℕ) (ns : List ℕ) → AllInRange (first ∷ ns)
     → id_of (join_with_byte 58 (map decimal (first ∷ ns))) ≡ id_from_numbers (first ∷ ns)
 id_of-join first ns h =
@@ -36,7 +36,7 @@ says text (named_cursor name) h =
     ap clock_spec_of h.2
     ∙ cond-true _ _ _ (and_from _ _ (le-leb 1 (length name) h.0) (le-leb (length name) max_cursor_name h.1))
 
--- a clock id of these numbers, behind `c:`
+-- a clock id of these numbers, after `c:`
 spells_id : (rest ns : List ℕ) (spec : SpecData) → AllInRange ns
     → rest ≡ join_with_byte 58 (map decimal ns) → id_from_numbers ns ≡ Some spec
     → IsClockSpelling spec (99 ∷ 58 ∷ rest)
@@ -50,7 +50,7 @@ spells_id rest (a ∷ b ∷ c ∷ d ∷ []) spec h e is =
     (record { start = h.0; pid = h.1.0; root = h.1.1.0 }, h.1.1.1.0, ap (λ r. 99 ∷ 58 ∷ r) e)
 spells_id rest (a ∷ b ∷ c ∷ d ∷ f ∷ ns) spec h e is = cc
 
--- a cursor, behind `n:`
+-- a cursor, after `n:`
 spells_cursor : (name : List ℕ) (spec : SpecData) → cursor_of name ≡ Some spec
     → IsClockSpelling spec (110 ∷ 58 ∷ name)
 spells_cursor name spec is =

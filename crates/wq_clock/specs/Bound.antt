@@ -6,8 +6,8 @@ use Rattle.wq_clock.specs.ClockSpec.{SpecData, clock_id, old_clock_id, named_cur
 use Rattle.wq_clock.specs.declared.bound.Bound.{Bound}
 use Rattle.wq_clock.specs.declared.bound.Bound.TheVariants.{Fresh, Tick}
 
--- the bound of a clock spec at an instance: the tick of an id with the same three numbers; fresh
--- for all other ids; none for a cursor
+-- the bound of a clock spec at an instance. An id with the same three numbers gives its tick; all
+-- other ids are fresh; a cursor has none
 abbrev pub bound_of : SpecData → InstanceData → Option Bound
 bound_of (clock_id other tick) instance =
     if (other.start == instance.start) && (other.pid == instance.pid)

@@ -1,4 +1,4 @@
--- What a text says as a clock spec: a clock id, an old clock id or a named cursor, or nothing.
+-- The clock spec that a text spells: a clock id, an old clock id or a named cursor, or nothing.
 -- From Watchman's documentation of clockspecs; the limits are this server's own.
 use Rattle.std.specs.Prelude.{ℕ, ◌≤◌, List, [], ◌∷◌, Option, Some, None, ◌&&◌, nat_le, nat_eq, length, drop, codes, if◌then◌else◌}
 use Rattle.std.specs.Option.{option_and_then}
@@ -38,11 +38,11 @@ id_from_numbers (start ∷ pid ∷ root ∷ tick ∷ []) =
 id_from_numbers (first ∷ second ∷ []) = Some old_clock_id
 id_from_numbers _ = None
 
--- what the text behind `c:` says: the id whose numbers stand between its colons
+-- the id of the text after `c:`, whose numbers are between its colons
 abbrev pub id_of : List ℕ → Option SpecData
 id_of text = option_and_then id_from_numbers (numbers_of (colon_parts text))
 
--- what the text behind `n:` says: a cursor's name of 1 to 255 bytes
+-- the cursor of the text after `n:`: a name of 1 to 255 bytes
 abbrev pub cursor_of : List ℕ → Option SpecData
 cursor_of name =
     if nat_le 1 (length name) && nat_le (length name) max_cursor_name

@@ -4,7 +4,7 @@ use Rattle.std.specs.Prelude.{ℕ, List, ◌++◌, codes}
 use Rattle.std.specs.Fmt.{decimal}
 use Rattle.wq_clock.specs.Instance.{InstanceData}
 
--- the four numbers in decimal, without leading zeros, behind `c` and with a colon before each
+-- the four numbers in decimal, without leading zeros, after `c` and with a colon before each
 abbrev pub clock_text : InstanceData → ℕ → List ℕ
 clock_text instance tick =
     codes "c:" ++ (decimal instance.start ++ (codes ":" ++ (decimal instance.pid

@@ -1,4 +1,4 @@
--- What reading clock specs, their grammar and printing clock ids have to do with each other.
+-- Laws about reading clock specs, their grammar and printing clock ids.
 use Rattle.std.specs.Prelude.{ℕ, List, ◌≡◌, ◌≤◌, ◌↔◌, Some}
 use Rattle.wq_base.specs.Limit.{max_number}
 use Rattle.wq_clock.specs.Instance.{InstanceData, IsInRange}

@@ -1,5 +1,5 @@
--- What a `Spec` stands for, as a plain clock spec: a cursor's name by its bytes.
--- The forms are those of Watchman's documentation of clockspecs.
+-- The plain clock spec that a `Spec` stands for: a cursor's name by its bytes. The forms are those
+-- of Watchman's documentation of clockspecs.
 use Rattle.std.specs.Prelude.{Option, Some, None, Result, Ok, Err}
 use Rattle.wq_clock.specs.Instance.{instance_data}
 use Rattle.wq_clock.specs.ClockSpec.{SpecData, clock_id, old_clock_id, named_cursor}

@@ -7,7 +7,7 @@ use Rattle.wq_clock.specs.Instance.{IsInRange}
 use Rattle.wq_clock.specs.ClockText.{clock_text, old_clock_text}
 use Rattle.wq_clock.specs.ClockSpec.{SpecData, clock_id, old_clock_id, named_cursor}
 
--- a clock id has one text; any two numbers make an old one; a cursor's name stands behind `n:`
+-- a clock id has one text; any two numbers make an old one; a cursor's name follows `n:`
 abbrev pub IsClockSpelling : SpecData → List ℕ → Type 0
 IsClockSpelling (clock_id instance tick) text =
     IsInRange instance × (tick ≤ max_number) × (text ≡ clock_text instance tick)

@@ -17,8 +17,8 @@ pub enum Bound {
     Fresh,
     /// Observations of later ticks of this instance are new.
     Tick(u64),
-    /// A second of the Unix epoch. What changed in it or later is told, since it may have passes
-    /// that the client has not seen; what came in a later one is new.
+    /// A second of the Unix epoch. Changes in it or later are told, since it may have passes that
+    /// the client has not seen. Files that came in a later one are new.
     Second(i64),
 }
 

@@ -2,7 +2,7 @@
 //! A proof of another crate gets a law by a call, which costs nothing.
 ghost use Rattle.wq_clock.specs.Law.{TextsSayWhatTheySpell, PrintedIdsReadBack, SameTextSameId};
 
-/// What [`parse`](crate::parse) reads is the grammar of clock specs, no text more and none less.
+/// [`parse`](crate::parse) reads exactly the texts of the grammar of clock specs.
 pub fn texts_say_what_they_spell()
     ensures { TextsSayWhatTheySpell }
 {}

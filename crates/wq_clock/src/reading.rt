@@ -49,7 +49,7 @@ pub fn parse(text: &str) -> Result<Spec<'_>, ClockFault>
     }
 }
 
-/// The clock id whose numbers stand between the colons of `text`.
+/// The clock id whose numbers are between the colons of `text`.
 fn id(text: &str) -> Result<Spec<'_>, ClockFault>
     ensures { said_by result ≡ id_of text.now }
 {

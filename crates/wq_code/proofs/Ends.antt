@@ -1,5 +1,5 @@
--- What is told of bytes that end too early: some bytes behind them complete each field that was begun, but where a
--- number of two bytes is over its limit by its first byte alone, or has to be 0.
+-- Bytes that end too early: some bytes after them complete each field that was begun. The exception is a number of
+-- two bytes that is over its limit by its first byte alone, or has to be 0.
 use Rattle.std.proofs.Common.{◌≡◌, ℕ, zero, suc, ◌+◌, ◌*◌, ◌-◌, ◌<◌, ◌≤◌, Bool, true, false, cond, ltb, leb, List, [], ◌∷◌, ◌++◌, length, drop, take, Result, Ok, Err, refl, sym, ap, subst, ◌∙◌, append_assoc, arith, lit<, inl, inr}
 use Rattle.std.specs.Prelude.{◌⊎◌}
 use Rattle.std.specs.Int.{w16, w64, from_be_bytes, cast_signed}
@@ -14,7 +14,7 @@ use Rattle.wq_code.specs.declared.fault.FileFault.TheVariants.{WrongMagic, Other
 use Rattle.wq_code.proofs.Forms.{bytes_at-again, rest_are_bytes}
 use Rattle.wq_code.proofs.Steady.{Steady, IsSteady, with_more, bytes_steady, count_steady, many_steady, text_steady, short_steady}
 
--- some bytes behind these complete a field
+-- some bytes after these complete a field
 abbrev pub Filled : {A : Type 0} → Reader A → List ℕ → Type 0
 Filled {A} field bytes =
     (more : List ℕ) × AreBytes more × (x : A) × (field (bytes ++ more) ≡ Ok (x, []))
@@ -58,7 +58,7 @@ passed_on all later bytes rest moved (Err NoMemory) j = tt
 abbrev pub both : {A B : Type 0} → Reader A → (A → Reader B) → Reader B
 both first next bytes = first bytes >>= λ x. next x.0 x.1
 
--- the first field was read, and so it is with more bytes behind it
+-- the first field was read, and so it is with more bytes after it
 read_on : {A B : Type 0} (first : Reader A) (next : A → Reader B) → IsSteady first → (bytes : List ℕ) (x : A × List ℕ)
     → first bytes ≡ Ok x → (more : List ℕ) → both first next (bytes ++ more) ≡ next x.0 (x.1 ++ more)
 read_on first next steady bytes x e more =
@@ -158,7 +158,7 @@ number_ends =
 two : (b c : ℕ) → from_be_bytes w16 (b ∷ c ∷ []) ≡ b * 256 + c
 two b c = omega arith
 
--- two bytes, and others behind them
+-- two bytes, and others after them
 pub short_of_two : (b c : ℕ) (bytes : List ℕ) → short_at (b ∷ c ∷ bytes) ≡ Ok (b * 256 + c, bytes)
 unfolding short_at
 short_of_two b c bytes = rw (bytes_at-again 2 (b ∷ c ∷ []) bytes refl, two b c) refl

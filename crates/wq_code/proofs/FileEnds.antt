@@ -1,4 +1,4 @@
--- A file that ends too early: some bytes behind it make it a spelling, but where it ends within a number that is
+-- A file that ends too early: some bytes after it make it a spelling, unless it ends within a number that is
 -- wrong whatever follows.
 use Rattle.std.proofs.Common.{◌≡◌, ℕ, ◌<◌, Bool, true, false, cond, eqb, List, [], ◌∷◌, ◌++◌, Result, Ok, Err, refl, sym, ap, subst, ◌∙◌, append_assoc, lit<, inl}
 use Rattle.std.specs.Prelude.{ℤ, codes}

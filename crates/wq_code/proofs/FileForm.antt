@@ -25,14 +25,14 @@ matched fault x b xs bytes read rest true is others e =
     ap (λ (c : ℕ). c ∷ bytes) (eqb-true b x is) ∙ ap (λ (r : List ℕ). x ∷ r) (others e)
 matched fault x b xs bytes read rest false is others e = absurd cc
 
--- what is read exactly so stands at the front
+-- bytes that are read exactly so are at the front
 pub exact_at-takes : (fault : FileFault) (xs bytes rest : List ℕ) → exact_at fault xs bytes ≡ Ok rest → bytes ≡ xs ++ rest
 exact_at-takes fault [] bytes rest e = ok_is bytes rest e
 exact_at-takes fault (x ∷ xs) [] rest e = absurd cc
 exact_at-takes fault (x ∷ xs) (b ∷ bytes) rest e =
     matched fault x b xs bytes (exact_at fault xs bytes) rest (eqb b x) refl (exact_at-takes fault xs bytes rest) e
 
--- a field, and then the fields behind it
+-- a field, and then the fields after it
 pub joined : (bytes front after tail rest : List ℕ) → bytes ≡ front ++ after → after ≡ tail ++ rest → bytes ≡ (front ++ tail) ++ rest
 joined bytes front after tail rest p q = p ∙ ap (λ (r : List ℕ). front ++ r) q ∙ sym (append_assoc front tail rest)
 

@@ -61,7 +61,7 @@ none_begins_another raw other bytes more s t =
     let same : (raw, more) ≡ (other, []) = ok_is (raw, more) (other, []) (sym first ∙ second) in
     (ap (λ (x : Raw × List ℕ). x.1) same, ap (λ (x : Raw × List ℕ). x.0) same)
 
--- a file whose program was read with these bytes behind it
+-- a file whose program was read with these bytes after it
 abbrev whole_of : Result (Raw × List ℕ) FileFault → Result Raw FileFault
 whole_of read = read >>= λ x. end_at x.1 >>= λ _. Ok x.0
 
@@ -160,13 +160,13 @@ cut_case bytes fits (Err BadOperand) e j is = absurd cc
 cut_case bytes fits (Err OverLimit) e j is = absurd cc
 cut_case bytes fits (Err NoMemory) e j is = absurd cc
 
--- bytes behind a program
+-- bytes after a program
 behind_case : (more : List ℕ) → more ≢ [] → (told : Result (Raw × List ℕ) FileFault) (raw : Raw) → told ≡ Ok (raw, more)
     → whole_of told ≡ Err BytesAfterEnd
 behind_case [] some told raw is = absurd (some refl)
 behind_case (b ∷ more) some told raw is = rw is refl
 
--- a spelling and more bytes behind it
+-- a spelling and more bytes after it
 followed : (raw : Raw) (front more : List ℕ) → more ≢ [] → IsSpelling raw front → file_at (front ++ more) ≡ Err BytesAfterEnd
 unfolding file_at
 followed raw front more some s = behind_case more some (raw_at (front ++ more)) raw (spelled raw front more s)
@@ -181,7 +181,7 @@ stays_same bytes told fault other e unsaid more =
     let same : told ≡ fault = err_is told fault (sym (faults_stay bytes (0 ∷ []) told other e) ∙ more) in
     absurd (unsaid (e ∙ ap failed same))
 
--- bytes behind which one fault is told, which is not told of them, are cut short
+-- bytes are cut short if a fault is not told of them, and is told of them with a byte after them
 wrong_case : (bytes : List ℕ) (fault : FileFault) → AreBytes bytes → fault ≢ BytesAfterEnd → (told : Result Raw FileFault)
     → file_at bytes ≡ told → file_at bytes ≢ Err fault → file_at (bytes ++ 0 ∷ []) ≡ Err fault → file_at bytes ≡ Err CutShort
 wrong_case bytes fault fits other (Ok raw) e unsaid more =
@@ -231,7 +231,7 @@ after_to : (bytes : List ℕ) → AreBytes bytes → file_at bytes ≡ Err Bytes
 unfolding file_at
 after_to bytes fits e = after_case bytes fits (raw_at bytes) refl (raw_judged bytes fits) e
 
--- bytes behind a spelling, and no others
+-- bytes after a spelling, and no others
 pub ends_are_spellings : EndsAreSpellings
 ends_are_spellings bytes fits =
     (after_to bytes fits, λ h. ap file_at h.5 ∙ followed h.0 h.1 h.2 h.3 h.4)

@@ -1,4 +1,4 @@
--- What it means that a program keeps to the limits of a file.
+-- The limits of a file, as a program keeps them.
 use Rattle.std.proofs.Common.{◌≡◌, ◌≤◌, true, List, [], ◌∷◌, length, refl}
 use Rattle.std.specs.List.{list_all}
 use Rattle.std.proofs.lemmas.Bool.{and_parts, and_from, leb-true, le-leb}

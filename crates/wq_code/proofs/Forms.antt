@@ -62,7 +62,7 @@ behind : (front rest : List ℕ) → AreBytes (front ++ rest) → AreBytes rest
 behind [] rest h = h
 behind (b ∷ front) rest h = behind front rest (All-tail (λ b. b < 256) b (front ++ rest) h)
 
--- what stands behind a front of bytes are bytes
+-- the rest of some bytes after a front of them is bytes
 pub rest_are_bytes : (bytes front rest : List ℕ) → AreBytes bytes → bytes ≡ front ++ rest → AreBytes rest
 rest_are_bytes bytes front rest h e = behind front rest (subst AreBytes e h)
 
@@ -73,7 +73,7 @@ before (b ∷ front) rest h =
     All-cons (λ b. b < 256) b front (All-head (λ b. b < 256) b (front ++ rest) h)
     (before front rest (All-tail (λ b. b < 256) b (front ++ rest) h))
 
--- what stands in front of bytes are bytes
+-- a front of some bytes is bytes
 pub front_are_bytes : (bytes front rest : List ℕ) → AreBytes bytes → bytes ≡ front ++ rest → AreBytes front
 front_are_bytes bytes front rest h e = before front rest (subst AreBytes e h)
 

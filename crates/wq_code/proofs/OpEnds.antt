@@ -1,4 +1,4 @@
--- Patterns and instructions that end too early: some bytes behind them complete each, but where the operand of an
+-- Patterns and instructions that end too early: some bytes after them complete each, unless the operand of an
 -- instruction has to be 0.
 use Rattle.std.proofs.Common.{◌≡◌, ℕ, ◌+◌, ◌*◌, ◌<◌, ◌≤◌, Bool, true, false, cond, ltb, eqb, List, [], ◌∷◌, ◌++◌, Option, Some, None, Ok, Err, refl, sym, subst, ◌∙◌, arith, lit<, inl, inr}
 use Rattle.std.specs.Prelude.{◌⊎◌}
@@ -94,7 +94,7 @@ zero_b (JumpIfNot old) = (JumpIfNot 0, refl)
 zero_b (JumpIf old) = (JumpIf 0, refl)
 zero_b op = (op, refl)
 
--- an operand that is too great stays so with another byte behind it
+-- an operand that is too great stays so with another byte after it
 none_over : (op : Op) (n m : ℕ) → n ≤ m → (zero : Bool) → eqb m 0 ≡ zero → cond (eqb n 0) (Some op) None ≡ None
     → cond zero (Some op) None ≡ None
 none_over op n m le true is e =

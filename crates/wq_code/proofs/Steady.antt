@@ -18,7 +18,7 @@ Steady grow (Ok x) second = second ≡ Ok (grow x)
 Steady grow (Err CutShort) second = Unit {0}
 Steady grow (Err fault) second = second ≡ Err fault
 
--- a value with more bytes behind it
+-- a value with more bytes after it
 abbrev pub with_more : {A : Type 0} → List ℕ → A × List ℕ → A × List ℕ
 with_more more x = (x.0, x.1 ++ more)
 

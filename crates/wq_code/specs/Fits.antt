@@ -1,5 +1,4 @@
--- The limits that a program must keep to have a file.
--- This server's own; the numbers stand in `Limit`.
+-- The limits that a program must keep to have a file. This server's own; `Limit` has the numbers.
 use Rattle.std.specs.Prelude.{ℕ, Bool, true, ◌&&◌, nat_le, List, length}
 use Rattle.std.specs.List.{list_all}
 use Rattle.wq_glob.specs.Pattern.{PatternData}

@@ -1,5 +1,4 @@
--- What the reading of program files and their spelling have to do with each other.
--- This server's own format.
+-- Laws about the reading of program files and their spelling. This server's own format.
 use Rattle.std.specs.Prelude.{◌≡◌, ◌≢◌, ◌↔◌, ◌⊎◌, ◌<◌, ℕ, List, [], ◌∷◌, ◌++◌, Ok, Err}
 use Rattle.wq_code.specs.File.{file_at}
 use Rattle.wq_code.specs.Spelling.{AreBytes, IsSpelling}
@@ -40,15 +39,15 @@ FrontsAreCutShort = (raw : Raw) (front more : List ℕ) → more ≢ [] → IsSp
 abbrev pub BeginASpelling : List ℕ → Type 0
 BeginASpelling bytes = (raw : Raw) × (more : List ℕ) × (more ≢ []) × IsSpelling raw (bytes ++ more)
 
--- some bytes end within a number of two bytes that is wrong whatever its second byte is: whichever
+-- some bytes end within a number of two bytes that is wrong whatever its second byte is. Whichever
 -- byte follows, the same fault is told, which is not told of the bytes themselves
 abbrev pub EndInAWrongNumber : List ℕ → Type 0
 EndInAWrongNumber bytes =
     (fault : FileFault) × (fault ≢ BytesAfterEnd) × (file_at bytes ≢ Err fault)
     × ((b : ℕ) → b < 256 → file_at (bytes ++ b ∷ []) ≡ Err fault)
 
--- bytes are cut short exactly where they are a front of a spelling and not all of it, or end within
--- a number that is wrong whatever follows
+-- bytes are cut short exactly if they are a front of a spelling and not all of it, or end within a
+-- number that is wrong anyway
 abbrev pub CutShortAreFronts : Type 0
 CutShortAreFronts = (bytes : List ℕ) → AreBytes bytes
     → (file_at bytes ≡ Err CutShort) ↔ (BeginASpelling bytes ⊎ EndInAWrongNumber bytes)

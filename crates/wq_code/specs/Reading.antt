@@ -1,5 +1,5 @@
--- How the fields of a program file are read: what stands at the front of bytes and what follows it,
--- or the first that is wrong. This server's own format; numbers are big-endian.
+-- How the fields of a program file are read: a value at the front of bytes and the bytes after it,
+-- or the first fault. This server's own format; numbers are big-endian.
 use Rattle.std.specs.Prelude.{◌≡◌, ℕ, zero, suc, ℤ, bit_and, not, ◌==◌, nat_lt, nat_le, if◌then◌else◌, List, [], ◌∷◌, length, take, drop, Option, Some, None, Result, Ok, Err}
 use Rattle.std.specs.Int.{w16, w64, from_be_bytes, cast_signed}
 use Rattle.wq_glob.specs.Pattern.{PatternData}
@@ -17,7 +17,7 @@ abbrev pub ◌>>=◌ : {A B : Type 0}
 (Ok x) >>= next = next x
 (Err fault) >>= next = Err fault
 
--- reading a field: its value and the bytes behind it
+-- reading a field: its value and the bytes after it
 abbrev pub Reader : Type 0 → Type 0
 Reader A = List ℕ → Result (A × List ℕ) FileFault
 

@@ -59,7 +59,7 @@ pub(crate) fn byte_of(bytes: &[u8]) -> Result<(u8, &[u8]), FileFault>
     }
 }
 
-/// What follows exactly these bytes; the first that differs is this fault.
+/// The bytes after exactly these; the first that differs is this fault.
 pub(crate) fn exact_of<'a>(
     fault: FileFault,
     exact: &[u8],

@@ -22,7 +22,7 @@ pub(crate) struct Counts {
     code: usize,
 }
 
-/// What follows the magic and the version.
+/// The bytes after the magic and the version.
 #[tactic(auto, unfolding(crate::specs::File::head_at))]
 fn head_of(bytes: &[u8]) -> Result<&[u8], FileFault>
     ensures { Gives (λ rest. rest.now) result (head_at bytes.now) }
@@ -100,11 +100,11 @@ fn file_of(alloc: Global, bytes: &[u8]) -> Result<Raw, FileFault>
 ///
 /// # Errors
 /// The first field that is cut short or unlawful, in the order of the file, or that bytes follow
-/// its end; [`FileFault::NoMemory`] where a growth was refused.
+/// its end. [`FileFault::NoMemory`] if a growth was refused.
 pub fn decode(alloc: Global, bytes: &[u8]) -> Result<Raw, FileFault>
-    // What is read is spelled so.
+    // The raw that is read is spelled so.
     ensures found { IfOk result (λ raw. IsSpelling raw bytes.now) }
-    // What is spelled so is read, unless memory runs out.
+    // A raw that is spelled so is read, unless memory runs out.
     ensures only { (raw : Raw) → IsSpelling raw bytes.now → Gives (λ read. read) result (Ok raw) }
     // Which fault it is.
     ensures exact { Gives (λ raw. raw) result (file_at bytes.now) }

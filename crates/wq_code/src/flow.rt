@@ -1,10 +1,10 @@
-//! Where instructions go on.
+//! The places at which instructions go on.
 ghost use Rattle.std.specs.Prelude.{◌≡◌};
 ghost use Rattle.wq_code.specs.Flow.{flow};
 
 use crate::operation::Op;
 
-/// Where an instruction goes on. Places count from 0.
+/// The place at which an instruction goes on. Places count from 0.
 #[derive(Clone, Copy, Debug)]
 pub enum Flow {
     /// At the place after its own.
@@ -18,7 +18,7 @@ pub enum Flow {
 }
 
 impl Op {
-    /// Where the instruction goes on.
+    /// The place at which the instruction goes on.
     pub fn flow(self) -> Flow
         ensures { result ≡ flow self }
     {

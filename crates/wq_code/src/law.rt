@@ -9,7 +9,7 @@ pub fn files_are_spellings()
     ensures { FilesAreSpellings }
 {}
 
-/// What is spelled is read back.
+/// A program that is spelled is read back.
 #[tactic(auto, using(crate::proofs::FileLaws::spellings_are_read_back))]
 pub fn spellings_are_read_back()
     ensures { SpellingsAreReadBack }
@@ -27,7 +27,7 @@ pub fn none_begins_another()
     ensures { NoneBeginsAnother }
 {}
 
-/// What was found wrong stays wrong whatever bytes follow, unless the bytes were cut short.
+/// A fault stays whatever bytes follow, unless the bytes were cut short.
 #[tactic(auto, using(crate::proofs::FileLaws::faults_stay))]
 pub fn faults_stay()
     ensures { FaultsStay }
@@ -39,8 +39,8 @@ pub fn fronts_are_cut_short()
     ensures { FrontsAreCutShort }
 {}
 
-/// Bytes are cut short exactly where they are a front of a spelling and not all of it, or end after
-/// the first byte of a number of two bytes that no second byte makes right.
+/// Bytes are cut short in two cases alone. They are a front of a spelling and not all of it, or end
+/// after the first byte of a number of two bytes that no second byte makes right.
 #[tactic(auto, using(crate::proofs::FileLaws::cut_short_are_fronts))]
 pub fn cut_short_are_fronts()
     ensures { CutShortAreFronts }

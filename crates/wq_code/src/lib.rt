@@ -2,9 +2,9 @@
 //! that hold them.
 //!
 //! A [`Raw`] is a program that nobody has looked at: tables of constants and a list of
-//! instructions. [`decode`] makes one of the bytes of a file or names the first thing that is wrong
-//! with them, and [`encode`] gives back the one file of a raw. What a program does is defined in
-//! `specs/Machine.antt`; whether it may run is for others to say.
+//! instructions. [`decode`] makes one of the bytes of a file or names their first fault, and
+//! [`encode`] gives back the one file of a raw. `specs/Machine.antt` defines what a program does;
+//! whether it may run is for others to say.
 #![tactic(auto)]
 
 mod fault;

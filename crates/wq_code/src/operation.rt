@@ -1,10 +1,10 @@
-//! The instructions of a program. What each needs, leaves and does stands in
-//! `specs/Signature.antt`, `specs/Flow.antt` and `specs/Machine.antt`, and how it is written in
-//! `specs/Word.antt`.
+//! The instructions of a program. `specs/Signature.antt`, `specs/Flow.antt` and
+//! `specs/Machine.antt` say what each needs, leaves and does, and `specs/Word.antt` how it is
+//! written.
 
 use wq_base::{Case, Relation};
 
-/// What a cell of the machine's stack holds.
+/// The kind of a cell of the machine's stack.
 #[derive(Clone, Copy, Debug)]
 pub enum CellKind {
     /// Yes or no.
@@ -47,11 +47,11 @@ pub enum Op {
     Kind,
     /// `exists`: whether the file exists.
     Exists,
-    /// `cmp`: whether the number below the top stands in this relation to the one on top.
+    /// `cmp`: whether this relation holds between the number below the top and the one on top.
     Compare(Relation),
     /// `eq`: whether two texts are equal.
     Equal(Case),
-    /// `depth`: how many slashes the name below the top has behind the directory on top, or -1.
+    /// `depth`: how many slashes the name below the top has after the directory on top, or -1.
     Depth(Case),
     /// `oneof`: whether a text is an entry of a constant of the lists.
     OneOf(Case, u16),

@@ -24,9 +24,9 @@ pub struct Raw {
 }
 
 impl Raw {
-    /// Whether the program keeps to the limits of a file: at most [`MAX_TABLE_ROWS`] rows of each
-    /// table, texts of at most [`MAX_CONSTANT_TEXT`](crate::limit::MAX_CONSTANT_TEXT) bytes and
-    /// lists of at most [`MAX_ENTRIES`](crate::limit::MAX_ENTRIES). A pattern has at most 255 bytes
+    /// Whether the program keeps to the limits of a file. Those are [`MAX_TABLE_ROWS`] rows of each
+    /// table, [`MAX_CONSTANT_TEXT`](crate::limit::MAX_CONSTANT_TEXT) bytes of a text and
+    /// [`MAX_ENTRIES`](crate::limit::MAX_ENTRIES) texts of a list. A pattern has at most 255 bytes
     /// anyway.
     #[tactic(auto, unfolding(crate::specs::Fits::raw_fits))]
     pub fn fits(&self) -> bool

@@ -1,10 +1,10 @@
-//! What instructions take from the stack and what they leave there.
+//! The cells that instructions take from the stack and leave there.
 ghost use Rattle.std.specs.Prelude.{◌≡◌, ◌≤◌, length};
 ghost use Rattle.wq_code.specs.Signature.{signature};
 
 use crate::operation::{CellKind, Op};
 
-/// What has to stand in one place of the stack.
+/// The need for a cell in one place of the stack.
 #[derive(Clone, Copy, Debug)]
 pub enum CellNeed {
     /// A cell of any kind.

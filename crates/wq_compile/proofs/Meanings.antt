@@ -220,7 +220,7 @@ abbrev pub tests_of : ExprsData → Tests
 tests_of no_terms = []
 tests_of (term t ts) = means t ∷ tests_of ts
 
--- those behind the first
+-- those after the first
 pub others-lens : (ts : ExprsData) → others_len (parts_of ts) ≡ terms_others_len ts
 others-lens no_terms = refl
 others-lens (term t ts) = ap (λ n. 2 + code_len t + n) (others-lens ts)

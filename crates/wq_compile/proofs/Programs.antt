@@ -36,7 +36,7 @@ program_long t =
     let c = (term-works t).long 0 in
     omega (arith, a, b, c)
 
--- the end stands behind the code
+-- the end is after the code
 end-stands : (t : ExprData) → StandsAt (program_of t) (code_len t) (plain Return)
 end-stands t =
     let s = has-second (program_of t) 0 (code_of t 0) (plain Return ∷ []) (program-has t) in

@@ -6,22 +6,22 @@ use Rattle.wq_code.specs.declared.operation.Op.TheVariants.{Number, Text, OneOf,
 use Rattle.wq_code.specs.declared.raw.Raw.{Raw}
 use Rattle.wq_compile.specs.Instruction.{Instruction, plain, number, text, one_of, fitting, put, put_all}
 
--- what stands in a list stands at the same place in another
+-- each element of a list is at the same place in another
 abbrev pub IsFrontOf : {A : Type 0} → List A → List A → Type 0
 IsFrontOf {A} xs ys = (i : ℕ) (x : A) → slice_get xs i ≡ Some x → slice_get ys i ≡ Some x
 
--- a list with more behind it
+-- a list with more after it
 front-append : {A : Type 0} (xs ys : List A) → IsFrontOf xs (xs ++ ys)
 front-append [] ys i x e = cc
 front-append (z ∷ xs) ys zero x e = e
 front-append (z ∷ xs) ys (suc i) x e = front-append xs ys i x e
 
--- the element behind a list
+-- the element after a list
 behind : {A : Type 0} (xs : List A) (x : A) → slice_get (xs ++ x ∷ []) (length xs) ≡ Some x
 behind [] x = refl
 behind (z ∷ xs) x = behind xs x
 
--- a program with more behind each of its tables
+-- a program with more after each of its tables
 pub record Extends (raw whole : Raw) : Type 0 where
   pub nums : IsFrontOf raw.nums whole.nums
   pub texts : IsFrontOf raw.texts whole.texts
@@ -65,7 +65,7 @@ put_all-extends [] raw = extends-self raw
 put_all-extends (i ∷ is) raw =
     extends-on raw (put i raw) (put_all is (put i raw)) (put-extends i raw) (put_all-extends is (put i raw))
 
--- an instruction of the code is this one, and its constant stands in its table
+-- an instruction of the code is this one, and its constant is in its table
 abbrev pub IsOp : Raw → Op → Instruction → Type 0
 IsOp raw op (plain o) = op ≡ o
 IsOp raw op (number n) =
@@ -77,13 +77,13 @@ IsOp raw op (one_of case entries) =
 IsOp raw op (fitting pattern) =
     (place : ℕ) × (op ≡ Match place) × (slice_get raw.patterns place ≡ Some pattern)
 
--- at a place of the code stands this instruction
+-- this instruction is at a place of the code
 pub record StandsAt (raw : Raw) (at : ℕ) (i : Instruction) : Type 0 where
   pub op : Op
   pub there : slice_get raw.code at ≡ Some op
   pub is : IsOp raw op i
 
--- from a place of the code on stand these instructions
+-- these instructions are in the code from a place on
 abbrev pub HasCode : Raw → ℕ → List Instruction → Type 0
 HasCode raw at [] = Unit {0}
 HasCode raw at (i ∷ is) = StandsAt raw at i × HasCode raw (suc at) is
@@ -99,7 +99,7 @@ stands-stays : (raw whole : Raw) (at : ℕ) (i : Instruction) → Extends raw wh
 stands-stays raw whole at i more s =
     record { op = s.op; there = more.code at s.op s.there; is = op-stays raw whole s.op i more s.is }
 
--- an instruction stands where it was put
+-- an instruction is where it was put
 put-stands : (i : Instruction) (raw : Raw) → StandsAt (put i raw) (length raw.code) i
 put-stands (plain op) raw = record { op = op; there = behind raw.code op; is = refl }
 put-stands (number n) raw =
@@ -130,7 +130,7 @@ length-put_all (i ∷ is) raw =
     let one = length-put i raw in
     omega (arith, rest, one)
 
--- instructions stand where they were put
+-- instructions are where they were put
 pub put_all-has : (is : List Instruction) (raw : Raw) → HasCode (put_all is raw) (length raw.code) is
 put_all-has [] raw = tt
 put_all-has (i ∷ is) raw = (
@@ -138,7 +138,7 @@ put_all-has (i ∷ is) raw = (
   subst (λ n. HasCode (put_all is (put i raw)) n is) (length-put i raw) (put_all-has is (put i raw)),
 )
 
--- code that stands somewhere, cut in two
+-- code that is at some place, cut in two
 pub has-first : (raw : Raw) (at : ℕ) (is js : List Instruction) → HasCode raw at (is ++ js) → HasCode raw at is
 has-first raw at [] js h = tt
 has-first raw at (i ∷ is) js h = (h.0, has-first raw (suc at) is js h.1)

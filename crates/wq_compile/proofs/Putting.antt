@@ -1,4 +1,4 @@
--- Terms that are put one behind the other are their joined code.
+-- Terms that are put one after the other are their joined code.
 use Rattle.std.proofs.Common.{◌≡◌, ℕ, suc, ◌+◌, ◌<◌, Bool, true, false, List, [], ◌∷◌, ◌++◌, length, map, drop, get_or, sym, ap, ◌∙◌, arith, add-one}
 use Rattle.std.proofs.Math.Seq.{drop-cons}
 use Rattle.std.proofs.lemmas.Bool.{and_parts, ltb-false}
@@ -18,7 +18,7 @@ use Rattle.wq_compile.proofs.Sizes.{or_parts}
 use Rattle.wq_compile.proofs.Puts.{put_all-append, length-put_all}
 use Rattle.wq_compile.proofs.Meanings.{term-works, others-lens}
 
--- `not` is put behind its term
+-- `not` is put after its term
 pub negation_put : (t : ExprData) (at : ℕ) (raw : Raw)
     → put (plain Not) (put_all (code_of t at) raw) ≡ put_all (code_of t at ++ plain Not ∷ []) raw
 negation_put t at raw = sym (put_all-append (code_of t at) (plain Not ∷ []) raw)
@@ -27,7 +27,7 @@ negation_put t at raw = sym (put_all-append (code_of t at) (plain Not ∷ []) ra
 pub length-code : (t : ExprData) (at : ℕ) (raw : Raw) → length (put_all (code_of t at) raw).code ≡ length raw.code + code_len t
 length-code t at raw = length-put_all (code_of t at) raw ∙ ap (λ n. length raw.code + n) ((term-works t).long at)
 
--- a program to which the code of these terms is still to be put, behind jumps to a place, is then a whole one
+-- a program to which the code of these terms is still to be put, after jumps to a place, is then a whole one
 pub record IsBefore (flag : Bool) (end : ℕ) (left : ExprsData) (now whole : Raw) : Type 0 where
   pub made : put_all (others flag end (parts_of left) (length now.code)) now ≡ whole
   pub end_is : end ≡ length now.code + terms_others_len left
@@ -100,7 +100,7 @@ next_put flag end t ts now jumped new whole b is next =
 pub all_put : (flag : Bool) (end : ℕ) (now whole : Raw) → IsBefore flag end no_terms now whole → now ≡ whole
 all_put flag end now whole b = b.made
 
--- the terms from a place on are the term there and those behind it
+-- the terms from a place on are the term there and those after it
 pub terms_from : (es : List Expr) (i : ℕ) (e : Expr) → i < length es → e ≡ get_or es i e
     → terms_of (map term_of (drop i es)) ≡ term (term_of e) (terms_of (map term_of (drop (i + 1) es)))
 terms_from es i e h is =

@@ -270,7 +270,7 @@ from-fork whole r stop now end at p test tests rest false g w drop h on =
     (subst (λ n. HasCode whole (2 + at + n) rest) (w.long (2 + at)) (has-second whole (2 + at) (p.code (2 + at)) rest behind))
     (w.runs whole r (2 + at) (has-first whole (2 + at) (p.code (2 + at)) rest behind) empty)
 
--- a run goes over the parts behind the first
+-- a run goes over the parts after the first
 others-run : (whole : Raw) (r : RecordData) (stop now : Bool) (ps : List Part) (tests : Tests) (end at : ℕ)
     → AllWork ps tests → end ≡ at + others_len ps → HasCode whole at (others stop end ps at)
     → Gets whole (item_of r) at (flag now ∷ []) → Gets whole (item_of r) end (flag (decided stop now tests r) ∷ [])

@@ -52,7 +52,7 @@ abbrev pub AreSound : Raw → KnownKinds → ℕ → ℕ → Type 0
 AreSound whole lists at zero = Unit {0}
 AreSound whole lists at (suc n) = Sound whole lists at × AreSound whole lists (suc at) n
 
--- sound places behind sound places
+-- sound places after sound places
 sound-both : (whole : Raw) (lists : KnownKinds) (at m n : ℕ) → AreSound whole lists at m → AreSound whole lists (at + m) n
     → AreSound whole lists at (m + n)
 sound-both whole lists at zero n a b =
@@ -133,7 +133,7 @@ abbrev pub kinds_before : List Instruction → Kinds → List Kinds
 kinds_before [] kinds = []
 kinds_before (i ∷ is) kinds = kinds ∷ kinds_before is (kinds_next i kinds)
 
--- the kinds behind them
+-- the kinds after them
 abbrev pub kinds_behind : List Instruction → Kinds → Kinds
 kinds_behind [] kinds = kinds
 kinds_behind (i ∷ is) kinds = kinds_behind is (kinds_next i kinds)
@@ -209,7 +209,7 @@ straight-sound whole lists (i ∷ is) at kinds h fine a e within =
 abbrev pub one_flag : Kinds
 one_flag = cell.Flag ∷ []
 
--- a part begins with no cells and is sound where these kinds are known in it, and one flag behind it
+-- a part begins with no cells and is sound if these kinds are known in it, and one flag after it
 pub record IsTyped (part : Part) (kinds : List Kinds) : Type 0 where
   pub long : (at : ℕ) → length (part.code at) ≡ part.len
   pub each : length kinds ≡ part.len
@@ -237,7 +237,7 @@ AllTyped [] [] = Unit {0}
 AllTyped (p ∷ ps) (kinds ∷ more) = IsTyped p kinds × AllTyped ps more
 AllTyped _ _ = ⊥
 
--- the kinds of the parts behind the first, each with a jump and a `drop` before it
+-- the kinds of the parts after the first, each with a jump and a `drop` before it
 abbrev pub others_kinds : List (List Kinds) → List Kinds
 others_kinds [] = []
 others_kinds (kinds ∷ more) = one_flag ∷ one_flag ∷ kinds ++ others_kinds more
@@ -268,7 +268,7 @@ others-long stop (p ∷ ps) (kinds ∷ more) end at t =
 others-long stop [] (kinds ∷ more) end at t = absurd t
 others-long stop (p ∷ ps) [] end at t = absurd t
 
--- where the others begin, and at their end, stands one flag
+-- there is one flag where the others begin, and at their end
 others-first : (lists : KnownKinds) (ps : List Part) (all : List (List Kinds)) (end at : ℕ) → AllTyped ps all
     → end ≡ at + others_len ps → Agrees lists at (others_kinds all) → lists end ≡ Some one_flag → lists at ≡ Some one_flag
 others-first lists [] [] end at t is a e = let z : end ≡ at = omega (arith, is) in subst (λ n. lists n ≡ Some one_flag) z e
@@ -323,7 +323,7 @@ fork-sound whole lists stop end at s later within next-in known at-end then = ju
       on = on (at + 1 == end);
     }
 
--- a part and what stands behind it are sound
+-- a part and the code after it are sound
 part-sound : (whole : Raw) (lists : KnownKinds) (at n : ℕ) (p : Part) (kinds : List Kinds) (rest : List Instruction) (more : List Kinds)
     → IsTyped p kinds → HasCode whole at (p.code at ++ rest) → Agrees lists at (kinds ++ more)
     → at + p.len < length whole.code
@@ -337,7 +337,7 @@ part-sound whole lists at n p kinds rest more t h a within first then =
     (t.sound whole lists at (has-first whole at (p.code at) rest h) (agrees-first lists at kinds more a) (first a') within)
     (then h' a')
 
--- the parts behind the first are sound
+-- the parts after the first are sound
 others-sound : (whole : Raw) (lists : KnownKinds) (stop : Bool) (ps : List Part) (all : List (List Kinds)) (end at : ℕ)
     → AllTyped ps all → end ≡ at + others_len ps → HasCode whole at (others stop end ps at)
     → Agrees lists at (others_kinds all) → lists end ≡ Some one_flag → end < length whole.code

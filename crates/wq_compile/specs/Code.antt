@@ -1,5 +1,5 @@
 -- The code of an expression, which leaves one flag on an empty stack: whether the record matches.
--- This server's own. Where a list has several terms, a jump leaves it at the first that decides.
+-- This server's own. If a list has several terms, a jump leaves it at the first that decides.
 use Rattle.std.specs.Prelude.{ℕ, ◌+◌, ℤ, pos, Bool, true, false, not, ◌==◌}
 use Rattle.std.specs.Prelude.{List, [], ◌∷◌, ◌++◌, length}
 use Rattle.std.specs.List.{filter}
@@ -46,12 +46,12 @@ abbrev pub jump_if : Bool → ℕ → Op
 jump_if false end = JumpIfNot end
 jump_if true end = JumpIf end
 
--- how long the parts behind the first are, each with a jump and a `drop` before it
+-- how long the parts after the first are, each with a jump and a `drop` before it
 abbrev pub others_len : List Part → ℕ
 others_len [] = 0
 others_len (p ∷ ps) = 2 + p.len + others_len ps
 
--- the parts behind the first, until one of them leaves the flag that decides
+-- the parts after the first, until one of them leaves the flag that decides
 abbrev pub others : Bool → ℕ → List Part → ℕ → List Instruction
 others flag end [] at = []
 others flag end (p ∷ ps) at =
@@ -68,7 +68,7 @@ joined flag (p ∷ ps) at = p.code at ++ others flag (at + p.len + others_len ps
 abbrev pub kind_code : FileKind → List Instruction
 kind_code kind = plain Kind ∷ number (pos (letter_of kind)) ∷ plain (Compare Eq) ∷ []
 
--- how the size stands to a number
+-- how the size compares to a number
 abbrev pub size_code : Relation → ℤ → List Instruction
 size_code relation n = plain Size ∷ number n ∷ plain (Compare relation) ∷ []
 

@@ -1,5 +1,5 @@
--- Instructions with the constants that they name, and how they are put behind the code so far.
--- This server's own.
+-- Instructions with the constants that they name, and how they are put after the code so far. This
+-- server's own.
 use Rattle.std.specs.Prelude.{ℕ, ℤ, List, [], ◌∷◌, ◌++◌, length}
 use Rattle.wq_base.specs.declared.compare.Case.{Case}
 use Rattle.wq_glob.specs.Pattern.{PatternData}
@@ -35,7 +35,7 @@ put (fitting pattern) raw = record raw {
   code = raw.code ++ Match (length raw.patterns) ∷ [];
 }
 
--- the same of several, one behind the other
+-- the same of several, one after the other
 abbrev pub put_all : List Instruction → Raw → Raw
 put_all [] raw = raw
 put_all (i ∷ is) raw = put_all is (put i raw)

@@ -1,4 +1,4 @@
-//! The code of expressions: what each term puts behind a draft.
+//! The code of expressions: the instructions that each term puts after a draft.
 ghost use Rattle.std.specs.Prelude.{◌≡◌, ◌+◌, [], ◌∷◌, length, map, IsTrue, OnOk};
 ghost use Rattle.wq_term.specs.CodeLength.{code_len, terms_len};
 ghost use Rattle.wq_code.specs.declared.operation.Op.TheVariants.{Drop};
@@ -82,7 +82,7 @@ fn put_terms(
     Ok(())
 }
 
-/// Puts the jump that is taken where the flag on top is this one, and the `drop` behind it.
+/// Puts the jump that is taken if the flag on top is this one, and the `drop` after it.
 fn put_jump(draft: &mut Draft, flag: bool, end: u16) -> Result<(), AllocError>
     ensures { OnOk result (draft.new
         ≡ put_all (plain (jump_if flag end) ∷ plain Drop ∷ []) draft.old) }
@@ -96,7 +96,7 @@ fn put_jump(draft: &mut Draft, flag: bool, end: u16) -> Result<(), AllocError>
     draft.put(Op::Drop)
 }
 
-/// The place behind the code of the expression, where it is put next.
+/// The place after the code of the expression, if it is put next.
 fn end_of(draft: &Draft, expr: &Expr) -> u16
     requires { HasRoom (code_len (term_of expr.now)) draft.now }
     ensures { result ≡ length draft.now.code + code_len (term_of expr.now) }

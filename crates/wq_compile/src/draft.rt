@@ -1,4 +1,4 @@
-//! Programs while they are made: instructions are put behind those that are there, each with the
+//! Programs while they are made: instructions are put after those that are there, each with the
 //! constant that it names.
 ghost use Rattle.std.specs.Prelude.{◌≡◌, length, OnOk};
 ghost use Rattle.wq_compile.specs.Draft.{HasRoom};
@@ -42,7 +42,7 @@ impl Draft {
         Draft { raw }
     }
 
-    /// What was made.
+    /// The program that was made.
     pub(crate) fn into_raw(self) -> Raw
         ensures { result ≡ self }
     {

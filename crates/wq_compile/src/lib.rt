@@ -1,8 +1,8 @@
 //! The compiler: programs of expressions. On every record the program of an expression answers what
-//! the expression means; so who has programs run needs no second evaluator.
+//! the expression means. So a caller that runs programs needs no second evaluator.
 //!
-//! The code of each term stands in `specs/Code.antt`, and what it means that a program stands for
-//! an expression in `specs/Meaning.antt`. How programs run is not said here.
+//! `specs/Code.antt` has the code of each term, and `specs/Meaning.antt` says what it means that a
+//! program stands for an expression. How programs run is not said here.
 #![tactic(auto)]
 
 mod code;

@@ -1,4 +1,4 @@
--- What comes of a root that was listed and then published.
+-- The result for a root that was listed and then published.
 use Rattle.std.proofs.Common.{◌≡◌, ℕ, List, Result, Ok, Err, MatchResult, inl, inr, sym, ap, subst, ◌∙◌}
 use Rattle.wq_crawl.specs.Device.{Gave}
 use Rattle.wq_live.specs.declared.event.RootEvent.{RootEvent}

@@ -1,5 +1,5 @@
--- What is kept of crawls, so that threads which ask at once share one.
--- No public document is behind it.
+-- The counts of crawls that are kept, so that threads which ask at once share one. No public
+-- document defines it.
 use Rattle.std.specs.Prelude.{◌≡◌, ◌⊎◌, ℕ, nat_eq, List, Option, Some, Result, Ok, Err}
 use Rattle.lru.specs.LruCache.{LruCache, lru_cache, put_entries}
 use Rattle.wq_live.specs.Event.{number_of}
@@ -18,8 +18,8 @@ abbrev pub KeepsOf : {A : Type 0} → LruCache ℕ ℕ → ℕ → ℕ → Resul
 KeepsOf before number count (Ok answer) after = Keeps before number count after
 KeepsOf before number count (Err fault) after = after ≡ before
 
--- what is kept where a root was asked for: nothing new; or of a crawl of it, a count that was raised
--- while the crawler was as it was before
+-- the count that is kept after a root was asked for: nothing new. Or, of a crawl of it, a count that
+-- was raised while the crawler was as it was before
 abbrev pub KeepsRaised : (CrawlerData → ℕ → Type 0) → List ℕ → CrawlerData → LruCache ℕ ℕ
     → Result (Option (List RootEvent)) CrawlFault → LruCache ℕ ℕ → Type 0
 KeepsRaised IsRaised text crawler before result after =

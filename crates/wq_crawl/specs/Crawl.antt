@@ -1,6 +1,5 @@
--- What crawling, watching and unwatching a root does, what it makes of the list of events, and why
--- it is refused.
--- No public document is behind it.
+-- Crawling, watching and unwatching a root: what each makes of the list of events, and why it is
+-- refused. No public document defines it.
 use Rattle.std.specs.Prelude.{◌≡◌, ◌≤◌, ◌⊎◌, ℕ, ℤ, refl, List}
 use Rattle.std.specs.Prelude.{Option, Some, None, IsSome, IsTrue, Result, Ok, Err}
 use Rattle.std.specs.List.{list_all}
@@ -25,9 +24,9 @@ use Rattle.wq_crawl.specs.declared.fault.CrawlFault.TheVariants.{TooManyRoots, N
 use Rattle.wq_crawl.specs.declared.place.Place.{Place}
 use Rattle.wq_crawl.specs.declared.place.Place.TheVariants.{Shown, Full, Free}
 
--- what a crawler shows: the list of events that is published, what its clock told last and how often
--- it told something, the same of what its tree listed, where they are shown, and how often its tree
--- failed
+-- the state that a crawler shows. It has the list of events that is published; what its clock told
+-- last and how often it told something, and the same of its tree's listings, if they are shown. It
+-- also has how often its tree failed
 pub record CrawlerData : Type 0 where
   pub events : List RootEvent
   pub clock : Option (ℕ × ℤ)
@@ -55,8 +54,8 @@ not_listed UnreadableTree = Unreadable
 not_listed TooManyTreeRows = TooManyFiles
 not_listed NoTreeMemory = NoMemory
 
--- why a root is not crawled of which the rows, each of them lawful, make no pass: they are too many;
--- or a name is there twice, or the second is out of range
+-- the fault of a root whose rows, each of them lawful, make no pass. They are too many; or a name is
+-- there twice, or the second is out of range
 abbrev pub no_pass : PassFault → CrawlFault
 no_pass TooManyRows = TooManyFiles
 no_pass _ = Unreadable
@@ -70,13 +69,13 @@ IsOfRows before text pass (Some after) =
     × (listing_fault rows pass.second ≡ None) × (pass ≡ listing_of rows pass.second)
 
 -- a root was listed, and this is the pass over it: of the rows that the tree gave, and of the second
--- that the clock told then
+-- that the clock told
 abbrev pub IsPassOver : List ℕ → CrawlerData → PassData → CrawlerData → Type 0
 IsPassOver text before pass after =
     IsOfRows before.listed text pass after.listed × Gave before.clock pass.second after.clock
 
--- a root was to be listed, and this is why there is no pass over it: the tree did not list it, and
--- the clock was not asked; or the rows that it listed, each of them lawful, make none together at
+-- a root was to be listed, and this is why there is no pass over it. The tree did not list it, and
+-- the clock was not asked. Or the rows that it listed, each of them lawful, make none together at
 -- the second that the clock told
 abbrev pub IsNoPassOver : List ℕ → CrawlerData → CrawlFault → CrawlerData → Type 0
 IsNoPassOver text before fault after =
@@ -89,7 +88,7 @@ IsNoPassOver text before fault after =
     × (listing_fault rows second ≡ Some why) × (fault ≡ no_pass why))
 
 -- a root that is shown was crawled: it was listed, and a pass over it is added, unless that tells
--- nothing, and the list is told; where it is refused, nothing is added
+-- nothing, and the list is told. If it is refused, nothing is added
 abbrev pub CrawledAt : ℕ → List ℕ → CrawlerData → Result (List RootEvent) CrawlFault
     → CrawlerData → Type 0
 CrawledAt number text before (Ok told) after =
@@ -120,8 +119,8 @@ abbrev pub Shared : CrawlerData → Result (List RootEvent) CrawlFault → Crawl
 Shared before (Ok told) after = (told ≡ before.events) × (after ≡ before)
 Shared before (Err fault) after = (fault ≡ NoMemory) × (after ≡ before)
 
--- a root that is not shown was listed and started with a pass over it, and the list is told; where
--- it is refused, nothing is added
+-- a root that is not shown was listed and started with a pass over it, and the list is told. If it
+-- is refused, nothing is added
 abbrev pub Began : List ℕ → CrawlerData → Result (List RootEvent) CrawlFault → CrawlerData → Type 0
 Began text before (Ok told) after =
     (told ≡ after.events) × (pass : PassData) × IsPassOver text before pass after
@@ -129,8 +128,8 @@ Began text before (Ok told) after =
 Began text before (Err fault) after =
     (after.events ≡ before.events) × (IsNoPassOver text before fault after ⊎ (fault ≡ NoMemory))
 
--- a root was watched that was found so: of one that is shown the list is told; where no more can be
--- started, it is refused before it is listed; any other was started
+-- a root that was found so was watched. Of one that is shown the list is told. If no more can be
+-- started, it is refused before it is listed. Any other was started
 abbrev pub WatchedAt : Place → List ℕ → CrawlerData → Result (List RootEvent) CrawlFault
     → CrawlerData → Type 0
 WatchedAt (Shown number) text before result after = Shared before result after
@@ -143,16 +142,16 @@ abbrev pub Watched : List ℕ → CrawlerData → Result (List RootEvent) CrawlF
 Watched text before result after =
     (place : Place) × IsPlace text before.events place × WatchedAt place text before result after
 
--- a root was unwatched by its number: its end is added where it is shown, and the list is told;
--- where it is refused, nothing is added
+-- a root was unwatched by its number: its end is added if it is shown, and the list is told. If it
+-- is refused, nothing is added
 abbrev pub Unwatched : ℕ → CrawlerData → Result (List RootEvent) CrawlFault → CrawlerData → Type 0
 Unwatched number before (Ok told) after =
     (told ≡ after.events) × Ends before.events number after.events
     × (after ≡ record before { events = after.events })
 Unwatched number before (Err fault) after = (fault ≡ NoMemory) × (after ≡ before)
 
--- a root was crawled for a thread that had read this count of crawls: by a crawl; or by none, where
--- its last crawl began at this count or a later one: then the list is told as it is
+-- a root was crawled for a thread that had read this count of crawls: by a crawl. Or by none, if
+-- its last crawl began at this count or a later one. Then the list is told as it is
 abbrev pub CrawledOnce : List ℕ → ℕ → (ℕ → Option ℕ) → CrawlerData
     → Result (Option (List RootEvent)) CrawlFault → CrawlerData → Type 0
 CrawledOnce text asked last before result after =

@@ -1,5 +1,5 @@
--- What a device shows of itself: how often it gave something so far, and what it gave last.
--- No public document is behind it.
+-- The state that a device shows: how often it gave something so far, and what it gave last. No
+-- public document defines it.
 use Rattle.std.specs.Prelude.{◌≡◌, ℕ, suc, Option, Some, None}
 
 -- how often a device gave something so far: never, where it gave nothing yet

@@ -1,6 +1,6 @@
--- What may be added to the one list of events of all roots, and when a pass or a start is refused
--- there. A crawler publishes by these words, and a script plays by them.
--- No public document is behind it.
+-- The events that may be added to the one list of events of all roots, and when a pass or a start
+-- is refused there. A crawler publishes by these words, and a script plays by them. No public
+-- document defines it.
 use Rattle.std.specs.Prelude.{◌≡◌, ◌<◌, ◌⊎◌, ◌+◌, true, false, ℕ, List, [], ◌∷◌, ◌++◌, length}
 use Rattle.std.specs.Prelude.{None, Some}
 use Rattle.wq_view.specs.Limit.{max_tick}
@@ -14,8 +14,8 @@ use Rattle.wq_crawl.specs.declared.fault.CrawlFault.TheVariants.{NoMemory, Ticks
 use Rattle.wq_crawl.specs.declared.place.Place.{Place}
 use Rattle.wq_crawl.specs.declared.place.Place.TheVariants.{Shown, Full, Free}
 
--- how a root of this text is found that is to be shown: it is, under this number; or it is not, and
--- no more root can be started, or one can
+-- how a root of this text that is to be shown is found. It is shown, under this number; or it is
+-- not, and no more root can be started, or one can
 abbrev pub IsPlace : List ℕ → List RootEvent → Place → Type 0
 IsPlace text events (Shown number) = number_of text events ≡ Some number
 IsPlace text events Full = (number_of text events ≡ None) × IsFull events

@@ -1,5 +1,4 @@
--- What the roots do for a session, and what they answer.
--- No public document is behind it.
+-- The work of the roots for a session, and their answers. No public document defines it.
 use Rattle.std.specs.Prelude.{◌≡◌, ℕ, List, Option, Some, None, Result}
 use Rattle.wq_live.specs.declared.event.RootEvent.{RootEvent}
 use Rattle.wq_crawl.specs.declared.fault.CrawlFault.{CrawlFault}
@@ -26,8 +25,8 @@ Fulfils (ending number) before told after =
     (answer : Result (List RootEvent) CrawlFault) × (told ≡ tells answer)
     × Unwatched number before answer after
 
--- the roots do what a session asks, and answer this: by the crawler that is shown, and what it is
--- then is shown; or by some crawler, where none is shown
+-- the roots do what a session asks, and give this answer. They do it by the crawler that is shown,
+-- and what it is then is shown; or by some crawler, if none is shown
 abbrev pub RootsGive : Option CrawlerData → RootRequestData
     → Result (Option (List RootEvent)) CrawlFault → Option CrawlerData → Type 0
 RootsGive (Some before) request told after =

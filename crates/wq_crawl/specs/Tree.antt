@@ -1,5 +1,5 @@
--- When a tree may say that a root cannot be read, and what it shows of what it listed.
--- No public document is behind it.
+-- When a tree may say that a root cannot be read, and what it shows of what it listed. No public
+-- document defines it.
 use Rattle.std.specs.Prelude.{◌≡◌, ◌<◌, ◌⊎◌, ◌^◌, ◌-◌, ℕ, List, Option, Result, Ok, Err}
 use Rattle.std.specs.Prelude.{Vec, refl}
 use Rattle.std.specs.Coded.{Coded, code_by, coded×, coded_ℕ, coded_list, coded_result}

@@ -7,7 +7,7 @@ use std::sync::Wait;
 use std::sync::atomic::{AtomicU64, Ordering};
 use wq_live::Named;
 
-/// Counts the crawls that begin. What a count stands for is known of those alone that are read and raised here: a number
+/// Counts the crawls that begin. The meaning of a count is known only of counts that are read and raised here: a number
 /// of another origin is none.
 pub(crate) trait Counts {
     ghost use Rattle.std.specs.Prelude.{ℕ};

@@ -7,9 +7,9 @@ use std::marker::Model;
 use std::time::{Clock, SystemTime, UNIX_EPOCH};
 use wq_base::MAX_NUMBER;
 
-/// The seconds of the Unix epoch by the machine's clock, which never fall: where it was set back, cannot be read or stands before
-/// the epoch, the last second that it told is told again. So who asks what changed since a second may be told too much, and
-/// misses nothing. Contracts see the last second that it told, 0 before the first.
+/// The seconds of the Unix epoch by the machine's clock, which never fall. If the clock was set back, cannot be read or
+/// is before the epoch, the last second that it told is told again. So a client that asks what changed since a second
+/// may be told too much, and misses nothing. Contracts see the last second that it told, 0 before the first.
 #[derive(Drop)]
 pub struct MachineClock<R: Clock + Drop> {
     rt: R,

@@ -1,5 +1,5 @@
-//! What lists roots and publishes what is seen: a tree, a clock and a publisher, of which one crawl after the other
-//! takes hold.
+//! The crawler, which lists roots and publishes what it sees: a tree, a clock and a publisher. One crawl after the
+//! other takes hold of them.
 ghost use Rattle.std.specs.Prelude.{◌≡◌, ◌≢◌, ◌⊎◌, ◌↔◌, Err, IfErr, IfOk, IsTrue, MatchResult, None};
 ghost use Rattle.wq_live.specs.Event.{IsFull, number_of};
 ghost use Rattle.std.specs.List.{list_all};
@@ -93,7 +93,7 @@ impl<N: Named, R: Wait + Drop, T: Tree + Drop, S: Seconds + Drop> Crawler<N, R, 
     /// Finds the root of this text, or lists it and starts it, and tells the list.
     ///
     /// A root that is not shown is refused before it is listed where no more can be started. One that is shown is
-    /// refused for want of memory alone. What is refused leaves the list.
+    /// refused for want of memory alone. A refusal leaves the list.
     pub fn watch(&mut self, root: &str) -> Result<Told<N>, CrawlFault>
         ensures { Watched root.now self.old result self.new }
     {
@@ -106,7 +106,7 @@ impl<N: Named, R: Wait + Drop, T: Tree + Drop, S: Seconds + Drop> Crawler<N, R, 
 
     /// Publishes the end of the root of this number, if it is shown, and tells the list.
     ///
-    /// What is refused leaves the list.
+    /// A refusal leaves the list.
     pub fn unwatch(&mut self, number: u64) -> Result<Told<N>, CrawlFault>
         ensures { Unwatched number self.old result self.new }
     {
@@ -194,7 +194,7 @@ impl<N: Named, R: Wait + Drop, T: Tree + Drop, S: Seconds + Drop> Crawler<N, R, 
             (λ pass. IsPassOver root.now self.old pass self.new)
             (λ fault. IsNoPassOver root.now self.old fault self.new) }
     {
-        // Else the views before the last ones would stand in memory beside the rows and the views that follow from them.
+        // Else the views before the last ones would be in memory beside the rows and the views that follow from them.
         self.let_go();
         let rows = match self.rows(root) {
             Ok(rows) => rows,

@@ -1,13 +1,13 @@
-//! What crawls, watches and unwatches roots for a session.
+//! Crawling, watching and unwatching roots for a session.
 ghost use Rattle.wq_crawl.specs.Crawl.{tells};
 ghost use Rattle.wq_crawl.specs.Roots.{RootsGive, ending, passing, showing};
 
 use crate::fault::CrawlFault;
 use wq_live::{Named, Told};
 
-/// What crawls, watches and unwatches roots, and publishes what comes of it.
+/// Crawls, watches and unwatches roots, and publishes what comes of it.
 ///
-/// It may show the crawler that it goes by. What is refused adds nothing to the list of events.
+/// It may show the crawler that it goes by. A refusal adds nothing to the list of events.
 pub trait Roots<N: Named> {
     ghost use Rattle.std.specs.Prelude.{Option};
     ghost use Rattle.wq_crawl.specs.Crawl.{CrawlerData};

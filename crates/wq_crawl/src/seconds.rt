@@ -1,6 +1,6 @@
-//! What tells the second of a pass.
+//! The source of the second of a pass.
 
-/// What tells the second of a pass.
+/// The source of the second of a pass.
 ///
 /// It may show what it told last, and how often it told something.
 pub trait Seconds {

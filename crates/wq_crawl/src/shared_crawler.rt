@@ -50,7 +50,7 @@ impl<N: Named, R: Wait + Drop, T: Tree + Drop, S: Seconds + Drop> SharedCrawler<
 
     /// Crawls the root of this text and publishes the pass, and tells the list of events; none where it is not shown.
     ///
-    /// Where another thread crawled the root meanwhile, and began after this was called, the list is told as it is.
+    /// If another thread crawled the root meanwhile, and began after this was called, the list is told as it is.
     pub fn crawl(&self, rt: &R, root: &str) -> Result<Option<Told<N>>, CrawlFault>
         ensures { RootsGive None (passing root.now) result None }
     {
@@ -138,7 +138,7 @@ impl<N: Named, R: Wait + Drop, T: Tree + Drop, S: Seconds + Drop> LastCrawls<N, 
         }
     }
 
-    /// Keeps that so many crawls had begun before the last one of the root of this number. Where memory is wanted for that,
+    /// Keeps that so many crawls had begun before the last one of the root of this number. If memory runs out for that,
     /// each thread crawls for itself.
     fn keep(&mut self, number: u64, before: u64)
         ensures crawler { self.new.crawler ≡ self.old.crawler }
@@ -151,7 +151,7 @@ impl<N: Named, R: Wait + Drop, T: Tree + Drop, S: Seconds + Drop> LastCrawls<N, 
     }
 }
 
-/// Crawls a root for who asks now, by what is under the lock.
+/// Crawls a root for the thread that asks now, by what is under the lock.
 fn crawl_for<C, N, R, T, S>(
     begun: &C,
     crawls: &Mutex<LastCrawls<N, R, T, S>>,

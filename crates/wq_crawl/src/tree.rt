@@ -1,4 +1,4 @@
-//! What lists the files below a root. How a tree is walked is not said here.
+//! The tree, which lists the files below a root. How a tree is walked is not said here.
 ghost use Rattle.std.specs.Prelude.{◌≡◌, IfErr, IfOk, IsTrue};
 ghost use Rattle.std.specs.List.{list_all};
 ghost use Rattle.wq_view.specs.Seen.{is_lawful_row};
@@ -33,7 +33,7 @@ impl From<AllocError> for TreeFault {
     }
 }
 
-/// What lists roots.
+/// A source of listings of roots.
 ///
 /// It may show what it listed last, and how often it listed something.
 pub trait Tree {
@@ -48,14 +48,14 @@ pub trait Tree {
 
     /// The rows of the files below a root, in any order. Each has a valid name, and its numbers are in range.
     ///
-    /// A root is unreadable only where the count of failures rose in this call, or stands at the greatest number that
-    /// it can tell.
+    /// A root is unreadable only if the count of failures rose in this call, or is at the greatest number that it can
+    /// tell.
     fn list(&mut self, root: &str) -> Result<Vec<Seen>, TreeFault>
         ensures counted { IfErr result (IsCounted (failed self.old) (failed self.new)) }
         ensures lawful { IfOk result (λ rows. IsTrue (list_all is_lawful_row rows.items)) }
         ensures listed { Lists (listed self.old) root.now (rows_given result) (listed self.new) };
 
-    /// The rows of the files below a root, as [`Tree::list`] gives them. What was last known of the root is handed in: rows
+    /// The rows of the files below a root, as [`Tree::list`] gives them. The last view of the root is handed in: rows
     /// may share its names.
     fn list_again(&mut self, root: &str, _last: &View) -> Result<Vec<Seen>, TreeFault>
         ensures counted { IfErr result (IsCounted (failed self.old) (failed self.new)) }

@@ -1,4 +1,4 @@
--- What a round does of a trigger agrees with what a launcher shows.
+-- A round's work for a trigger agrees with what a launcher shows.
 use Rattle.std.proofs.Common.{◌≡◌, ◌≢◌, ℕ, Bool, true, false, not, List, [], ◌∷◌, length, Option, Some, None, if◌then◌else◌, refl, sym, ap, subst, ◌∙◌}
 use Rattle.wq_clock.specs.Instance.{InstanceData}
 use Rattle.wq_view.specs.Position.{records_at}

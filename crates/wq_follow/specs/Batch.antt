@@ -1,5 +1,5 @@
--- What a look tells a subscription or a trigger: a batch of files, and the tick of its end.
--- From Watchman's documentation of `subscribe` and `trigger`; the ticks are this server's own.
+-- The batch that a look tells a subscription or a trigger: files, and the tick of its end. From
+-- Watchman's documentation of `subscribe` and `trigger`; the ticks are this server's own.
 use Rattle.std.specs.Prelude.{ℕ, Bool, false, nat_le, List, [], Option, Some, None, if◌then◌else◌}
 use Rattle.std.specs.Option.{option_map_or}
 use Rattle.wq_clock.specs.declared.bound.Bound.{Bound}
@@ -11,16 +11,16 @@ use Rattle.wq_query.specs.Query.{PlanData}
 use Rattle.wq_view.specs.RecordData.{RecordData}
 use Rattle.wq_view.specs.View.{ViewData}
 
--- a batch: whether nothing was known before it, the bound from which it tells changes, the tick at
--- which it ends, and its files in name order
+-- a batch: whether nothing was known before it, the bound from which it tells changes, the tick of
+-- its end, and its files in name order
 pub record BatchData : Type 0 where
   pub fresh : Bool
   pub from : Bound
   pub now : ℕ
   pub files : List RecordData
 
--- a follower: a plan, whose bound is the begin of the next batch; and the tick at which the last
--- batch ended, if there was one
+-- a follower: a plan, whose bound is the begin of the next batch; and the tick of the last batch's
+-- end, if there was one
 pub record FollowerData : Type 0 where
   pub plan : PlanData
   pub last : Option ℕ

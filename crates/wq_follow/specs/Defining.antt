@@ -19,8 +19,8 @@ order_of shape root = record {
   limit = shape.limit;
 }
 
--- the trigger of a definition, for the root with this text: by the program that its query names, if
--- it names one, and with this run of its command
+-- the trigger of a definition, for the root with this text. It has the program that its query
+-- names, if it names one, and this run of its command
 abbrev pub triggered : DefinitionData → List ℕ → Option Raw → Option ℕ → TriggerData
 triggered d root program running = record {
   order = order_of d.shape root;

@@ -42,9 +42,9 @@ is_matched plan r = is_meant plan.program (plan.query).expression r
 abbrev pub later_tick : ℕ → ℕ → ℕ
 later_tick a b = if nat_le b a then a else b
 
--- a batch tells an interval that begins at this tick: it ends at the tick of its view, unless that is
--- earlier, and has the files of its view that match and whose last change lies in it, deleted ones
--- too, each once, in the order of the view
+-- a batch tells an interval that begins at this tick, and ends at the tick of its view, unless that
+-- is earlier. It has the files of its view that match and whose last change lies in the interval,
+-- deleted ones too. Each is there once, in the order of the view
 pub record TellsFrom (last : ℕ) (matches : RecordData → Bool) (t : ToldData) : Type 0 where
   pub from : (t.batch).from ≡ Tick last
   pub fresh : (t.batch).fresh ≡ false

@@ -19,8 +19,8 @@ pub record TriedData : Type 0 where
   pub start : StartData
   pub run : Option ℕ
 
--- a launcher: what it answers to the starts to come, one after the other; the runs that go on; and
--- the starts that it was given
+-- a launcher: its answers to the starts to come, one after the other; the runs that go on; and the
+-- starts that it was given
 pub record LauncherData : Type 0 where
   pub answers : List (Option ℕ)
   pub running : List ℕ
@@ -54,7 +54,7 @@ abbrev pub run_of : Result ℕ LaunchFault → Option ℕ
 run_of (Ok run) = Some run
 run_of (Err fault) = None
 
--- a launcher answered a start so: if it shows its answers, by the next one; it may show nothing
+-- a launcher answered a start so: if it shows its answers, by the next one. It may show nothing
 -- from then on, if memory ran out for what it shows
 abbrev pub StartsRun : Option LauncherData → StartData → Option ℕ → Option LauncherData → Type 0
 StartsRun None start run after = after ≡ None

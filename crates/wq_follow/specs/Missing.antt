@@ -45,9 +45,10 @@ IsToldOnce r (t ∷ later) =
     (IsAmong r (t.batch).files × IsNeverTold r later)
     ⊎ ((IsAmong r (t.batch).files → ⊥) × IsToldOnce r later)
 
--- once a batch was told that ended at a tick: each file of the view of the whole history that matches,
--- and whose last change came after that tick and no later than the end of the last batch, is in
--- exactly one of the batches that were told then, whatever was looked at between
+-- nothing is missed once a batch was told that ended at a tick. Take each file of the view of the
+-- whole history that matches, and whose last change came after that tick and no later than the end of
+-- the last batch. It is in exactly one of the batches that were told then, whatever was looked at
+-- between
 abbrev pub NothingIsMissed : Type 0
 NothingIsMissed = (f : FollowerData) (last : ℕ) (history : History) (looks : List LookData)
     (view : ViewData) → HasNoGenerators f.plan → AreOf history looks → IsViewOf history view

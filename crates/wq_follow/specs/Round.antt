@@ -1,6 +1,5 @@
--- What a round does for a trigger.
--- From Watchman's documentation of `trigger`; that a failed start tells nothing is this server's
--- own.
+-- The work of a round for a trigger. From Watchman's documentation of `trigger`; that a failed
+-- start tells nothing is this server's own.
 use Rattle.std.specs.Prelude.{◌≡◌, ◌≢◌, ℕ, Bool, true, false, [], Option, Some, None}
 use Rattle.serde_json.specs.Data.{Data}
 use Rattle.wq_clock.specs.Instance.{InstanceData}
@@ -77,8 +76,8 @@ abbrev pub IsFree : Option ℕ → LauncherData → Type 0
 IsFree None l = Unit {0}
 IsFree (Some run) l = goes_on run l ≡ false
 
--- this agrees with a launcher that shows its answers: the round passes over a trigger only if its
--- command runs, and does anything else only if it does not; and each start has its answer
+-- this agrees with a launcher that shows its answers. The round passes over a trigger only if its
+-- command runs, and does anything else only if it does not. Each start has its answer
 abbrev pub AgreesWith : FiredData → Option ℕ → LauncherData → Option LauncherData → Type 0
 AgreesWith (runs run) running l after = (goes_on run l ≡ true) × (after ≡ Some l)
 AgreesWith (started run start) running l after =

@@ -22,8 +22,8 @@ use wq_verify::Program;
 impl Trigger {
     /// The trigger of a definition, for the root with this text. It was told nothing yet.
     ///
-    /// The program is the one that stands under the name that the query has for one, or else one
-    /// that answers on every record what the query's expression means. A trigger that replaces
+    /// The program is the one that is kept under the name that the query has for one. Without a
+    /// name, it answers on every record what the query's expression means. A trigger that replaces
     /// another takes over the run of its command.
     pub fn new(
         definition: Definition,

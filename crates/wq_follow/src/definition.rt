@@ -35,8 +35,8 @@ const KNOWN_KEYS: [&str; 7] = [
 ];
 
 impl Definition {
-    /// What the object of a trigger says, at this instance of the server. The first fault refuses
-    /// it: see [`TriggerFault`]. Keys that are not known are ignored.
+    /// The definition that the object of a trigger says, at this instance of the server. The first
+    /// fault refuses it: see [`TriggerFault`]. Keys that are not known are ignored.
     pub fn read(
         alloc: Global,
         object: &Value,
@@ -75,7 +75,7 @@ impl Definition {
         &self.query
     }
 
-    /// The object with the known keys, as they were given. What it asks as a query is
+    /// The object with the known keys, as they were given. Its query is
     /// [`query`](Definition::query).
     pub fn object(&self) -> &Value
         ensures { data_of result.now ≡ (definition_data self.now).object }

@@ -1,4 +1,4 @@
-//! What a round does for a trigger.
+//! The work of a round for a trigger.
 ghost use Rattle.std.specs.Prelude.{◌≡◌, is_err};
 ghost use Rattle.wq_clock.specs.Instance.{instance_data};
 ghost use Rattle.wq_follow.specs.Followed.{trigger_data};

@@ -21,7 +21,7 @@ pub trait Launch {
     // How often it failed so far.
     ghost failures_of: { Self → ℕ };
 
-    // What it shows, if anything.
+    // The launcher that it shows, if any.
     ghost shown: { Self → Option LauncherData };
 
     /// Starts a command, and gives the number of its run. If it fails, then the count of failures

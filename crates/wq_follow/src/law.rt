@@ -21,9 +21,9 @@ pub fn views_are_reached()
     ensures { ViewsAreReached }
 {}
 
-/// Nothing is missed between the first batch and the last. Each matching file that changed last after
-/// the end of the first, and no later than that of the last, is in exactly one of the batches after
-/// the first, as it is now.
+/// Nothing is missed between the first batch and the last. Take each matching file that changed last
+/// after the end of the first, and no later than that of the last. It is in exactly one of the
+/// batches after the first, as it is now.
 #[tactic(auto, using(crate::proofs::Missed::nothing_is_missed))]
 pub fn nothing_is_missed()
     ensures { NothingIsMissed }

@@ -20,7 +20,7 @@ use wq_query::{QueryFault, flag, some_fields};
 /// How many bytes the name of a trigger may have.
 pub const MAX_TRIGGER_NAME: usize = 255;
 
-/// What the object of a trigger says of its command.
+/// The command that the object of a trigger describes.
 #[derive(Drop)]
 pub(crate) struct Shape {
     pub(crate) name: Text,

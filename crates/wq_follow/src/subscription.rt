@@ -3,7 +3,7 @@
 use crate::follower::Follower;
 use wq_base::Text;
 
-/// What a client wants to be told of a root, list by list.
+/// The changes of a root that a client wants to be told, list by list.
 #[derive(Drop)]
 pub struct Subscription {
     pub(crate) name: Text,

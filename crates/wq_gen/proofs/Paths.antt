@@ -49,7 +49,7 @@ pub under_begins : (p : PathGen) (rs : List RecordData) (start end : ℕ) → ((
 under_begins p rs start end exact =
     sym (none_before (passes_at (is_under p) rs) start (λ k low. not_below p rs k (exact k ∙ and_left (nat_le start k) (nat_lt k end) (lt-leb start k low))))
 
--- and behind it neither
+-- and after it neither
 pub under_ends : (p : PathGen) (rs : List RecordData) (start end : ℕ) → end ≤ length rs → ((i : ℕ) → passes_at (is_below p.path) rs i ≡ (nat_le start i && nat_lt i end)) → filter (passes_at (is_under p) rs) (range_with_len 0 end) ≡ positions_of (is_under p) rs
 under_ends p rs start end fits exact =
     sym (none_behind (passes_at (is_under p) rs) end (length rs) fits (λ k high. not_below p rs k (exact k ∙ and_right (nat_le start k) (nat_lt k end) (le-ltb k end high))))

@@ -41,7 +41,7 @@ none_before f zero none = refl
 none_before f (suc n) none =
     more f 0 n n (omega arith) ∙ ap (λ b. filter f (range_with_len 0 n) ++ cond b (n ∷ []) []) (none n (omega arith)) ∙ append-nil (filter f (range_with_len 0 n)) ∙ none_before f n (λ k low. none k (omega arith))
 
--- no position more is kept where the test holds at none behind
+-- no position more is kept if the test holds at none after
 pub none_behind : (f : ℕ → Bool) (n m : ℕ) → n ≤ m → ((k : ℕ) → n ≤ k → f k ≡ false) → filter f (range_with_len 0 m) ≡ filter f (range_with_len 0 n)
 none_behind f n zero low none = let same : 0 ≡ n = omega (arith, low) in ap (λ k. filter f (range_with_len 0 k)) same
 none_behind f n (suc m) low none = at (cases_lt m n) (λ fits. none_behind f n m fits none)

@@ -9,8 +9,8 @@ use wq_view::{Kind, MAX_NAME, Record};
 /// A depth that sets no limit.
 pub const ANY_DEPTH: i64 = -1;
 
-/// Where the candidates of a query come from. Several generators give their union, and where none
-/// is there every file is a candidate.
+/// The sources of a query's candidates. Several generators give their union, and where none is
+/// there every file is a candidate.
 #[derive(Drop)]
 pub struct Generators {
     /// The files that changed after a tick, or at a second or later. A fresh bound is no generator.
@@ -27,8 +27,8 @@ pub struct Generators {
 pub struct PathGen {
     /// Without a slash at its end. Below the empty path lies every file.
     pub path: Text,
-    /// How many slashes may stand in what follows the path and a slash in a name; in the whole name
-    /// for the empty path. -1 is without limit.
+    /// How many slashes may come in a name after the path and its slash; in the whole name for the
+    /// empty path. -1 is without limit.
     pub depth: i64,
 }
 

@@ -2,7 +2,7 @@
 //! candidate, and the query's expression is asked of the candidates alone.
 //!
 //! Whether a record is a candidate is defined in `specs/Candidate.antt`, of one record by itself.
-//! What a client writes is read by others.
+//! Reading what a client writes is for others.
 #![tactic(auto)]
 
 mod candidate;

@@ -134,7 +134,7 @@ atoms_few f (suc n) start (x ∷ xs) =
     let r : Atom × List ℕ = first_atom f start (x ∷ xs) in
     let h = atoms_few f n (opens r.0) r.1 in omega arith
 
--- what stands for the atoms that are left completes what was read
+-- steps for the atoms that are left complete those that were read
 pub atoms_more : (f : Flags) (step : Step) (start : Bool) (text after : List ℕ) (steps tail : List Step) (opening : Bool) (all : List Atom) → 0 < length text →
     IsStepOf f step (first_atom f start text).0 → after ≡ (first_atom f start text).1 → opening ≡ step_opens step →
     ((tail : List Step) → AllStand f tail (atoms_from (length text) f start text) → AllStand f (steps ++ tail) all) →

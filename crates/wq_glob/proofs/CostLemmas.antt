@@ -20,7 +20,7 @@ module _ {A : Type 0} (form : Form A) (atoms : List A) (text : List Mark) where
   unfolding cost
   cost_end is = rw is refl
 
-  -- one behind the front costs the front, itself and the last byte
+  -- one after the front costs the front, itself and the last byte
   pub cost_front : (same : ℕ) → first_differs form (last_alone atoms) (last_alone text) ≡ false → same ≡ front form atoms text →
       begins_literal form (drop same atoms) ≡ true → agrees form (drop same atoms) (drop same text) ≡ false → same + 2 ≡ cost form atoms text
   unfolding cost

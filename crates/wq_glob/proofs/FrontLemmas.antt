@@ -24,7 +24,7 @@ agrees_nothing : (f : Flags) (steps : List Step) → agrees (step_form f) steps 
 agrees_nothing f [] = refl
 agrees_nothing f (s ∷ steps) = refl
 
--- and nothing agrees behind the last step or at the end of the text
+-- and nothing agrees after the last step or at the end of the text
 pub agrees_past : (f : Flags) (steps : List Step) (text : List ℕ) (at : ℕ) → length steps ≤ at → false ≡ agrees (step_form f) (drop at steps) (marks_at f text at)
 agrees_past f steps text at past = sym (ap (λ (l : List Step). agrees (step_form f) l (marks_at f text at)) (drop_all steps at past))
 
@@ -53,14 +53,14 @@ module _ (f : Flags) (steps : List Step) (text : List ℕ) (n : ℕ) (within : n
   here : agrees (step_form f) (get_or steps n Never ∷ drop (n + 1) steps) (mark_at f text n ∷ marks_at f text (n + 1)) ≡ true
   here = agrees_here f steps text n Never within inside ∙ is
 
-  -- at a place where step and byte agree the front goes on behind both
+  -- at a place where step and byte agree the front goes on after both
   pub front_more : front (step_form f) (drop n steps) (marks_at f text n) ≡ 1 + front (step_form f) (drop (n + 1) steps) (marks_at f text (n + 1))
   front_more =
       ap (λ (l : List Step). front (step_form f) l (marks_at f text n)) (drop_step steps n Never within)
       ∙ ap (front (step_form f) (get_or steps n Never ∷ drop (n + 1) steps)) (marks_step f text n inside)
       ∙ front_cons f (get_or steps n Never) (drop (n + 1) steps) (mark_at f text n) (marks_at f text (n + 1)) here
 
-  -- and the steps fit where those behind it do
+  -- and the steps fit if those after it do
   pub fits_more : step_fits f (drop n steps) (marks_at f text n) ≡ step_fits f (drop (n + 1) steps) (marks_at f text (n + 1))
   fits_more =
       ap (λ (l : List Step). step_fits f l (marks_at f text n)) (drop_step steps n Never within)

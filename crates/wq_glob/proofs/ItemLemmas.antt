@@ -134,7 +134,7 @@ items_begin noescape text r is = rw is (one_before (items_from (length r.1) noes
     one_before None = refl
     one_before (Some items) = refl
 
--- where no `]` stands, the next item and what is left
+-- without a `]` at the front, the next item and what is left
 items_next : (noescape : Bool) (text : List ℕ) → begins is_close text ≡ false → items_from (length text) noescape text ≡ option_and_then (λ item. before_items item.0 (items_from (length text - 1) noescape item.1)) (first_item noescape text)
 unfolding items_from
 items_next noescape [] goes_on = rw (nothing_first noescape (first_item noescape []) (first_shorter noescape [])) refl
@@ -154,11 +154,11 @@ items_more noescape text done r goes_on is =
 pub items_less : (noescape : Bool) (text : List ℕ) (r : Item × List ℕ) → first_item noescape text ≡ Some r → length r.1 < length text
 items_less noescape text r is = shorter_at text (first_item noescape text) r is (first_shorter noescape text)
 
--- where no item can be read the class has no end, and where a `]` stands it is at its end
+-- if no item can be read the class has no end, and at a `]` it is at its end
 pub items_fail : (noescape : Bool) (text : List ℕ) (done : List Item) → begins is_close text ≡ false → first_item noescape text ≡ None → with_items done (items_from (length text) noescape text) ≡ None
 items_fail noescape text done goes_on is = ap (with_items done) (items_next noescape text goes_on) ∙ rw is refl
 
--- where a `]` stands, the items that were read are all
+-- at a `]`, the items that were read are all
 pub items_end : (noescape : Bool) (text : List ℕ) (done : List Item) → begins is_close text ≡ true → with_items done (items_from (length text) noescape text) ≡ Some (done, drop 1 text)
 unfolding items_from
 items_end noescape [] done closed = absurd (false≢true closed)

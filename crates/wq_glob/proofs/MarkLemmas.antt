@@ -33,7 +33,7 @@ front_is text (suc at) h =
     let later : suc at ≡ 0 → ⊥ = omega arith in
     rw (ne_eqb (suc at) 0 later, sub-one) (front_behind true text at h)
 
--- the mark at a place, and the marks behind it
+-- the mark at a place, and the marks after it
 pub marks_step : (f : Flags) (text : List ℕ) (at : ℕ) → at < length text → marks_at f text at ≡ mark_at f text at ∷ marks_at f text (at + 1)
 marks_step f text at h =
     drop_marks f.dotfiles true text at h

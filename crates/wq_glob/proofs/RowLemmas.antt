@@ -1,4 +1,4 @@
--- The cells of a row, from those behind the byte.
+-- The cells of a row, from those after the byte.
 use Rattle.std.proofs.Common.{◌≡◌, ℕ, zero, suc, ◌+◌, ◌-◌, ◌<◌, ◌≤◌, Bool, true, false, List, [], ◌∷◌, length, drop, get_or, refl, sym, ◌∙◌, ap, subst, inl, inr, arith, add-one, drop-cons}
 use Rattle.std.proofs.lemmas.Bool.{cases_eq}
 use Rattle.wq_base.specs.Byte.{is_slash}
@@ -35,7 +35,7 @@ cell_at_step f steps k d seen x text old old_next new_next within seen_is old_is
     rw (seen_is, old_is, old_next_is, new_next_is, drop_step steps k d within)
     (sym (cell_step f (get_or steps k d) (drop (k + 1) steps) x text))
 
--- behind the last step there is no cell but a dead one at a byte
+-- after the last step there is no cell but a dead one at a byte
 pub drop_all : {A : Type 0} (xs : List A) (k : ℕ) → length xs ≤ k → drop k xs ≡ []
 drop_all [] k h = drop_nil k
   where
@@ -45,7 +45,7 @@ drop_all [] k h = drop_nil k
 drop_all (x ∷ xs) zero h = absurd (omega arith)
 drop_all (x ∷ xs) (suc k) h = drop_all xs k (omega arith)
 
--- behind the last step the cell at a byte is dead
+-- after the last step the cell at a byte is dead
 pub cell_at_end : (f : Flags) (steps : List Step) (k : ℕ) (x : Mark) (text : List Mark) → length steps ≤ k → dead_cell ≡ cell_of f (drop k steps) (x ∷ text)
 cell_at_end f steps k x text past = rw (drop_all steps k past) refl
 

@@ -14,7 +14,7 @@ use Rattle.wq_glob.proofs.MarkLemmas.{marks_step}
 use Rattle.wq_glob.proofs.RowLemmas.{dead_above}
 use Rattle.wq_glob.proofs.SweepLemmas.{IsSwept, low_dead}
 
--- the cell before `k` is looked at: it lived, or the one behind it fits at one of the two texts
+-- the cell before `k` is looked at: it lived, or the one after it fits at one of the two texts
 abbrev pub IsOpened : Flags → List Step → Mark → List Mark → ℕ → ℕ → Type 0
 IsOpened f steps x text low j =
     (nat_le low j || next_fits (step_row f steps text) j || next_fits (step_row f steps (x ∷ text)) j) ≡ true

@@ -42,7 +42,7 @@ pub stands_class : (f : Flags) (set : ByteSet) (c : Class) (known : Bool) → kn
 stands_class f set c known is all holds =
     subst (λ (u : Bool). IsStepOf f (Set set) (if u then Nothing else OneOf c)) (sym (not-true _ (sym is ∙ all))) (stands_set f set c holds)
 
--- what is read behind a `[`, by the items that are read there
+-- what is read after a `[`, by the items that are read there
 pub one_of_some : (noescape : Bool) (text after : List ℕ) (items : List Item) → class_items noescape (if begins is_negation text then drop 1 text else text) ≡ Some (items, after) →
     one_of_at noescape text ≡ (known_class record { negated = begins is_negation text; items = items }, after)
 unfolding one_of_at class_at
@@ -53,6 +53,6 @@ pub one_of_none : (noescape : Bool) (text : List ℕ) → class_items noescape (
 unfolding one_of_at class_at
 one_of_none noescape text is = rw is refl
 
--- what fits nothing stands for what fits nothing
+-- a step that fits nothing stands for an atom that fits nothing
 pub stands_never : (f : Flags) → IsStepOf f Never Nothing
 stands_never f = record { same_reach = refl; same_bytes = λ x small. refl; same_opening = refl; same_literal = refl }

@@ -17,11 +17,11 @@ pub record IsSwept (f : Flags) (steps : List Step) (x : Mark) (text : List Mark)
   pub new_fits : k ≤ length steps → new_next ≡ step_fits f (drop k steps) (x ∷ text)
 
 module _ (f : Flags) (steps : List Step) (x : Mark) (text : List Mark) where
-  -- behind the window all cells are dead, and stay so
+  -- after the window all cells are dead, and stay so
   pub high_dead : (w : Window) → IsWindow f steps text 0 w → (j : ℕ) → w.high + 1 ≤ j → j ≤ length steps → cell_of f (drop j steps) (x ∷ text) ≡ dead_cell
   high_dead w lives = dead_above f steps x text (w.high + 1) (λ j from within. lives.above j (omega arith) within)
 
-  -- the sweep begins behind the last live cell
+  -- the sweep begins after the last live cell
   pub swept_none : (row : List Cell) (w : Window) → IsRow f steps text row → IsWindow f steps text 0 w → IsSwept f steps x text row (w.high + 1) false false
   swept_none row w filled lives = record {
     renewed = λ j from within. filled j within ∙ lives.above j (omega arith) within ∙ sym (high_dead w lives j from within);
@@ -68,7 +68,7 @@ module _ (f : Flags) (steps : List Step) (x : Mark) (text : List Mark) where
       at_low (inl start) before = absurd (omega arith)
       at_low (inr (low, old_none, new_none)) before = lives.below j (omega arith) (omega arith) within
 
-  -- and its live cells stand in the window of those that were looked at
+  -- and its live cells are in the window of those that were looked at
   pub bounds_all : (k : ℕ) (live : Option Window) → ((j : ℕ) → j < k → cell_of f (drop j steps) (x ∷ text) ≡ dead_cell) → Bounds f steps (x ∷ text) k live → Bounds f steps (x ∷ text) 0 live
   bounds_all k None before none =
       λ j from within. elim (cases_lt j k) [ inl low ↦ before j low | inr high ↦ none j high within ]

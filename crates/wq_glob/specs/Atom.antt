@@ -22,7 +22,7 @@ pub data Atom : Type 0 where
   Rest : Atom
   Nothing : Atom
 
--- a run of stars may mean directories at the pattern's beginning and behind these atoms
+-- a run of stars may mean directories at the pattern's beginning and after these atoms
 abbrev pub opens : Atom → Bool
 opens (Literal b) = is_slash b
 opens Dirs = true
@@ -33,7 +33,7 @@ abbrev pub literal_of : Option (ℕ × List ℕ) → Atom × List ℕ
 literal_of None = (Nothing, [])
 literal_of (Some (b, after)) = (Literal b, after)
 
--- a byte that stands for itself, behind a backslash where one escapes it
+-- a byte that stands for itself, after a backslash if one escapes it
 unfoldable pub literal_at : Bool → List ℕ → Atom × List ℕ
 literal_at noescape text = literal_of (letter noescape text)
 
@@ -51,7 +51,7 @@ abbrev pub class_of : Option (Class × List ℕ) → Atom × List ℕ
 class_of None = (Nothing, [])
 class_of (Some (c, after)) = (known_class c, after)
 
--- the class behind a `[`
+-- the class after a `[`
 unfoldable pub one_of_at : Bool → List ℕ → Atom × List ℕ
 one_of_at noescape text = class_of (class_at noescape text)
 
@@ -60,8 +60,8 @@ abbrev pub stars_before : List ℕ → Atom × List ℕ
 stars_before [] = (Rest, [])
 stars_before (b ∷ bs) = if is_slash b then (Dirs, bs) else (Star, b ∷ bs)
 
--- the stars at the front of a text, all of them: one star, unless with `wholename` they are two or
--- more and directories may begin here
+-- all the stars at the front of a text: one star, unless with `wholename` they are two or more and
+-- directories may begin here
 unfoldable pub stars_at : Bool → Bool → List ℕ → Atom × List ℕ
 stars_at wholename start text =
     let run = prefix_len is_star text in

@@ -19,7 +19,7 @@ is_close b = b == byte "]"
 abbrev pub is_dash : ℕ → Bool
 is_dash b = b == byte "-"
 
--- the backslash, which takes its meaning off the byte behind it
+-- the backslash, which takes its meaning off the byte after it
 abbrev pub is_escape : ℕ → Bool
 is_escape b = b == byte "\\"
 
@@ -35,7 +35,7 @@ is_upper b = is_between (byte "A") (byte "Z") b
 abbrev pub is_lower : ℕ → Bool
 is_lower b = is_between (byte "a") (byte "z") b
 
--- how far a small letter stands behind its capital
+-- how far a small letter is after its capital
 abbrev pub case_distance : ℕ
 case_distance = byte "a" - byte "A"
 

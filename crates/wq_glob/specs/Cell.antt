@@ -1,5 +1,5 @@
--- The table of a compiled pattern, as the matcher fills it: from the end of the text to its start,
--- and in each row from the last step to the first. This library's own.
+-- The table of a compiled pattern, as the matcher fills it. It goes from the end of the text to its
+-- start, and in each row from the last step to the first. This library's own.
 use Rattle.std.specs.Prelude.{◌≡◌, ℕ, ◌+◌, ◌-◌, ◌<◌, ◌≤◌, Bool, true, false, ◌==◌, ◌&&◌, ◌||◌}
 use Rattle.std.specs.Prelude.{List, [], ◌∷◌, length, drop, slice_index, slice_index_or}
 use Rattle.std.specs.Prelude.{Option, MatchOption, IsTrue}
@@ -39,7 +39,7 @@ fit_cell fits = record { fits = fits; begun = false }
 abbrev pub dead_cell : Cell
 dead_cell = fit_cell false
 
--- a cell, from those round it: its own and the next one behind the byte, the next one at the byte
+-- a cell, from those round it: its own and the next one after the byte, the next one at the byte
 abbrev pub next_cell : Reach → Bool → Bool → Cell → Bool → Bool → Cell
 next_cell Single takes slash old old_next new_next = fit_cell (takes && old_next)
 next_cell Many takes slash old old_next new_next = fit_cell (new_next || (takes && old.fits))
@@ -107,7 +107,7 @@ pub record IsWindow (f : Flags) (steps : List Step) (text : List Mark) (k : ℕ)
 abbrev pub Bounds : Flags → List Step → List Mark → ℕ → Option Window → Type 0
 Bounds f steps text k w = MatchOption w (AreDead f steps text k) (IsWindow f steps text k)
 
--- the window of the cells behind `k`, and the one with the cell at `k`
+-- the window of the cells after `k`, and the one with the cell at `k`
 abbrev pub Widens : ℕ → Cell → Option Window → Option Window → Type 0
 Widens k cell narrow wide = (f : Flags) (steps : List Step) (text : List Mark)
     → k ≤ length steps → Bounds f steps text (k + 1) narrow

@@ -45,7 +45,7 @@ is_alnum b = is_digit b || is_upper b || is_lower b
 abbrev pub is_graph : ℕ → Bool
 is_graph b = is_between (byte "!") (byte "~") b
 
--- the control byte behind the signs, DEL
+-- the control byte after the signs, DEL
 abbrev pub delete : ℕ
 delete = 127
 

@@ -1,5 +1,5 @@
--- What a match costs: how many cells it looks at in the table of the pattern and the text.
--- This library's own; what fits is defined without it.
+-- The cost of a match: how many cells it looks at in the table of the pattern and the text. This
+-- library's own; what fits is defined without it.
 use Rattle.std.specs.Prelude.{ℕ, ◌+◌, ◌-◌, Bool, false, not, ◌&&◌, ◌||◌, nat_le, if◌then◌else◌}
 use Rattle.std.specs.Prelude.{List, [], ◌∷◌, length, drop}
 use Rattle.std.specs.List.{count_by, list_any, range_with_len}
@@ -16,7 +16,7 @@ is_live cell = cell.fits || cell.begun
 abbrev pub places : ℕ → List ℕ
 places atoms = range_with_len 0 (atoms + 1)
 
--- the cell at `k`, or one behind it, lives
+-- the cell at `k`, or one after it, lives
 abbrev pub lives_from : ℕ → Row → ℕ → Bool
 lives_from atoms row k = list_any (λ j. nat_le k j && is_live (row j)) (places atoms)
 
@@ -24,12 +24,12 @@ lives_from atoms row k = list_any (λ j. nat_le k j && is_live (row j)) (places 
 abbrev pub lives_to : ℕ → Row → ℕ → Bool
 lives_to atoms row k = list_any (λ j. nat_le j k && is_live (row j)) (places atoms)
 
--- the cell behind the one at `k` fits
+-- the cell after the one at `k` fits
 abbrev pub next_fits : Row → ℕ → Bool
 next_fits row k = (row (k + 1)).fits
 
--- A cell of a new row is looked at from the last down to the first that lived in the old row, and
--- before these where the next cell fits in one of the two rows.
+-- A cell of a new row is looked at from the last down to the first that lived in the old row.
+-- Before these, it is looked at if the next cell fits in one of the two rows.
 abbrev pub is_looked_at : ℕ → Row → Row → ℕ → Bool
 is_looked_at atoms old new k =
     lives_from atoms old k && (lives_to atoms old k || next_fits old k || next_fits new k)
@@ -82,7 +82,7 @@ abbrev pub differs_at_end : {A : Type 0} → Form A → List A → List Mark →
 differs_at_end form atoms text = first_differs form (last_alone atoms) (last_alone text)
 
 -- The cells of a match. A last byte that differs ends it with one cell. The literals at the front
--- cost one each; a byte that differs behind them ends it, with its cell and the last byte's. The
+-- cost one each; a byte that differs after them ends it, with its cell and the last byte's. The
 -- rest is done by rows.
 unfoldable pub cost : {A : Type 0} → Form A → List A → List Mark → ℕ
 cost form atoms text =

@@ -1,5 +1,5 @@
--- What it means that a pattern fits: some cut of the text gives each atom in turn what it takes.
--- After git's wildmatch, in this server's own profile; no search is in it.
+-- The meaning of a fit: some cut of the text gives each atom in turn what it takes. After git's
+-- wildmatch, in this server's own profile; no search is in it.
 use Rattle.std.specs.Prelude.{◌≡◌, Bool, not, ◌==◌, ◌&&◌, IsTrue, ◌⊎◌, List, [], ◌∷◌, ◌++◌}
 use Rattle.std.specs.List.{list_all}
 use Rattle.wq_base.specs.Byte.{is_slash}

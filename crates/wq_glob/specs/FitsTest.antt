@@ -1,5 +1,5 @@
--- The same as a test that computes, atom by atom; the law that ties it to the cuts stands in `Law`.
--- This library's own.
+-- The same as a test that computes, atom by atom; `Law` has the law that ties it to the cuts. This
+-- library's own.
 use Rattle.std.specs.Prelude.{Bool, true, false, ◌==◌, ◌&&◌, ◌||◌, List, [], ◌∷◌}
 use Rattle.wq_base.specs.Byte.{is_slash}
 use Rattle.wq_glob.specs.Byte.{lower_if}

@@ -1,5 +1,4 @@
--- What the test of a pattern and the cuts of a text have to do with each other.
--- This library's own.
+-- Laws about the test of a pattern and the cuts of a text. This library's own.
 use Rattle.std.specs.Prelude.{ℕ, List, ◌↔◌, IsTrue}
 use Rattle.wq_glob.specs.Pattern.{PatternData, fits, Fits}
 

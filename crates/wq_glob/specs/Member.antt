@@ -1,5 +1,5 @@
--- What the reader of a class has gathered: the bytes of its items, and whether all names are known.
--- This library's own; what an item is stands in `Class`.
+-- The members that the reader of a class has gathered: the bytes of its items, and whether all
+-- names are known. This library's own; `Class` says what an item is.
 use Rattle.std.specs.Prelude.{◌≡◌, ℕ, ◌<◌, not, List, Option, Some}
 use Rattle.std.specs.List.{list_any}
 use Rattle.wq_glob.specs.Atom.{is_unknown}
@@ -18,6 +18,6 @@ pub record AreMembers (m : Members) (items : List Item) : Type 0 where
   pub bytes : Holds m.set items
   pub known : m.known ≡ not (list_any is_unknown items)
 
--- the items were read, with these members and with this text behind them
+-- the items were read, with these members and with this text after them
 abbrev pub HasItems : Option (List Item × List ℕ) → Members → List ℕ → Type 0
 HasItems read m after = (items : List Item) × (read ≡ Some (items, after)) × AreMembers m items

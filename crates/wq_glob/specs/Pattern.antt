@@ -1,5 +1,5 @@
--- What a contract sees of a pattern: its text and its flags; its atoms and what it fits follow.
--- After git's wildmatch, in this server's own profile.
+-- A pattern as a contract sees it: its text and its flags; its atoms and what it fits follow. After
+-- git's wildmatch, in this server's own profile.
 use Rattle.std.specs.Prelude.{ℕ, true, Bool, ◌&&◌, List, length}
 use Rattle.std.specs.Str.{bytes_eq}
 use Rattle.std.specs.Cmp.{IsEquivalence, and_equiv, bool_eq_equiv, on_equiv}

@@ -1,4 +1,4 @@
--- How the classes of a pattern are written: what stands at the front of a text, and what follows.
+-- How the classes of a pattern are written: the part at the front of a text, and the text after it.
 -- After the bracket expressions of POSIX and of git's wildmatch; this server's own profile of them.
 use Rattle.std.specs.Prelude.{ℕ, zero, suc, ◌-◌, ◌+◌, Bool, false, ◌==◌, not, ◌&&◌, ◌||◌}
 use Rattle.std.specs.Prelude.{if◌then◌else◌, nat_le, List, [], ◌∷◌, length, take, drop, slice_index}
@@ -22,8 +22,8 @@ abbrev pub next : List ℕ → Option (ℕ × List ℕ)
 next [] = None
 next (b ∷ bs) = Some (b, bs)
 
--- the byte that the front of a text stands for, and what follows it: a backslash gives the byte
--- behind it, unless `noescape`; none where the text ends first
+-- the byte that the front of a text stands for, and what follows it. A backslash gives the byte
+-- after it, unless `noescape`; there is none if the text ends first
 abbrev pub letter : Bool → List ℕ → Option (ℕ × List ℕ)
 letter noescape text =
     if not noescape && begins is_escape text then next (drop 1 text) else next text
@@ -33,7 +33,7 @@ unfoldable pub item_named : List ℕ → Item
 item_named name =
     option_map_or Named (find (λ class. bytes_eq name (class_name class)) named_classes) Unknown
 
--- a colon stands before the place
+-- a colon is before the place
 abbrev pub is_behind_colon : List ℕ → ℕ → Bool
 is_behind_colon text place = nat_le 1 place && is_colon (slice_index text (place - 1))
 
@@ -43,11 +43,11 @@ name_to text end =
     if is_behind_colon text end
     then Some (item_named (take (end - 1) text), drop (end + 1) text) else None
 
--- behind `[:`, the named class and what follows its `:]`, whose `]` is the first in the text
+-- after `[:`, the named class and what follows its `:]`, whose `]` is the first in the text
 unfoldable pub named_item : List ℕ → Option (Item × List ℕ)
 named_item text = option_and_then (name_to text) (position is_close text)
 
--- behind the first byte of a range, the byte that ends it and what follows: after a dash, any byte
+-- after the first byte of a range, the byte that ends it and what follows: after a dash, any byte
 -- but an unescaped `]`
 unfoldable pub range_end : Bool → List ℕ → Option (ℕ × List ℕ)
 range_end noescape text =
@@ -64,14 +64,15 @@ unfoldable pub plain_item : Bool → List ℕ → Option (Item × List ℕ)
 plain_item noescape text =
     option_map (λ (b, after). item_from b after (range_end noescape after)) (letter noescape text)
 
--- the item at the front of a text, and what follows it; a `[` with no name behind stands for itself
+-- the item at the front of a text, and what follows it; a `[` with no name after it stands for
+-- itself
 unfoldable pub first_item : Bool → List ℕ → Option (Item × List ℕ)
 first_item noescape text =
     if begins is_open text && begins is_colon (drop 1 text)
     then option_or (named_item (drop 2 text)) (plain_item noescape text)
     else plain_item noescape text
 
--- an item, put before the items that were read behind it
+-- an item, put before the items that were read after it
 abbrev pub before_items : Item → Option (List Item × List ℕ) → Option (List Item × List ℕ)
 before_items item None = None
 before_items item (Some (items, after)) = Some (item ∷ items, after)
@@ -96,11 +97,11 @@ class_items noescape text =
 abbrev pub is_negation : ℕ → Bool
 is_negation b = b == byte "!" || b == byte "^"
 
--- behind the bracket of a class, its items, without the sign that negates it
+-- after the bracket of a class, its items, without the sign that negates it
 abbrev pub behind_negation : List ℕ → List ℕ
 behind_negation text = if begins is_negation text then drop 1 text else text
 
--- behind its `[`, a class and what follows it; none where it has no end
+-- after its `[`, a class and what follows it; none if it has no end
 unfoldable pub class_at : Bool → List ℕ → Option (Class × List ℕ)
 class_at noescape text =
     option_map

@@ -1,5 +1,5 @@
--- What the steps of a compiled pattern mean, and that they stand for its atoms.
--- This library's own; what an atom is stands in `Atom`.
+-- The meaning of the steps of a compiled pattern, and that they stand for its atoms. This library's
+-- own; `Atom` says what an atom is.
 use Rattle.std.specs.Prelude.{◌≡◌, ℕ, ◌<◌, Bool, true, false, ◌==◌, ◌&&◌, ◌≤◌}
 use Rattle.std.specs.Prelude.{List, [], ◌∷◌, length}
 use Rattle.wq_base.specs.Byte.{is_slash}
@@ -56,7 +56,7 @@ is_byte _ = false
 abbrev pub step_form : Flags → Form Step
 step_form f = record { reach_of = step_reach; admits_of = step_admits f; is_literal = is_byte }
 
--- a run of stars may mean directories behind these steps
+-- a run of stars may mean directories after these steps
 abbrev pub step_opens : Step → Bool
 step_opens (Byte b) = is_slash b
 step_opens Below = true

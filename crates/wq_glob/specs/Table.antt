@@ -1,5 +1,5 @@
--- The table of a pattern and a text: a row for each tail of the text, in it a cell for each tail of
--- the pattern. This library's own; what fits is defined without it.
+-- The table of a pattern and a text. Each tail of the text has a row, and in it each tail of the
+-- pattern has a cell. This library's own; what fits is defined without it.
 use Rattle.std.specs.Prelude.{ℕ, Bool, false, List, [], ◌∷◌, drop}
 use Rattle.wq_glob.specs.Mark.{Mark}
 use Rattle.wq_glob.specs.FitsTest.{Reach, Directories, Form, directories, fits_by}

@@ -13,7 +13,7 @@ pub(crate) fn begins(text: &[u8], byte: u8) -> bool
     }
 }
 
-/// What follows the first byte.
+/// The bytes after the first one.
 pub(crate) fn behind(text: &[u8]) -> &[u8]
     requires { 0 < length text.now }
     ensures { result.now ≡ drop 1 text.now }

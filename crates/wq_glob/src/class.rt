@@ -1,5 +1,5 @@
-//! Reads the classes of a pattern, as `[a-z]` or `[![:digit:]]`, into sets of bytes. Where a class
-//! ends and what is no class is said here; what a set takes of a text is not.
+//! Reads the classes of a pattern, as `[a-z]` or `[![:digit:]]`, into sets of bytes. It says where
+//! a class ends and what is no class; what a set takes of a text is for others.
 ghost use Rattle.std.specs.Prelude.{◌≡◌, ◌<◌, ◌==◌, ℕ, ◌+◌, List, [], ◌∷◌, ◌++◌, ◌||◌, length};
 ghost use Rattle.std.specs.Prelude.{drop, None, Some, MatchOption, option_map, not, position};
 ghost use Rattle.std.specs.Prelude.{IfSome, IsTrue, ◌≤◌, ◌-◌, ◌&&◌, nat_le, slice_index};
@@ -31,7 +31,7 @@ pub(crate) enum ClassName {
     Xdigit,
 }
 
-/// What stands between the brackets of a class.
+/// An item between the brackets of a class.
 #[derive(Clone, Copy)]
 pub(crate) enum Item {
     /// A byte, and all bytes from it to the second.
@@ -41,7 +41,7 @@ pub(crate) enum Item {
     Unknown,
 }
 
-/// What the items of a class hold, and whether all their names are known.
+/// The bytes of the items of a class, and whether all their names are known.
 #[derive(Clone, Copy)]
 pub(crate) struct Members {
     pub(crate) set: ByteSet,
@@ -101,7 +101,7 @@ fn item_named(name: &[u8]) -> Item
     }
 }
 
-/// The byte that the front of a text stands for, and what follows it.
+/// The byte that the front of a text stands for, and the bytes after it.
 pub(crate) fn letter(text: &[u8], noescape: bool) -> Option<(u8, &[u8])>
     ensures { option_map (λ (read, after). (read, after.now)) result ≡ letter noescape text.now }
 {
@@ -124,7 +124,7 @@ fn close_of(text: &[u8]) -> Option<usize>
     text.iter().position(|b| *b == b']')
 }
 
-/// Whether a colon stands before the place.
+/// Whether a colon is before the place.
 fn is_behind_colon(text: &[u8], place: usize) -> bool
     requires { place ≤ length text.now }
     ensures later { IsTrue result → 1 ≤ place }
@@ -202,7 +202,7 @@ fn insert_item(set: &mut ByteSet, item: Item)
 }
 
 impl Members {
-    /// What no item holds.
+    /// The members of no items.
     fn none() -> Members
         ensures { AreMembers result [] }
     {
@@ -222,7 +222,7 @@ impl Members {
     }
 }
 
-/// What the items of a class hold, up to the `]` that ends it, and what follows it.
+/// The members of the items of a class, up to the `]` that ends it, and the text after it.
 pub(crate) fn read_items(text: &[u8], noescape: bool) -> Option<(Members, &[u8])>
     ensures { MatchOption result (class_items noescape text.now ≡ None)
         (λ (members, after). HasItems (class_items noescape text.now) members after.now) }

@@ -7,10 +7,10 @@
 //! [![:digit:]]?        two bytes, of which the first is no digit
 //! ```
 //!
-//! A [`Pattern`] is read once from its text and its [`Flags`] and then tried on texts. What it fits
-//! is defined by cuts of the text (`specs/Fits.antt`), how its own text is read by
-//! `specs/Reading.antt` and `specs/Atom.antt`, and what a trial costs by `specs/Cost.antt`. This
-//! crate knows no files: a caller hands in a basename or a whole name.
+//! A [`Pattern`] is read once from its text and its [`Flags`] and then tried on texts.
+//! `specs/Fits.antt` defines by cuts of the text what it fits. `specs/Reading.antt` and
+//! `specs/Atom.antt` define how its own text is read, and `specs/Cost.antt` what a trial costs.
+//! This crate knows no files: a caller hands in a basename or a whole name.
 #![tactic(auto)]
 
 mod byte;

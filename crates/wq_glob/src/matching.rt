@@ -1,5 +1,5 @@
-//! Whether a compiled pattern fits a text: its last byte first, then its leading bytes, one by one,
-//! and then row by row from the end of the text. What a row is stands in `row`.
+//! Whether a compiled pattern fits a text. The last byte is tried first, then the leading bytes one
+//! by one, and then row by row from the end of the text. `row` says what a row is.
 ghost use Rattle.std.specs.Prelude.{◌≡◌, ◌<◌, ◌≤◌, ◌+◌, ◌-◌, ◌*◌, ◌&&◌, ℕ, List, ◌∷◌, [], length};
 ghost use Rattle.std.specs.Prelude.{drop, true, false, IsTrue, MatchOption, ⊤};
 ghost use Rattle.std.specs.Bool.{MatchBool};
@@ -14,7 +14,7 @@ use crate::limit::{MAX_MATCHED_TEXT, MAX_PATTERN};
 use crate::row::{Cell, fill_end, renew};
 use crate::step::Step;
 
-/// What [`Pattern::matches`](crate::Pattern::matches) answers.
+/// The answer of [`Pattern::matches`](crate::Pattern::matches).
 #[derive(Clone, Copy, Debug, PartialEq, Eq)]
 pub struct Hit {
     /// The pattern fits the text.
@@ -130,7 +130,7 @@ fn long_row() -> [Cell; LONG_ROW]
     [Cell::DEAD; LONG_ROW]
 }
 
-/// Fills rows for the steps behind the front, in as much room as these take.
+/// Fills rows for the steps after the front, in as much room as these take.
 fn hit_by_rows(steps: &[Step], text: &[u8], from: usize, flags: Flags) -> Hit
     requires small { length steps.now ≤ MAX_PATTERN }
     requires short { length text.now ≤ MAX_MATCHED_TEXT }

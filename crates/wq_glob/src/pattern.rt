@@ -1,6 +1,6 @@
-//! Patterns: a text with flags, read once and then tried on paths. How it is read stands in
-//! `reading`, how it is tried in `matching`; which paths are tried, and whether by their last part
-//! or whole, is for others to say.
+//! Patterns: a text with flags, read once and then tried on paths. `reading` reads it, and
+//! `matching` tries it; which paths are tried, and whether by their last part or whole, is for
+//! others to say.
 ghost use Rattle.std.specs.Prelude.{◌≡◌, ◌<◌, ◌≤◌, ◌↔◌, ◌+◌, ◌*◌, IfOk, IsTrue, length, IsErrOf};
 ghost use Rattle.wq_glob.specs.Pattern.{atoms_of, cells_of, fits, Fits};
 ghost use Rattle.wq_glob.specs.Limit.{max_pattern_length, max_matched_text};
@@ -144,8 +144,8 @@ impl Pattern {
     ///
     /// It fits where some cut of the text gives every atom, from left to right, a part that it
     /// takes. The cost is how many cells of the table of atoms and places the definition `cells_of`
-    /// counts: for m atoms and t bytes at most (m + 1)(t + 1), whatever the pattern. It takes no
-    /// memory.
+    /// counts. For m atoms and t bytes that is at most (m + 1)(t + 1), whatever the pattern. It
+    /// takes no memory.
     ///
     /// ```text
     /// src/**/*.c   with wholename fits src/a.c and src/x/y/a.c, and not src/.x/a.c

@@ -1,5 +1,5 @@
 //! Reads a pattern into the steps that the matcher runs, one for each atom, from left to right.
-//! What a class is stands in `class`; how steps take a text in `row`.
+//! `class` says what a class is, and `row` how steps take a text.
 ghost use Rattle.std.specs.Prelude.{◌≡◌, ◌<◌, ◌≤◌, ℕ, List, [], ◌∷◌, ◌++◌, ◌&&◌, ◌||◌, length};
 ghost use Rattle.std.specs.Prelude.{drop, if◌then◌else◌, IfOk, true};
 ghost use Rattle.wq_glob.specs.Atom.{atoms_from, first_atom, known_class, literal_at, one_of_at};
@@ -17,7 +17,7 @@ use crate::flag::Flags;
 use crate::step::Step;
 use std::alloc::{AllocError, Global};
 
-/// The step of the byte at the front of a text, or of the one behind its backslash.
+/// The step of the byte at the front of a text, or of the one after its backslash.
 #[tactic(auto, unfolding(crate::specs::Atom::literal_at))]
 fn literal(text: &[u8], flags: Flags) -> (Step, &[u8])
     ensures stands { IsStepOf flags result.0 (literal_at flags.noescape text.now).0 }
@@ -41,21 +41,21 @@ fn class_step(members: Members, negated: bool, flags: Flags) -> Step
     }
 }
 
-/// Whether a class is negated, by what stands behind its `[`.
+/// Whether a class is negated, by the text after its `[`.
 fn is_negated(text: &[u8]) -> bool
     ensures { result ≡ begins is_negation text.now }
 {
     begins(text, b'!') || begins(text, b'^')
 }
 
-/// The items of a class, by what stands behind its `[`.
+/// The items of a class, by the text after its `[`.
 fn items_of(text: &[u8]) -> &[u8]
     ensures { result.now ≡ (if begins is_negation text.now then drop 1 text.now else text.now) }
 {
     if is_negated(text) { behind(text) } else { text }
 }
 
-/// The step of the class behind a `[`.
+/// The step of the class after a `[`.
 fn one_of(text: &[u8], flags: Flags) -> (Step, &[u8])
     ensures stands { IsStepOf flags result.0 (one_of_at flags.noescape text.now).0 }
     ensures rest { result.1.now ≡ (one_of_at flags.noescape text.now).1 }
@@ -111,7 +111,7 @@ fn first_step(text: &[u8], at_start: bool, flags: Flags) -> (Step, &[u8])
     }
 }
 
-/// Whether a run of stars behind the step may stand for directories.
+/// Whether a run of stars after the step may stand for directories.
 fn opens(step: &Step) -> bool
     ensures { result ≡ step_opens step.now }
 {

@@ -13,7 +13,7 @@ use crate::byte::lower_if;
 use crate::flag::Flags;
 use crate::step::{Step, may_take_nothing};
 
-/// What is known of a tail of the pattern at a place of the text.
+/// The state of a tail of the pattern at a place of the text.
 #[derive(Clone, Copy)]
 pub(crate) struct Cell {
     /// The tail fits the text from here on.
@@ -75,7 +75,7 @@ fn seen_at(text: &[u8], at: usize, flags: Flags) -> Seen
     }
 }
 
-/// A cell, from the cell of the same step and from those of the next step, behind the byte and at
+/// A cell, from the cell of the same step and from those of the next step, after the byte and at
 /// it.
 fn next_cell(step: &Step, seen: &Seen, old: Cell, old_next: bool, new_next: bool) -> Cell
     ensures { result ≡ step_cell step.now seen.now old old_next new_next }
@@ -112,7 +112,7 @@ fn cell_at(steps: &[Step], k: usize, seen: &Seen, old: Cell, old_next: bool, new
     }
 }
 
-/// What a byte made of a row: where it still lives, and how many cells were looked at.
+/// The effect of a byte on a row: where it still lives, and how many cells were looked at.
 #[derive(Clone, Copy)]
 pub(crate) struct Renewal {
     pub(crate) window: Option<Window>,
@@ -162,7 +162,7 @@ pub(crate) fn renew(
     }
 }
 
-/// Whether the cell before `k` may live at a byte: one that lived behind it, or one before a cell
+/// Whether the cell before `k` may live at a byte: one that lived after it, or one before a cell
 /// that fits.
 fn is_open(k: usize, low: usize, old_next: bool, new_next: bool) -> bool
     ensures { result ≡ (nat_lt 0 k && (nat_lt low k || old_next || new_next)) }
@@ -170,7 +170,7 @@ fn is_open(k: usize, low: usize, old_next: bool, new_next: bool) -> bool
     k > 0 && (k > low || old_next || new_next)
 }
 
-/// The window with the cell at `k`, which stands before it, where that cell lives.
+/// The window with the cell at `k`, which is before it, if that cell lives.
 fn window_with(window: Option<Window>, k: usize, cell: Cell) -> Option<Window>
     ensures { Widens k cell window result }
 {

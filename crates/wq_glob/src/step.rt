@@ -5,7 +5,7 @@ ghost use Rattle.wq_glob.specs.Step.{step_reach};
 
 use crate::byte_set::ByteSet;
 
-/// What an atom takes of a text.
+/// The bytes of a text that an atom takes.
 #[derive(Clone, Copy, Debug)]
 pub(crate) enum Step {
     /// One byte, this one; without case where the pattern is, and then kept in lower case.
@@ -20,7 +20,7 @@ pub(crate) enum Step {
     Below,
     /// `**` at the end: all that is left, slashes too.
     Tail,
-    /// What no text has.
+    /// A byte that no text has.
     Never,
 }
 

@@ -1,6 +1,6 @@
-//! Compares `wq_glob` with a plain matcher that tries every cut: all patterns of up to four bytes of an alphabet on all
-//! short texts of another, for each of the sixteen sets of flags (1 wholename, 2 dotfiles, 4 noescape, 8 fold, added).
-//! Prints how many pairs fit, and how many answers differ.
+//! Compares `wq_glob` with a plain matcher that tries every cut. It tries all patterns of up to four bytes of an
+//! alphabet on all short texts of another. It does so for each of the sixteen sets of flags (1 wholename, 2 dotfiles, 4
+//! noescape, 8 fold, added). Prints how many pairs fit, and how many answers differ.
 #![tactic(auto)]
 
 use plain::{atoms, fits};
@@ -37,7 +37,7 @@ fn words(alloc: Global, alphabet: &[u8], longest: usize) -> anyhow::Result<Vec<V
     Ok(all)
 }
 
-/// What came of many comparisons.
+/// The result of many comparisons.
 #[derive(Clone, Copy)]
 struct Tally {
     fitting: u64,

@@ -1,11 +1,11 @@
 //! A plain matcher for patterns without named classes: it reads a pattern into atoms and tries every cut of the text.
-//! It is slow and stands only for comparison.
+//! It is slow and serves only for comparison.
 ghost use Rattle.std.specs.Prelude.{◌<◌, ◌≤◌, length};
 
 use std::alloc::{AllocError, Global};
 use wq_glob::Flags;
 
-/// What one part of a text is cut for.
+/// The atom for which one part of a text is cut.
 #[derive(Drop)]
 pub enum Atom {
     Literal(u8),
@@ -21,7 +21,7 @@ pub enum Atom {
     Nothing,
 }
 
-/// The place behind the last star of the run that begins at `at`.
+/// The place after the last star of the run that begins at `at`.
 fn behind_stars(text: &[u8], at: usize) -> usize
     requires { at ≤ length text.now }
     ensures from { at ≤ result }
@@ -35,7 +35,7 @@ fn behind_stars(text: &[u8], at: usize) -> usize
     text.len()
 }
 
-/// The byte that stands at `at`, behind its backslash where it has one, and the place behind it.
+/// The byte at `at`, after its backslash if it has one, and the place after it.
 fn letter(text: &[u8], at: usize, flags: Flags) -> Option<(u8, usize)>
     requires { at < length text.now }
 {
@@ -48,7 +48,7 @@ fn letter(text: &[u8], at: usize, flags: Flags) -> Option<(u8, usize)>
     }
 }
 
-/// The class whose first item begins at `from`, and the place behind its end.
+/// The class whose first item begins at `from`, and the place after its end.
 fn class(
     alloc: Global,
     text: &[u8],
@@ -81,7 +81,7 @@ fn class(
     Ok(None)
 }
 
-/// The atom that begins at `at`, and the place behind it.
+/// The atom that begins at `at`, and the place after it.
 fn next_atom(
     alloc: Global,
     text: &[u8],

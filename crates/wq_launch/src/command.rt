@@ -30,7 +30,7 @@ pub(crate) fn command_of(alloc: Global, start: &Start) -> io::Result<Command>
     Ok(command)
 }
 
-/// Where a command reads its input from: an empty one is `/dev/null`, and else a pipe.
+/// The input of a command: an empty one is `/dev/null`, and else a pipe.
 fn input_of(start: &Start) -> Stdio
     ensures { makes_pipe result ≡ not (nat_eq (length start.now.input) 0) }
 {

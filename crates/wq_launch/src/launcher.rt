@@ -1,4 +1,5 @@
-//! The launcher of commands. Those who take what it started have a thread attend each of them.
+//! The launcher of commands. The caller takes the commands that it started, and has a thread attend
+//! each of them.
 ghost use Rattle.std.specs.Prelude.{◌≡◌, ◌<◌, ◌++◌, [], None, IfErr, IfOk, OnErr, OnOk};
 ghost use Rattle.std.specs.Prelude.{length, option_to_list, OnSome};
 ghost use Rattle.wq_follow.specs.Launcher.{Rose, StartsRun, run_of};

@@ -1,6 +1,6 @@
 //! Starting the commands of triggers by the system, and hearing of their ends.
 //!
-//! A [`Launcher`] starts commands and keeps them. Who runs it takes each of them afterwards and has
+//! A [`Launcher`] starts commands and keeps them. Its caller takes each of them afterwards and has
 //! a thread attend it ([`attend`]), and tells the operator its lines.
 #![tactic(auto)]
 

@@ -6,7 +6,7 @@ use std::io;
 use std::process::{Child, Processes, SystemProcess};
 use wq_follow::Start;
 
-/// What starts commands, which then run beside the server.
+/// Starts commands, which then run beside the server.
 pub trait Spawn {
     /// Starts a command. If its input is empty, then so is its standard input.
     fn spawn(&self, alloc: Global, start: &Start) -> io::Result<Child>;

@@ -1,4 +1,5 @@
--- What one more event changes of the roots that were started or are shown, and of their passes.
+-- The changes that one more event makes to the roots that were started or are shown, and to their
+-- passes.
 use Rattle.std.proofs.Common.{◌≡◌, ◌≢◌, ◌==◌, ℕ, ◌<◌, ◌≤◌, Bool, true, false, not, ◌&&◌, ◌||◌, List, [], ◌∷◌, ◌++◌, filter, None, refl, ap, sym, ◌∙◌, arith, append-nil}
 use Rattle.std.specs.FinMap.{FinMap, empty}
 use Rattle.std.specs.List.{AllByRecursion}
@@ -86,7 +87,7 @@ shown_after_end events n =
 pub passes_after : (m : ℕ) (events : List RootEvent) (e : RootEvent) → passes_over m (events ++ e ∷ []) ≡ passes_over m events ++ passes_over m (e ∷ [])
 passes_after m events e = filter_map-append (pass_in m) events (e ∷ [])
 
--- the map of the last pass, where this map stands before the first
+-- the map of the last pass, with this map before the first
 abbrev last_from : FinMap name_cmp Stat → History → FinMap name_cmp Stat
 last_from before [] = before
 last_from before (p ∷ ps) = last_from p.stats ps

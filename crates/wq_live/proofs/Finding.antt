@@ -1,4 +1,4 @@
--- Answers of a search, seen behind a reference and as they are.
+-- Answers of a search, seen through a reference and as they are.
 use Rattle.std.proofs.Common.{◌≡◌, true, false, Result, Err, Option, Some, None, option_map, is_some, sym}
 
 -- where the answer is none, none is found

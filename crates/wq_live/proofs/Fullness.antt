@@ -1,4 +1,4 @@
--- What a table says of the list of which it is the table: how many roots, and which text.
+-- The facts that a table says of its list: how many roots, and which text.
 use Rattle.std.proofs.Common.{◌≡◌, ◌⊎◌, ◌↔◌, ◌==◌, ℕ, Bool, true, false, IsTrue, if◌then◌else◌, List, [], ◌∷◌, length, Result, Ok, Err, Option, Some, None, option_map, is_some, IfSome, refl, ap, sym, subst, ◌∙◌}
 use Rattle.std.specs.FinMap.{empty, len}
 use Rattle.std.specs.List.{find}

@@ -1,4 +1,4 @@
--- Where a pass wants for ticks, by what the view of its root answers.
+-- A pass for which ticks run out, by the answer of its root's view.
 use Rattle.std.proofs.Common.{◌≡◌, ◌≢◌, ◌↔◌, ℕ, true, List, length, Result, Ok, Err, sym, ap, ◌∙◌}
 use Rattle.wq_view.specs.Limit.{max_tick}
 use Rattle.wq_view.specs.Listing.{PassData}

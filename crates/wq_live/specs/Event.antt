@@ -1,6 +1,5 @@
--- What happened to roots, in order: their starts, the passes over them and their ends. From that
--- follows which roots are shown, and which passes each of them had.
--- No public document is behind it.
+-- The events of roots, in order: their starts, the passes over them and their ends. From that
+-- follows which roots are shown, and which passes each of them had. No public document defines it.
 use Rattle.std.specs.Prelude.{◌≡◌, ◌≤◌, ◌⊎◌, ◌==◌, ℕ, Bool, false, not, if◌then◌else◌, All, List, [], ◌∷◌, length, map, filter, find, bytes_eq, Option, Some, None, option_map}
 use Rattle.std.specs.FinMap.{len}
 use Rattle.std.specs.List.{filter_map, list_any, range_with_len}
@@ -68,9 +67,9 @@ IsFull events = (length (shown events) ≡ max_roots) ⊎ (length (started event
 abbrev pub passes_over : ℕ → List RootEvent → History
 passes_over number events = filter_map (pass_in number) events
 
--- what holds of each list that the server makes: the roots got the numbers 1, 2, 3 and so on, no
--- event is about a number beyond the last one, and of the passes over a root each saw something
--- else than the one before
+-- the facts of each list that the server makes. The roots got the numbers 1, 2, 3 and so on, and no
+-- event is about a number beyond the last one. Of the passes over a root each saw something else
+-- than the one before
 pub record IsLawfulList (events : List RootEvent) : Type 0 where
   pub numbers : map (λ root. root.number) (started events) ≡ range_with_len 1 (length (started events))
   pub known : All (λ event. number_in event ≤ length (started events)) events

@@ -1,5 +1,5 @@
--- A beginning of the one list of events of all roots, as a thread knows it.
--- No public document is behind it.
+-- A beginning of the one list of events of all roots, as a thread knows it. No public document
+-- defines it.
 use Rattle.std.specs.Prelude.{◌≡◌, ◌==◌, MatchBool, ℕ, Bool, true, nat_lt, if◌then◌else◌, List, [], ◌∷◌, ◌++◌, length, refl}
 use Rattle.std.specs.Prelude.{Option, Some, None}
 use Rattle.std.specs.Coded.{Coded, code_by, coded×, coded_list}
@@ -28,7 +28,7 @@ log_code =
 abbrev pub BeginsLog : LogData → LogData → Type 0
 BeginsLog a b = (a.book ≡ b.book) × IsPrefix a.log b.log
 
--- how two logs of one list stand to each other: the shorter begins the other
+-- how two logs of one list compare: the shorter begins the other
 abbrev pub Compared : LogData → LogData → Type 0
 Compared a b = MatchBool (nat_lt (length a.log) (length b.log)) (BeginsLog a b) (BeginsLog b a)
 

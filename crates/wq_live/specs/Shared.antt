@@ -1,5 +1,5 @@
--- What threads know of the value that they share: each seat has seen a beginning of its list.
--- No public document is behind it.
+-- The knowledge that threads have of the value that they share: each seat has seen a beginning of
+-- its list. No public document defines it.
 use Rattle.std.specs.Prelude.{◌≡◌, ℕ, List, Option, Some, None}
 use mathlib.Core.Option.{some}
 use lib.ListN.{get_elem?}

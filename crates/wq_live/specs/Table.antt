@@ -1,5 +1,5 @@
--- The table of all roots: each root that is shown, with the view of the passes over it.
--- No public document is behind it.
+-- The table of all roots: each root that is shown, with the view of the passes over it. No public
+-- document defines it.
 use Rattle.std.specs.Prelude.{◌≡◌, ◌≢◌, ◌==◌, ◌⊎◌, ◌+◌, ℕ, Bool, true, false, if◌then◌else◌, not, All, List, [], ◌∷◌, ◌++◌, length, map, filter, find, bytes_eq, Option, option_map, refl}
 use Rattle.std.specs.Coded.{Coded, code_by, coded×, coded_ℕ, coded_list}
 use Rattle.wq_base.specs.Limit.{max_number, max_roots}
@@ -39,8 +39,8 @@ table_code =
     (λ table. (table.roots, table.given))
     (λ (roots, given). record { roots = roots; given = given }) (λ _. refl)
 
--- the table of a list of events: its roots are those that are shown there, and the view of each is
--- that of the passes over it
+-- the table of a list of events: its roots are those shown there, and the view of each is that of
+-- the passes over it
 pub record IsTableOf (events : List RootEvent) (table : TableData) : Type 0 where
   pub lawful : IsLawfulList events
   pub given : table.given ≡ length (started events)

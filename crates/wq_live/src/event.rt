@@ -1,9 +1,9 @@
-//! What happens to a root. What follows from a list of events stands in `specs/Event.antt`.
+//! The events of a root. `specs/Event.antt` says what follows from a list of events.
 
 use wq_base::Text;
 use wq_view::Pass;
 
-/// What happened to a root, by the number of the root.
+/// An event of a root, by the number of the root.
 #[derive(Drop)]
 pub enum RootEvent {
     /// It was started, under a number that no root had before.

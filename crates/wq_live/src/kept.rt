@@ -1,14 +1,15 @@
-//! What threads keep of the value that they share: what a seat knows begins the list of what is shown.
+//! The rule that threads keep about the value that they share: the list that a seat knows begins the list that is
+//! shown.
 
 use crate::log::Log;
 use crate::shown::Shown;
 use atomic_table::{Join, Split};
 use crossbeam_utils::rule::{Outcome, Protocol};
 
-/// What a seat knows of the list: nothing yet, or a beginning.
+/// The list that a seat knows: nothing yet, or a beginning.
 pub type Known = Option<Log>;
 
-/// What each seat knows begins the list of what is shown.
+/// The list that each seat knows begins the list that is shown.
 pub struct Kept;
 
 impl Protocol<Shown, Option<Log>> for Kept {

@@ -1,6 +1,6 @@
-//! The views of all roots: which roots are shown, and the view of each, as they follow from one list of what
-//! happened to the roots. A publisher changes the list, and seats look at its table from other threads. Nothing
-//! here walks a tree of files.
+//! The views of all roots: which roots are shown, and the view of each, as they follow from one list of events.
+//! A publisher changes the list, and seats look at its table from other threads. Nothing here walks a tree of
+//! files.
 #![tactic(auto)]
 
 mod blank;

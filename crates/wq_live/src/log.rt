@@ -7,7 +7,7 @@ use crate::event::RootEvent;
 use logbook::{Gain, Offer, Plain, Play, Rule, Seen, Word};
 use std::marker::Model;
 
-/// What is kept of the list and of the word that threads share: the word is its length.
+/// The rule of the list and of the word that threads share: the word is its length.
 pub struct Law;
 
 impl Rule<RootEvent, u64> for Law {

@@ -1,4 +1,4 @@
-//! Which list of events it is: a name that exists in proofs alone, so that what is of one list never meets what is of
+//! The name of a list of events. It exists in proofs alone, so that a value of one list never meets a value of
 //! another.
 
 use std::marker::Brand;

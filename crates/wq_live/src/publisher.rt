@@ -126,8 +126,8 @@ impl<N: Named, R: Wait + Drop> Publisher<N, R> {
         self.table().len()
     }
 
-    /// Publishes the start of a root that is not shown, whose first pass this is, and gives its number: one more than
-    /// the number of the last start. It tells the list after it.
+    /// Publishes the start of a root that is not shown, whose first pass this is. It gives the root's number: one
+    /// more than the number of the last start. It tells the list after it.
     ///
     /// Refused where 16 roots are shown or the number 2^62 was given. An error changes nothing. It waits for those
     /// that still look at the value before the last one.
@@ -148,7 +148,7 @@ impl<N: Named, R: Wait + Drop> Publisher<N, R> {
         Ok((number, told))
     }
 
-    /// What is published now.
+    /// The list that is published now.
     pub fn told(&self) -> Result<Told<N>, AllocError>
         ensures { IfOk result (λ told. told ≡ self.now) }
     {
@@ -238,7 +238,7 @@ impl<N: Named, R: Wait + Drop> Publisher<N, R> {
     }
 }
 
-/// What the start of a root adds: its start, and its first pass unless that saw no file.
+/// The events that the start of a root adds: its start, and its first pass unless that saw no file.
 fn start_events(
     alloc: Global,
     number: u64,

@@ -19,7 +19,7 @@ use std::marker::{Model, PhantomData};
 use std::sync::Arc;
 use wq_view::View;
 
-/// What the publisher told: the list of events as of that moment, with its table. Contracts see the list.
+/// The list of events that the publisher told, as of that moment, with its table. Contracts see the list.
 #[derive(Drop)]
 pub struct Told<N: Named> {
     shown: Shown,
@@ -53,8 +53,8 @@ impl<N: Named> Told<N> {
     }
 }
 
-/// A seat. Contracts see the list with which its next look begins: the longest that it was told, where that goes beyond
-/// what it saw, and else what it saw. No table is kept that a look would not show.
+/// A seat. Contracts see the list with which its next look begins. That is the longest that it was told, if that goes
+/// beyond what it saw, and else what it saw. No table is kept that a look would not show.
 #[derive(Drop)]
 pub struct Seat<N: Named> {
     reader: Reader<Shown, Option<Log>, Kept>,
@@ -153,7 +153,7 @@ impl<N: Named> Seat<N> {
 /// It is not `Drop`: end it by `leave`.
 pub struct Look<N: Named> {
     reading: Reading<Shown, Option<Log>, Kept>,
-    /// What was told, where that is longer than what is shown.
+    /// The list that was told, if that is longer than the one that is shown.
     told: Option<Shown>,
     of: PhantomData<N>,
 }
@@ -256,7 +256,7 @@ impl<N: Named> Look<N> {
     }
 }
 
-/// What was told, where it goes beyond this list.
+/// The list that was told, if it goes beyond this one.
 fn ahead(log: &Log, told: Shown) -> Option<Shown>
     requires { log.now.book ≡ told.book }
     ensures ahead { IsAhead log.now result }

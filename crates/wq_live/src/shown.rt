@@ -77,7 +77,7 @@ impl Shown {
     }
 }
 
-// What is published replaces what was published, whole.
+// A newly published value replaces the old one, whole.
 impl Absorb<Shown> for Shown {
     type State = Shown;
 

@@ -1,5 +1,5 @@
-//! The table of all roots that are shown. Each change makes a new table and leaves the old one, with which it shares
-//! the texts, and the views of the roots that did not change.
+//! The table of all roots that are shown. Each change makes a new table and leaves the old one. The two share the
+//! texts, and the views of the roots that did not change.
 ghost use Rattle.std.specs.Prelude.{◌≡◌, ◌≢◌, ◌≤◌, ◌<◌, ◌+◌, ◌++◌, ◌∷◌, ◌↔◌, ◌⊎◌, [], Err, IfErr, IfNone, IfOk, IfSome, IsTrue, List, MatchOption, MatchResult, None, Some, false, find, length, map, option_map, true};
 ghost use Rattle.wq_base.specs.Limit.{max_number, max_roots};
 ghost use Rattle.wq_live.specs.declared.event.RootEvent.{RootEvent};
@@ -234,8 +234,8 @@ impl RootTable {
         Ok(roots)
     }
 
-    /// The table after a pass over the root of this number; none where nothing is added, since the root is not
-    /// shown or the last pass over it saw just the same.
+    /// The table after a pass over the root of this number. There is none if nothing is added: the root is not
+    /// shown, or the last pass over it saw just the same.
     ///
     /// Refused where the root's ticks are spent and the pass saw something else, and for want of memory.
     pub fn with_pass(&self, number: u64, pass: &Pass) -> Result<Option<RootTable>, ViewFault>

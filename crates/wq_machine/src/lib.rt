@@ -1,9 +1,9 @@
 //! The machine that runs programs on the records of files. Every program that may run gives a yes
-//! or a no on every record, within its budget: never short of an operand, never outside its code or
-//! its constants. So the loop has no test for any of these, and no refusal.
+//! or a no on every record, within its budget. It is never short of an operand, and never outside
+//! its code or its constants. So the loop has no test for any of these, and no refusal.
 //!
-//! What a run means is defined in `wq_code`'s `specs/Machine.antt`, and what a program reads of a
-//! record in `specs/Item.antt`. This crate takes no memory.
+//! `wq_code`'s `specs/Machine.antt` defines what a run means, and `specs/Item.antt` what a program
+//! reads of a record. This crate takes no memory.
 #![tactic(auto)]
 
 mod ahead;

@@ -1,4 +1,4 @@
--- What a value asks is what the grammar has written by it.
+-- A value asks exactly the query that the grammar has written by it.
 use Rattle.std.proofs.Common.{◌≡◌, ℕ, ℤ, Bool, true, false, not, ◌&&◌, ◌||◌, List, [], ◌∷◌, codes, Option}
 use Rattle.std.specs.Prelude.{◌⊎◌}
 use Rattle.std.proofs.Common.{Some, None, option_map, Result, Ok, Err, refl, sym, ap, subst, ◌∙◌, inl, inr}
@@ -354,7 +354,7 @@ abbrev pub from_expression : InstanceData → Data → Result QueryData QueryFau
 from_expression instance d =
     or_its_fault Expression (expression_of instance (get (codes "expression") d)) (λ t. from_fields instance d t)
 
--- from the two that do not stand together on
+-- from the two keys that exclude each other on
 abbrev pub from_both : InstanceData → Data → Result QueryData QueryFault
 from_both instance d = unless_fault ExpressionAndProgram (not (has_both d)) (from_expression instance d)
 

@@ -1,4 +1,4 @@
--- What is asked, from what each key says.
+-- The query that is asked, from what each key says.
 use Rattle.std.proofs.Common.{◌≡◌, ℕ, Bool, false, ◌==◌, List, [], ◌∷◌, length, codes}
 use Rattle.std.proofs.Common.{Option, Some, None, Result, Ok, Err, Vec, refl, sym, ap, subst}
 use mathlib.Core.Bool.{false≢true}

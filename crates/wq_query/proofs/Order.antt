@@ -52,7 +52,7 @@ put-fields instance bound r gs (f ∷ fs) =
     ap (λ ms. members_with instance bound r ms fs) (put-field instance bound r f gs)
     ∙ put-fields instance bound r (with_field f gs) fs
 
--- from a place on: its field, and those behind it
+-- from a place on: its field, and those after it
 from : (gs : List Field) (i : ℕ) (g : Field) → i < length gs → g ≡ get_or gs i g
     → drop i gs ≡ g ∷ drop (i + 1) gs
 from gs i g h here = cc (drop-cons gs i g h, add-one i)
@@ -71,7 +71,7 @@ put-equal gs i f g h here is =
     let back = ap (λ fs. take i gs ++ fs) (sym (from gs i g h here)) in
     rw (from gs i g h here, is) (back ∙ take-append-drop i gs)
 
--- the field comes behind that at the place
+-- the field comes after that at the place
 pub put-greater : (gs : List Field) (i : ℕ) (f g : Field) → i < length gs → g ≡ get_or gs i g
     → slice_cmp nat_cmp (field_name f) (field_name g) ≡ Greater
     → take (i + 1) gs ++ with_field f (drop (i + 1) gs) ≡ take i gs ++ with_field f (drop i gs)
@@ -80,7 +80,7 @@ put-greater gs i f g h here is =
     let more = ap (λ fs. fs ++ rest) (take_more gs i g h) ∙ append_assoc (take i gs) _ rest in
     rw (from gs i g h here, is) (more ∙ ap (λ k. take i gs ++ k ∷ rest) (sym here))
 
--- the field comes behind all of them
+-- the field comes after all of them
 pub put-last : (gs : List Field) (i : ℕ) (f : Field) → i ≡ length gs
     → take i gs ++ with_field f (drop i gs) ≡ gs ++ f ∷ []
 put-last gs i f h = rw (h, take-length gs, drop-length gs) refl

@@ -1,4 +1,4 @@
--- What `path` says is what the grammar has written by it.
+-- `path` says exactly the paths that the grammar has written by it.
 use Rattle.std.proofs.Common.{◌≡◌, ℕ, ℤ, pos, negsuc, List, [], ◌∷◌, ◌++◌, Option, Some, None}
 use Rattle.std.proofs.Common.{option_map, option_and_then, refl, sym, ap, subst, ◌∙◌}
 use Rattle.std.specs.Prelude.{codes}

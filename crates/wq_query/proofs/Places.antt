@@ -32,8 +32,8 @@ pub says_unnamed : (name : Option (List ℕ)) (raw : Raw) (t : ExprData) → Ans
     → (name ≡ None → AnswersMeaning raw t) → name ≡ None → SaysMeaning raw t
 says_unnamed name raw t law valid answers none = says_meaning raw t law valid (answers none)
 
--- the program of a plan decides which files are meant: it is the one of the query's name, or says
--- what the expression means where the query has none
+-- the program of a plan decides which files are meant. It is the one of the query's name; if the
+-- query has none, it says what the expression means
 pub program_decides : (name : Option (List ℕ)) (raw : Raw) (t : ExprData) → (name ≡ None → SaysMeaning raw t)
     → (r : RecordData) → says_yes raw r ≡ is_meant (option_map (λ _. raw) name) t r
 program_decides None raw t says r = says refl r

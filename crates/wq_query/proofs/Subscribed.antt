@@ -1,4 +1,4 @@
--- What a subscription asks has no generators and no cursor.
+-- The query of a subscription has no generators and no cursor.
 use Rattle.std.proofs.Common.{◌≡◌, Bool, true, false, ◌||◌, is_some, codes, Option, Some, None}
 use Rattle.std.proofs.Common.{Result, Ok, Err, refl, sym, ap, subst, ◌∙◌}
 use Rattle.std.proofs.Common.{if◌then◌else◌}

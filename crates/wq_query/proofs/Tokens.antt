@@ -35,7 +35,7 @@ pub member-more : (ts all : List Token) (k : List ℕ) (d : Data) (ms : Members)
     → ((ts ++ Token.key k ∷ []) ++ json_tokens (outline d)) ++ members_tokens (members_outline ms) ≡ all
 member-more ts all k d ms e = append_assoc (ts ++ Token.key k ∷ []) _ _ ∙ append_assoc ts _ _ ∙ e
 
--- three parts one behind the other
+-- three parts one after the other
 pub three-parts : {A : Type 0} (a b c d x y z : List A) → b ≡ a ++ x → c ≡ b ++ y → d ≡ c ++ z
     → d ≡ a ++ (x ++ (y ++ z))
 three-parts a b c d x y z first second third =

@@ -1,5 +1,5 @@
--- What a plan that is used again and again tells.
--- From Watchman's documentation of `subscribe` and of `trigger`.
+-- The answers of a plan that is used again and again. From Watchman's documentation of `subscribe`
+-- and of `trigger`.
 use Rattle.std.specs.Prelude.{ℕ, true, List, codes, map}
 use Rattle.serde_json.specs.Data.{Data, boolean, string, array, object, no_members, member}
 use Rattle.serde_json.specs.View.{items_of}

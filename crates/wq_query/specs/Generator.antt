@@ -1,4 +1,4 @@
--- What the keys `suffix` and `path` say: the generators of a query beside its `since`. From
+-- The generators of a query beside its `since`: what the keys `suffix` and `path` say. From
 -- Watchman's documentation of the generators of file queries; the limits are this server's own.
 use Rattle.std.specs.Prelude.{ℕ, ℤ, pos, negsuc, List, [], codes, Option, Some, None}
 use Rattle.std.specs.Prelude.{option_map, option_and_then}

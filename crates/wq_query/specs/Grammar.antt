@@ -27,7 +27,7 @@ use Rattle.wq_query.specs.Reading.{left_out_keys}
 abbrev pub IsExpression : InstanceData → ExprData → Data → Type 0
 IsExpression instance t d = IsTermWrittenBy instance t d × (depth_of t ≤ max_depth)
 
--- fields by their names, one behind the other
+-- fields by their names, one after the other
 abbrev pub AreNamed : List Field → Items → Type 0
 AreNamed [] no_items = Unit {0}
 AreNamed (field ∷ fields) (item d ds) = IsWord (field_name field) d × AreNamed fields ds
@@ -38,7 +38,7 @@ abbrev pub AreFields : List Field → Data → Type 0
 AreFields (field ∷ fields) (array ds) = AreNamed (field ∷ fields) ds
 AreFields _ _ = ⊥
 
--- texts: they stand in a list, or there is one
+-- texts: they are in a list, or there is one
 abbrev pub AreSuffixes : Option (List (List ℕ)) → Data → Type 0
 AreSuffixes (Some texts) d = AreTexts texts d
 AreSuffixes None d = ⊥
@@ -51,7 +51,7 @@ IsPath p d =
     MatchOption (get (codes "path") d) ⊥ (IsDirectory p.path)
     × MatchOption (get (codes "depth") d) ⊥ (IsBetween (negsuc 0) (pos max_number) p.depth)
 
--- paths, one behind the other
+-- paths, one after the other
 abbrev pub ListPaths : List PathGen → Items → Type 0
 ListPaths [] no_items = Unit {0}
 ListPaths (p ∷ ps) (item d ds) = IsPath p d × ListPaths ps ds
@@ -62,7 +62,7 @@ abbrev pub ArePaths : Option (List PathGen) → Data → Type 0
 ArePaths (Some paths) (array ds) = ListPaths paths ds
 ArePaths _ _ = ⊥
 
--- a cursor: its name, of 1 to 255 bytes, stands behind `n:`
+-- a cursor: its name, of 1 to 255 bytes, follows `n:`
 abbrev pub IsCursor : List ℕ → Data → Type 0
 IsCursor name (string text) = IsClockSpelling (named_cursor name) text
 IsCursor name _ = ⊥
@@ -77,7 +77,7 @@ abbrev pub IsProgram : Option (List ℕ) → Data → Type 0
 IsProgram (Some name) d = IsWord name d
 IsProgram None d = ⊥
 
--- the query is written by this value, at this instance: each key is missing, and then the first
+-- the query is written by this value, at this instance. Each key is missing, and then the first
 -- thing holds, or it is there, and the second holds of its value
 pub record IsWrittenBy (instance : InstanceData) (query : QueryData) (d : Data) : Type 0 where
   -- no key that would change the answer otherwise
@@ -85,7 +85,7 @@ pub record IsWrittenBy (instance : InstanceData) (query : QueryData) (d : Data) 
   -- names are compared byte by byte
   pub case_sensitive : MatchOption (get (codes "case_sensitive") d)
       (Unit {0}) (λ value. value ≡ boolean true)
-  -- an expression and a program do not stand together
+  -- an expression and a program are not there together
   pub one_at_most : (get (codes "expression") d ≡ None) ⊎ (get (codes "program") d ≡ None)
   -- every file, or those that an expression matches
   pub expression : MatchOption (get (codes "expression") d)

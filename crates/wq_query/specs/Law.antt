@@ -1,5 +1,4 @@
--- What reading queries and their grammar have to do with each other.
--- No public document is behind it.
+-- Laws about reading queries and their grammar. No public document defines it.
 use Rattle.std.specs.Prelude.{◌≡◌, ◌↔◌, Ok}
 use Rattle.serde_json.specs.Data.{Data}
 use Rattle.wq_clock.specs.Instance.{InstanceData}

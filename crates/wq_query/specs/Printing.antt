@@ -1,5 +1,5 @@
--- What is printed of a reply: the tokens of its data, which the writer parts by commas and colons.
--- The tokens are those of the kit's crate `json`; their text is compact JSON of RFC 8259.
+-- The tokens that are printed of a reply's data, which the writer parts by commas and colons. The
+-- tokens are those of the kit's crate `json`; their text is compact JSON of RFC 8259.
 use Rattle.std.specs.Prelude.{◌≡◌, ◌++◌, List, [], ◌∷◌, OnOk, Result}
 use Rattle.std.specs.Ordering.{nat_cmp, match_ordering}
 use Rattle.std.specs.Cmp.Lexicographic.{slice_cmp}
@@ -17,12 +17,12 @@ use Rattle.wq_query.specs.declared.form.Form.TheVariants.{Bare, Object}
 use Rattle.wq_query.specs.Field.{field_name}
 use Rattle.wq_query.specs.Reply.{field_data, file_data}
 
--- where the result is right, these tokens stand behind what was written before
+-- if the result is right, these tokens follow what was written before
 abbrev pub Appends : {E : Type 0} → Result (Unit {0}) E → Written → Written → List Token → Type 0
 Appends result old new tokens =
     OnOk result ((new.before ≡ old.before) × (new.tokens ≡ old.tokens ++ tokens))
 
--- where the result is right, this data stands behind what was written before
+-- if the result is right, this data follows what was written before
 abbrev pub Prints : {E : Type 0} → Result (Unit {0}) E → Written → Written → Data → Type 0
 Prints result old new d = Appends result old new (json_tokens (outline d))
 

@@ -1,5 +1,5 @@
--- What a query asks, and the plan of answering it; what the types `Query` and `Plan` stand for.
--- The parts are keys of Watchman's documentation of file queries; programs are this server's own.
+-- Queries, and the plans of answering them, as the types `Query` and `Plan` stand for them. The
+-- parts are keys of Watchman's documentation of file queries; programs are this server's own.
 use Rattle.std.specs.Prelude.{ℕ, Bool, List, Option, Some, None, option_map}
 use Rattle.wq_clock.specs.declared.bound.Bound.{Bound}
 use Rattle.wq_code.specs.declared.raw.Raw.{Raw}
@@ -27,9 +27,10 @@ abbrev pub since_cursor : SinceData → Option (List ℕ)
 since_cursor (at_bound bound) = None
 since_cursor (at_cursor name) = Some name
 
--- which files match: those of an expression, or those that the program of a name answers yes for,
--- where one is named; what is told of each, from where changes are asked for, with which suffixes
--- and at which paths, and whether the list is empty where nothing is known to the client
+-- the files that match are those of an expression; or those that the program of a name answers yes
+-- for, if one is named. A query also says what is told of each, and from where changes are asked
+-- for. It says with which suffixes and at which paths, and whether the list is empty if nothing is
+-- known to the client
 pub record QueryData : Type 0 where
   pub expression : ExprData
   pub program : Option (List ℕ)
@@ -39,14 +40,14 @@ pub record QueryData : Type 0 where
   pub path : Option (List PathGen)
   pub empty_on_fresh_instance : Bool
 
--- a query, the bound with which it is answered, and the program that stood under the name that the
--- query has for one
+-- a query, the bound with which it is answered, and the program that was kept under the name that
+-- the query has for one
 pub record PlanData : Type 0 where
   pub query : QueryData
   pub bound : Bound
   pub program : Option Raw
 
--- what a `Since` stands for
+-- the data that a `Since` stands for
 abbrev pub since_data : Since → SinceData
 since_data (SinceBound bound) = at_bound bound
 since_data (Cursor name) = at_cursor name

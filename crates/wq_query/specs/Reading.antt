@@ -1,5 +1,5 @@
--- What a JSON object asks as a query, or its first fault.
--- The keys are those of Watchman's documentation of file queries.
+-- The query that a JSON object asks, or its first fault. The keys are those of Watchman's
+-- documentation of file queries.
 use Rattle.std.specs.Prelude.{ℕ, Bool, true, false, not, ◌&&◌, ◌||◌, List, [], ◌∷◌, codes}
 use Rattle.std.specs.Prelude.{Option, Some, None, is_some, option_map, Result, Ok}
 use Rattle.std.specs.Option.{option_and_then}

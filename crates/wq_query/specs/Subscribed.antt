@@ -1,5 +1,5 @@
--- What the object of a subscription asks: a query without generators and without a cursor.
--- From Watchman's documentation of `subscribe`; the order of faults is this server's own.
+-- The query that the object of a subscription asks, without generators and without a cursor. From
+-- Watchman's documentation of `subscribe`; the order of faults is this server's own.
 use Rattle.std.specs.Prelude.{◌≡◌, Bool, true, false, ◌||◌, is_some, codes}
 use Rattle.std.specs.Prelude.{None, Result, Ok, Err, if◌then◌else◌}
 use Rattle.std.specs.Option.{option_and_then}

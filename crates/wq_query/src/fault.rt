@@ -19,7 +19,7 @@ pub enum QueryFault {
     /// `fields` is no list of texts, is empty, or names an unknown field.
     #[error("unknown field")]
     UnknownField,
-    /// `suffix` is no text or list of texts, or `path` no list of paths; or a text has over 4,096
+    /// `suffix` is no text or list of texts, or `path` no list of paths. Or a text has over 4,096
     /// bytes, or a depth is below -1 or over 2^62.
     #[error("bad generator")]
     BadGenerator,

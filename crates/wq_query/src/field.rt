@@ -2,7 +2,7 @@
 ghost use Rattle.std.specs.Prelude.{◌≡◌};
 ghost use Rattle.wq_query.specs.Field.{field_name, field_named};
 
-/// What a reply tells of a file.
+/// A fact that a reply tells of a file.
 #[derive(Clone, Copy, Debug, PartialEq, Eq)]
 pub enum Field {
     /// `name`: the path below the root.

@@ -7,7 +7,7 @@ use crate::field::Field;
 use std::alloc::{AllocError, Global};
 use std::cmp::Ordering;
 
-/// What stands in a reply for a file.
+/// The form of a file in a reply.
 #[derive(Drop)]
 pub(crate) enum Form {
     /// The bare value of one field.

@@ -8,8 +8,7 @@ use wq_term::{
     bounds_say_what_they_write, numbers_say_what_they_write, values_say_what_they_write,
 };
 
-/// What [`Query::read`](crate::Query::read) reads is the grammar of queries, no value more and none
-/// less.
+/// [`Query::read`](crate::Query::read) reads exactly the values of the grammar of queries.
 pub fn values_ask_what_they_write()
     ensures { ValuesAskWhatTheyWrite }
 {
@@ -19,8 +18,8 @@ pub fn values_ask_what_they_write()
     numbers_say_what_they_write();
 }
 
-/// What [`Query::read_subscription`](crate::Query::read_subscription) reads has neither suffixes
-/// nor paths, and no cursor.
+/// A query that [`Query::read_subscription`](crate::Query::read_subscription) reads has neither
+/// suffixes nor paths, and no cursor.
 pub fn subscriptions_are_plain()
     ensures { SubscriptionsArePlain }
 {

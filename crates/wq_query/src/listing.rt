@@ -47,14 +47,14 @@ fn matching(alloc: Global, plan: &Plan, view: &View) -> Result<Vec<u32>, AllocEr
     ensures { IfOk result (λ places. places.items
         ≡ positions_of (is_match (planned plan.now)) view.now.records) }
 {
-    // What the contract of a view says of its length is for the proof alone.
+    // The contract of a view about its length is for the proof alone.
     view.len();
     positions_are_there();
     let places = candidates(alloc, view, generators(plan))?;
     filter(alloc, &plan.program, view, &places)
 }
 
-/// Where the candidates of the plan come from.
+/// The sources of the plan's candidates.
 #[tactic(auto, using(crate::proofs::Places::with_bound))]
 fn generators(plan: &Plan) -> &Generators
     ensures { result.now ≡ generators_of (planned plan.now) }

@@ -22,12 +22,12 @@ use wq_term::Expr;
 use wq_verify::Program;
 
 impl Query {
-    /// What a JSON object asks, at this instance of the server. The first fault refuses it: see
-    /// [`QueryFault`].
+    /// The query that a JSON object asks, at this instance of the server. The first fault refuses
+    /// it: see [`QueryFault`].
     ///
     /// Keys that are not known are ignored, and so are `dedup_results`, `defer` and `drop`. The
-    /// value of `sync_timeout` is tested here, and used by who crawls. A value that is no object
-    /// has no keys.
+    /// value of `sync_timeout` is tested here, and the caller that crawls uses it. A value that is
+    /// no object has no keys.
     pub fn read(alloc: Global, value: &Value, instance: &Instance) -> Result<Query, QueryFault>
         ensures { GivesQuery result (asks (instance_data instance.now) (data_of value.now)) }
     {
@@ -105,8 +105,8 @@ impl Query {
 
     /// The plan of answering the query with this bound, whichever the query sets.
     ///
-    /// The program is the one that stands under the name that the query has for one, or else one
-    /// that answers on every record what the query's expression means.
+    /// The program is the one that is kept under the name that the query has for one. Without a
+    /// name, it answers on every record what the query's expression means.
     pub fn plan(mut self, bound: Bound, program: Arc<Program>) -> Plan
         requires { (asked_of self).program ≡ None
             → AnswersMeaning program.value (asked_of self).expression }

@@ -46,7 +46,7 @@ pub(crate) fn print_reply(
     print_end(out, plan.bound)
 }
 
-/// Prints what stands before the files.
+/// Prints the bytes before the files.
 pub(crate) fn print_start(out: &mut Writer, clock: &str) -> Result<(), AllocError>
     ensures { Appends result out.old out.new (begin_object ∷ key (codes "clock")
         ∷ string_token clock.now ∷ key (codes "files") ∷ []) }
@@ -72,7 +72,7 @@ pub(crate) fn print_text(out: &mut Writer, name: &str, text: &str) -> Result<(),
     out.string(text)
 }
 
-/// Prints what stands behind the files.
+/// Prints the bytes after the files.
 fn print_end(out: &mut Writer, bound: Bound) -> Result<(), AllocError>
     ensures { Appends result out.old out.new
         (key (codes "is_fresh_instance") ∷ boolean_token (is_fresh bound)

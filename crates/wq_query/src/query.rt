@@ -1,5 +1,5 @@
-//! A query and the plan of answering it, as they are kept. What can be done with them stands in
-//! `planning`.
+//! A query and the plan of answering it, as they are kept. `planning` has what can be done with
+//! them.
 ghost use Rattle.std.specs.Prelude.{◌≡◌, IsTrue, Some, None};
 ghost use Rattle.wq_term.specs.Expr.{term_of};
 ghost use Rattle.wq_term.specs.Fits.{expr_fits};
@@ -22,7 +22,8 @@ pub(crate) enum Since {
     Cursor(Text),
 }
 
-/// What a client asks of a view: which files, what of each, and what where nothing is known to it.
+/// A client's question to a view: which files, what of each, and what if nothing is known to the
+/// client.
 #[derive(Drop)]
 pub struct Query {
     pub(crate) expr: Expr,
@@ -37,7 +38,8 @@ pub struct Query {
 }
 
 /// A query with the bound from which its files are candidates, and the program that says which of
-/// them match: the one that its name stands for, or one that says what its expression means.
+/// them match. That is the one that its name stands for, or one that says what its expression
+/// means.
 #[derive(Drop)]
 pub struct Plan {
     pub(crate) query: Query,

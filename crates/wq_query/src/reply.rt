@@ -65,7 +65,7 @@ pub fn answer_bytes(
     Ok(text)
 }
 
-/// No bytes yet, with room for so many. Where that much is refused there is no room, and the bytes
+/// No bytes yet, with room for so many. If that much is refused there is no room, and the bytes
 /// grow.
 fn with_room(alloc: Global, room: usize) -> Vec<u8>
     ensures { result.items ≡ [] }
@@ -76,7 +76,7 @@ fn with_room(alloc: Global, room: usize) -> Vec<u8>
     }
 }
 
-/// What the plan tells of the files at these places.
+/// The values of the files at these places, as the plan tells them.
 fn files(
     alloc: Global,
     plan: &Plan,
@@ -97,7 +97,7 @@ fn files(
     Ok(files)
 }
 
-/// What is told of a file: the bare value of one field, or an object of several.
+/// The value of a file: the bare value of one field, or an object of several.
 fn file_value(
     alloc: Global,
     fields: &[Field],
@@ -119,7 +119,7 @@ fn file_value(
     Ok(Value::Object(members))
 }
 
-/// What a field says of a file.
+/// The value of a field of a file.
 fn field_value(
     alloc: Global,
     field: Field,

@@ -56,7 +56,7 @@ fn usual_name(view: &View, places: &[u32]) -> usize
     bytes.saturating_add(bytes / 8) / names.max(1)
 }
 
-/// The room of what is told of a file, with a comma behind it.
+/// The room of a file's value, with a comma after it.
 fn room_of_file(form: &Form, lengths: Lengths) -> usize {
     match form {
         Form::Bare(field) => room_of_field(*field, lengths).saturating_add(1),

@@ -15,7 +15,7 @@ use std::alloc::Global;
 use wq_clock::Instance;
 
 impl Query {
-    /// What the object of a subscription asks: a query without generators and without a cursor.
+    /// The query that the object of a subscription asks, without generators and without a cursor.
     ///
     /// A key of a generator is [`QueryFault::BadGenerator`], whatever its value is, and a cursor is
     /// [`QueryFault::BadClockSpec`]. All other faults come in the order of [`Query::read`].

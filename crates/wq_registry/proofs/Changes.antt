@@ -1,4 +1,4 @@
--- What lists of changes come to.
+-- The results of lists of changes.
 use Rattle.std.proofs.Common.{◌≡◌, ℕ, Bool, true, false, not, ◌||◌, cond, List, [], ◌∷◌, ◌++◌, filter, Option, None, Some, is_some, refl, sym, ap, subst, ◌∙◌, append_assoc, append-nil, true≢false}
 use Rattle.std.specs.List.{list_any}
 use Rattle.std.specs.Str.{bytes_eq}
@@ -23,7 +23,7 @@ turned a b h = by (bytes_eq b a) refl
     by true e = absurd (true≢false (sym (is_itself b) ∙ ap (λ m. bytes_eq m b) (same_text b a e) ∙ h))
     by false e = refl
 
--- each name stands once
+-- each name is there once
 abbrev pub Once : {A : Type 0} → ByName A → Type 0
 Once [] = Unit {0}
 Once (x ∷ xs) = (under x.0 xs ≡ None) × Once xs
@@ -60,7 +60,7 @@ module _ {A : Type 0} where
           rw other refl
       by false differs rest = ap (cond (bytes_eq name x.0) (Some x.1)) rest
 
-  -- a name that stands once and is taken out has nothing
+  -- a name that is there once and is taken out has nothing
   pub without-same : (n : List ℕ) (xs : ByName A) → Once xs → under n (without n xs) ≡ None
   without-same n [] h = refl
   without-same n (x ∷ xs) h = by (bytes_eq n x.0) refl (without-same n xs h.1)
@@ -144,7 +144,7 @@ module _ {A : Type 0} where
       by true h rest = refl
       by false h rest = ap (λ ns. x.0 ∷ ns) (rest h)
 
-  -- a new name stands last
+  -- a new name comes last
   names-put-new : (n : List ℕ) (a : A) (xs : ByName A) → is_some (under n xs) ≡ false → names (put n a xs) ≡ names xs ++ n ∷ []
   names-put-new n a [] h = refl
   names-put-new n a (x ∷ xs) h = by (bytes_eq n x.0) h (names-put-new n a xs)

@@ -56,7 +56,7 @@ pub same_loan : {D E : Type 0} (name : Perhaps GName) {F G : E → D} {v w : D} 
 same_loan name each none = λ j. read_of name (λ x. each x j) (none j)
 
 module _ {A Z : Type 0} (name : List ℕ) where
-  -- the things themselves stand under the same names
+  -- the things themselves are under the same names
   pub under-unshared : (xs : ByName (Arc A Z)) → under name (unshared xs) ≡ option_map (λ a. a.value) (under name xs)
   under-unshared [] = refl
   under-unshared (x ∷ xs) =
@@ -141,7 +141,7 @@ module _ {A Z : Type 0} (name : List ℕ) where
       ap (λ k. put_at k v (by_bytes es)) (sym (place_is (nat_lt (position_or_len (λ k. bytes_eq name (string_bytes k)) (keys_of es)) (length (keys_of es))) (position_or_len (λ k. bytes_eq name (string_bytes k)) (keys_of es)) k (sym is)))
       ∙ put-first v es (sym (there ∙ ap is_some (found name es)))
 
-  -- and what stands there stands under it
+  -- and the thing there is under it
   pub value_there : (es : List (String Z × A)) (r : Option ℕ) → IfSome r (λ k. slice_get (values_of es) k ≡ lookup (λ k. bytes_eq name (string_bytes k)) es) → IfSome r (λ k. slice_get (values (by_bytes es)) k ≡ under name (by_bytes es))
   value_there es None h = tt
   value_there es (Some k) h = ap (λ xs. slice_get xs k) (sym (same_values es)) ∙ h ∙ found name es

@@ -1,4 +1,4 @@
--- What lists of accepted calls come to.
+-- The results of lists of accepted calls.
 use Rattle.std.proofs.Common.{◌≡◌, List, [], ◌∷◌, refl}
 use Rattle.wq_registry.specs.Change.{made}
 use Rattle.wq_registry.specs.Shelf.{ShelfData, blank}

@@ -61,7 +61,7 @@ module _ {Z : Type 0} (cache : CacheData) (kept : List (Key × Arc Raw Z)) (key 
       subst (λ root. StandsFor (instance_at cache root) (string_bytes key.text) program.value) (sym same.0)
       (subst (λ text. StandsFor (instance_at cache (on.0).root) text program.value) (sym same.1) (meanings (on.0, program) on.1))
 
-  -- one that was asked for last stands first, and all stay
+  -- one that was asked for last comes first, and all stay
   pub still : KeepsMeanings cache kept → KeepsMeanings cache (promoted (λ k. nat_eq key.root k.root && bytes_eq (string_bytes key.text) (string_bytes k.text)) kept)
   still meanings e there = meanings e (Contains-promoted (λ k. nat_eq key.root k.root && bytes_eq (string_bytes key.text) (string_bytes k.text)) kept e there)
 

@@ -77,7 +77,7 @@ listed [] (item d ds) h = absurd h
 listed (t ∷ ts) no_items h = absurd h
 listed (t ∷ ts) (item d ds) h = omega (arith, text t d h.0, listed ts ds h.1)
 
--- a text that may stand in a list
+-- a text that may be in a list
 one_text : (t : List ℕ) (d : Data) → IsText t d → depth d ≤ 1
 one_text t d h = omega (arith, text t d h)
 
@@ -165,7 +165,7 @@ flags f (string s) h = absurd h
 flags f (array ds) h = absurd h
 flags f (object ms) h = omega (arith, flag_members ms h.0)
 
--- a pattern and what stands behind it
+-- a pattern and the values after it
 pattern : (p : PatternData) (ds : Items) → IsPattern p ds → items_depth ds ≤ 1
 pattern p no_items h = absurd h
 pattern p (item d no_items) h = omega (arith, flat d _ (h.0).0)

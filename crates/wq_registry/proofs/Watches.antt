@@ -23,7 +23,7 @@ turned_number a b h = by (nat_eq b a) refl
     by false e = refl
 
 module _ {T : Type 0} where
-  -- each number stands once
+  -- each number is there once
   abbrev Numbered : List (RootData T) → Type 0
   Numbered [] = Unit {0}
   Numbered (r ∷ rs) = (numbered r.number rs ≡ None) × Numbered rs
@@ -81,7 +81,7 @@ module _ {T : Type 0} where
         by true same h rest = let is : r ≡ x = cc in here (test r) same is
         by false differs h rest = there (test r) differs (rest h)
 
-    -- roots that are put behind others are found where those have none
+    -- roots that are put after others are found if those have none
     append-some : (rs ys : List (RootData T)) (x : RootData T) → numbered root rs ≡ Some x → numbered root (rs ++ ys) ≡ Some x
     append-some [] ys x h = let none : None ≡ Some x = h in cc
     append-some (r ∷ rs) ys x h = by (nat_eq root r.number) h (append-some rs ys x)
@@ -155,7 +155,7 @@ module _ {T : Type 0} where
       by true same h rest = let none : Some r ≡ None = h in cc
       by false differs h rest = (append-none r.number rs (y ∷ []) once.0 ∙ ap (λ b. cond b (Some y) None) (turned_number y.number r.number differs), rest h)
 
-  -- numbers stand once after every call
+  -- each number is there once after every call
   numbered-after : (c : Call T) (s : ShelfData T) → Numbered s.roots → Numbered (after c s).roots
   numbered-after (adds_program name program) s once = once
   numbered-after (removes_program name) s once = once

@@ -1,5 +1,4 @@
--- Things under names, in the order in which a client sees them.
--- No public document is behind it.
+-- Things under names, in the order in which a client sees them. No public document defines it.
 use Rattle.std.specs.Prelude.{ℕ, zero, suc, Bool, List, [], ◌∷◌, Option, None, Some, map, length}
 use Rattle.std.specs.Prelude.{is_some, not, ◌&&◌, nat_le, if◌then◌else◌}
 use Rattle.std.specs.Str.{bytes_eq}
@@ -22,7 +21,7 @@ module _ {A : Type 0} where
   under name [] = None
   under name (x ∷ xs) = if bytes_eq name x.0 then Some x.1 else under name xs
 
-  -- the things after one is put under a name: it takes the place of the one there, or stands last
+  -- the things after one is put under a name: it takes the place of the one there, or comes last
   abbrev pub put : List ℕ → A → ByName A → ByName A
   put name a [] = (name, a) ∷ []
   put name a (x ∷ xs) = if bytes_eq name x.0 then (x.0, a) ∷ xs else x ∷ put name a xs

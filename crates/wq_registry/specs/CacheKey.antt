@@ -1,5 +1,5 @@
--- Expressions as they are looked for among the programs that are kept.
--- No public document is behind it.
+-- Expressions as they are looked for among the programs that are kept. No public document defines
+-- it.
 use Rattle.std.specs.Prelude.{ℕ, ◌≡◌, List, Some, Ok}
 use Rattle.serde_json.specs.Data.{Data}
 use Rattle.serde_json.specs.Read.{read}

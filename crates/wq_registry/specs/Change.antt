@@ -1,5 +1,4 @@
--- Lists of changes of things under names, and what they come to.
--- No public document is behind it.
+-- Lists of changes of things under names, and what they come to. No public document defines it.
 use Rattle.std.specs.Prelude.{ℕ, ◌≡◌, Bool, false, List, [], ◌∷◌, ◌++◌, Option, None, Some, is_some}
 use Rattle.std.specs.Prelude.{◌||◌, if◌then◌else◌}
 use Rattle.std.specs.List.{list_any, slice_get}
@@ -42,8 +41,8 @@ module _ {A : Type 0} where
   takes_out name (putting n a) = false
   takes_out name (removing n) = bytes_eq name n
 
-  -- the name that a change brings in for good: it puts something under it, nothing was there after
-  -- the changes before, and no change after it takes it out
+  -- the name that a change brings in for good. The change puts something under it, nothing was
+  -- there after the changes before, and no change after it takes it out
   abbrev pub brings_in : List (Change A) → Change A → List (Change A) → List (List ℕ)
   brings_in before (putting name a) after =
       if is_some (last_said name before None) || list_any (takes_out name) after then []
@@ -60,8 +59,8 @@ abbrev pub LastChangeCounts : Type 0 → Type 0
 LastChangeCounts A = (changes : List (Change A)) (name : List ℕ)
     → under name (made changes []) ≡ last_said name changes None
 
--- names stand in the order in which they were brought in: at the first time that something was put
--- under them since they were taken out
+-- names are in the order in which they were brought in: when something was first put under them
+-- since they were taken out
 abbrev pub NamesStandInOrder : Type 0 → Type 0
 NamesStandInOrder A = (changes : List (Change A)) → names (made changes []) ≡ brought_in [] changes
 

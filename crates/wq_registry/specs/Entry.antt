@@ -1,5 +1,4 @@
--- Things under names, as they are kept: by texts that lie in memory.
--- No public document is behind it.
+-- Things under names, as they are kept: by texts that lie in memory. No public document defines it.
 use Rattle.std.specs.Prelude.{List, map}
 use Rattle.std.specs.declared.string.String.{String}
 use Rattle.std.specs.declared.sync.Arc.{Arc}

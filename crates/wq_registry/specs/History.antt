@@ -1,5 +1,4 @@
--- Lists of accepted calls, and what they come to.
--- No public document is behind it.
+-- Lists of accepted calls, and what they come to. No public document defines it.
 use Rattle.std.specs.Prelude.{ℕ, ◌≡◌, Bool, false, List, [], ◌∷◌, is_some, not, nat_eq, flat_map}
 use Rattle.std.specs.Prelude.{◌&&◌, ◌||◌, if◌then◌else◌}
 use Rattle.wq_code.specs.declared.raw.Raw.{Raw}

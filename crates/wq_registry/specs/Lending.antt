@@ -1,5 +1,5 @@
--- What a `&mut` into things under names leaves, once it has ended.
--- No public document is behind it.
+-- The state that a `&mut` into things under names leaves, once it has ended. No public document
+-- defines it.
 use Rattle.std.specs.Prelude.{ℕ, Option}
 use Rattle.std.specs.Borrow.{Fml, RattleType, MutBor, LendsIf}
 use Rattle.wq_registry.specs.ByName.{ByName, put_at}

@@ -1,5 +1,4 @@
--- How much a shelf holds.
--- No public document is behind it.
+-- How much a shelf holds. No public document defines it.
 use Rattle.std.specs.Prelude.{ℕ}
 
 -- how many programs there may be

@@ -1,5 +1,4 @@
--- What a `&mut` into a shelf leaves, once it has ended.
--- No public document is behind it.
+-- The state that a `&mut` into a shelf leaves, once it has ended. No public document defines it.
 use Rattle.std.specs.Prelude.{ℕ, Option}
 use Rattle.std.specs.Borrow.{Fml, RattleType, MutBor, Lends, LendsIf}
 use Rattle.std.specs.List.{slice_set}

@@ -1,11 +1,10 @@
--- Which refusal a call gives.
--- No public document is behind it.
+-- Which refusal a call gives. No public document defines it.
 use Rattle.std.specs.Prelude.{◌≡◌, Bool, true, false, Result, Ok, Err}
 use Rattle.wq_registry.specs.declared.fault.ShelfFault.{ShelfFault}
 use Rattle.wq_registry.specs.declared.fault.ShelfFault.TheVariants.{NoRoot, Full, NoMemory}
 
--- which refusal there is where a root is missing or not, and a place is missing or not: the first
--- of the two, and want of memory only where neither is
+-- which refusal there is if a root is missing or not, and a place is missing or not. It is the
+-- first of the two, and lack of memory only if neither is missing
 abbrev pub IsRefusal : Bool → Bool → ShelfFault → Type 0
 IsRefusal rootless full NoRoot = rootless ≡ true
 IsRefusal rootless full Full = (rootless ≡ false) × (full ≡ true)

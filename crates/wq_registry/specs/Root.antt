@@ -51,7 +51,7 @@ module _ {T : Type 0} where
   is_newer text number r =
       nat_eq number r.number || (bytes_eq text r.text && nat_le number r.number)
 
-  -- the roots after one is added: an older one of its text goes, and it stands last
+  -- the roots after one is added: an older one of its text goes, and the new one comes last
   abbrev pub with_root : List ℕ → ℕ → List (RootData T) → List (RootData T)
   with_root text number rs =
       if list_any (is_newer text number) rs then rs

@@ -1,6 +1,5 @@
 -- A shelf: the programs, and the roots with their cursors and triggers, in the order in which a
--- client sees them; and what each call makes of it.
--- No public document is behind it.
+-- client sees them. Each call makes another shelf of it. No public document defines it.
 use Rattle.std.specs.Prelude.{ℕ, Bool, List, [], length, is_some, not, ◌&&◌, nat_le}
 use Rattle.std.specs.List.{list_any}
 use Rattle.wq_code.specs.declared.raw.Raw.{Raw}

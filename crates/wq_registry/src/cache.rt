@@ -115,8 +115,8 @@ impl Model for Compiled {
 }
 
 impl Compiled {
-    /// What a cache may keep of a program that answers what this expression means, which is looked
-    /// for by this key. It is none where the program cannot be shared.
+    /// The entry of a program that a cache may keep: it answers what this expression means, and is
+    /// looked for by this key. It is none where the program cannot be shared.
     pub fn new(key: CacheKey, expr: &Expr, program: &Arc<Program>) -> Option<Compiled>
         requires says { Says key (term_of expr.now) }
         requires meaning { AnswersMeaning program.now.value (term_of expr.now) }

@@ -17,8 +17,8 @@ use wq_clock::Instance;
 use wq_term::values_say_what_they_write;
 use wq_verify::Program;
 
-/// An expression, as it is looked for among the programs that are kept: the instance at which it
-/// was read, since clock specs in it are read there, and its compact text.
+/// An expression, as it is looked for among the programs that are kept. It has the instance at
+/// which it was read, since clock specs in it are read there, and its compact text.
 #[derive(Drop)]
 pub struct CacheKey {
     pub(crate) start: u64,
@@ -57,8 +57,8 @@ impl CacheKey {
     }
 }
 
-/// Under what the program of an expression is kept: the number of the root, at which the clock
-/// specs of the expression are read, and its compact text.
+/// The key of an expression's program: the number of the root, at which its clock specs are read,
+/// and its compact text.
 #[derive(PartialEq, Eq, Hash, Drop)]
 pub(crate) struct Key {
     pub(crate) root: u64,
@@ -78,8 +78,8 @@ pub(crate) fn look_up(kept: &mut LruCache<Key, Arc<Program>>, key: &Key) -> Opti
     Arc::try_clone(program).ok()
 }
 
-/// Keeps a program under a key, in the place of the one that was asked for longest ago where there
-/// are as many as may be. Where memory runs out it is not kept.
+/// Keeps a program under a key. If there are as many as may be, it takes the place of the one that
+/// was asked for longest ago. If memory runs out it is not kept.
 pub(crate) fn put(kept: &mut LruCache<Key, Arc<Program>>, key: Key, program: &Arc<Program>)
     ensures { (cache : CacheData) → KeepsMeanings cache kept.old.entries
         → StandsFor (instance_at cache key.root) (string_bytes key.text) program.now.value

@@ -4,15 +4,15 @@ ghost use Rattle.wq_registry.specs.Change.{LastChangeCounts, NamesStandInOrder, 
 ghost use Rattle.wq_registry.specs.Use.{TheGreatestTickCounts};
 ghost use Rattle.wq_registry.specs.History.{CursorsAreMade, ProgramsAreMade, TriggersAreMade};
 
-/// What stands under a name is what the last change of it put there; nothing, where the last change
-/// took it out.
+/// The thing under a name is what the last change of it put there; nothing, if the last change took
+/// it out.
 #[tactic(auto, using(crate::proofs::Changes::last_change_counts))]
 pub fn last_change_counts<A>()
     ensures { LastChangeCounts A }
 {}
 
-/// Names stand in the order in which they were brought in: at the first time that something was put
-/// under them since they were taken out.
+/// Names are in the order in which they were brought in: when something was first put under them
+/// since they were taken out.
 #[tactic(auto, using(crate::proofs::Changes::names_stand_in_order))]
 pub fn names_stand_in_order<A>()
     ensures { NamesStandInOrder A }

@@ -2,8 +2,8 @@
 //! clients beside the views of its roots. Programs under their names; the roots that are watched,
 //! each with its cursors and triggers; and a cache of the programs of expressions.
 //!
-//! What each call makes of a shelf stands in `specs/Shelf.antt`, and what a list of calls comes to
-//! in `specs/History.antt`. What a client is answered, and what a trigger is, is not said here.
+//! `specs/Shelf.antt` defines what each call makes of a shelf, and `specs/History.antt` what a list
+//! of calls comes to. The answers to clients, and the meaning of a trigger, are for others.
 #![tactic(auto)]
 
 mod cache;

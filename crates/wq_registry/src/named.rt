@@ -45,7 +45,7 @@ impl<V> ByName<V> {
         self.entries.len()
     }
 
-    /// What stands under a name.
+    /// The thing under a name.
     #[tactic(auto, using(crate::proofs::Entries::found))]
     pub(crate) fn get(&self, name: &str) -> Option<&V>
         ensures { option_copied result ≡ under name.now self.now }
@@ -60,7 +60,7 @@ impl<V> ByName<V> {
         self.entries.keys()
     }
 
-    /// The name at a place, and what stands under it.
+    /// The name at a place, and the thing under it.
     pub(crate) fn at(&self, k: usize) -> Option<(&str, &V)>
         ensures { option_map (λ p. (p.0.now, p.1.now)) result ≡ slice_get self.now k }
     {
@@ -75,7 +75,7 @@ impl<V> ByName<V> {
         self.get(name).is_none() && self.len() >= limit
     }
 
-    /// What stands under the name at a place, which can be changed.
+    /// The thing under the name at a place, which can be changed.
     pub(crate) fn value_mut(&mut self, k: usize) -> Option<&mut V>
         ensures* writes_back { sem 𝓛 (LendsAt V.row self.entry k result) }
         ensures value { option_copied_mut result ≡ slice_get (values self.old) k }
@@ -85,8 +85,8 @@ impl<V> ByName<V> {
 }
 
 impl<V: Drop> ByName<V> {
-    /// Puts a thing under a name, and gives back what stood there. Where something did, this takes
-    /// no memory.
+    /// Puts a thing under a name, and gives back the one that was there. If there was one, this
+    /// takes no memory.
     pub(crate) fn put(
         &mut self,
         alloc: Global,
@@ -113,7 +113,7 @@ impl<V: Drop> ByName<V> {
         self.entries.get_index_of(name)
     }
 
-    /// Puts a thing under the name at a place, and gives back what stood there.
+    /// Puts a thing under the name at a place, and gives back the one that was there.
     fn replace(&mut self, k: usize, value: V) -> Option<V>
         ensures old { result ≡ slice_get (values self.old) k }
         ensures put { self.new ≡ put_at k value self.old }
@@ -138,7 +138,7 @@ impl<V: Drop> ByName<V> {
         }
     }
 
-    /// Takes out what stands under a name.
+    /// Takes out the thing under a name.
     #[tactic(auto, using(crate::proofs::Entries::removed))]
     pub(crate) fn remove(&mut self, name: &str) -> Option<V>
         ensures value { result ≡ under name.now self.old }

@@ -101,7 +101,7 @@ impl<T> Root<T> {
     }
 
     /// Whether another root of this text and number is not new: it has this one's number, or its
-    /// text with a number that is not above.
+    /// text and no greater number.
     pub(crate) fn is_newer(&self, text: &str, number: u64) -> bool
         ensures { result ≡ is_newer text.now number self.now }
     {
@@ -147,7 +147,7 @@ impl<T> Root<T> {
 }
 
 impl<T: Drop> Root<T> {
-    /// Puts a trigger under a name, and gives back the one that stood there.
+    /// Puts a trigger under a name, and gives back the one that was there.
     pub(crate) fn add_trigger(
         &mut self,
         alloc: Global,

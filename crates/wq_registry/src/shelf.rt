@@ -30,8 +30,8 @@ use wq_verify::Program;
 /// How many programs a shelf may have.
 pub const MAX_PROGRAMS: usize = 256;
 
-/// What a server keeps for all its clients beside the views of its roots. `T` is what it keeps of a
-/// trigger.
+/// The things that a server keeps for all its clients beside the views of its roots. `T` is what it
+/// keeps of a trigger.
 #[derive(Drop)]
 pub struct Shelf<T> {
     programs: ByName<Arc<Program>>,
@@ -100,7 +100,7 @@ impl<T> Shelf<T> {
     }
 
     /// Puts a program under a name; tells whether it replaced one, whose place it then takes. A new
-    /// name stands last.
+    /// name comes last.
     ///
     /// # Errors
     /// [`ShelfFault::Full`] where the name is new and there are [`MAX_PROGRAMS`];
@@ -242,7 +242,7 @@ impl<T> Shelf<T> {
 }
 
 impl<T: Drop> Shelf<T> {
-    /// Adds a root, which stands last. An older number of its text goes, with its triggers and
+    /// Adds a root, which comes last. An older number of its text goes, with its triggers and
     /// cursors. A number that is not above the one that its text has, or that another root has,
     /// changes nothing.
     ///
@@ -282,8 +282,8 @@ impl<T: Drop> Shelf<T> {
         roots::has_newer(&self.roots, text, number)
     }
 
-    /// Puts a trigger of a root under a name, and gives back the one that stood there, whose place
-    /// it takes without memory. A new name stands last.
+    /// Puts a trigger of a root under a name, and gives back the one that was there, whose place it
+    /// takes without memory. A new name comes last.
     ///
     /// # Errors
     /// [`ShelfFault::NoRoot`] where the root is not on the shelf; [`ShelfFault::Full`] where the

@@ -1,4 +1,4 @@
--- What a piece adds to the events of a stream.
+-- The events that a piece adds to those of a stream.
 use Rattle.std.proofs.Common.{◌≡◌, ℕ, Bool, true, false, ◌||◌, ◌==◌, cond, List, [], ◌∷◌, ◌++◌, Option, Some, None, refl, sym, ap, ◌∙◌, arith, length-append}
 use Rattle.std.specs.List.{concat, list_any}
 use Rattle.std.proofs.lemmas.Bool.{true≢false, lt-ltb, ltb-true}
@@ -66,11 +66,11 @@ pub line_first : (line : List ℕ) (parts : List (List ℕ)) → IsSome parts �
 line_first line parts (first, later, some) =
     ap (λ p. events_in (line ∷ p)) some ∙ ap (λ p. event_of line ∷ cond (is_last (event_of line)) [] (events_in p)) (sym some)
 
--- what is told behind some events: nothing, if they tell the end
+-- the events that are told after some events: none, if they tell the end
 abbrev pub unless_last : List Event → List Event → List Event
 unless_last told events = cond (list_any is_last told) [] events
 
--- what a piece behind some parts adds
+-- the events that a piece after some parts adds
 adds_parts : (parts : List (List ℕ)) (piece : List ℕ) → list_any is_newline (last_part parts) ≡ false → events_in (on_last parts piece) ≡ events_in parts ++ unless_last (events_in parts) (events_of (last_part parts ++ piece))
 adds_parts [] piece none = refl
 adds_parts (rest ∷ []) piece none = at (is_refused rest) refl

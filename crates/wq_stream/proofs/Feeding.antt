@@ -1,4 +1,4 @@
--- What feeding a piece adds, by what the splitter keeps.
+-- The events that feeding a piece adds, by what the splitter keeps.
 use Rattle.std.proofs.Common.{◌≡◌, ℕ, Bool, true, false, List, [], ◌++◌, Option, None, Some, sym, ap, ◌∙◌}
 use Rattle.wq_stream.specs.Stream.{Adds, events_of, kept_of}
 use Rattle.wq_stream.specs.Told.{Tells, kept_as}
@@ -13,7 +13,7 @@ none_fed ended rest value piece events shows is_ended none stream is =
     let adds : Adds stream piece [] None = adds_none stream piece (nothing ∙ is) in
     record { events_are = adds.events_are ∙ ap (λ e. events_of stream ++ e) (sym none); kept_is = sym nothing ∙ adds.kept_is }
 
--- else what the rest tells with the piece behind it
+-- else what the rest tells with the piece after it
 pub some_fed : (ended : Bool) (rest : List ℕ) (value : Option (List ℕ)) (piece : List ℕ) (told : Told) (after : List ℕ) → kept_as ended rest ≡ value → ended ≡ false → Tells (rest ++ piece) told after → (stream : List ℕ) → value ≡ kept_of stream → Adds stream piece told.events.items (kept_as told.has_ended after)
 some_fed ended rest value piece told after shows goes_on tells stream is =
     let kept : Some rest ≡ value = ap (λ b. kept_as b rest) (sym goes_on) ∙ shows in

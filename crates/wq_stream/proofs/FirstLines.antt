@@ -1,4 +1,4 @@
--- What the first line of a rest and of the bytes behind it makes of a stream.
+-- The effect of the first line of a rest and of the bytes after it on a stream.
 use Rattle.std.proofs.Common.{◌≡◌, ◌<◌, ◌≤◌, ◌+◌, ◌-◌, ℕ, zero, suc, true, false, ◌||◌, ◌==◌, cond, List, [], ◌∷◌, ◌++◌, length, take, drop, Some, None, refl, sym, ap, subst, ◌∙◌, arith, add-one, length-append, length-take-le}
 use Rattle.std.specs.List.{list_any}
 use Rattle.std.proofs.lemmas.Bool.{eqb-true, false_from_ne_true, lt-ltb, ltb-true}
@@ -23,7 +23,7 @@ none_in (suc n) (x ∷ xs) none =
     ap (λ b. b || list_any is_newline (take n xs)) other
     ∙ none_in n xs (λ k low high. none (suc k) (omega arith) (omega arith))
 
--- bytes are what stands before a newline, the newline, and what follows it
+-- bytes are those before a newline, the newline, and those after it
 at_newline : (at : ℕ) (bytes : List ℕ) → at < length bytes → Passes (is_byte 10) bytes at → bytes ≡ take at bytes ++ newline ∷ drop (suc at) bytes
 at_newline at [] within here = absurd (omega arith)
 at_newline zero (x ∷ xs) within here = ap (λ b. b ∷ xs) (eqb-true x 10 here)

@@ -1,4 +1,4 @@
--- The parts of a stream, and those of a stream with a piece behind it.
+-- The parts of a stream, and those of a stream with a piece after it.
 use Rattle.std.proofs.Common.{◌≡◌, ℕ, Bool, true, false, ◌||◌, cond, List, [], ◌∷◌, ◌++◌, refl, sym, ap, ◌∙◌}
 use Rattle.std.specs.List.{list_any, onto_first}
 use Rattle.std.proofs.lemmas.Bool.{true≢false}
@@ -18,7 +18,7 @@ parts_some (b ∷ bs) = at (is_newline b) (parts_some bs)
     at true some = ([], parts_of bs, refl)
     at false (first, later, is) = (b ∷ first, later, ap (onto_first b) is)
 
--- the parts with a piece behind the last one
+-- the parts with a piece after the last one
 abbrev pub on_last : List (List ℕ) → List ℕ → List (List ℕ)
 on_last [] piece = parts_of piece
 on_last (rest ∷ []) piece = parts_of (rest ++ piece)
@@ -35,7 +35,7 @@ byte_before : (b : ℕ) (first : List ℕ) (later : List (List ℕ)) (piece : Li
 byte_before b first [] piece is = sym (slice_split-cons_no is_newline b (first ++ piece) is)
 byte_before b first (next ∷ parts) piece is = refl
 
--- a piece behind a stream goes on with its last part
+-- a piece after a stream goes on with its last part
 pub parts_then : (stream piece : List ℕ) → parts_of (stream ++ piece) ≡ on_last (parts_of stream) piece
 parts_then [] piece = refl
 parts_then (b ∷ bs) piece = at (is_newline b) refl (parts_some bs) (parts_then bs piece)
@@ -51,7 +51,7 @@ parts_then (b ∷ bs) piece = at (is_newline b) refl (parts_some bs) (parts_then
         ∙ byte_before b first later piece is
         ∙ ap (λ parts. on_last (onto_first b parts) piece) (sym some)
 
--- the first of some parts is put behind some bytes
+-- the first of some parts is put after some bytes
 abbrev pub behind : List ℕ → List (List ℕ) → List (List ℕ)
 behind bytes [] = bytes ∷ []
 behind bytes (first ∷ later) = (bytes ++ first) ∷ later
@@ -90,7 +90,7 @@ last_is_line (b ∷ bs) = at (is_newline b) refl (parts_some bs) (last_is_line b
 pub last_of_more : (line : List ℕ) (parts : List (List ℕ)) → IsSome parts → last_part (line ∷ parts) ≡ last_part parts
 last_of_more line parts (first, later, some) = ap (λ l. last_part (line ∷ l)) some ∙ ap last_part (sym some)
 
--- what follows the last newline, with a piece behind it
+-- the bytes after the last newline, with a piece after them
 pub last_then : (parts : List (List ℕ)) (piece : List ℕ) → last_part (on_last parts piece) ≡ last_part (parts_of (last_part parts ++ piece))
 last_then [] piece = refl
 last_then (rest ∷ []) piece = refl

@@ -1,11 +1,10 @@
--- That it does not matter how a stream is cut into pieces.
--- No public document is behind it.
+-- That it does not matter how a stream is cut into pieces. No public document defines it.
 use Rattle.std.specs.Prelude.{◌≡◌, ℕ, List, [], ◌∷◌, ◌++◌, Option}
 use Rattle.std.specs.List.{concat}
 use Rattle.wq_stream.specs.Stream.{events_of, kept_of, Adds}
 use Rattle.wq_stream.specs.declared.event.Event.{Event}
 
--- pieces behind the bytes of a stream, one after the other, add these events
+-- pieces after the bytes of a stream, one after the other, add these events
 abbrev pub AddInTurn : List ℕ → List (List ℕ) → List Event → Type 0
 AddInTurn stream [] events = events ≡ []
 AddInTurn stream (piece ∷ pieces) events = (first later : List Event) × (kept : Option (List ℕ))

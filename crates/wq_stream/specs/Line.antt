@@ -1,5 +1,5 @@
--- What the first line of a rest and of the bytes behind it makes of a stream.
--- No public document is behind it.
+-- The effect of the first line of a rest and of the bytes after it on a stream. No public document
+-- defines it.
 use Rattle.std.specs.Prelude.{◌≡◌, ◌<◌, ◌≤◌, ℕ, ◌+◌, List, [], ◌∷◌, ◌++◌, length, take, drop, Some, None}
 use Rattle.wq_stream.specs.Limit.{max_line}
 use Rattle.wq_stream.specs.Stream.{IsRest, events_of, kept_of}

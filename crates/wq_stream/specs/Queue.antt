@@ -1,5 +1,4 @@
--- The events that wait for a session, as a queue that can be closed.
--- No public document is behind it.
+-- The events that wait for a session, as a queue that can be closed. No public document defines it.
 use Rattle.std.specs.Prelude.{◌≡◌, ℕ, Bool, true, false, List, [], ◌∷◌, ◌++◌, Option, Some, None}
 use Rattle.wq_stream.specs.declared.event.Event.{Event}
 use Rattle.wq_stream.specs.declared.event.Event.TheVariants.{End}
@@ -13,7 +12,7 @@ pub record QueueData : Type 0 where
   pub events : List Event
   pub is_closed : Bool
 
--- the queue with an event behind the others
+-- the queue with an event after the others
 abbrev pub with_event : Event → QueueData → QueueData
 with_event event queue =
     record { events = queue.events ++ event ∷ []; is_closed = queue.is_closed }
@@ -22,7 +21,7 @@ with_event event queue =
 abbrev pub closed : QueueData
 closed = record { events = []; is_closed = true }
 
--- an event was put behind the others of a queue that is open, or it was not and the queue is closed
+-- an event was put after the others of a queue that is open, or it was not and the queue is closed
 abbrev pub Puts : Event → QueueData → Bool → QueueData → Type 0
 Puts event old true new = (old.is_closed ≡ false) × (new ≡ with_event event old)
 Puts event old false new = new ≡ closed

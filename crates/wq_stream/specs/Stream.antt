@@ -1,6 +1,6 @@
--- The events of a client's stream of bytes.
--- A JSON value to a line, and byte 0 at the start of binary messages, are from Watchman's
--- documentation of its socket interface and of BSER. The limit of a line is this server's own.
+-- The events of a client's stream of bytes. One JSON value a line, and byte 0 at the start of
+-- binary messages, are from Watchman's documentation of its socket interface and BSER. The limit of
+-- a line is this server's own.
 use Rattle.std.specs.Prelude.{◌≡◌, ◌≤◌, ℕ, Bool, true, false, ◌||◌, ◌==◌, nat_lt, if◌then◌else◌, List, [], ◌∷◌, ◌++◌, length, Option, Some, None}
 use Rattle.std.specs.List.{list_any, slice_split}
 use Rattle.wq_base.specs.Byte.{newline}
@@ -65,14 +65,14 @@ abbrev pub kept_of : List ℕ → Option (List ℕ)
 kept_of stream =
     if list_any is_last (events_of stream) then None else Some (last_part (parts_of stream))
 
--- the bytes of a line that has not ended and is not refused: they have no newline, do not begin
+-- the bytes of a line that has not ended and is not refused. They have no newline, do not begin
 -- with byte 0, and are within the limit
 pub record IsRest (rest : List ℕ) : Type 0 where
   pub one_line : list_any is_newline rest ≡ false
   pub text : is_binary rest ≡ false
   pub short : length rest ≤ max_line
 
--- a piece behind the bytes of a stream adds these events, and this is kept then
+-- a piece after the bytes of a stream adds these events, and this is kept then
 pub record Adds (stream piece : List ℕ) (events : List Event) (kept : Option (List ℕ))
     : Type 0 where
   pub events_are : events_of (stream ++ piece) ≡ events_of stream ++ events

@@ -1,5 +1,5 @@
--- What the code keeps of a stream and tells of it.
--- No public document is behind it.
+-- The state that the code keeps of a stream, and the events that it tells. No public document
+-- defines it.
 use Rattle.std.specs.Prelude.{◌≡◌, ℕ, Bool, true, false, List, Option, Some, None}
 use Rattle.wq_stream.specs.Stream.{IsRest, events_of, kept_of}
 use Rattle.wq_stream.specs.declared.telling.Told.{Told}

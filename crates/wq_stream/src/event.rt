@@ -1,8 +1,8 @@
-//! What happens to a session. What it does then is not said here.
+//! The events of a session. What the session does then is for others.
 
 use wq_base::Table;
 
-/// What a session takes, one after the other. The first three come from the client's stream of bytes.
+/// The events that a session takes, one after the other. The first three come from the client's stream of bytes.
 #[derive(Debug, Drop)]
 pub enum Event {
     /// A line without its newline, of at most 1,048,576 bytes, which does not begin with byte 0.

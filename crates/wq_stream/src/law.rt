@@ -12,7 +12,7 @@ pub fn cuts_do_not_matter()
     ensures { CutsDoNotMatter }
 {}
 
-/// The events that were told of a stream are the first of those of the stream with more bytes behind it.
+/// The events that were told of a stream are the first of those of the stream with more bytes after it.
 pub fn told_events_stay()
     ensures { ToldEventsStay }
 {}

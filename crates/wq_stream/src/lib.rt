@@ -1,6 +1,6 @@
-//! What sessions of clients take: how the bytes of a client become events, and the events that wait.
+//! The events that sessions of clients take: how the bytes of a client become events, and the events that wait.
 //!
-//! What a line says, and what it is answered, is not looked at here; nor are sockets and threads.
+//! The meaning of a line and its answer are for others; so are sockets and threads.
 #![tactic(auto)]
 
 mod event;

@@ -8,7 +8,7 @@ use memchr::memchr;
 /// How many bytes a line may have, without its newline.
 pub const MAX_LINE: usize = 1_048_576;
 
-/// What the first line of some bytes is.
+/// The first line of some bytes.
 pub(crate) enum FirstLine {
     /// It ends at the newline in this place, and is within the limit.
     Ends(usize),
@@ -20,7 +20,7 @@ pub(crate) enum FirstLine {
     Binary,
 }
 
-/// What the first line of a rest and of the bytes behind it is; places count in those bytes.
+/// The first line of a rest and of the bytes after it; places count in those bytes.
 pub(crate) fn first_line(rest: &[u8], bytes: &[u8]) -> FirstLine
     requires { IsRest rest.now }
     ensures { IsFirstLine rest.now bytes.now result }

@@ -1,5 +1,5 @@
-//! Cuts a client's stream of bytes into events, in whatever pieces it comes. Where the pieces come from, and who takes
-//! the events, is not looked at here.
+//! Cuts a client's stream of bytes into events, in whatever pieces it comes. The source of the pieces and the taker of
+//! the events are for others.
 ghost use Rattle.std.specs.Prelude.{◌≡◌, ◌≤◌, ℕ, List, [], length, IfOk, IfSome, OnErr};
 ghost use Rattle.wq_stream.specs.Limit.{max_line};
 ghost use Rattle.wq_stream.specs.Stream.{Adds, kept_of};
@@ -9,7 +9,7 @@ use crate::telling::take_piece;
 use std::alloc::{AllocError, Global};
 use std::marker::Model;
 
-/// What is kept of a stream between its pieces: the bytes of the line that has not ended, at most 1,048,576.
+/// The rest of a stream that is kept between its pieces: the bytes of the line that has not ended, at most 1,048,576.
 ///
 /// Contracts see these bytes, or `None` where no more events may come.
 #[derive(Drop)]
@@ -44,7 +44,7 @@ impl Splitter {
     /// Takes the next piece of the stream, and tells the events that it adds, in their order. The piece may be cut
     /// anywhere, and have any length.
     ///
-    /// Where memory is refused, the splitter is as it was, and the same piece can be fed again.
+    /// If memory is refused, the splitter is as it was, and the same piece can be fed again.
     pub fn feed(&mut self, piece: &[u8]) -> Result<Vec<Event>, AllocError>
         // For every stream of which this is kept:
         ensures adds { (stream : List ℕ) → self.old ≡ kept_of stream

@@ -1,4 +1,5 @@
-//! What a piece of a stream adds to it. All memory is taken first, and what is kept changes last.
+//! The events that a piece of a stream adds to it. All memory is taken first, and what is kept
+//! changes last.
 ghost use Rattle.std.specs.Prelude.{true, ◌≡◌, ◌+◌, ◌≤◌, [], ◌∷◌, ◌++◌, length, IfOk, IfSome, OnErr, option_map};
 ghost use Rattle.wq_stream.specs.Limit.{max_line};
 ghost use Rattle.wq_stream.specs.Stream.{IsRest, events_of, kept_of};
@@ -9,7 +10,7 @@ use crate::line::{FirstLine, first_line};
 use std::alloc::{AllocError, Global};
 use wq_base::Table;
 
-/// What a piece added.
+/// The events that a piece added.
 #[derive(Drop)]
 pub(crate) struct Told {
     /// The events, in their order.
@@ -18,7 +19,7 @@ pub(crate) struct Told {
     pub(crate) has_ended: bool,
 }
 
-/// Takes a piece behind the rest of a stream. Where memory is refused, the rest stays.
+/// Takes a piece after the rest of a stream. If memory is refused, the rest stays.
 pub(crate) fn take_piece(rest: &mut Vec<u8>, piece: &[u8]) -> Result<Told, AllocError>
     requires { IsRest rest.old.items }
     ensures told { IfOk result (λ told. Tells (rest.old.items ++ piece.now) told rest.new.items) }
@@ -39,7 +40,7 @@ pub(crate) fn take_piece(rest: &mut Vec<u8>, piece: &[u8]) -> Result<Told, Alloc
     }
 }
 
-/// Tells the line that a rest and some bytes are, and the events of the bytes behind it.
+/// Tells the line that a rest and some bytes are, and the events of the bytes after it.
 fn end_line(
     alloc: Global,
     rest: &mut Vec<u8>,
@@ -99,7 +100,7 @@ fn joined(alloc: Global, rest: &[u8], end: &[u8]) -> Result<Table<u8>, AllocErro
     Ok(Table::from_vec(line))
 }
 
-/// Puts the events of bytes at which a line begins behind others, and gives what is kept of them.
+/// Adds the events of bytes at which a line begins to others, and gives what is kept of them.
 fn split<'a>(
     alloc: Global,
     events: &mut Vec<Event>,

@@ -1,4 +1,4 @@
-//! The events that wait for a session, in a queue of some length. Who waits for whom is not said here.
+//! The events that wait for a session, in a queue of some length. Which thread waits for which is for others.
 ghost use Rattle.std.specs.Prelude.{◌≡◌, ◌↔◌, IfOk, IsTrue, [], false, length as count_of};
 ghost use Rattle.wq_stream.specs.Queue.{Puts, TakesFirst, closed, most_waiting};
 
@@ -46,7 +46,7 @@ impl Waiting {
         !self.is_closed && self.events.len() == MAX_WAITING
     }
 
-    /// Whether who takes an event has to wait.
+    /// Whether a thread that takes an event has to wait.
     pub fn is_idle(&self) -> bool
         ensures { IsTrue result ↔ ((self.now.is_closed ≡ false) × (self.now.events ≡ [])) }
     {
@@ -59,8 +59,8 @@ impl Waiting {
         self.is_closed
     }
 
-    /// Puts an event behind the others, and says whether it stands there. Where it does not, the queue is closed from then
-    /// on: no event is lost without an end of the session.
+    /// Puts an event after the others, and says whether it is there. If it is not, the queue is closed from then on: no
+    /// event is lost without an end of the session.
     pub fn put(&mut self, event: Event) -> bool
         ensures { Puts event self.old result self.new }
     {

@@ -1,4 +1,4 @@
--- What an argument says is what the grammar has written by it.
+-- An argument says exactly what the grammar has written by it.
 use Rattle.std.proofs.Common.{◌≡◌, ◌≢◌, ℕ, ℤ, pos, ◌≤◌, ◌<◌, ◌^◌, ◌≤ℤ◌, T, Bool, true, false, cond}
 use Rattle.std.proofs.Common.{◌&&◌, List, [], ◌∷◌, length}
 use Rattle.std.proofs.Common.{Option, Some, None, option_map, option_and_then, Ok, Result, refl}

@@ -1,4 +1,4 @@
--- What a value says as an expression is what the grammar has written by it.
+-- A value says exactly the expression that the grammar has written by it.
 use Rattle.std.proofs.Common.{◌≡◌, ℕ, zero, suc, ◌≤◌, Bool, true, false, List, Option, Some, Ok}
 use Rattle.std.proofs.Common.{refl, sym, ap, subst, ◌∙◌, arith}
 use Rattle.std.specs.Prelude.{if◌then◌else◌}

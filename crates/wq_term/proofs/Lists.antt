@@ -24,7 +24,7 @@ abbrev pub prefixed : List ExprData → Result ExprsData TermFault → Result Ex
 prefixed [] rest = rest
 prefixed (t ∷ ts) rest = with_term t (prefixed ts rest)
 
--- one more term stands before the rest
+-- one more term comes before the rest
 pub prefixed-push : (ts : List ExprData) (t : ExprData) (rest : Result ExprsData TermFault)
     → prefixed (ts ++ t ∷ []) rest ≡ prefixed ts (with_term t rest)
 prefixed-push [] t rest = refl
@@ -57,7 +57,7 @@ read_fault read ts d ds fault all is so_far =
     sym so_far ∙ ap (λ r. prefixed ts (or_own_fault r (λ u. with_term u (read_all read ds)))) is
     ∙ prefixed-fault ts fault
 
--- the items from a place on are the item there and those behind it
+-- the items from a place on are the item there and those after it
 pub items_from : (values : List Value) (i : ℕ) (v : Value) → i < length values
     → v ≡ get_or values i v
     → items_view (drop i values) ≡ item (data_of v) (items_view (drop (i + 1) values))

@@ -1,4 +1,4 @@
--- What the arguments of `match` say is what the grammar has written by them.
+-- The arguments of `match` say exactly what the grammar has written by them.
 use Rattle.std.proofs.Common.{◌≡◌, ◌↔◌, ◌⊎◌, inl, inr, Bool, true, false, ◌||◌, length}
 use Rattle.std.proofs.Common.{Option, Some, None, option_and_then, Ok, refl, sym, ap, subst, ◌∙◌}
 use Rattle.std.specs.Prelude.{codes, bytes_eq, nat_le, if◌then◌else◌}

@@ -17,7 +17,7 @@ use Rattle.wq_term.specs.Text.{without_end_slashes}
 abbrev pub slashes : ℕ → List ℕ
 slashes n = repeat n (codes "/")
 
--- one more may stand at either end
+-- one more may be at either end
 snoc : (n : ℕ) → slashes n ++ (byte "/" ∷ []) ≡ byte "/" ∷ slashes n
 snoc zero = refl
 snoc (suc n) = ap (λ bs. byte "/" ∷ bs) (snoc n)
@@ -44,7 +44,7 @@ prefix (b ∷ bs) = at (is_slash b) (eqb-true b (byte "/")) (prefix bs)
         rw (one_more (prefix_len is_slash bs)) (ap (λ x. x ∷ take (prefix_len is_slash bs) bs) (is refl) ∙ ap (λ cs. byte "/" ∷ cs) rest)
     at false is rest = refl
 
--- behind them stands none
+-- after them there is none
 behind : (bs : List ℕ) → prefix_len is_slash (drop (prefix_len is_slash bs) bs) ≡ 0
 behind [] = refl
 behind (b ∷ bs) = at (is_slash b) refl (behind bs)

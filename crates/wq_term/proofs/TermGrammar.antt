@@ -1,4 +1,4 @@
--- What the arguments of a term say is what the grammar has written by them.
+-- The arguments of a term say exactly what the grammar has written by them.
 use Rattle.std.proofs.Common.{◌≡◌, ℕ, ℤ, List, ◌++◌, Some, Ok, refl, sym, ap, subst, ◌∙◌}
 use Rattle.std.specs.Prelude.{pos}
 use Rattle.serde_json.specs.Data.{Data, string, Items, no_items, item}

@@ -1,5 +1,5 @@
--- What one argument of a term, or a few of them, say: texts, numbers, clock specs and words.
--- From Watchman's documentation of the expression terms; the limits are this server's own.
+-- The meaning of one argument of a term, or of a few: texts, numbers, clock specs and words. From
+-- Watchman's documentation of the expression terms; the limits are this server's own.
 use Rattle.std.specs.Prelude.{ℕ, ℤ, pos, neg_ℤ, int_le, nat_le, ◌&&◌, bytes_eq, codes, length}
 use Rattle.std.specs.Prelude.{List, [], ◌∷◌, if◌then◌else◌, Option, Some, None, Result, Ok}
 use Rattle.std.specs.Prelude.{option_map, option_and_then}
@@ -24,7 +24,7 @@ use Rattle.wq_term.specs.declared.fault.TermFault.TheVariants.{BadClockSpec, Cur
 use Rattle.wq_term.specs.Limit.{max_term_text}
 use Rattle.wq_term.specs.Word.{kind_named, scope_named, relation_named, since_field_named}
 
--- a name and what stands behind it: an array headed by a text, or the bare text with nothing behind
+-- a name and what follows it: an array headed by a text, or the bare text with nothing after it
 abbrev pub term_parts : Data → Option (List ℕ × Items)
 term_parts (string name) = Some (name, no_items)
 term_parts (array (item (string name) arguments)) = Some (name, arguments)
@@ -79,7 +79,7 @@ abbrev pub relation_of : Data → Option Relation
 relation_of (string word) = relation_named word
 relation_of _ = None
 
--- a relation and a whole number, with nothing behind them
+-- a relation and a whole number, with nothing after them
 abbrev pub comparison_of : Items → Option (Relation × ℤ)
 comparison_of (item relation (item n no_items)) =
     option_zip (relation_of relation) (whole_number_of n)

@@ -35,13 +35,13 @@ IsWord word d = d ≡ string word
 abbrev pub IsText : List ℕ → Data → Type 0
 IsText text d = (d ≡ string text) × (length text ≤ max_term_text)
 
--- texts, one behind the other
+-- texts, one after the other
 abbrev pub AreListed : List (List ℕ) → Items → Type 0
 AreListed [] no_items = Unit {0}
 AreListed (text ∷ texts) (item d ds) = IsText text d × AreListed texts ds
 AreListed _ _ = ⊥
 
--- a list of texts; where there is one, it may stand without a list
+-- a list of texts; if there is one, it may be there without a list
 abbrev pub AreTexts : List (List ℕ) → Data → Type 0
 AreTexts texts (array ds) = AreListed texts ds
 AreTexts (text ∷ []) d = IsText text d
@@ -64,7 +64,7 @@ IsSecond second d = IsBetween (pos 0) (pos max_number) second d
 abbrev pub IsKind : Kind → Data → Type 0
 IsKind kind d = (d ≡ string (kind_name kind)) × (kind ≢ Unknown)
 
--- a relation, and a whole number behind it
+-- a relation, and a whole number after it
 abbrev pub IsComparison : Relation → ℤ → Items → Type 0
 IsComparison relation n (item d (item e no_items)) = IsWord (relation_name relation) d × IsWhole n e
 IsComparison relation n _ = ⊥
@@ -74,7 +74,7 @@ abbrev pub IsDepth : Depth → Data → Type 0
 IsDepth (Is relation n) (array (item d ds)) = IsWord (codes "depth") d × IsComparison relation n ds
 IsDepth _ _ = ⊥
 
--- a directory, which has no slash at its end, with any number of slashes behind it
+-- a directory, which has no slash at its end, with any number of slashes after it
 abbrev pub IsDirectory : List ℕ → Data → Type 0
 IsDirectory dir d =
     (suffix_len is_slash dir ≡ 0) × ((slashes : ℕ) × IsText (dir ++ repeat slashes (codes "/")) d)

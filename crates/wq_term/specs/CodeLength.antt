@@ -39,12 +39,12 @@ abbrev mutual
   code_len (all_of ts) = terms_len ts
   code_len (any_of ts) = terms_len ts
 
-  -- of the terms of a list, one behind the other; a flag where there is none
+  -- of the terms of a list, one after the other; a flag if there is none
   pub terms_len : ExprsData → ℕ
   terms_len no_terms = 1
   terms_len (term t ts) = code_len t + others_len ts
 
-  -- of those behind the first, each with a jump and a `drop` before it
+  -- of those after the first, each with a jump and a `drop` before it
   pub others_len : ExprsData → ℕ
   others_len no_terms = 0
   others_len (term t ts) = 2 + code_len t + others_len ts

@@ -1,5 +1,5 @@
--- What an expression means: whether a record matches it, by cases on its term.
--- The terms are those of Watchman's documentation of file queries.
+-- The meaning of an expression: whether a record matches it, by cases on its term. The terms are
+-- those of Watchman's documentation of file queries.
 use Rattle.std.specs.Prelude.{ℕ, suc, ℤ, pos, Bool, true, false, not, ◌&&◌, ◌||◌, max}
 use Rattle.std.specs.Prelude.{◌==◌, List, [], ◌∷◌, map, Vec}
 use Rattle.std.specs.Ordering.{int_eq}
@@ -77,7 +77,7 @@ abbrev mutual
   some (term t ts) r = means t r || some ts r
 
 abbrev mutual
-  -- how many terms stand inside one another, this one counted
+  -- how many terms are inside one another, this one counted
   pub depth_of : ExprData → ℕ
   depth_of (negation t) = suc (depth_of t)
   depth_of (all_of ts) = suc (greatest_depth ts)

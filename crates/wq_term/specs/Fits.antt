@@ -1,5 +1,5 @@
--- The limits of an expression: those that reading one tests.
--- This server's own; the numbers stand in `Limit`.
+-- The limits of an expression: those that reading one tests. This server's own; `Limit` has the
+-- numbers.
 use Rattle.std.specs.Prelude.{ℕ, ℤ, pos, neg_ℤ, int_le, nat_le, Bool, true, ◌&&◌, List, length}
 use Rattle.std.specs.List.{list_all}
 use Rattle.wq_base.specs.Limit.{max_number}

@@ -24,7 +24,7 @@ use Rattle.wq_term.specs.Word.{scope_name, since_field_name}
 use Rattle.wq_term.specs.ArgumentGrammar.{IsWord, AreTexts, IsSecond, IsKind, IsComparison, IsDepth}
 use Rattle.wq_term.specs.ArgumentGrammar.{IsDirectory, IsBound, IsPattern}
 
--- the list of a name and such arguments behind it, or the bare name where there need be none
+-- the list of a name and such arguments after it, or the bare name if there need be none
 abbrev pub IsTerm : Head → (Items → Type 0) → Data → Type 0
 IsTerm head Arguments (string name) = (name ≡ head_name head) × Arguments no_items
 IsTerm head Arguments (array (item (string name) ds)) = (name ≡ head_name head) × Arguments ds
@@ -40,7 +40,7 @@ abbrev pub IsOnly : (Data → Type 0) → Items → Type 0
 IsOnly First (item d no_items) = First d
 IsOnly First _ = ⊥
 
--- one such argument, and one behind it, which may be left out where it is the default
+-- one such argument, and one after it, which may be left out if it is the default
 abbrev pub IsOneOrTwo : (Data → Type 0) → Type 0 → (Data → Type 0) → Items → Type 0
 IsOneOrTwo First IsDefault Second (item d no_items) = First d × IsDefault
 IsOneOrTwo First IsDefault Second (item d (item e no_items)) = First d × Second e

@@ -1,5 +1,4 @@
--- What reading expressions and their grammar have to do with each other.
--- No public document is behind it.
+-- Laws about reading expressions and their grammar. No public document defines it.
 use Rattle.std.specs.Prelude.{ℤ, ◌≡◌, ◌≤◌, ◌↔◌, true, Ok, Some}
 use Rattle.serde_json.specs.Data.{Data}
 use Rattle.wq_clock.specs.Instance.{InstanceData}
@@ -12,8 +11,8 @@ use Rattle.wq_term.specs.Fits.{expr_fits}
 use Rattle.wq_term.specs.Reading.{reads_as}
 use Rattle.wq_term.specs.Grammar.{IsWrittenBy}
 
--- a value is read as an expression exactly where the grammar has it as a writing of that
--- expression, which is at most 64 terms deep
+-- a value is read as an expression exactly if the grammar has it as a writing of that expression,
+-- and it is at most 64 terms deep
 abbrev pub ValuesSayWhatTheyWrite : Type 0
 ValuesSayWhatTheyWrite = (instance : InstanceData) (t : ExprData) (d : Data)
     → (reads_as instance max_depth d ≡ Ok t) ↔ (IsWrittenBy instance t d × (depth_of t ≤ max_depth))

@@ -2,7 +2,7 @@
 -- Watchman's documentation of file queries names none.
 use Rattle.std.specs.Prelude.{ℕ}
 
--- how many terms may stand inside one another, the outermost counted
+-- how many terms may be inside one another, the outermost counted
 abbrev pub max_depth : ℕ
 max_depth = 64
 

@@ -1,5 +1,4 @@
--- What is after a bound.
--- From Watchman's documentation of the term `since`.
+-- The tests whether something is after a bound. From Watchman's documentation of the term `since`.
 use Rattle.std.specs.Prelude.{ℕ, ℤ, Bool, int_lt, nat_lt}
 use Rattle.wq_clock.specs.declared.bound.Bound.{Bound}
 use Rattle.wq_clock.specs.declared.bound.Bound.TheVariants.{Fresh, Tick, Second}

@@ -1,5 +1,5 @@
--- What the code's reading of expressions gives, where the memory may run out.
--- No public document is behind it.
+-- The results of reading expressions in the code, for which memory may run out. No public document
+-- defines it.
 use Rattle.std.specs.Prelude.{◌≡◌, ℕ, List, map, Option, Result, Ok, Err, ok_or, Vec}
 use Rattle.std.specs.declared.alloc.Global.{Global}
 use Rattle.wq_term.specs.declared.expr.Expr.{Expr}

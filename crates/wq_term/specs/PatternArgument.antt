@@ -1,5 +1,5 @@
--- What the arguments of `match` and `imatch` say besides the pattern: its scope and its flags.
--- From Watchman's documentation of these terms.
+-- The meaning of the arguments of `match` and `imatch` besides the pattern: its scope and its
+-- flags. From Watchman's documentation of these terms.
 use Rattle.std.specs.Prelude.{ℕ, Bool, true, false, ◌&&◌, ◌||◌, List, bytes_eq, codes}
 use Rattle.std.specs.Prelude.{if◌then◌else◌, Option, Some, None, option_and_then}
 use Rattle.serde_json.specs.Data.{Data, boolean, object, Members, no_members, member}

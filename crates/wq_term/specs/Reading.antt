@@ -1,5 +1,5 @@
--- What a JSON value says as an expression, or its first fault: depth first, from left to right.
--- The forms of the terms are those of Watchman's documentation of file queries.
+-- The expression that a JSON value says, or its first fault: depth first, from left to right. The
+-- forms of the terms are those of Watchman's documentation of file queries.
 use Rattle.std.specs.Prelude.{ℕ, zero, suc, nat_le, length, Result, Ok, Err}
 use Rattle.serde_json.specs.Data.{Data, string, Items, no_items, item}
 use Rattle.wq_base.specs.Fault.{or_fault, or_own_fault, unless_fault}
@@ -52,7 +52,7 @@ abbrev pub name_in : Case → Scope → Data → Answer
 name_in case scope d =
     or_fault WrongArguments (texts_of d) (λ texts. Ok (name_is case scope texts))
 
--- the same with the scope behind the texts, the basename where none is given
+-- the same with the scope after the texts, the basename if none is given
 abbrev pub read_name : Case → Items → Answer
 read_name case (item texts no_items) = name_in case Basename texts
 read_name case (item texts (item d no_items)) =
@@ -66,7 +66,7 @@ match_with (string text) flags =
     (Ok (matches (record { text = text; flags = flags })))
 match_with _ flags = Err WrongArguments
 
--- the same with a scope, the basename where none is given, and flags behind the pattern
+-- the same with a scope, the basename if none is given, and flags after the pattern
 abbrev pub read_match : Case → Items → Answer
 read_match case (item pattern no_items) = match_with pattern (plain_flags case Basename)
 read_match case (item pattern (item d no_items)) =
@@ -93,7 +93,7 @@ abbrev pub below_at : Case → Depth → Data → Answer
 below_at case depth d =
     or_fault WrongArguments (text_of d) (λ text. Ok (below case (without_end_slashes text) depth))
 
--- the same with the depth behind the text, any where none is given
+-- the same with the depth after the text, any if none is given
 abbrev pub read_dirname : Case → Items → Answer
 read_dirname case (item dir no_items) = below_at case Any dir
 read_dirname case (item dir (item d no_items)) =
@@ -109,7 +109,7 @@ since_by instance spec Cclock =
 since_by instance spec Mtime =
     or_fault BadClockSpec (epoch_second spec) (λ second. Ok (since (Modified second)))
 
--- the same with the field behind the clock spec, `oclock` where none is given
+-- the same with the field after the clock spec, `oclock` if none is given
 abbrev pub read_since : InstanceData → Items → Answer
 read_since instance (item spec no_items) = since_by instance spec Oclock
 read_since instance (item spec (item d no_items)) =

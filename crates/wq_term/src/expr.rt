@@ -26,13 +26,13 @@ pub enum Expr {
         scope: Scope,
         texts: Vec<Vec<u8>>,
     },
-    /// `match` and `imatch`: the files whose name fits the pattern, the whole name where the
-    /// pattern has the flag `wholename`, and else what follows the last slash.
+    /// `match` and `imatch`: the files whose name fits the pattern. That is the whole name if the
+    /// pattern has the flag `wholename`, and else the part after the last slash.
     Match(Pattern),
     /// `suffix`: the files whose suffix is one of the texts, with A to Z as a to z. An empty text
     /// matches nothing.
     Suffix(Vec<Vec<u8>>),
-    /// `size`: the files that exist, and whose size in bytes stands in this relation to the number.
+    /// `size`: the files that exist, and whose size in bytes has this relation to the number.
     Size(Relation, i64),
     /// `since`: the files of which something happened strictly after a point.
     Since(Since),
@@ -54,13 +54,13 @@ pub enum Expr {
 /// Which part of a name is compared.
 #[derive(Clone, Copy)]
 pub enum Scope {
-    /// What follows the last slash.
+    /// The part after the last slash.
     Basename,
     /// The name from the root on.
     Wholename,
 }
 
-/// What happened to a file, and strictly after which point.
+/// A change of a file, and the point strictly after which it came.
 #[derive(Clone, Copy)]
 pub enum Since {
     /// `oclock`: a pass saw a change of the file, its deletion too.

@@ -3,8 +3,9 @@
 use std::alloc::{AllocError, AllocFailed};
 use thiserror::Error;
 
-/// The first fault of a JSON value as an expression: depth first, from left to right; of one term
-/// that it is too deep, then its own other faults in this order, then those of its terms.
+/// The first fault of a JSON value as an expression: depth first, from left to right. Of one term
+/// it is first that it is too deep, then its own other faults in this order, then those of its
+/// terms.
 #[derive(Clone, Copy, Debug, PartialEq, Eq, Drop, Error)]
 pub enum TermFault {
     /// A text that names no term.

@@ -12,9 +12,9 @@ use wq_clock::Bound;
 use wq_glob::MAX_PATTERN;
 
 impl Expr {
-    /// Whether the expression keeps the limits of those that are read: at most [`MAX_DEPTH`] terms
-    /// inside one another, texts of at most [`MAX_TERM_TEXT`] bytes, patterns of 255, numbers from
-    /// -2^62 to 2^62, and seconds and ticks from 0 to 2^62.
+    /// Whether the expression keeps the limits of those that are read. Terms are at most
+    /// [`MAX_DEPTH`] inside one another, texts have at most [`MAX_TERM_TEXT`] bytes, and patterns
+    /// 255. Numbers are from -2^62 to 2^62, and seconds and ticks from 0 to 2^62.
     #[tactic(auto, unfolding(crate::specs::Fits::expr_fits))]
     pub fn fits(&self) -> bool
         ensures { result ≡ expr_fits (term_of self.now) }

@@ -2,7 +2,7 @@
 ghost use Rattle.std.specs.Prelude.{◌≡◌};
 ghost use Rattle.wq_term.specs.Head.{head_named};
 
-/// What heads a term.
+/// The head of a term.
 #[derive(Clone, Copy)]
 pub(crate) enum Head {
     True,

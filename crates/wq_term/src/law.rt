@@ -6,8 +6,8 @@ ghost use Rattle.wq_term.specs.Law.{ValuesSayWhatTheyWrite};
 
 use wq_clock::texts_say_what_they_spell;
 
-/// What [`read_expr`](crate::read_expr) reads is the grammar of expressions, no value more and none
-/// less, where the terms are at most 64 deep.
+/// [`read_expr`](crate::read_expr) reads exactly the values of the grammar of expressions whose
+/// terms are at most 64 deep.
 pub fn values_say_what_they_write()
     ensures { ValuesSayWhatTheyWrite }
 {
@@ -28,14 +28,14 @@ pub fn read_expressions_fit()
     texts_say_what_they_spell();
 }
 
-/// What [`read_bound`](crate::read_bound) reads is the grammar of bounds.
+/// [`read_bound`](crate::read_bound) reads exactly the values of the grammar of bounds.
 pub fn bounds_say_what_they_write()
     ensures { BoundsSayWhatTheyWrite }
 {
     texts_say_what_they_spell();
 }
 
-/// What [`whole_number`](crate::whole_number) reads are the integers from -2^62 to 2^62.
+/// [`whole_number`](crate::whole_number) reads exactly the integers from -2^62 to 2^62.
 pub fn numbers_say_what_they_write()
     ensures { NumbersSayWhatTheyWrite }
 {}

@@ -1,5 +1,5 @@
-//! Reading an expression from a JSON value: the terms, their heads and how they nest. What the
-//! arguments of one term say is read in the modules below; what a term means is not said here.
+//! Reading an expression from a JSON value: the terms, their heads and how they nest. The modules
+//! below read the arguments of one term; what a term means is for others.
 ghost use Rattle.std.specs.Prelude.{◌≡◌, IfOk, IsTrue};
 ghost use Rattle.serde_json.specs.View.{view as data_of, items_view};
 ghost use Rattle.wq_clock.specs.Instance.{instance_data};
@@ -27,12 +27,12 @@ use std::alloc::Global;
 use wq_base::Case;
 use wq_clock::Instance;
 
-/// How many terms may stand inside one another, the outermost counted.
+/// How many terms may be inside one another, the outermost counted.
 pub const MAX_DEPTH: u32 = 64;
 
 /// The expression that a JSON value says, at this instance of the server.
 ///
-/// A term is an array headed by its name, with its arguments behind it; the bare name stands for an
+/// A term is an array headed by its name, with its arguments after it; the bare name stands for an
 /// array of it alone. The first fault refuses the value: see [`TermFault`]. Which values are read
 /// is also said as a grammar: see
 /// [`values_say_what_they_write`](crate::values_say_what_they_write).

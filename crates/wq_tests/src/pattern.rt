@@ -1,4 +1,4 @@
-//! What a pattern keeps, and when two are equal.
+//! The content of a pattern, and when two are equal.
 
 use std::test::Fail;
 use wq_glob::{Flags, Pattern};

@@ -4,7 +4,7 @@ use std::alloc::Global;
 use wq_base::Table;
 use wq_code::{Op, Raw, encode};
 
-/// What stands before the code of a file without constants, but for the count of instructions.
+/// The bytes before the code of a file without constants, but for the count of instructions.
 const START: &[u8] = b"WQPF\x01\0\0\0\0\0\0\0\0";
 
 /// The instruction `not`.
@@ -54,7 +54,7 @@ fn counts_of(file: &[u8]) -> Option<(u8, u8, usize)> {
     }
 }
 
-/// What the file of so many instructions says, if there is one.
+/// The counts that the file of so many instructions has, if there is one.
 fn written(alloc: Global, instructions: usize) -> Option<(u8, u8, usize)> {
     counts_of(&file_of(alloc, instructions)?)
 }

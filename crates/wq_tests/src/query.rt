@@ -23,7 +23,7 @@ pub(crate) const INSTANCE: Instance = Instance {
     root: 1,
 };
 
-/// What a JSON text asks.
+/// The query of a JSON text.
 fn read(alloc: Global, text: &str) -> Result<Query, Fail> {
     let value = Value::from_str(alloc, text)?;
     Ok(Query::read(alloc, &value, &INSTANCE)?)
@@ -56,7 +56,7 @@ fn since_sets_a_bound(rt: HostRuntime) -> Result<(), Fail> {
             ("{}", Some(Fresh)),
             (r#"{"since":"c:7:9:1:1"}"#, Some(Tick(1))),
             (r#"{"since":"c:7:9:1:0"}"#, Some(Tick(0))),
-            // A bound may lie behind every tick of the view.
+            // A bound may lie after every tick of the view.
             (
                 r#"{"since":"c:7:9:1:4611686018427387904"}"#,
                 Some(Tick(MAX_NUMBER)),

@@ -171,7 +171,7 @@ fn check_too_many(rt: &impl Abort, alloc: Global, table: &[(&[u8], i64, i64)]) -
     Ok(())
 }
 
-/// Too many rows are told before a name that stands twice, a name that is not valid, a size and a
+/// Too many rows are told before a name that is there twice, a name that is not valid, a size and a
 /// second out of range.
 #[test]
 fn tells_a_row_too_many_first(rt: HostRuntime) -> Result<(), Fail> {

@@ -13,8 +13,8 @@ use wq_session::Ask;
 use wq_stream::Event;
 use wq_view::Pass;
 
-/// What happens. A root and a client's line are texts, and what a root lists is one of the trees
-/// below.
+/// Something that happens. A root and a client's line are texts, and what a root lists is one of
+/// the trees below.
 #[derive(Clone, Copy)]
 enum Step {
     Crawl(&'static str, Result<usize, CrawlFault>),
@@ -51,7 +51,7 @@ fn new_world(alloc: Global) -> Result<World, AllocError> {
     World::new(alloc, run, String::from_str(alloc, "socket")?)
 }
 
-/// What such a world sends while this happens.
+/// The lines that such a world sends while this happens.
 fn play(alloc: Global, happenings: Vec<Happening<'_>>) -> Result<Vec<Sent>, AllocError> {
     let mut world = new_world(alloc)?;
     world.play(alloc, happenings)
@@ -154,8 +154,8 @@ fn check(rt: &impl Abort, alloc: Global, steps: &[Step], want: &str) -> Result<(
     Ok(())
 }
 
-/// What a crawl saw is shown from then on, to a line that synchronises and to one that does not
-/// wait for a crawl.
+/// The files that a crawl saw are shown from then on, to a line that synchronises and to one that
+/// does not wait for a crawl.
 #[test]
 fn a_crawl_is_seen_by_each_line_behind_it(rt: HostRuntime) -> Result<(), Fail> {
     check(
@@ -227,7 +227,7 @@ fn a_refused_crawl_refuses_no_other_line(rt: HostRuntime) -> Result<(), Fail> {
     )
 }
 
-/// A world goes on behind the line that ends the server; who plays it is told which that was.
+/// A world goes on after the line that ends the server; its player is told which that was.
 #[test]
 fn a_line_behind_the_end_of_the_server_is_answered(rt: HostRuntime) -> Result<(), Fail> {
     check(

@@ -1,5 +1,5 @@
--- What a program can cost at most, on a name of a given length.
--- This server's own measure of cost: the charges of wq_code's machine.
+-- The greatest cost of a program, on a name of a given length. This server's own measure of cost:
+-- the charges of wq_code's machine.
 use Rattle.std.specs.Prelude.{ℕ, ◌+◌, ◌*◌, max, List, [], ◌∷◌, length, sum_by, slice_get}
 use Rattle.std.specs.Option.{option_map_or}
 use Rattle.wq_glob.specs.Pattern.{PatternData, atoms_of}
@@ -16,13 +16,13 @@ longest_len (text ∷ texts) = max (length text) (longest_len texts)
 abbrev pub width_of : Raw → ℕ → ℕ
 width_of raw name_len = max name_len (longest_len raw.texts)
 
--- the most that a pattern can cost on a text of this width: a cell for each atom and one more, at
--- each byte and once more
+-- the most that a pattern can cost on a text of this width: a cell for each atom and one, at each
+-- byte and once more
 abbrev pub most_pattern_cost : ℕ → PatternData → ℕ
 most_pattern_cost width p = (length (atoms_of p) + 1) * (width + 1)
 
--- the most that an instruction can cost with texts of this width: 1; for `Match` the cost of its
--- pattern more, for `OneOf` the entries of its list
+-- the most that an instruction can cost with texts of this width: 1. For `Match` it is the cost of
+-- its pattern more, for `OneOf` the entries of its list
 abbrev pub most_cost : Raw → ℕ → Op → ℕ
 most_cost raw width (Match place) =
     1 + option_map_or (most_pattern_cost width) (slice_get raw.patterns place) 0

@@ -1,4 +1,4 @@
-//! What a program can cost at most.
+//! The greatest cost of a program.
 ghost use Rattle.std.specs.Prelude.{◌≡◌, ◌≤◌, IsTrue, length, slice_get};
 ghost use Rattle.std.specs.Option.{option_map_or};
 ghost use Rattle.wq_code.specs.Fits.{raw_fits};
@@ -72,9 +72,9 @@ fn cost(raw: &Raw, width: u64, op: Op) -> u64
 }
 
 impl Program {
-    /// The most that the program can cost on a name of `name_len` bytes, at most 4,096: each
-    /// instruction once, whether a run meets it or not, for 1, for a cell for each atom of a
-    /// pattern and one at each byte of the widest text and one, and for the entries of a list. It
+    /// The most that the program can cost on a name of `name_len` bytes, at most 4,096. Each
+    /// instruction counts once, whether a run meets it or not, for 1. A pattern adds a cell for
+    /// each atom and one, at each byte of the widest text and one; a list adds its entries. It
     /// takes no memory.
     #[tactic(auto, unfolding(crate::specs::Budget::budget_of))]
     pub fn budget(&self, name_len: u64) -> u64

@@ -31,7 +31,7 @@ pub fn runs_begin_well()
 {}
 
 /// From a state that fits the typing, one step leads to a later place whose state fits, or to an
-/// answer within the sum of all costs, and never to a trap.
+/// answer within all costs. It never leads to a trap.
 pub fn steps_go_well()
     ensures { StepsGoWell }
 {}

@@ -1,4 +1,4 @@
--- The first fault of rows: the lawful rows before it, and whether a name stands twice among them.
+-- The first fault of rows: the lawful rows before it, and whether a name is there twice among them.
 use Rattle.std.proofs.Common.{◌≡◌, ℕ, ℤ, nat_lt, suc, ◌<◌, ◌≤◌, Bool, true, false, cond, not, ◌||◌, ◌&&◌, List, [], ◌∷◌, ◌++◌, length, take, drop, get_or, bytes_eq, Option, Some, None, IfSome, IsTrue, ◌↔◌, slice_get, if◌then◌else◌, sym, refl, ap, ◌∙◌, arith}
 use mathlib.Core.Bool.{false≢true}
 use Rattle.std.specs.Cmp.{eq_by_cmp_equiv}
@@ -16,7 +16,7 @@ use Rattle.wq_view.specs.Listing.{names_of, row_fault, listing_fault}
 use Rattle.wq_view.specs.Limit.{max_listing_rows}
 use Rattle.wq_view.proofs.NameOrder.{names_total, both_true}
 
--- a name of the list is among the names before, or stands twice in it
+-- a name of the list is among the names before, or is twice in it
 clash : List (List ℕ) → List (List ℕ) → Bool
 clash before [] = false
 clash before (x ∷ xs) = list_any (bytes_eq x) before || clash (x ∷ before) xs
@@ -25,7 +25,7 @@ either_false : (a b : Bool) → (a || b) ≡ false → (a ≡ false) × (b ≡ f
 either_false true b e = absurd (false≢true (sym e))
 either_false false b e = (refl, e)
 
--- two names are one whichever stands first
+-- two names are one whichever comes first
 pub same_name_flips : (a b : List ℕ) → bytes_eq a b ≡ bytes_eq b a
 same_name_flips a b = texts_ties a b ∙ (eq_by_cmp_equiv names_total).symm a b ∙ sym (texts_ties b a)
 
@@ -103,13 +103,13 @@ own_fault_is before row rows unlawful = elim (is_valid_name row.name) as (λ b. 
   | false ↦ λ e. refl
 ] unlawful
 
--- of lawful rows: a name that stands twice, or nothing
+-- of lawful rows: a name that is there twice, or nothing
 pub fault_of_lawful : (rows : List SeenData) (r : Bool) → list_all is_lawful_row rows ≡ true → IsTrue r ↔ IsDistinct bytes_eq (names_of rows) → row_fault [] rows ≡ if r then None else Some NameTwice
 fault_of_lawful rows r lawful tells =
     ap (row_fault []) (sym (append-nil rows)) ∙ past_lawful [] rows [] None lawful (λ b. refl)
     ∙ rw (clash_is r (names_of rows) tells) (turned r None (Some NameTwice))
 
--- of rows with an unlawful one behind lawful ones: a name that stands twice before it, or its own fault
+-- of rows with an unlawful one after lawful ones: a name that is there twice before it, or its own fault
 pub fault_at_unlawful : (rows : List SeenData) (at : ℕ) (row : SeenData) (r : Bool) → list_all is_lawful_row (take at rows) ≡ true → at < length rows → row ≡ get_or rows at row → IfSome (slice_get rows at) (λ row. is_lawful_row row ≡ false) → IsTrue r ↔ IsDistinct bytes_eq (names_of (take at rows)) → row_fault [] rows ≡ Some (if r then (if is_valid_name row.name then OutOfRange else BadName) else NameTwice)
 fault_at_unlawful rows at row r lawful bound here unlawful tells =
     let there : slice_get rows at ≡ Some row = slice_get_read rows (length rows) at row refl bound here in

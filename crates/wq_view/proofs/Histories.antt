@@ -1,4 +1,4 @@
--- What one more pass makes of the record that a history gives a name.
+-- The effect of one more pass on the record that a history gives a name.
 use Rattle.std.proofs.Common.{◌≡◌, ℕ, zero, suc, ℤ, ◌<◌, ◌≤◌, Bool, true, false, cond, if◌then◌else◌, List, [], ◌∷◌, ◌++◌, length, slice_get, Option, Some, None, is_some, sym, refl, ap, ◌∙◌, arith, length-append}
 use Rattle.std.specs.FinMap.{get, get-empty}
 use Rattle.wq_view.specs.Seen.{Stat, same_stat}

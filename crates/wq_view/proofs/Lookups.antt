@@ -1,4 +1,4 @@
--- Where a name stands among records in order.
+-- The place of a name among records in order.
 use Rattle.std.proofs.Common.{Option, ◌⊎◌, ◌==◌, ◌≤◌, IfNone, IfSome, ◌≡◌, ℕ, zero, suc, ◌<◌, ◌≢◌, true, false, cond, List, [], ◌∷◌, length, get_or, slice_get, Some, None, Result, Ok, Err, MatchOption, inl, inr, sym, refl, ap, subst, ◌∙◌, arith}
 use mathlib.Core.Bool.{false≢true}
 use Rattle.std.specs.declared.cmp.Ordering.{Ordering}

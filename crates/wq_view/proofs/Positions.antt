@@ -23,7 +23,7 @@ kept_positions_filter test records (i ∷ is) = at (slice_get records i) refl (k
 next : (r : RecordData) (rs : List RecordData) (i : ℕ) → slice_get (r ∷ rs) (i + 1) ≡ slice_get rs i
 next r rs i = ap (slice_get (r ∷ rs)) (add-one i)
 
--- behind a first record each position is one higher
+-- after a first record each position is one higher
 shifted : (r : RecordData) (rs : List RecordData) (at n : ℕ) → filter_map (slice_get (r ∷ rs)) (range_with_len (at + 1) n) ≡ filter_map (slice_get rs) (range_with_len at n)
 shifted r rs at zero = refl
 shifted r rs at (suc n) =
@@ -39,7 +39,7 @@ pub positions_filter : PositionsFilter
 positions_filter test records =
     kept_positions_filter test records (all_positions records) ∙ ap (filter test) (all_are_there records)
 
--- numbers from one on are below the one behind the last
+-- numbers from one on are below the one after the last
 below_end : (at n end : ℕ) → at + n ≤ end → AllByRecursion (λ i. i < end) (range_with_len at n)
 below_end at zero end fits = tt
 below_end at (suc n) end fits = (omega (arith, fits), below_end (at + 1) n end (omega (arith, fits)))

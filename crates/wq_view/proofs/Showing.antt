@@ -91,7 +91,7 @@ shown_existing (r ∷ rs) rows sorted e =
         let rest : existing rs ≡ map entry_of (row ∷ rows) = rw is at e in
         unchanged_alone r rs row rows is below rest (later (row ∷ rows) rest)
 
--- the files that exist stand in the order of all
+-- the files that exist are in the order of all
 pub existing_sorted : (rs : List RecordData) → is_sorted name_cmp (by_name rs) ≡ true → is_sorted name_cmp (existing rs) ≡ true
 existing_sorted [] e = refl
 existing_sorted (r ∷ rs) e =

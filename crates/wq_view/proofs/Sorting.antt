@@ -1,4 +1,4 @@
--- What sorting rows by name, and looking at neighbours, says of their names.
+-- The facts about the names of rows that come from sorting by name and looking at neighbours.
 use Rattle.std.proofs.Common.{◌≡◌, ℕ, ◌+◌, ◌<◌, Bool, true, false, List, [], map, length, get_or, bytes_eq, pos, IsTrue, ◌⊎◌, ◌↔◌, sym, refl, ap, subst, ◌∙◌, inl, inr, arith}
 use mathlib.Core.Bool.{false≢true}
 use Rattle.std.specs.declared.cmp.Ordering.{Ordering}

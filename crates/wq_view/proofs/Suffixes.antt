@@ -1,4 +1,4 @@
--- What follows the last dot of a basename, where the last dot or slash of a name is known.
+-- The part after the last dot of a basename, if the last dot or slash of a name is known.
 use Rattle.std.proofs.Common.{◌≡◌, ℕ, zero, suc, ◌+◌, ◌-◌, ◌<◌, Bool, true, false, not, ◌||◌, List, [], ◌∷◌, ◌++◌, length, drop, take, refl, sym, ap, ◌∙◌, arith}
 use Rattle.std.specs.Prelude.{slice_index}
 use Rattle.std.specs.List.{after_last, list_any, suffix_len}
@@ -38,7 +38,7 @@ tail_counts p front (x ∷ tail) none =
     let here = append_assoc front (x ∷ []) tail in
     rw here at more ∙ omega (arith, last)
 
--- and stay behind what follows the last that passes
+-- and stay after what follows the last that passes
 after_last-front : (p : ℕ → Bool) (front tail : List ℕ) → list_any p tail ≡ false
     → after_last p (front ++ tail) ≡ after_last p front ++ tail
 after_last-front p front tail none =
@@ -49,12 +49,12 @@ after_last-front p front tail none =
     omega (arith, tail_counts p front tail none, length-append front tail, low) in
     rw count (drop-append-le (length front - s) front tail (omega arith))
 
--- nothing is behind the end
+-- nothing is after the end
 past : (xs : List ℕ) → drop (length xs) xs ≡ []
 past [] = refl
 past (x ∷ xs) = past xs
 
--- what follows one that passes, where none behind it does
+-- what follows one that passes, if none after it does
 after_last-here : (p : ℕ → Bool) (front tail : List ℕ) (x : ℕ) → p x ≡ true
     → list_any p tail ≡ false
     → after_last p (front ++ x ∷ tail) ≡ tail
@@ -100,14 +100,14 @@ no_slash (b ∷ bytes) none =
     (list_any (is_byte2 (byte ".") (byte "/")) bytes) none in
     rw ((neither (is_dot b) (is_slash b) parts.0).1) (no_slash bytes parts.1)
 
--- a byte that is there joins what stands in front of it and behind it
+-- a byte that is there joins what is in front of it and after it
 parted : (name : List ℕ) (at : ℕ) → at < length name
     → take at name ++ slice_index name at ∷ drop (at + 1) name ≡ name
 parted name at inside =
     let e : at + 1 ≡ suc at = omega arith in
     rw (e, sym (drop-cons name at 0 inside)) (take-append-drop at name)
 
--- where neither a dot nor a slash stands there is no suffix
+-- if neither a dot nor a slash is there, there is no suffix
 pub no_suffix : (name : List ℕ)
     → Nowhere (Passes (is_byte2 (byte ".") (byte "/")) name) 0 (length name) → suffix_of name ≡ []
 no_suffix name none =
@@ -122,7 +122,7 @@ not_slash x dot = let e : x ≡ byte "." = eqb-true x (byte ".") dot in rw e ref
 is_other : (x : ℕ) → is_byte2 (byte ".") (byte "/") x ≡ true → is_dot x ≡ false → is_slash x ≡ true
 is_other x either other = rw other at either
 
--- behind a dot
+-- after a dot
 from_dot : (front rest : List ℕ) (x : ℕ) → is_dot x ≡ true → list_any is_dot rest ≡ false
     → list_any is_slash rest ≡ false
     → suffix_of (front ++ x ∷ rest) ≡ rest
@@ -138,14 +138,14 @@ from_dot front rest x dot dots slashes =
     or_true true = refl
     or_true false = refl
 
--- behind a slash
+-- after a slash
 from_slash : (front rest : List ℕ) (x : ℕ) → is_slash x ≡ true → list_any is_dot rest ≡ false
     → list_any is_slash rest ≡ false
     → suffix_of (front ++ x ∷ rest) ≡ []
 from_slash front rest x slash dots slashes =
     rw (after_last-here is_slash front rest x slash slashes, dots) refl
 
--- where the last dot or slash is a dot, the suffix stands behind it
+-- if the last dot or slash is a dot, the suffix follows it
 pub suffix_after : (name : List ℕ) (at : ℕ)
     → NoneAfter (Passes (is_byte2 (byte ".") (byte "/")) name) 0 (length name) at
     → slice_index name at ≡ byte "."

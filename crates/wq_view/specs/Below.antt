@@ -1,5 +1,5 @@
--- Which records lie strictly below a directory, and how a name stands to the names that do.
--- From Watchman's documentation of the query key `path`.
+-- Which records lie strictly below a directory, and how a name compares to the names that do. From
+-- Watchman's documentation of the query key `path`.
 use Rattle.std.specs.Prelude.{ℕ, Bool, is_some, List, [], ◌∷◌}
 use Rattle.std.specs.Str.{byte}
 use Rattle.std.specs.Ordering.{nat_cmp, ordering_then}
@@ -13,8 +13,8 @@ use Rattle.wq_view.specs.RecordData.{RecordData}
 abbrev pub is_below : List ℕ → RecordData → Bool
 is_below dir r = is_some (rest_below Exact dir r.name)
 
--- how a name stands in byte order to the names that begin with the directory and a slash: before
--- them, one of them, or behind them
+-- how a name compares in byte order to the names that begin with the directory and a slash: before
+-- them, one of them, or after them
 abbrev pub order_below : List ℕ → List ℕ → Ordering
 order_below [] [] = Less
 order_below [] (b ∷ rest) = nat_cmp b (byte "/")

@@ -1,5 +1,5 @@
--- What one pass over a tree of files saw: a finite map from names to stats, and when.
--- A pass is made from a list of rows, whose first fault refuses it.
+-- The result of one pass over a tree of files: a finite map from names to stats, and when. A pass
+-- is made from a list of rows, whose first fault refuses it.
 use Rattle.std.specs.Prelude.{ℕ, ℤ, Bool, true, false, ◌≤◌, IsTrue, nat_lt, not, if◌then◌else◌, List, [], ◌∷◌, length, map, bytes_eq, refl, Option, Some, None}
 use Rattle.std.specs.Coded.{Coded, code_by, coded×, coded_ℕ, coded_ℤ, coded_list}
 use Rattle.std.specs.List.{list_any, list_all}
@@ -30,7 +30,7 @@ pass_code =
     (λ pass. (pass.stats, pass.second))
     (λ (stats, second). record { stats = stats; second = second }) (λ _. refl)
 
--- what rows list, where no name stands twice
+-- the listing of rows in which no name is there twice
 abbrev pub listing_of : List SeenData → ℤ → PassData
 listing_of rows second = record { stats = from_entries (map entry_of rows); second = second }
 
@@ -50,8 +50,8 @@ listing_fault rows second =
     else if not (is_count second) then Some OutOfRange
     else row_fault [] rows
 
--- whether a fault is one of a whole listing, and not of a row by itself: there are too many rows, the
--- second is out of range, or a name is there twice
+-- whether a fault is one of a whole listing, and not of a row by itself. Such a fault is that there
+-- are too many rows, the second is out of range, or a name is there twice
 abbrev pub is_of_whole : PassFault → Bool
 is_of_whole TooManyRows = true
 is_of_whole OutOfRange = true

@@ -1,5 +1,5 @@
--- How a view takes in a pass: records and rows in the order of their names, side by side.
--- What the result means is said by the view of a history alone.
+-- How a view takes in a pass: records and rows in the order of their names, side by side. Only the
+-- view of a history says what the result means.
 use Rattle.std.specs.Prelude.{ℕ, ℤ, Bool, false, not, ◌&&◌, List, [], ◌∷◌, map, Some, None}
 use Rattle.std.specs.FinMap.Entries.{by_order}
 use Rattle.std.specs.List.{list_all}

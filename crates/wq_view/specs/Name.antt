@@ -1,5 +1,5 @@
--- The names of files: paths relative to a root, as bytes, with their parts between slashes.
--- What a name may be is this server's own.
+-- The names of files: paths relative to a root, as bytes, with their parts between slashes. The
+-- rule of valid names is this server's own.
 use Rattle.std.specs.Prelude.{ℕ, Bool, ◌==◌, nat_le, not, ◌&&◌, List, [], length, bytes_eq, codes}
 use Rattle.std.specs.Str.{is_utf8}
 use Rattle.std.specs.List.{list_any, list_all, slice_split}

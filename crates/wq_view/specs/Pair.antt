@@ -1,5 +1,4 @@
--- What the types of pairs stand for.
--- No public document is behind it.
+-- The data that the types of pairs stand for. No public document defines it.
 use Rattle.std.specs.Prelude.{Bool, true, List}
 use Rattle.wq_view.specs.declared.pair.Pair.{Pair}
 use Rattle.wq_view.specs.declared.pair.Pair.TheVariants.{Old, Both, New}

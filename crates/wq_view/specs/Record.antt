@@ -1,5 +1,4 @@
--- What the fields of the type `Record` stand for.
--- No public document is behind it.
+-- The data that the fields of the type `Record` stand for. No public document defines it.
 use Rattle.wq_view.specs.declared.file_record.Record.TheInside.{Inside}
 use Rattle.wq_view.specs.RecordData.{RecordData}
 

@@ -1,5 +1,5 @@
--- What a pass sees of one file: its kind, its size, and its modification time in milliseconds.
--- A row of a listing is a name with what was seen of it.
+-- One file as a pass sees it: its kind, its size, and its modification time in milliseconds. A row
+-- of a listing is a name with what was seen of it.
 use Rattle.std.specs.Prelude.{refl, ℕ, ℤ, pos, neg_ℤ, Bool, ◌&&◌, ◌==◌, int_le, List}
 use Rattle.std.specs.Coded.{Coded, code_by, coded×, coded_ℤ}
 use Rattle.std.specs.Ordering.{int_eq}

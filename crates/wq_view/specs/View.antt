@@ -25,7 +25,7 @@ abbrev pub NamesRise : List RecordData → Type 0
 NamesRise records = IsTrue (is_sorted name_cmp (by_name records))
 
 -- the view of a history: its tick is the number of passes, its names rise, and each name has the
--- record that the history gives it
+-- record that the history gives
 pub record IsViewOf (history : History) (view : ViewData) : Type 0 where
   pub tick : view.tick ≡ length history
   pub ordered : NamesRise view.records

@@ -1,10 +1,10 @@
-//! How a name stands to the names strictly below a directory, which lie together in byte order.
+//! How a name compares to the names strictly below a directory, which lie together in byte order.
 ghost use Rattle.std.specs.Prelude.{◌≡◌};
 ghost use Rattle.wq_view.specs.Below.{order_below};
 
 use std::cmp::Ordering;
 
-/// How a name stands to the names that begin with the directory and a slash: before them, one of them, or behind them.
+/// How a name compares to the names that begin with the directory and a slash: before them, one of them, or after them.
 pub(crate) fn order_below(dir: &[u8], name: &[u8]) -> Ordering
     ensures { result ≡ order_below dir.now name.now }
 {

@@ -21,7 +21,8 @@ use std::marker::Model;
 /// How many milliseconds a second has.
 const MILLISECONDS: i64 = 1000;
 
-/// What a view keeps of one file, deleted or not. A tick is the number of a pass over the root.
+/// The record that a view keeps of one file, deleted or not. A tick is the number of a pass over
+/// the root.
 #[derive(Drop)]
 pub struct Record {
     pub name: Name,
@@ -38,7 +39,7 @@ pub struct Record {
     /// The second of the Unix epoch of the pass `otick`.
     pub osec: i64,
     pub kind: Kind,
-    /// Whether the last pass saw the file. Where it did not, kind, size and time say what was last seen.
+    /// Whether the last pass saw the file. If it did not, kind, size and time say what was last seen.
     pub exists: bool,
 }
 
@@ -57,7 +58,7 @@ impl Model for Record {
 }
 
 impl Record {
-    /// What follows the last slash of the name.
+    /// The part after the last slash of the name.
     pub fn basename(&self) -> &[u8]
         ensures { result.now ≡ basename_of self.now.name }
     {
@@ -65,7 +66,7 @@ impl Record {
         after_last(b'/', name).unwrap_or(name)
     }
 
-    /// What follows the last dot of the basename, and nothing where it has no dot: the suffix of `.php` is `php`.
+    /// The part after the last dot of the basename, and nothing if it has no dot: the suffix of `.php` is `php`.
     pub fn suffix(&self) -> &[u8]
         ensures { result.now ≡ suffix_of self.now.name }
     {
@@ -114,14 +115,14 @@ impl Record {
         })
     }
 
-    /// How the record's name stands to another in byte order.
+    /// How the record's name compares to another in byte order.
     pub(crate) fn name_order(&self, name: &[u8]) -> Ordering
         ensures { result ≡ name_cmp self.now.name name.now }
     {
         self.name.as_bytes().cmp(name)
     }
 
-    /// How the record's name stands to the names strictly below a directory that is not empty.
+    /// How the record's name compares to the names strictly below a directory that is not empty.
     pub(crate) fn order_below(&self, dir: &[u8]) -> Ordering
         ensures { result ≡ order_below dir.now self.now.name }
     {

@@ -1,8 +1,8 @@
-//! What kinds of files there are, and the letters that stand for them in listings and replies.
+//! The kinds of files, and the letters that stand for them in listings and replies.
 ghost use Rattle.std.specs.Prelude.{◌≡◌, MatchOption, ◌≢◌, ℕ};
 ghost use Rattle.wq_view.specs.Kind.{kind_with, letter_of};
 
-/// What a file is, by the kinds of POSIX and one that only Solaris has.
+/// The kind of a file, one of those of POSIX or one that only Solaris has.
 #[derive(Clone, Copy, Debug, PartialEq, Eq)]
 pub enum Kind {
     /// A regular file.

@@ -17,9 +17,9 @@ pub struct Known<'a> {
 }
 
 impl<'a> Known<'a> {
-    /// The bytes of a name that a pass takes, shared with the record of that name here if it is not passed; none where no pass
-    /// takes the name. Where names are asked for as they rise, each that is here is found, and all together take one pass over
-    /// both.
+    /// The bytes of a name that a pass takes, shared with the record of that name here if it is not passed. There are
+    /// none if no pass takes the name. If names are asked for as they rise, each that is here is found, and all
+    /// together take one pass over both.
     pub fn shared(&mut self, alloc: Global, name: &[u8]) -> Result<Option<ArcSlice<u8>>, AllocError>
         ensures { IfOk result (λ shared. MatchOption shared
             (is_valid_name name.now ≡ false)

@@ -1,4 +1,4 @@
-//! The view of a tree of files that is listed again and again: for each file, what was last seen of it,
+//! The view of a tree of files that is listed again and again. It says of each file what was last seen,
 //! whether it exists, and at which pass it came and last changed. It keeps no contents, walks no
 //! directory and knows no clock: listings and their seconds are handed in.
 //!

@@ -55,7 +55,8 @@ pub enum PassFault {
     NoMemory,
 }
 
-/// What one pass over a tree saw: of each name one row, and the second at which the pass was made.
+/// The result of one pass over a tree: of each name one row, and the second at which the pass was
+/// made.
 #[derive(Drop)]
 pub struct Pass {
     rows: Vec<Seen>,
@@ -80,8 +81,8 @@ impl Model for Pass {
 impl Pass {
     /// The pass that these rows make, in any order, seen at this second of the Unix epoch.
     ///
-    /// The first fault refuses them: too many rows, then the second, and then row by row a name that is
-    /// not valid, a number out of range, a name that an earlier row has. It takes no memory.
+    /// The first fault refuses them: too many rows, then the second. Then come, row by row, a name that
+    /// is not valid, a number out of range, a name that an earlier row has. It takes no memory.
     pub fn new(mut rows: Vec<Seen>, second: i64) -> Result<Pass, PassFault>
         ensures fault { MatchResult result
             (λ _. listing_fault rows.items second ≡ None)
@@ -196,7 +197,7 @@ fn first_fault(rows: &mut [Seen], at: usize) -> PassFault
     }
 }
 
-/// Brings rows into the byte order of their names, and says whether no name stands twice.
+/// Brings rows into the byte order of their names, and says whether no name is there twice.
 fn sort_by_name(rows: &mut [Seen]) -> bool
     ensures same { IsPermutation rows.old rows.new }
     ensures distinct { IsTrue result ↔ IsDistinct bytes_eq (names_of rows.old) }

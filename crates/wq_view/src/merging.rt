@@ -1,5 +1,5 @@
-//! What a pass changes in a view: records and rows pair by pair, both in the byte order of their names.
-//! Each function goes over the pairs once.
+//! The changes that a pass makes in a view: records and rows pair by pair, both in the byte order of
+//! their names. Each function goes over the pairs once.
 ghost use Rattle.std.specs.Prelude.{◌≡◌, ◌≤◌, ◌++◌, length, vec_len, IfOk, OnOk, IsTrue};
 ghost use Rattle.std.specs.List.{list_all};
 ghost use Rattle.wq_view.specs.Limit.{max_listing_rows};

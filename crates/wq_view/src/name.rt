@@ -1,5 +1,5 @@
 //! The names of files: paths relative to a root, shared between listings and views so that none of them
-//! copies a text. What a basename or a suffix is stands here; what a name matches does not.
+//! copies a text. It says what a basename or a suffix is; what a name matches is for others.
 ghost use Rattle.std.specs.Prelude.{◌≡◌, ◌==◌, true, false, IfOk, IsTrue, MatchOption};
 ghost use Rattle.std.specs.Arc.{arc_slice_items};
 ghost use Rattle.std.specs.List.{after_last, list_all, list_any, slice_split};
@@ -108,7 +108,7 @@ fn is_utf8(bytes: &[u8]) -> bool
     str::from_utf8(bytes).is_ok()
 }
 
-/// What follows the last such byte, if there is one.
+/// The part after the last such byte, if there is one.
 pub(crate) fn after_last(byte: u8, bytes: &[u8]) -> Option<&[u8]>
     ensures { MatchOption result
         ((list_any (λ b. b == byte) bytes.now ≡ false)
@@ -122,7 +122,7 @@ pub(crate) fn after_last(byte: u8, bytes: &[u8]) -> Option<&[u8]>
     Some(bytes.split_at(at + 1).1)
 }
 
-/// What follows the last dot of the basename, and nothing where it has no dot. No byte before that dot is read, and
+/// The part after the last dot of the basename, and nothing if it has no dot. No byte before that dot is read, and
 /// none before the basename.
 pub(crate) fn suffix_of(name: &[u8]) -> &[u8]
     ensures { result.now ≡ suffix_of name.now }

@@ -1,5 +1,5 @@
 //! Records and rows side by side: of each name the record, the row or both, in the byte order of names. What a pass
-//! makes of them is not said here.
+//! makes of them is for others.
 ghost use Rattle.std.specs.Prelude.{◌≡◌, ◌≤◌, IfOk, IsTrue};
 ghost use Rattle.wq_view.specs.Seen.{is_count};
 ghost use Rattle.wq_view.specs.Merge.{is_unchanged, pair_after, pairs_of};
@@ -10,7 +10,7 @@ use crate::limit::MAX_TICK;
 use crate::listing::Seen;
 use std::alloc::AllocError;
 
-/// What there is of a name.
+/// The record, the row or both of a name.
 #[derive(Clone, Copy)]
 pub(crate) enum Pair<'a> {
     /// A record whose name no row has.

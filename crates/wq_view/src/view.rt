@@ -38,7 +38,7 @@ impl From<AllocError> for ViewFault {
     }
 }
 
-/// What the passes over one root make known of its files.
+/// The files of one root, as the passes over it make them known.
 #[derive(Drop)]
 pub struct View {
     tick: u64,
@@ -198,7 +198,7 @@ impl View {
             .ok()
     }
 
-    /// The range of the positions of the records strictly below a directory: from the first number on, up to the
+    /// The range of the positions of the records strictly below a directory: from the first number up to the
     /// second, which is not in it. Below the empty directory lie all.
     ///
     /// Found by binary search.

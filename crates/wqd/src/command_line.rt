@@ -20,7 +20,7 @@ const MAX_INTERVAL: u64 = 3_600_000;
 /// How many threads a query may use at most.
 const MAX_WORKERS: u64 = 16;
 
-/// What the command line asks for.
+/// The task that the command line asks for.
 #[derive(Debug, Drop)]
 pub(crate) enum Task {
     /// Replay a script.
@@ -40,7 +40,7 @@ pub(crate) enum CommandLineFault {
     NoMemory,
 }
 
-/// What these words ask for, the first of which is the program's name.
+/// The task that these words ask for, the first of which is the program's name.
 pub(crate) fn task_of(alloc: Global, words: &[String]) -> Result<Task, CommandLineFault> {
     let matches = match command(alloc)?.try_get_matches_from(words) {
         Ok(matches) => matches,
@@ -57,7 +57,7 @@ pub(crate) fn task_of(alloc: Global, words: &[String]) -> Result<Task, CommandLi
     }
 }
 
-/// What the words after `serve` say.
+/// The settings that the words after `serve` give.
 fn settings_of(alloc: Global, given: &ArgMatches<'_>) -> Result<Settings, CommandLineFault> {
     let Some(sockname) = given.get_str("sockname") else {
         return Err(CommandLineFault::Wrong);
@@ -77,7 +77,7 @@ fn settings_of(alloc: Global, given: &ArgMatches<'_>) -> Result<Settings, Comman
     })
 }
 
-/// The number of at most `most` that stands under a name, or what is taken where none does.
+/// The number of at most `most` under a name, or the default if there is none.
 fn number_of(
     given: &ArgMatches<'_>,
     name: &str,

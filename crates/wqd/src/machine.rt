@@ -12,7 +12,7 @@ use wq_crawl::{Seconds, Tree};
 use wq_daemon::{Listening, Notices, Parts, SEATS, listen, remove, serve_clients};
 use wq_live::Blank;
 
-/// What the command line says of the server.
+/// The settings of the server that the command line gives.
 #[derive(Debug, Drop)]
 pub(crate) struct Settings {
     /// The path of its socket.
@@ -38,7 +38,7 @@ impl<R: Eprint + Drop> Notices for StandardError<R> {
     }
 }
 
-/// What the server works with on this machine.
+/// The parts of this machine with which the server works.
 #[derive(Drop)]
 pub(crate) struct Machine<T: Tree + Drop, S: Seconds + Drop, O: Notices + Drop> {
     pub(crate) tree: T,

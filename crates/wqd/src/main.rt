@@ -1,6 +1,6 @@
 //! The file watch server's program: the command line, files, standard streams and exit statuses.
-//! The server stands in `wq_daemon` and what walks trees for it in `wq_walk`; what replays a script
-//! in `wq_replay`, and what is said of program files in `wq_check`.
+//! `wq_daemon` has the server and `wq_walk` walks trees for it; `wq_replay` replays a script, and
+//! `wq_check` says what program files are.
 #![tactic(auto)]
 
 mod command_line;
@@ -40,7 +40,7 @@ fn main(rt: HostRuntime) -> ExitCode {
     }
 }
 
-/// What the command line asks for, if its words are in UTF-8 and ask for something.
+/// The task that the command line asks for, if its words are in UTF-8 and ask for something.
 fn task(rt: &HostRuntime) -> Result<Task, CommandLineFault> {
     let alloc = rt.alloc();
     let mut words = Vec::new(alloc);

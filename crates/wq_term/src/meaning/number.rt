@@ -1,4 +1,4 @@
-//! How the numbers of a record stand to those of a term.
+//! How the numbers of a record compare to those of a term.
 ghost use Rattle.std.specs.Prelude.{◌≡◌};
 ghost use Rattle.wq_term.specs.Number.{is_after, is_since};
 

@@ -1,4 +1,4 @@
-//! How the texts of a term stand to the name of a file.
+//! How the texts of a term compare to the name of a file.
 ghost use Rattle.std.specs.Prelude.{◌≡◌, ◌≤◌, length};
 ghost use Rattle.wq_term.specs.Expr.{texts_in};
 ghost use Rattle.wq_term.specs.Text.{scope_part, is_named, has_suffix};

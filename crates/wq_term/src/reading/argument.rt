@@ -1,5 +1,5 @@
-//! What one argument of a term, or a few of them, say. Which term has which arguments is not said
-//! here.
+//! The meaning of one argument of a term, or of a few of them. Which term has which arguments is
+//! not said here.
 ghost use Rattle.std.specs.Prelude.{◌≡◌, ◌-◌, length, ok_or, option_map};
 ghost use Rattle.std.specs.List.{suffix_len};
 ghost use Rattle.serde_json.specs.View.{view as data_of, items_view};
@@ -22,7 +22,7 @@ use wq_clock::Bound;
 /// The most bytes of a text in `name`, `suffix` and `dirname`, as it is given.
 pub const MAX_TERM_TEXT: usize = 4096;
 
-/// A name and what stands behind it.
+/// A name and the values after it.
 pub(super) fn parts(value: &Value) -> Option<(&str, &[Value])>
     ensures { option_map (λ p. (p.0.now, items_view p.1.now)) result
         ≡ term_parts (data_of value.now) }
@@ -55,7 +55,7 @@ pub fn without_end_slashes(text: &str) -> &str
     &text[..before_end_slashes(text.as_bytes())]
 }
 
-/// How many bytes stand before the slashes at the end.
+/// How many bytes come before the slashes at the end.
 fn before_end_slashes(text: &[u8]) -> usize
     ensures { result ≡ length text.now - suffix_len is_slash text.now }
 {

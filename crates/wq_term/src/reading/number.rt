@@ -58,8 +58,8 @@ fn field(value: &Value) -> Option<SinceField>
     value.as_str().and_then(field_named)
 }
 
-/// The bound of a clock spec in JSON at this instance of the server: that of a text, or a second of
-/// the Unix epoch from 0 to 2^62.
+/// The bound of a clock spec in JSON at this instance of the server. It is that of a text, or a
+/// second of the Unix epoch from 0 to 2^62.
 ///
 /// A malformed value is [`TermFault::BadClockSpec`], and a named cursor
 /// [`TermFault::CursorInTerm`].

@@ -6,7 +6,7 @@ use crate::expr::Scope;
 use wq_base::Relation;
 use wq_view::Kind;
 
-/// What `since` compares.
+/// The fields that `since` compares.
 #[derive(Clone, Copy)]
 pub(crate) enum SinceField {
     Oclock,

@@ -1,4 +1,4 @@
--- What was written is a front of the bytes.
+-- The written bytes are a front of the bytes.
 use Rattle.std.proofs.Common.{rules}
 use Rattle.wq_base.proofs.Fronts.{front_kept, keeps_same, on_err, part_behind}
 use Rattle.wq_base.proofs.writing.write_all.Goals as goal

@@ -1,4 +1,4 @@
--- What was told under the lock is what some crawler tells.
+-- The answer under the lock is the answer of some crawler.
 use Rattle.wq_crawl.proofs.Sharing.{once_gives}
 use Rattle.wq_crawl.proofs.shared_crawler.crawl_for.Goals as goal
 

@@ -1,4 +1,4 @@
--- Those below a path stand in one range.
+-- The records below a path are in one range.
 use Rattle.std.proofs.Common.{◌≡◌, filter, ◌∙◌, ap, arith}
 use Rattle.std.specs.List.{range_with_len}
 use Rattle.wq_view.specs.Position.{passes_at}

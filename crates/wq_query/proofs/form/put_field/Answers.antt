@@ -1,4 +1,4 @@
--- Where the field stands.
+-- The place of the field.
 use Rattle.std.proofs.Common.{sym, ◌∙◌, arith}
 use Rattle.wq_query.proofs.Order.{put-less, put-equal, put-greater, put-last}
 use Rattle.wq_query.proofs.form.put_field.Goals as goal

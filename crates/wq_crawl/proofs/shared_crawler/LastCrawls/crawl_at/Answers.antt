@@ -1,4 +1,4 @@
--- What was kept of the crawl leaves the crawler as the crawl left it.
+-- Keeping the crawl leaves the crawler as the crawl left it.
 use Rattle.std.proofs.Common.{Ok, sym, subst}
 use Rattle.wq_crawl.specs.Crawl.{CrawledAt}
 use Rattle.wq_crawl.proofs.shared_crawler.LastCrawls.crawl_at.Goals as goal

@@ -1,4 +1,4 @@
--- behind the end there are slashes alone
+-- after the end there are slashes alone
 use Rattle.std.proofs.Common.{◌≡◌, ◌≤◌, ◌+◌, length, take}
 use Rattle.std.specs.List.{suffix_len}
 use Rattle.wq_base.specs.Byte.{is_slash}

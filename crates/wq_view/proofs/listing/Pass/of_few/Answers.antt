@@ -1,4 +1,4 @@
--- The rows are lawful here, and sorted: what is left is whether a name stands twice.
+-- The rows are lawful here, and sorted: what is left is whether a name is there twice.
 use Rattle.std.proofs.Common.{◌≡◌, ℤ, ◌≤◌, Bool, true, false, List, length, sym, ap, ◌∙◌, arith, w64, IsPermutation, Vec}
 use mir.Val.{to_z, of_z, SFits}
 use Rattle.std.proofs.lemmas.Int.{to_z-of_z}

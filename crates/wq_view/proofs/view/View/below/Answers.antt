@@ -1,4 +1,4 @@
--- The closures ask how a record's name stands to those below the directory.
+-- The closures ask how a record's name compares to those below the directory.
 use Rattle.std.proofs.Common.{rules, sym, ◌∙◌}
 use Rattle.std.specs.Ordering.{is_lt, is_le}
 use Rattle.std.proofs.lemmas.Fn.{always_returns_same}
