@@ -12,7 +12,8 @@ use Rattle.wq_code.specs.declared.fault.FileFault.{FileFault}
 use Rattle.wq_code.specs.declared.fault.FileFault.TheVariants.{WrongMagic, OtherVersion, CutShort, BytesAfterEnd, UnknownOperation, BadOperand, OverLimit, NoMemory}
 use Rattle.wq_code.specs.declared.file.Counts.{Counts}
 
--- a second reading, of more bytes, gives what the first gave, lists_after; nothing is said where the first was cut short
+-- a second reading, of more bytes, gives what the first gave, `lists_after`; nothing is said if the
+-- first was cut short
 abbrev pub Steady : {A : Type 0} → (A → A) → Result A FileFault → Result A FileFault → Type 0
 Steady grow (Ok x) second = second ≡ Ok (grow x)
 Steady grow (Err CutShort) second = Unit {0}

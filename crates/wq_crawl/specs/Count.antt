@@ -14,7 +14,8 @@ Keeps before number count after =
     (after ≡ before) ⊎ (after ≡ lru_cache (put_entries nat_eq before number count) before.cap)
 
 -- what is kept of a crawl that answered this: its count, or nothing new where it is refused
-abbrev pub KeepsOf : {A : Type 0} → LruCache ℕ ℕ → ℕ → ℕ → Result A CrawlFault → LruCache ℕ ℕ → Type 0
+abbrev pub KeepsOf : {A : Type 0} → LruCache ℕ ℕ → ℕ → ℕ → Result A CrawlFault → LruCache ℕ ℕ
+    → Type 0
 KeepsOf before number count (Ok answer) after = Keeps before number count after
 KeepsOf before number count (Err fault) after = after ≡ before
 

@@ -19,8 +19,8 @@ use std::sync::Wait;
 use wq_live::{Named, Publisher, Seat, StartFault, Told};
 use wq_view::{Pass, Seen, ViewFault};
 
-/// Lists roots, and publishes what is seen. Contracts see the list of events that is published, and what the tree and the
-/// clock show of themselves.
+/// Lists roots, and publishes what it sees. Contracts see the list of events that is published, and
+/// what the tree and the clock show of themselves.
 #[derive(Drop)]
 pub struct Crawler<N: Named, R: Wait + Drop, T: Tree + Drop, S: Seconds + Drop> {
     publisher: Publisher<N, R>,
@@ -116,8 +116,8 @@ impl<N: Named, R: Wait + Drop, T: Tree + Drop, S: Seconds + Drop> Crawler<N, R, 
         }
     }
 
-    /// Lets go of the views that only what was published before the last time has. It changes nothing, and waits for those
-    /// that still look at that.
+    /// Frees the views that only the table before the last one still holds. It changes nothing, and
+    /// waits for the looks that still see that table.
     pub fn let_go(&mut self)
         ensures { self.new ≡ self.old }
     {
@@ -155,7 +155,8 @@ impl<N: Named, R: Wait + Drop, T: Tree + Drop, S: Seconds + Drop> Crawler<N, R, 
     /// Publishes a pass over the root of this number.
     fn publish(&mut self, number: u64, pass: Pass) -> Result<Told<N>, CrawlFault>
         ensures published { MatchResult result
-            (λ told. (told ≡ (self.new).events) × Passes (self.old).events number pass (self.new).events)
+            (λ told. (told ≡ (self.new).events)
+            × Passes (self.old).events number pass (self.new).events)
             (λ fault. ((self.new).events ≡ (self.old).events)
             × IsNotTakenIn (self.old).events number pass fault) }
         ensures listed { (self.new).listed ≡ (self.old).listed }

@@ -17,7 +17,8 @@ pub trait Roots<N: Named> {
 
     /// Finds the root of this text, or lists it and starts it, and tells the list of events.
     fn watch(&mut self, root: &str) -> Result<Told<N>, CrawlFault>
-        ensures { RootsGive (crawler self.old) (showing root.now) (tells result) (crawler self.new) };
+        ensures { RootsGive (crawler self.old) (showing root.now) (tells result)
+            (crawler self.new) };
 
     /// Crawls the root of this text and publishes the pass, and tells the list of events; none where it is not shown.
     fn crawl(&mut self, root: &str) -> Result<Option<Told<N>>, CrawlFault>

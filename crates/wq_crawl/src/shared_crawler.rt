@@ -89,7 +89,8 @@ impl<N: Named, R: Wait + Drop, T: Tree + Drop, S: Seconds + Drop> LastCrawls<N, 
         ensures crawled { CrawledOnce root.now asked
             (λ number. lookup (nat_eq number) self.old.last.entries)
             self.old.crawler result self.new.crawler }
-        ensures kept { KeepsRaised C.raised root.now self.old.crawler self.old.last result self.new.last }
+        ensures kept { KeepsRaised C.raised root.now self.old.crawler self.old.last result
+            self.new.last }
     {
         let Some(number) = self.crawler.number(root) else {
             return Ok(None);

@@ -9,13 +9,15 @@ use Rattle.std.specs.declared.process.command.Command.{Command}
 use Rattle.wq_follow.specs.Start.{StartData, vars_of}
 
 -- what is said of a variable once these were set, one after the other; `None` says nothing of it
-abbrev pub said : List (List ℕ × List ℕ) → List ℕ → Option (Option (List ℕ)) → Option (Option (List ℕ))
+abbrev pub said : List (List ℕ × List ℕ) → List ℕ → Option (Option (List ℕ))
+    → Option (Option (List ℕ))
 said [] name before = before
 said (v ∷ vars) name before =
     said vars name (if bytes_eq v.0 name then Some (Some v.1) else before)
 
 -- a command sets these variables too, and is otherwise the same
-pub record SetsAlso {A : Type 0} (sets : List (List ℕ × List ℕ)) (old new : Command A) : Type 0 where
+pub record SetsAlso {A : Type 0} (sets : List (List ℕ × List ℕ))
+    (old new : Command A) : Type 0 where
   pub vars : (name : List ℕ) → command_var new name ≡ said sets name (command_var old name)
   pub inherits : clears_env new ≡ clears_env old
   pub call : SameProgramAndArgs old new

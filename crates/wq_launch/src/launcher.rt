@@ -163,7 +163,8 @@ impl<S: Spawn + Drop, R: Wait + Drop> Launch for Launcher<S, R> {
     fn start(&mut self, start: Start) -> Result<u32, LaunchFault>
         ensures counted { IfErr result (λ _. Rose self.old.failures self.new.failures) }
         ensures told { StartsRun None (start_data start) (run_of result) None }
-        ensures waiting { self.new.waiting ≡ with_waiting (start_data start) result self.old.waiting }
+        ensures waiting { self.new.waiting
+            ≡ with_waiting (start_data start) result self.old.waiting }
         ensures ok { OnOk result ((self.new.failures ≡ self.old.failures)
             × (self.new.failing ≡ after_success start.env.root start.env.trigger
             self.old.failing)) }

@@ -37,7 +37,8 @@ fails_first (Err fault) = comes_first fault
 
 -- what a subscription asks, from what its object asks as a query, whether that has a generator and
 -- whether it has a cursor
-abbrev pub without_generators : Result QueryData QueryFault → Bool → Bool → Result QueryData QueryFault
+abbrev pub without_generators : Result QueryData QueryFault → Bool → Bool
+    → Result QueryData QueryFault
 without_generators asked generator cursor =
     if fails_first asked then asked
     else if generator then Err BadGenerator

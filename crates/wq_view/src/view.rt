@@ -98,7 +98,8 @@ impl View {
         }
     }
 
-    /// The view after a pass; none where that saw just what the pass before it saw. The records of the two share their names.
+    /// The view after a pass; none if that saw just what the pass before it saw. The records of the two
+    /// share their names.
     ///
     /// In O(n + m) for n records and m rows. Only a pass that saw something else takes memory.
     pub fn after(&self, pass: &Pass) -> Result<Option<View>, ViewFault>
