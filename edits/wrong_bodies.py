@@ -42,20 +42,20 @@ def read(path: Path) -> Edit:
     return Edit(path, pairs, refused)
 
 
-def apply(edit: Edit, folder: Path, texts: Dict[str, str]) -> None:
+def apply(edit: Edit, directory: Path, texts: Dict[str, str]) -> None:
     """Puts the edit into the texts of the files of the crate, by their paths. Those that are not there are read."""
     for file, old, new in edit.pairs:
         if not re.fullmatch(r"src/[\w/]+\.rt", file):
             raise BadEdit(f"it changes {file}, which is no body")
         if file not in texts:
-            texts[file] = (folder / file).read_text(encoding="utf-8")
+            texts[file] = (directory / file).read_text(encoding="utf-8")
         found = texts[file].count(old)
         if found != 1:
             raise BadEdit(f"its old text stands in {file} {found} times, and not once")
         texts[file] = texts[file].replace(old, new)
 
 
-def together(edits: List[Edit], folder: Path) -> Tuple[List[Edit], Dict[str, str]]:
+def together(edits: List[Edit], directory: Path) -> Tuple[List[Edit], Dict[str, str]]:
     """The first of these edits with each behind it that another function is refused for and that can stand beside them, and
     the texts of the crate's files with all of them."""
     chosen: List[Edit] = []
@@ -65,7 +65,7 @@ def together(edits: List[Edit], folder: Path) -> Tuple[List[Edit], Dict[str, str
             continue
         with_it = dict(texts)
         try:
-            apply(edit, folder, with_it)
+            apply(edit, directory, with_it)
         except BadEdit:
             continue
         chosen.append(edit)

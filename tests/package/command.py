@@ -151,8 +151,8 @@ def bare(room: Path) -> None:
 
 def tools(room: Path) -> Path:
     """A directory with the commands that the scripts need, and no other."""
-    folder = room / "bin"
-    folder.mkdir()
+    directory = room / "bin"
+    directory.mkdir()
     for name in "sh dirname sed head find cat awk wc date mktemp rm touch env python3".split():
-        (folder / name).symlink_to(shutil.which(name))
-    return folder
+        (directory / name).symlink_to(shutil.which(name))
+    return directory

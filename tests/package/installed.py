@@ -73,22 +73,22 @@ def check_default_prefix(tally: built.Tally, room: Path) -> None:
 
 
 def check_package(tally: built.Tally, room: Path) -> None:
-    """The package has the files of ./install. It is installed below a folder, by dpkg if that is there."""
+    """The package has the files of ./install. It is installed below a directory, by dpkg if that is there."""
     ended = call(room, "package", str(room / "out"), SOURCE_DATE_EPOCH="1000000000")
     path = Path(ended.output.decode().strip())
     same(tally, "the name of the package", path.name, f"wqd_{version_of(room)}_amd64.deb")
     call(room, "install", str(room / "prefix"))
     (room / "prefix" / LIST).unlink()
     check_members(tally, path, room / "prefix")
-    folder = room / "folder"
-    remove = install_package(path, folder)
+    directory = room / "directory"
+    remove = install_package(path, directory)
     expected = {path: mode for path, mode in FILES.items() if path != LIST}
-    same(tally, "the files of the package", modes(folder / "usr", expected), expected)
-    unit = (folder / "usr" / UNIT).read_text()
+    same(tally, "the files of the package", modes(directory / "usr", expected), expected)
+    unit = (directory / "usr" / UNIT).read_text()
     same(tally, "the unit of the package", 'exec "/usr/bin/wqd" serve' in unit, True)
-    check_server(tally, "of the package", room, unit.replace("/usr/bin/wqd", f"{folder}/usr/bin/wqd"))
+    check_server(tally, "of the package", room, unit.replace("/usr/bin/wqd", f"{directory}/usr/bin/wqd"))
     remove()
-    same(tally, "what a removed package leaves", (folder / "usr").exists(), False)
+    same(tally, "what a removed package leaves", (directory / "usr").exists(), False)
 
 
 def check_members(tally: built.Tally, package: Path, prefix: Path) -> None:
@@ -117,24 +117,25 @@ def members_of(package: Path) -> Dict[str, bytes]:
     return members
 
 
-def install_package(package: Path, folder: Path):
-    """Installs a package below a folder, and gives what removes it."""
+def install_package(package: Path, directory: Path):
+    """Installs a package below a directory, and gives what removes it."""
     if shutil.which("dpkg") is None:
         with tarfile.open(fileobj=BytesIO(members_of(package)["data.tar.gz"])) as archive:
-            archive.extractall(folder)
-        return lambda: shutil.rmtree(folder / "usr")
-    admin = folder / "var" / "lib" / "dpkg"
+            archive.extractall(directory)
+        return lambda: shutil.rmtree(directory / "usr")
+    admin = directory / "var" / "lib" / "dpkg"
     for name in ADMIN:
         (admin / name).mkdir(parents=True)
     for name in ("status", "available"):
         (admin / name).touch()
-    dpkg(folder, "--install", str(package))
-    return lambda: dpkg(folder, "--purge", "wqd")
+    dpkg(directory, "--install", str(package))
+    return lambda: dpkg(directory, "--purge", "wqd")
 
 
-def dpkg(folder: Path, *words: str) -> None:
-    # The folder has no C library, and who runs this need not be root.
-    command = ["dpkg", f"--root={folder}", "--force-depends", "--force-not-root", "--force-bad-path", f"--log={folder}/log"]
+def dpkg(directory: Path, *words: str) -> None:
+    # The directory has no C library, and the user who runs this need not be root.
+    command = ["dpkg", f"--root={directory}", "--force-depends", "--force-not-root", "--force-bad-path"]
+    command.append(f"--log={directory}/log")
     ended = subprocess.run([*command, *words], stdout=subprocess.PIPE, stderr=subprocess.STDOUT)
     if ended.returncode != 0:
         raise ValueError(ended.stdout.decode())
