@@ -143,7 +143,7 @@ def check_compilation(tally: built.Tally, room: Path) -> None:
             same(tally, f"{number.name} to a call that compiles", status in (128 + number, -number, 130), True)
             time.sleep(0.6)
             same(tally, "its server", list(asking.room().glob("*.socket")), [])
-        missing = asking.ask(PATH=f"{Path(os.path.realpath('/bin/sh')).parent}:{python_folder()}")
+        missing = asking.ask(PATH=f"{Path(os.path.realpath('/bin/sh')).parent}:{python_directory()}")
         words = b"ask: the Rattle kit is missing: its command rt is not on the PATH\n"
         same(tally, "no kit", missing, built.Ended(words, b"", 1))
         asking.room().chmod(0o755)
@@ -151,7 +151,7 @@ def check_compilation(tally: built.Tally, room: Path) -> None:
         same(tally, "a directory of others", asking.ask(), built.Ended(words, b"", 1))
 
 
-def python_folder() -> str:
+def python_directory() -> str:
     return os.path.dirname(os.path.realpath(sys.executable))
 
 
