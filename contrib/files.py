@@ -25,6 +25,12 @@ TAIL = """
 answer_help "$@"
 run "$@"
 """
+# The manual pages of section 7: their pages in docs/, and what they are.
+REFERENCE = {
+    "wqd-programs": ("PROGRAMS.md", "program files that clients of wqd send"),
+    "wqd-protocol": ("PROTOCOL.md", "what a client of wqd may ask, and what it is answered"),
+    "wqd-scripts": ("SCRIPTS.md", "scripts that wqd replays"),
+}
 LICENCES = "You may use wqd under the MIT license or under the Apache License, Version 2.0, whichever you like.\n\n"
 
 
@@ -59,7 +65,7 @@ def files(prefix: str) -> List[File]:
         File("lib/wqd/wqd", 0o755, built_program()),
         File("lib/wqd/git-fsmonitor-hook", 0o755, text("contrib/git-fsmonitor-hook").encode()),
         File("share/man/man1/wqd.1", 0o644, server_manual().encode()),
-        File("share/man/man7/wqd-protocol.7", 0o644, protocol_manual().encode()),
+        *(File(f"share/man/man7/{name}.7", 0o644, reference_manual(name).encode()) for name in REFERENCE),
         File("share/systemd/user/wqd.service", 0o644, unit(prefix).encode()),
         File("share/bash-completion/completions/wqd", 0o644, text("contrib/wqd.bash").encode()),
         File("share/doc/wqd/CHANGELOG.md", 0o644, text("CHANGELOG.md").encode()),
@@ -76,9 +82,9 @@ def server_manual() -> str:
     return manual.page(text("docs/SERVER.md"), "wqd", 1, summary, version(), said("--help"))
 
 
-def protocol_manual() -> str:
-    summary = "what a client of wqd may ask, and what it is answered"
-    return manual.page(text("docs/PROTOCOL.md"), "wqd-protocol", 7, summary, version())
+def reference_manual(name: str) -> str:
+    page, summary = REFERENCE[name]
+    return manual.page(text(f"docs/{page}"), name, 7, summary, version())
 
 
 def unit(prefix: str) -> str:

@@ -13,7 +13,12 @@ LINK = re.compile(r"\[([^\]]*)\]\(([^)]*)\)")
 # The parts of a line: code, bold, slanted, a link.
 INLINE = re.compile(r"`([^`]+)`|\*\*(.+?)\*\*|\*([^* ][^*]*)\*|" + LINK.pattern)
 # The pages of docs/ that are pages of man.
-PAGES = {"SERVER.md": "wqd(1)", "PROTOCOL.md": "wqd-protocol(7)"}
+PAGES = {
+    "SERVER.md": "wqd(1)",
+    "PROTOCOL.md": "wqd-protocol(7)",
+    "PROGRAMS.md": "wqd-programs(7)",
+    "SCRIPTS.md": "wqd-scripts(7)",
+}
 # Lines are not stretched, and words are not cut: most are code.
 LAYOUT = [".ad l", ".nh"]
 ESCAPES = {"\\": "\\e", "-": "\\-", "'": "\\(aq", "`": "\\(ga", "^": "\\(ha", "~": "\\(ti"}

@@ -16,7 +16,11 @@ REPLY = b'1 {"clock":"c:7:9:1:1","files":["b.txt","src/a.c"],"is_fresh_instance"
 
 
 def check_script(tally: built.Tally, room: Path) -> None:
-    same(tally, "the script", built.replay((EXAMPLES / "first.script").read_bytes()), built.Ended(REPLY, b"", 0))
+    script = (EXAMPLES / "first.script").read_text()
+    same(tally, "the script", built.replay(script.encode()), built.Ended(REPLY, b"", 0))
+    page = (built.TOP / "docs" / "SCRIPTS.md").read_text(encoding="utf-8")
+    shown = "".join(f"    {line}\n" for line in script.splitlines())
+    same(tally, "the script on the page of scripts", f"\n{shown}\n" in page, True)
 
 
 def check_program_file(tally: built.Tally, room: Path) -> None:

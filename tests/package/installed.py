@@ -22,7 +22,9 @@ FILES = {
     "share/doc/wqd/CHANGELOG.md": 0o644,
     "share/doc/wqd/copyright": 0o644,
     "share/man/man1/wqd.1": 0o644,
+    "share/man/man7/wqd-programs.7": 0o644,
     "share/man/man7/wqd-protocol.7": 0o644,
+    "share/man/man7/wqd-scripts.7": 0o644,
     "share/systemd/user/wqd.service": 0o644,
 }
 LIST = "lib/wqd/files"

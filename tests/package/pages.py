@@ -58,8 +58,8 @@ def check_table_of_files(tally: built.Tally, room: Path) -> None:
 def check_manual(tally: built.Tally, room: Path) -> None:
     """The pages of man: only known macros, all of ASCII, each heading, and each block of code as it is in the page."""
     for name, text, made in (
-        ("SERVER", files.text("docs/SERVER.md"), files.server_manual()),
-        ("PROTOCOL", files.text("docs/PROTOCOL.md"), files.protocol_manual()),
+        ("SERVER.md", files.text("docs/SERVER.md"), files.server_manual()),
+        *((page, files.text(f"docs/{page}"), files.reference_manual(name)) for name, (page, _) in files.REFERENCE.items()),
     ):
         lines = made.splitlines()
         same(tally, f"{name}: macros", {line.split(" ")[0] for line in lines if line.startswith((".", "'"))} - MACROS, set())
@@ -75,7 +75,7 @@ def check_manual(tally: built.Tally, room: Path) -> None:
         left = [line for line in shown if "](" in line or "<!--" in line]
         same(tally, f"{name}: what is left of Markdown", left, [])
         check_by_roff(tally, name, made)
-    same(tally, "a small page", manual.page(SMALL, "n", 1, "s", "0").splitlines()[6:-3], SMALL_MADE)
+    same(tally, "a small page", manual.page(SMALL, "n", 1, "s", "0").splitlines()[6:-1 - len(manual.PAGES)], SMALL_MADE)
 
 
 def check_by_roff(tally: built.Tally, name: str, made: str) -> None:

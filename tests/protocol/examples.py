@@ -2,21 +2,26 @@
 
 import json
 import re
+import subprocess
+import sys
 from typing import Any, Callable, Dict, Iterator, List, NamedTuple, Optional, Tuple
 
+import built
 from document import Cell, Element, Page, Table
 from instructions import BY_NAME
 from notation import file_of
 
 
 class Example(NamedTuple):
-    """A script, what it has to write in words, and the test of what it wrote. Or a program file that is checked."""
+    """A script, what it has to write in words, the test of what it wrote, and what it has to write on standard error. Or a
+    program file that is checked."""
 
     name: str
     script: str
     expected: str
     is_right: Callable[[str], bool]
     file: Optional[bytes] = None
+    errors: str = ""
 
 
 Examples = Iterator[Example]
@@ -79,6 +84,12 @@ def output_of(element: Element, page: Page) -> Examples:
     yield writes("the script before it", script_named(element, page)[0], "\n".join(element.lines) + "\n")
 
 
+def refusal_of(element: Element, page: Page) -> Examples:
+    """`refusal of NAME`: what the script writes, which is malformed: the last line is on standard error."""
+    *output, errors = [line + "\n" for line in element.lines]
+    yield writes("the script before it", script_named(element, page)[0], "".join(output))._replace(errors=errors)
+
+
 def output_of_last_line(element: Element, page: Page) -> Examples:
     """`output of the last line of NAME`: what that line alone writes."""
     last_line = script_named(element, page)[0].rstrip("\n").rsplit("\n", 1)[1]
@@ -95,6 +106,13 @@ def reply_to_line(element: Element, page: Page) -> Examples:
     """`reply to LINE`: what this line is answered."""
     line = element.mark.split("reply to ", 1)[1]
     yield writes(line, ask(line), f"1 {element.lines[0]}\n")
+
+
+def malformed_lines(element: Element, page: Page) -> Examples:
+    """`malformed lines`: each of the lines in the first column is malformed, as the first of a script."""
+    for row in Table(element.lines).examples():
+        for line in row["line"].codes():
+            yield writes(line, line, "")._replace(errors="script line 1\n")
 
 
 # Tables of queries and lines.
@@ -305,6 +323,15 @@ def parts_of_file(element: Element, page: Page) -> Examples:
     yield says("the file without its last byte", file[:-1], "refused F3")
 
 
+def file_by_python(element: Element, page: Page) -> Examples:
+    """`python for PATH that says LINE`: the block writes the bytes of this file, of which `wqd check` says this line."""
+    path, line = re.fullmatch(r".*python for (\S+) that says (.*)", element.mark).groups()
+    code = "\n".join(element.lines)
+    ended = subprocess.run([sys.executable, "-c", code], stdout=subprocess.PIPE, check=True)
+    assert ended.stdout == (built.TOP / path).read_bytes(), f"the block does not write {path}"
+    yield says(path, ended.stdout, line)
+
+
 def refused_files(element: Element, page: Page) -> Examples:
     """`refused files`: files in hexadecimal that have this fault."""
     for row in Table(element.lines).examples():
@@ -354,6 +381,8 @@ RULES: List[Tuple[str, Callable[[Element, Page], Examples]]] = [
     ("script ", keep_script),
     ("output of the last line of ", output_of_last_line),
     ("output of ", output_of),
+    ("refusal of ", refusal_of),
+    ("malformed lines", malformed_lines),
     ("reply to ", reply_to_line),
     ("queries after ", queries_after),
     ("lines", lines_after),
@@ -370,6 +399,7 @@ RULES: List[Tuple[str, Callable[[Element, Page], Examples]]] = [
     ("what passes saw", what_passes_saw),
     ("checks of programs", checks_of_programs),
     ("parts of a file that says ", parts_of_file),
+    ("python for ", file_by_python),
     ("refused files", refused_files),
     ("refused programs", refused_programs),
     ("instructions", instructions),
