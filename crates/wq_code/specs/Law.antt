@@ -47,7 +47,7 @@ EndInAWrongNumber bytes =
     × ((b : ℕ) → b < 256 → file_at (bytes ++ b ∷ []) ≡ Err fault)
 
 -- bytes are cut short exactly if they are a front of a spelling and not all of it, or end within a
--- number that is wrong anyway
+-- number that is wrong whatever follows
 abbrev pub CutShortAreFronts : Type 0
 CutShortAreFronts = (bytes : List ℕ) → AreBytes bytes
     → (file_at bytes ≡ Err CutShort) ↔ (BeginASpelling bytes ⊎ EndInAWrongNumber bytes)
