@@ -9,7 +9,7 @@ use Rattle.wq_base.specs.Byte.{is_slash, is_dot}
 abbrev pub basename_of : List ℕ → List ℕ
 basename_of name = after_last is_slash name
 
--- what follows the last dot of the basename, or nothing where it has no dot
+-- what follows the last dot of the basename, or nothing if it has no dot
 abbrev pub suffix_of : List ℕ → List ℕ
 suffix_of name =
     if list_any is_dot (basename_of name) then after_last is_dot (basename_of name) else []

@@ -6,7 +6,7 @@ use Rattle.wq_clock.specs.ClockText.{clock_text}
 use Rattle.wq_clock.specs.ClockSpec.{SpecData, clock_id, clock_spec_of}
 use Rattle.wq_clock.specs.Spelling.{IsClockSpelling}
 
--- a text says a clock spec exactly where the grammar has it as a spelling of that clock spec
+-- a text says a clock spec exactly if the grammar has it as a spelling of that clock spec
 abbrev pub TextsSayWhatTheySpell : Type 0
 TextsSayWhatTheySpell = (text : List ℕ) (spec : SpecData)
     → (clock_spec_of text ≡ Some spec) ↔ IsClockSpelling spec text

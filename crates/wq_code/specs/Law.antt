@@ -6,7 +6,7 @@ use Rattle.wq_code.specs.declared.fault.FileFault.{FileFault}
 use Rattle.wq_code.specs.declared.fault.FileFault.TheVariants.{BytesAfterEnd, CutShort}
 use Rattle.wq_code.specs.declared.raw.Raw.{Raw}
 
--- bytes are read as a program exactly where they are its spelling
+-- bytes are read as a program exactly if they are its spelling
 abbrev pub FilesAreSpellings : Type 0
 FilesAreSpellings = (bytes : List ℕ) (raw : Raw) → AreBytes bytes
     → (file_at bytes ≡ Ok raw) ↔ IsSpelling raw bytes
@@ -52,7 +52,7 @@ abbrev pub CutShortAreFronts : Type 0
 CutShortAreFronts = (bytes : List ℕ) → AreBytes bytes
     → (file_at bytes ≡ Err CutShort) ↔ (BeginASpelling bytes ⊎ EndInAWrongNumber bytes)
 
--- bytes follow the end exactly where a front of them is a spelling, and not all of them
+-- bytes follow the end exactly if a front of them is a spelling, and not all of them
 abbrev pub EndsAreSpellings : Type 0
 EndsAreSpellings = (bytes : List ℕ) → AreBytes bytes
     → (file_at bytes ≡ Err BytesAfterEnd)

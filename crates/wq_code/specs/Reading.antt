@@ -113,12 +113,12 @@ op_at bytes = do
   op ← or_file_fault (with_b op b) BadOperand
   Ok (op, bytes)
 
--- a fault of the code is that of the reading, but where a growth was refused
+-- a fault of the code is that of the reading, but if a growth was refused
 abbrev pub Fails : {Y : Type 0} → FileFault → Result Y FileFault → Type 0
 Fails NoMemory read = Unit {0}
 Fails fault read = read ≡ Err fault
 
--- what the code answered, seen by `view`, is what the reading gives, but where a growth was refused
+-- what the code answered, seen by `view`, is what the reading gives, but if a growth was refused
 abbrev pub Gives : {X Y : Type 0} → (X → Y) → Result X FileFault → Result Y FileFault → Type 0
 Gives view (Ok x) read = read ≡ Ok (view x)
 Gives view (Err fault) read = Fails fault read

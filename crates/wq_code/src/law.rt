@@ -4,7 +4,7 @@ ghost use Rattle.wq_code.specs.Law.{FilesAreSpellings, SpellingsAreReadBack, One
 ghost use Rattle.wq_code.specs.Law.{NoneBeginsAnother, FaultsStay, FrontsAreCutShort};
 ghost use Rattle.wq_code.specs.Law.{CutShortAreFronts, EndsAreSpellings, FaultyBeginNone};
 
-/// Bytes are read as a program exactly where they are its spelling.
+/// Bytes are read as a program exactly if they are its spelling.
 pub fn files_are_spellings()
     ensures { FilesAreSpellings }
 {}
@@ -46,7 +46,7 @@ pub fn cut_short_are_fronts()
     ensures { CutShortAreFronts }
 {}
 
-/// Bytes follow the end exactly where a front of them is a spelling, and not all of them.
+/// Bytes follow the end exactly if a front of them is a spelling, and not all of them.
 #[tactic(auto, using(crate::proofs::FileLaws::ends_are_spellings))]
 pub fn ends_are_spellings()
     ensures { EndsAreSpellings }

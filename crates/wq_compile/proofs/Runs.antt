@@ -57,7 +57,7 @@ gets-next whole item place cells left op g got way leaves =
           ∙ ap (λ p. Running p left (g.steps + charge whole op cells)) z;
     }
 
--- the cells after an instruction, whose constant is at hand; none where it needs others
+-- the cells after an instruction, whose constant is at hand; none if it needs others
 abbrev pub effect : Item → Instruction → List Cell → Option (List Cell)
 effect item (plain op) cells = cells_after blank item op cells
 effect item (number n) cells = Some (a_number n ∷ cells)

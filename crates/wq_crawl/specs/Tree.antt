@@ -14,7 +14,7 @@ use Rattle.wq_crawl.specs.declared.tree.TreeFault.TheVariants.{Unreadable}
 abbrev pub max_count : ℕ
 max_count = 2 ^ 64 - 1
 
--- a root is unreadable only where the count of failures rose; at the greatest count it may have risen
+-- a root is unreadable only if the count of failures rose; at the greatest count it may have risen
 abbrev pub IsCounted : ℕ → ℕ → TreeFault → Type 0
 IsCounted before after fault = fault ≡ Unreadable → (before < after) ⊎ (after ≡ max_count)
 

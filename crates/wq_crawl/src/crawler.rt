@@ -75,7 +75,7 @@ impl<N: Named, R: Wait + Drop, T: Tree + Drop, S: Seconds + Drop> Crawler<N, R, 
         self.publisher.find(root)
     }
 
-    /// Crawls the root of this text, publishes the pass, and tells the list; none where the root is not shown.
+    /// Crawls the root of this text, publishes the pass, and tells the list; none if the root is not shown.
     ///
     /// A refused crawl leaves the list. It waits for those that still look at what was published before the last pass.
     pub fn crawl(&mut self, root: &str) -> Result<Option<Told<N>>, CrawlFault>

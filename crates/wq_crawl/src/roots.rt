@@ -20,7 +20,7 @@ pub trait Roots<N: Named> {
         ensures { RootsGive (crawler self.old) (showing root.now) (tells result)
             (crawler self.new) };
 
-    /// Crawls the root of this text and publishes the pass, and tells the list of events; none where it is not shown.
+    /// Crawls the root of this text and publishes the pass, and tells the list of events; none if it is not shown.
     fn crawl(&mut self, root: &str) -> Result<Option<Told<N>>, CrawlFault>
         ensures { RootsGive (crawler self.old) (passing root.now) result (crawler self.new) };
 

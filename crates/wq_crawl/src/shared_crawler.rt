@@ -48,7 +48,7 @@ impl<N: Named, R: Wait + Drop, T: Tree + Drop, S: Seconds + Drop> SharedCrawler<
         })
     }
 
-    /// Crawls the root of this text and publishes the pass, and tells the list of events; none where it is not shown.
+    /// Crawls the root of this text and publishes the pass, and tells the list of events; none if it is not shown.
     ///
     /// If another thread crawled the root meanwhile, and began after this was called, the list is told as it is.
     pub fn crawl(&self, rt: &R, root: &str) -> Result<Option<Told<N>>, CrawlFault>

@@ -72,7 +72,7 @@ module _ (g : PatternData) (steps : List Step) (compiled : IsCompiled g.text g.f
   pub steps_few : length steps ≤ 255
   steps_few = omega (arith, same_length g.flags steps _ compiled.stands, atoms_few g.flags (length g.text) true g.text, compiled.short)
 
--- the test says yes exactly where the pattern fits
+-- the test says yes exactly if the pattern fits
 pub fits_cuts : (g : PatternData) (text : List ℕ) → fits g text ≡ true → Fits g text
 unfolding fits Fits
 fits_cuts g text h = cuts_from_test g.flags (atoms_of g) (marks (g.flags).dotfiles text) h

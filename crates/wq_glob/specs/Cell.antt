@@ -103,7 +103,7 @@ pub record IsWindow (f : Flags) (steps : List Step) (text : List Mark) (k : ℕ)
   pub first : IsTrue (is_live (step_row f steps text w.low))
   pub last : IsTrue (is_live (step_row f steps text w.high))
 
--- the window of the cells from `k` on, or none where all of them are dead
+-- the window of the cells from `k` on, or none if all of them are dead
 abbrev pub Bounds : Flags → List Step → List Mark → ℕ → Option Window → Type 0
 Bounds f steps text k w = MatchOption w (AreDead f steps text k) (IsWindow f steps text k)
 

@@ -37,7 +37,7 @@ item_named name =
 abbrev pub is_behind_colon : List ℕ → ℕ → Bool
 is_behind_colon text place = nat_le 1 place && is_colon (slice_index text (place - 1))
 
--- the name before the `:` before a place, and what follows the place; none where no `:` is there
+-- the name before the `:` before a place, and what follows the place; none if no `:` is there
 abbrev pub name_to : List ℕ → ℕ → Option (Item × List ℕ)
 name_to text end =
     if is_behind_colon text end
@@ -77,8 +77,8 @@ abbrev pub before_items : Item → Option (List Item × List ℕ) → Option (Li
 before_items item None = None
 before_items item (Some (items, after)) = Some (item ∷ items, after)
 
--- The items up to the `]` that ends the class, and what follows it; none where it has no end. A
--- text has at most as many items as bytes, so its length is enough for the first argument.
+-- The items up to the `]` that ends the class, and what follows it; none if it has no end. A text
+-- has at most as many items as bytes, so its length is enough for the first argument.
 unfoldable pub items_from : ℕ → Bool → List ℕ → Option (List Item × List ℕ)
 items_from zero _ _ = None
 items_from (suc n) noescape text =

@@ -2,7 +2,7 @@
 //! A proof of another crate gets it by a call, which costs nothing.
 ghost use Rattle.wq_glob.specs.Law.{FitsWhereItCanBeCut};
 
-/// The test that [`Pattern::matches`](crate::Pattern::matches) answers holds exactly where the text
+/// The test that [`Pattern::matches`](crate::Pattern::matches) answers holds exactly if the text
 /// can be cut into parts, one for each atom.
 pub fn fits_where_it_can_be_cut()
     ensures { FitsWhereItCanBeCut }

@@ -99,7 +99,7 @@ impl Pattern {
     /// `[a`, fits nothing.
     ///
     /// # Errors
-    /// [`PatternFault::TooLong`] exactly where the text is longer, [`PatternFault::NoMemory`] where
+    /// [`PatternFault::TooLong`] exactly if the text is longer, [`PatternFault::NoMemory`] if
     /// memory ran out.
     pub fn parse(alloc: Global, text: &[u8], flags: Flags) -> Result<Pattern, PatternFault>
         ensures read { IfOk result

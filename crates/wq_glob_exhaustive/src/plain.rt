@@ -10,7 +10,7 @@ use wq_glob::Flags;
 pub enum Atom {
     Literal(u8),
     One,
-    /// One byte of some range, or of none where the class is negated.
+    /// One byte of some range, or of none if the class is negated.
     Class {
         negated: bool,
         ranges: Vec<(u8, u8)>,

@@ -75,7 +75,7 @@ pub record IsLawfulList (events : List RootEvent) : Type 0 where
   pub known : All (λ event. number_in event ≤ length (started events)) events
   pub differ : (number : ℕ) → Differ (passes_over number events)
 
--- the passes over a root that was started with this one: none where it saw no file
+-- the passes over a root that was started with this one: none if it saw no file
 abbrev pub first_history : PassData → History
 first_history pass = if len pass.stats == 0 then [] else pass ∷ []
 

@@ -276,7 +276,7 @@ impl RootTable {
         })
     }
 
-    /// The table after the end of the root of this number; none where it is not shown, and nothing is added.
+    /// The table after the end of the root of this number; none if it is not shown, and nothing is added.
     pub fn with_end(&self, number: u64) -> Result<Option<RootTable>, AllocError>
         ensures { (events : List RootEvent) → IsTableOf events self.now
             → IfOk result (λ next. MatchOption next

@@ -92,7 +92,7 @@ abbrev pub since_of : InstanceData → Option Data → Option SinceData
 since_of instance None = Some (at_bound Fresh)
 since_of instance (Some d) = since_from (cursor_in d) (result_ok (bound_in instance d))
 
--- the name of the program, which is a text of any length; none where it is not there
+-- the name of the program, which is a text of any length; none if it is not there
 abbrev pub program_name : Option Data → Option (Option (List ℕ))
 program_name None = Some None
 program_name (Some (string name)) = Some (Some name)

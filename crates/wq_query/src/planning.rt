@@ -82,8 +82,7 @@ impl Query {
         }
     }
 
-    /// The bound that the query sets: fresh where it has no `since`, and none where that is a
-    /// cursor.
+    /// The bound that the query sets: fresh where it has no `since`, and none if that is a cursor.
     pub fn bound(&self) -> Option<Bound>
         ensures { result ≡ since_bound (asked_of self.now).since }
     {

@@ -107,7 +107,7 @@ module _ {T : Type 0} where
         let number = (or_parts (nat_eq root r.number) _ parts.0).0 in
         ap (λ b. cond b (Some r) (numbered root rs)) number ∙ not_newer text rs parts.1
 
-    -- a change of any root leaves none where there is none
+    -- a change of any root leaves none if there is none
     changed-none : (n : ℕ) (f : RootData T → RootData T) → ((r : RootData T) → (f r).number ≡ r.number) → (rs : List (RootData T)) → numbered root rs ≡ None → numbered root (changed n f rs) ≡ None
     changed-none n f keeps [] h = refl
     changed-none n f keeps (r ∷ rs) h = by (nat_eq root r.number) refl h (nat_eq n r.number) (changed-none n f keeps rs)

@@ -54,7 +54,7 @@ module _ {A : Type 0} where
   brought_in before [] = []
   brought_in before (c ∷ after) = brings_in before c after ++ brought_in (before ++ c ∷ []) after
 
--- what is under a name is what the last change of it put there, or nothing where that took it out
+-- what is under a name is what the last change of it put there, or nothing if that took it out
 abbrev pub LastChangeCounts : Type 0 → Type 0
 LastChangeCounts A = (changes : List (Change A)) (name : List ℕ)
     → under name (made changes []) ≡ last_said name changes None

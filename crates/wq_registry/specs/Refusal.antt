@@ -10,7 +10,7 @@ IsRefusal rootless full NoRoot = rootless ≡ true
 IsRefusal rootless full Full = (rootless ≡ false) × (full ≡ true)
 IsRefusal rootless full NoMemory = (rootless ≡ false) × (full ≡ false)
 
--- a call answers well only where neither is missing, and else refuses so
+-- a call answers well only if neither is missing, and else refuses so
 abbrev pub Refuses : {A : Type 0} → Bool → Bool → Result A ShelfFault → Type 0
 Refuses rootless full (Ok a) = (rootless ≡ false) × (full ≡ false)
 Refuses rootless full (Err fault) = IsRefusal rootless full fault

@@ -67,7 +67,7 @@ module _ {T : Type 0} where
   abbrev pub trigger_changed : ℕ → ℕ → T → ShelfData T → ShelfData T
   trigger_changed root k trigger s = root_changed root (with_trigger_at k trigger) s
 
-  -- the cursors of a root; none where it is not there
+  -- the cursors of a root; none if it is not there
   abbrev pub cursors_of : ℕ → ShelfData T → ByName ℕ
   cursors_of root s = cursors_in (numbered root s.roots)
 

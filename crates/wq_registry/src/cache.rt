@@ -69,7 +69,7 @@ impl Cache {
     }
 
     /// Keeps a program, in the place of the one that was asked for longest ago where there are as
-    /// many as may be. A program of another run of the server is not kept, and none is where memory
+    /// many as may be. A program of another run of the server is not kept, and none is if memory
     /// runs out.
     pub fn keep(&mut self, compiled: Compiled)
         ensures { self.new ≡ self.old }
@@ -116,7 +116,7 @@ impl Model for Compiled {
 
 impl Compiled {
     /// The entry of a program that a cache may keep: it answers what this expression means, and is
-    /// looked for by this key. It is none where the program cannot be shared.
+    /// looked for by this key. It is none if the program cannot be shared.
     pub fn new(key: CacheKey, expr: &Expr, program: &Arc<Program>) -> Option<Compiled>
         requires says { Says key (term_of expr.now) }
         requires meaning { AnswersMeaning program.now.value (term_of expr.now) }

@@ -27,11 +27,11 @@ abbrev pub ReadExpressionsFit : Type 0
 ReadExpressionsFit = (instance : InstanceData) (t : ExprData) (d : Data)
     → reads_as instance max_depth d ≡ Ok t → expr_fits t ≡ true
 
--- a value is read as a bound exactly where the grammar has it as a writing of that bound
+-- a value is read as a bound exactly if the grammar has it as a writing of that bound
 abbrev pub BoundsSayWhatTheyWrite : Type 0
 BoundsSayWhatTheyWrite = (instance : InstanceData) (bound : Bound) (d : Data)
     → (bound_in instance d ≡ Ok bound) ↔ IsBound instance bound d
 
--- and as a whole number exactly where it is an integer from -2^62 to 2^62
+-- and as a whole number exactly if it is an integer from -2^62 to 2^62
 abbrev pub NumbersSayWhatTheyWrite : Type 0
 NumbersSayWhatTheyWrite = (n : ℤ) (d : Data) → (whole_number_of d ≡ Some n) ↔ IsWhole n d

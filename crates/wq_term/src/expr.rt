@@ -47,7 +47,7 @@ pub enum Expr {
     Not(Box<Expr>),
     /// `allof`: the records that every term matches; all of them where there is no term.
     AllOf(Vec<Expr>),
-    /// `anyof`: the records that some term matches; none where there is no term.
+    /// `anyof`: the records that some term matches; none if there is no term.
     AnyOf(Vec<Expr>),
 }
 

@@ -37,7 +37,7 @@ module _ (history : History) (view : ViewData) (pass : PassData) (rows : List Se
   existing_is : (q : List ℕ) → find name_cmp q (existing view.records) ≡ get (last_stats history) q
   existing_is q = existing_found view.records is_view.ordered q ∙ ap existing_stat (is_view.files q) ∙ existing_of history q ∙ sym (last_answers history q)
 
-  -- the view shows the pass exactly where the pass has the last map
+  -- the view shows the pass exactly if the pass has the last map
   pub shows_last : is_sorted name_cmp (map entry_of rows) ≡ true → IsTrue (shows view.records rows) ↔ (last_stats history ≡ pass.stats)
   shows_last sorted = (there, back)
     where

@@ -47,8 +47,7 @@ abbrev pub has_changed : (ℕ → Option Stat) → ℕ → Bool
 has_changed stats zero = false
 has_changed stats (suc i) = not (same_observation (stats i) (stats (suc i)))
 
--- the record of a name after n passes that saw this of it, at these seconds;
--- none where no pass saw it
+-- the record of a name after n passes that saw this of it, at these seconds; none if no pass saw it
 abbrev pub record_from : List ℕ → (ℕ → Option Stat) → (ℕ → ℤ) → ℕ → Option RecordData
 record_from name stats seconds n =
     option_map (λ last. record {

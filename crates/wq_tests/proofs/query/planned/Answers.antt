@@ -1,4 +1,4 @@
--- The program is that of the query's expression, also where the query names one.
+-- The program is that of the query's expression, also if the query names one.
 use Rattle.std.proofs.Common.{sym, subst}
 use Rattle.wq_compile.specs.Meaning.{AnswersMeaning}
 use Rattle.wq_query.specs.Query.{asked_of}

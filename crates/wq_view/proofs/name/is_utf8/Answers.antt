@@ -1,4 +1,4 @@
--- A text is read exactly where the test of its bytes passes.
+-- A text is read exactly if the test of its bytes passes.
 use Rattle.std.proofs.Common.{◌≡◌, ℕ, List, true, false, Result, Ok, Err, is_ok, MatchResult, IsUtf8, sym, refl, ◌∙◌}
 use Rattle.std.specs.Str.{is_utf8}
 use Rattle.std.proofs.lemmas.Str.{IsUtf8-from_is_utf8, is_utf8-from_IsUtf8}
