@@ -12,7 +12,7 @@ use Rattle.wq_live.specs.Log.{events_code}
 use Rattle.wq_live.specs.declared.event.RootEvent.{RootEvent}
 use Rattle.wq_crawl.specs.Device.{Gave}
 use Rattle.wq_live.specs.Event.{number_of}
-use Rattle.wq_crawl.specs.Publish.{Ends, IsNotTakenIn, IsPlace, Passes, with_start}
+use Rattle.wq_crawl.specs.Publish.{EndsRoot, IsNotTakenIn, IsPlace, Passes, with_start}
 use Rattle.wq_crawl.specs.Tree.{IsCounted, ListedData, Lists, listed_code}
 use Rattle.wq_crawl.specs.declared.tree.TreeFault.{TreeFault}
 use Rattle.wq_crawl.specs.declared.tree.TreeFault.TheVariants.{Unreadable as UnreadableTree}
@@ -146,7 +146,7 @@ Watched text before result after =
 -- is refused, nothing is added
 abbrev pub Unwatched : ℕ → CrawlerData → Result (List RootEvent) CrawlFault → CrawlerData → Type 0
 Unwatched number before (Ok told) after =
-    (told ≡ after.events) × Ends before.events number after.events
+    (told ≡ after.events) × EndsRoot before.events number after.events
     × (after ≡ record before { events = after.events })
 Unwatched number before (Err fault) after = (fault ≡ NoMemory) × (after ≡ before)
 

@@ -39,7 +39,7 @@ abbrev pub with_start : List ℕ → PassData → List RootEvent → List RootEv
 with_start text pass events = events ++ start_events (length (started events) + 1) text pass
 
 -- the end of the root of this number is added, if it is shown
-abbrev pub Ends : List RootEvent → ℕ → List RootEvent → Type 0
-Ends before number after =
+abbrev pub EndsRoot : List RootEvent → ℕ → List RootEvent → Type 0
+EndsRoot before number after =
     ((is_shown before number ≡ false) × (after ≡ before))
     ⊎ ((is_shown before number ≡ true) × (after ≡ before ++ Ended number ∷ []))
