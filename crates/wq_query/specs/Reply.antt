@@ -46,14 +46,14 @@ file_data (field ∷ []) instance bound r = field_data instance bound r field
 file_data fields instance bound r = object (members_with instance bound r no_members fields)
 
 -- what is told of the files that a plan lists of these records
-abbrev pub files_data : PlanData → InstanceData → List RecordData → List Data
-files_data plan instance records =
+abbrev pub reply_files : PlanData → InstanceData → List RecordData → List Data
+reply_files plan instance records =
     map (file_data (plan.query).fields instance plan.bound) (files_of plan records)
 
 -- the reply to a plan, at a view
 abbrev pub reply_of : PlanData → InstanceData → ViewData → Data
 reply_of plan instance view =
     object (member (codes "clock") (string (clock_text instance view.tick))
-    (member (codes "files") (array (items_of (files_data plan instance view.records)))
+    (member (codes "files") (array (items_of (reply_files plan instance view.records)))
     (member (codes "is_fresh_instance") (boolean (is_fresh plan.bound))
     (member (codes "version") (string version) no_members))))
