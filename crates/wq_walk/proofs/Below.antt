@@ -1,4 +1,4 @@
--- How a cut stands to the names below a folder, and which names of a part lie there.
+-- How a cut stands to the names below a directory, and which names of a part lie there.
 use Rattle.std.proofs.Common.{◌≡◌, ℕ, ◌+◌, ◌<◌, ◌≤◌, true, false, not, nat_eq, IsTrue, List, [], ◌∷◌, ◌++◌, length, get_or, take, drop, ◌≢◌, Bor, Some, None, Ordering, Less, Equal, Greater, nat_cmp, is_lt, is_gt, append-nil, refl, ap, sym, ◌∙◌, arith}
 use Rattle.std.specs.Ordering.{ordering_then}
 use Rattle.std.specs.Str.{byte}
@@ -17,73 +17,73 @@ same_front : (front a b : List ℕ) → name_cmp (front ++ a) (front ++ b) ≡ n
 same_front [] a b = refl
 same_front (x ∷ front) a b = rw (sym (nat_cmp_is x x Equal refl)) (same_front front a b)
 
--- a cut that does not begin with a folder's name stands to names below it as to the folder
-beside : (cut folder more : List ℕ) → ((rest : List ℕ) → cut ≢ folder ++ rest) → name_cmp cut (folder ++ more) ≡ name_cmp cut folder
+-- a cut that does not begin with a directory's name stands to names below it as to the directory
+beside : (cut directory more : List ℕ) → ((rest : List ℕ) → cut ≢ directory ++ rest) → name_cmp cut (directory ++ more) ≡ name_cmp cut directory
 beside cut [] more apart = absurd (apart cut refl)
-beside [] (f ∷ folder) more apart = refl
-beside (c ∷ cut) (f ∷ folder) more apart = at (nat_cmp c f) refl (beside cut folder more)
+beside [] (f ∷ directory) more apart = refl
+beside (c ∷ cut) (f ∷ directory) more apart = at (nat_cmp c f) refl (beside cut directory more)
   where
-    at : (o : Ordering) → nat_cmp c f ≡ o → (((rest : List ℕ) → cut ≢ folder ++ rest) → name_cmp cut (folder ++ more) ≡ name_cmp cut folder) → ordering_then o (name_cmp cut (folder ++ more)) ≡ ordering_then o (name_cmp cut folder)
+    at : (o : Ordering) → nat_cmp c f ≡ o → (((rest : List ℕ) → cut ≢ directory ++ rest) → name_cmp cut (directory ++ more) ≡ name_cmp cut directory) → ordering_then o (name_cmp cut (directory ++ more)) ≡ ordering_then o (name_cmp cut directory)
     at Less e same = refl
     at Equal e same = same (λ rest is. apart rest (λ i. ranked c f Equal (sym e) i ∷ is i))
     at Greater e same = refl
 
--- the order of a cut that does not begin with a folder's name
-pub order_beside : (cut folder : List ℕ) → pointwise nat_eq (take (length folder) cut) folder ≡ false → IsOrderBelow folder cut (name_cmp cut folder)
-order_beside cut folder stripped = at (name_cmp cut folder) refl (strip_prefix_is Decides-eqb cut folder None stripped)
+-- the order of a cut that does not begin with a directory's name
+pub order_beside : (cut directory : List ℕ) → pointwise nat_eq (take (length directory) cut) directory ≡ false → IsOrderBelow directory cut (name_cmp cut directory)
+order_beside cut directory stripped = at (name_cmp cut directory) refl (strip_prefix_is Decides-eqb cut directory None stripped)
   where
-    at : (o : Ordering) → name_cmp cut folder ≡ o → ((rest : List ℕ) → cut ≢ folder ++ rest) → IsOrderBelow folder cut o
-    at Less e apart = λ rest. beside cut folder (byte "/" ∷ rest) apart ∙ e
-    at Equal e apart = absurd (apart [] (exact_bytes cut folder e ∙ sym (append-nil folder)))
-    at Greater e apart = λ rest. beside cut folder (byte "/" ∷ rest) apart ∙ e
+    at : (o : Ordering) → name_cmp cut directory ≡ o → ((rest : List ℕ) → cut ≢ directory ++ rest) → IsOrderBelow directory cut o
+    at Less e apart = λ rest. beside cut directory (byte "/" ∷ rest) apart ∙ e
+    at Equal e apart = absurd (apart [] (exact_bytes cut directory e ∙ sym (append-nil directory)))
+    at Greater e apart = λ rest. beside cut directory (byte "/" ∷ rest) apart ∙ e
 
--- the order of a cut in which something stands behind a folder's name
-behind : (cut folder left : List ℕ) → cut ≡ folder ++ left → 1 ≤ length left → IsOrderBelow folder cut (nat_cmp (get_or left 0 0) (byte "/"))
-behind cut folder [] is more = absurd (omega arith)
-behind cut folder (next ∷ left) is more = at (nat_cmp next (byte "/")) refl
+-- the order of a cut in which something stands behind a directory's name
+behind : (cut directory left : List ℕ) → cut ≡ directory ++ left → 1 ≤ length left → IsOrderBelow directory cut (nat_cmp (get_or left 0 0) (byte "/"))
+behind cut directory [] is more = absurd (omega arith)
+behind cut directory (next ∷ left) is more = at (nat_cmp next (byte "/")) refl
   where
-    to : (o : Ordering) → nat_cmp next (byte "/") ≡ o → (rest : List ℕ) → name_cmp cut (name_below folder rest) ≡ ordering_then o (name_cmp left rest)
-    to o e rest = ap (λ cut. name_cmp cut (name_below folder rest)) is ∙ same_front folder (next ∷ left) (byte "/" ∷ rest) ∙ ap (λ o. ordering_then o (name_cmp left rest)) e
+    to : (o : Ordering) → nat_cmp next (byte "/") ≡ o → (rest : List ℕ) → name_cmp cut (name_below directory rest) ≡ ordering_then o (name_cmp left rest)
+    to o e rest = ap (λ cut. name_cmp cut (name_below directory rest)) is ∙ same_front directory (next ∷ left) (byte "/" ∷ rest) ∙ ap (λ o. ordering_then o (name_cmp left rest)) e
 
-    at : (o : Ordering) → nat_cmp next (byte "/") ≡ o → IsOrderBelow folder cut o
+    at : (o : Ordering) → nat_cmp next (byte "/") ≡ o → IsOrderBelow directory cut o
     at Less e = to Less e
-    at Equal e = (left, is ∙ λ i. folder ++ (ranked next (byte "/") Equal (sym e) i ∷ left))
+    at Equal e = (left, is ∙ λ i. directory ++ (ranked next (byte "/") Equal (sym e) i ∷ left))
     at Greater e = to Greater e
 
--- the same, where it is what is left when the folder's name is taken away
-pub order_from : (cut folder : List ℕ) (left : Bor (List ℕ)) → (pointwise nat_eq (take (length folder) cut) folder ≡ true) × (left.now ≡ drop (length folder) cut) × (length left.now + length folder ≡ length cut) → 1 ≤ length left.now → IsOrderBelow folder cut (nat_cmp (get_or left.now 0 0) (byte "/"))
-order_from cut folder left stripped more = behind cut folder left.now (strip_prefix_is Decides-eqb cut folder (Some left) stripped) more
+-- the same, where it is what is left when the directory's name is taken away
+pub order_from : (cut directory : List ℕ) (left : Bor (List ℕ)) → (pointwise nat_eq (take (length directory) cut) directory ≡ true) × (left.now ≡ drop (length directory) cut) × (length left.now + length directory ≡ length cut) → 1 ≤ length left.now → IsOrderBelow directory cut (nat_cmp (get_or left.now 0 0) (byte "/"))
+order_from cut directory left stripped more = behind cut directory left.now (strip_prefix_is Decides-eqb cut directory (Some left) stripped) more
 
--- the order of a cut at the folder itself
-pub order_at : (cut folder : List ℕ) (left : Bor (List ℕ)) → (pointwise nat_eq (take (length folder) cut) folder ≡ true) × (left.now ≡ drop (length folder) cut) × (length left.now + length folder ≡ length cut) → length left.now < 1 → IsOrderBelow folder cut Less
-order_at cut folder left stripped none = at left.now (strip_prefix_is Decides-eqb cut folder (Some left) stripped) none
+-- the order of a cut at the directory itself
+pub order_at : (cut directory : List ℕ) (left : Bor (List ℕ)) → (pointwise nat_eq (take (length directory) cut) directory ≡ true) × (left.now ≡ drop (length directory) cut) × (length left.now + length directory ≡ length cut) → length left.now < 1 → IsOrderBelow directory cut Less
+order_at cut directory left stripped none = at left.now (strip_prefix_is Decides-eqb cut directory (Some left) stripped) none
   where
-    at : (left : List ℕ) → cut ≡ folder ++ left → length left < 1 → IsOrderBelow folder cut Less
-    at [] is none rest = ap (λ cut. name_cmp cut (name_below folder rest)) is ∙ same_front folder [] (byte "/" ∷ rest)
+    at : (left : List ℕ) → cut ≡ directory ++ left → length left < 1 → IsOrderBelow directory cut Less
+    at [] is none rest = ap (λ cut. name_cmp cut (name_below directory rest)) is ∙ same_front directory [] (byte "/" ∷ rest)
     at (next ∷ left) is none rest = absurd (omega arith)
 
--- where a name below a folder is not below a cut, the cut is not behind all names there
-pub from_there : (cut folder rest : List ℕ) (o : Ordering) → IsOrderBelow folder cut o → IsTrue (not (is_lt (name_cmp (name_below folder rest) cut))) → is_gt o ≡ false
-from_there cut folder rest Less is from = refl
-from_there cut folder rest Equal is from = refl
-from_there cut folder rest Greater is from = sym (rw (nat_list_cmp_total.antisymm (name_below folder rest) cut, is rest) at from)
+-- where a name below a directory is not below a cut, the cut is not behind all names there
+pub from_there : (cut directory rest : List ℕ) (o : Ordering) → IsOrderBelow directory cut o → IsTrue (not (is_lt (name_cmp (name_below directory rest) cut))) → is_gt o ≡ false
+from_there cut directory rest Less is from = refl
+from_there cut directory rest Equal is from = refl
+from_there cut directory rest Greater is from = sym (rw (nat_list_cmp_total.antisymm (name_below directory rest) cut, is rest) at from)
 
--- where a name below a folder is below a cut, the cut is not before all names there
-pub below_there : (cut folder rest : List ℕ) (o : Ordering) → IsOrderBelow folder cut o → IsTrue (is_lt (name_cmp (name_below folder rest) cut)) → is_lt o ≡ false
-below_there cut folder rest Less is below = sym (rw (nat_list_cmp_total.antisymm (name_below folder rest) cut, is rest) at below)
-below_there cut folder rest Equal is below = refl
-below_there cut folder rest Greater is below = refl
+-- where a name below a directory is below a cut, the cut is not before all names there
+pub below_there : (cut directory rest : List ℕ) (o : Ordering) → IsOrderBelow directory cut o → IsTrue (is_lt (name_cmp (name_below directory rest) cut)) → is_lt o ≡ false
+below_there cut directory rest Less is below = sym (rw (nat_list_cmp_total.antisymm (name_below directory rest) cut, is rest) at below)
+below_there cut directory rest Equal is below = refl
+below_there cut directory rest Greater is below = refl
 
--- to some name below a folder a cut stands in its order
-stands : (cut folder : List ℕ) (o : Ordering) → IsOrderBelow folder cut o → (rest : List ℕ) × (name_cmp cut (name_below folder rest) ≡ o)
-stands cut folder Less is = ([], is [])
-stands cut folder Equal is = (is.0, ap (name_cmp cut) (sym is.1) ∙ tied_itself nat_list_cmp_total cut)
-stands cut folder Greater is = ([], is [])
+-- to some name below a directory a cut stands in its order
+stands : (cut directory : List ℕ) (o : Ordering) → IsOrderBelow directory cut o → (rest : List ℕ) × (name_cmp cut (name_below directory rest) ≡ o)
+stands cut directory Less is = ([], is [])
+stands cut directory Equal is = (is.0, ap (name_cmp cut) (sym is.1) ∙ tied_itself nat_list_cmp_total cut)
+stands cut directory Greater is = ([], is [])
 
--- a cut that is not told to be behind all names below a folder is not
-pub not_behind : (cut folder : List ℕ) (o : Ordering) → IsOrderBelow folder cut o → is_gt o ≡ false → IsOrderBelow folder cut Greater → ⊥
-not_behind cut folder o is isnt all = let s = stands cut folder o is in true≢false (ap is_gt (sym (all s.0) ∙ s.1) ∙ isnt)
+-- a cut that is not told to be behind all names below a directory is not
+pub not_behind : (cut directory : List ℕ) (o : Ordering) → IsOrderBelow directory cut o → is_gt o ≡ false → IsOrderBelow directory cut Greater → ⊥
+not_behind cut directory o is isnt all = let s = stands cut directory o is in true≢false (ap is_gt (sym (all s.0) ∙ s.1) ∙ isnt)
 
--- a cut that is not told to be before all names below a folder is not
-pub not_before : (cut folder : List ℕ) (o : Ordering) → IsOrderBelow folder cut o → is_lt o ≡ false → IsOrderBelow folder cut Less → ⊥
-not_before cut folder o is isnt all = let s = stands cut folder o is in true≢false (ap is_lt (sym (all s.0) ∙ s.1) ∙ isnt)
+-- a cut that is not told to be before all names below a directory is not
+pub not_before : (cut directory : List ℕ) (o : Ordering) → IsOrderBelow directory cut o → is_lt o ≡ false → IsOrderBelow directory cut Less → ⊥
+not_before cut directory o is isnt all = let s = stands cut directory o is in true≢false (ap is_lt (sym (all s.0) ∙ s.1) ∙ isnt)

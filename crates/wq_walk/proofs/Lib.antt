@@ -1,3 +1,6 @@
 mod Below
 mod Joins
 mod Pieces
+mod Entries
+mod Walking
+mod Walked

@@ -1,5 +1,11 @@
 pub mod Stat
-pub mod Path
 pub mod Part
 pub mod Pieces
 pub mod Unseen
+pub mod Told
+pub mod Walk
+pub mod Entries
+pub mod Names
+pub mod Directory
+pub mod System
+pub mod Listed

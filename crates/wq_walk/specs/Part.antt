@@ -9,6 +9,7 @@ use Rattle.std.specs.Str.{byte}
 use Rattle.std.specs.declared.cmp.Ordering.{Ordering}
 use Rattle.std.specs.declared.cmp.Ordering.TheVariants.{Less, Equal, Greater}
 use Rattle.wq_view.specs.Listing.{name_cmp}
+use Rattle.wq_view.specs.Limit.{max_listing_rows}
 use Rattle.wq_view.specs.Seen.{SeenData, is_lawful_row}
 use Rattle.wq_walk.specs.declared.part.Part.{Part}
 
@@ -26,22 +27,22 @@ is_row_in part row = is_in part row.name
 abbrev pub IsListing : Part → List SeenData → Type 0
 IsListing part rows =
     IsTrue (list_all is_lawful_row rows)
-    × (length rows ≤ 1000000)
+    × (length rows ≤ max_listing_rows)
     × IsTrue (list_all (is_row_in part) rows)
 
--- the name of a file below a folder: the folder's name, a slash, and what follows
+-- the name of a file below a directory: the directory's name, a slash, and what follows
 abbrev pub name_below : List ℕ → List ℕ → List ℕ
-name_below folder rest = folder ++ (byte "/" ∷ rest)
+name_below directory rest = directory ++ (byte "/" ∷ rest)
 
--- how a cut stands to the names below a folder: before each of them, one of them, or behind each
+-- how a cut stands to the names below a directory: before each of them, one of them, or behind each
 abbrev pub IsOrderBelow : List ℕ → List ℕ → Ordering → Type 0
-IsOrderBelow folder cut Less = (rest : List ℕ) → name_cmp cut (name_below folder rest) ≡ Less
-IsOrderBelow folder cut Equal = (rest : List ℕ) × (cut ≡ name_below folder rest)
-IsOrderBelow folder cut Greater = (rest : List ℕ) → name_cmp cut (name_below folder rest) ≡ Greater
+IsOrderBelow directory cut Less = (rest : List ℕ) → name_cmp cut (name_below directory rest) ≡ Less
+IsOrderBelow directory cut Equal = (rest : List ℕ) × (cut ≡ name_below directory rest)
+IsOrderBelow directory cut Greater = (rest : List ℕ) → name_cmp cut (name_below directory rest) ≡ Greater
 
--- a part that may have names below a folder: its first cut is not behind each of them, and its
+-- a part that may have names below a directory: its first cut is not behind each of them, and its
 -- second one not before each
 abbrev pub MayHaveBelow : Part → List ℕ → Type 0
-MayHaveBelow part folder =
-    IfSome part.from (λ cut. IsOrderBelow folder cut.now Greater → ⊥)
-    × IfSome part.below (λ cut. IsOrderBelow folder cut.now Less → ⊥)
+MayHaveBelow part directory =
+    IfSome part.from (λ cut. IsOrderBelow directory cut.now Greater → ⊥)
+    × IfSome part.below (λ cut. IsOrderBelow directory cut.now Less → ⊥)

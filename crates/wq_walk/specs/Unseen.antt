@@ -1,6 +1,8 @@
 -- What an error of the system at one path means for a walk.
 -- The numbers are those of errno(3) on Linux; that such an error ends the walk is this server's own.
-use Rattle.std.specs.Prelude.{ℤ, pos, negsuc, Bool, false, ◌==◌, ◌||◌, if◌then◌else◌, Option, Some, None}
+use Rattle.std.specs.Prelude.{◌≡◌, ℤ, pos, negsuc, Bool, false, ◌==◌, ◌||◌, if◌then◌else◌, Option, Some, None}
+use Rattle.std.specs.IoError.{error_kind, raw_os_error}
+use Rattle.std.specs.declared.io.Error.{Error}
 use Rattle.std.specs.declared.io.ErrorKind.{ErrorKind}
 use Rattle.std.specs.declared.io.ErrorKind.TheVariants.{OutOfMemory}
 use Rattle.wq_crawl.specs.declared.tree.TreeFault.{TreeFault}
@@ -22,3 +24,12 @@ memory_fault kind = None
 -- speaks of its path alone
 abbrev pub walk_fault : Option ℤ → ErrorKind → Option TreeFault
 walk_fault number kind = if is_of_handles number then Some Unreadable else memory_fault kind
+
+-- a call of the system failed with an error that says nothing of its path
+abbrev pub HasFailed : Type 0
+HasFailed =
+    (error : Error) × (walk_fault (raw_os_error error) (error_kind error) ≡ Some Unreadable)
+
+-- a call of the system failed with an error that speaks of its path alone
+abbrev pub HasMissed : Type 0
+HasMissed = (error : Error) × (walk_fault (raw_os_error error) (error_kind error) ≡ None)

@@ -1,8 +1,10 @@
 //! Where a tree that was not listed yet may be cut: at the names that stand at its top.
+ghost use Rattle.std.specs.Prelude.{IfErr};
+ghost use Rattle.wq_walk.specs.Told.{IsRootFault};
 
 use crate::disk::Disk;
 use crate::names::{Block, Names};
-use crate::path::{TreePath, with_slash};
+use crate::path::TreePath;
 use crate::piece::MOST_PIECES;
 use std::alloc::{AllocError, Global};
 use wq_crawl::TreeFault;
@@ -10,31 +12,43 @@ use wq_crawl::TreeFault;
 /// Where the root has fewer names than this, some of those below them are taken too.
 const FEW: usize = 256;
 
-/// Of so many names of a folder below the root's one is taken. Few are asked for in the end, and whole names take memory.
+/// Of so many names of a directory below the root's one is taken. Few are asked for in the end, and whole names take memory.
 const ONE_IN: usize = 16;
 
-/// Some names at even distances among those in the root's folder and, if these are few, some of those in its folders. They
-/// rise.
+/// Some names at even distances among those in the root's directory and, if these are few, some of those in its directories. They
+/// rise. The root's path ends in a slash.
 pub(crate) fn names_at_top<D: Disk>(
     disk: &D,
     alloc: Global,
     root: &str,
-) -> Result<Vec<Vec<u8>>, TreeFault> {
+) -> Result<Vec<Vec<u8>>, TreeFault>
+    ensures { IfErr result
+        (IsRootFault (D.says disk.now) (D.has disk.now) (D.fails disk.now) root.now) }
+{
     let mut block = Block::new(alloc)?;
-    let folder = with_slash(alloc, root)?;
-    let path = TreePath::new(alloc, &folder)?;
-    let Some(top) = disk.names_in(&mut block, &folder)? else {
+    let Some(top) = disk.names_in(&mut block, root)? else {
         return Err(TreeFault::Unreadable);
     };
+    Ok(names_around(disk, &mut block, root, top)?)
+}
+
+/// Some of these names of the root's directory and, if they are few, some of those in its directories. They rise.
+fn names_around<D: Disk>(
+    disk: &D,
+    block: &mut Block,
+    root: &str,
+    top: Names,
+) -> Result<Vec<Vec<u8>>, AllocError> {
+    let alloc = block.allocator();
     let is_few = top.len() < FEW;
     let mut names = Vec::new(alloc);
-    // Each of them, since the folders below are found by these names.
-    add_names(&mut names, &path, top, 1)?;
+    // Each of them, since the directories below are found by these names.
+    add_names(&mut names, b"", top, 1)?;
     if is_few {
-        add_names_below(disk, &mut block, path, &mut names)?;
+        add_names_below(disk, block, root, &mut names)?;
         names.sort_unstable();
     }
-    Ok(some_of(alloc, names)?)
+    some_of(alloc, names)
 }
 
 /// As many of these names as a tree has pieces, at even distances; all of them if they are fewer.
@@ -52,32 +66,35 @@ fn some_of(alloc: Global, names: Vec<Vec<u8>>) -> Result<Vec<Vec<u8>>, AllocErro
     Ok(some)
 }
 
-/// Adds whole names of entries of the folders of these names.
+/// Adds whole names of entries of the directories of these names.
 fn add_names_below<D: Disk>(
     disk: &D,
     block: &mut Block,
-    mut path: TreePath,
+    root: &str,
     names: &mut Vec<Vec<u8>>,
-) -> Result<(), TreeFault> {
+) -> Result<(), AllocError> {
+    let alloc = block.allocator();
+    let mut path = TreePath::new(alloc, root.len());
     for at in 0..names.len() {
         let Some(name) = names.get(at) else {
             break;
         };
-        path.cut(0);
-        path.add(name)?;
+        path.set(root.as_bytes(), name)?;
         let entries = path.text().map(|text| disk.names_in(block, text));
         if let Some(Ok(Some(entries))) = entries {
-            path.add(b"/")?;
-            add_names(names, &path, entries, ONE_IN)?;
+            let directory = path.directory(alloc)?;
+            let name = directory.get(root.len()..).unwrap_or(b"");
+            add_names(names, name, entries, ONE_IN)?;
         }
     }
     Ok(())
 }
 
-/// Adds the whole names of entries of the folder at the path: of one in so many, beginning with the first.
+/// Adds the whole names of entries of a directory, whose name has a slash at its end: of one in so many, beginning with the
+/// first.
 fn add_names(
     names: &mut Vec<Vec<u8>>,
-    path: &TreePath,
+    directory: &[u8],
     mut entries: Names,
     one_in: usize,
 ) -> Result<(), AllocError> {
@@ -87,7 +104,7 @@ fn add_names(
             break;
         };
         if number.is_multiple_of(one_in) {
-            let mut name = Vec::from_slice(alloc, path.name())?;
+            let mut name = Vec::from_slice(alloc, directory)?;
             name.extend_from_slice(entries.at(entry))?;
             names.push(name)?;
         }

@@ -2,8 +2,8 @@
 //! names as far as the tree holds still. What a view makes of the rows is not said here.
 #![tactic(auto)]
 
+mod directory;
 mod disk;
-mod folder;
 mod guess;
 mod listing;
 mod names;

@@ -1,9 +1,12 @@
-//! A listing of a tree, made in pieces by two threads, or in one piece. How a piece is walked is not said here.
-ghost use Rattle.std.specs.Prelude.{◌≡◌, ◌+◌, ◌≤◌, ◌<◌, ◌++◌, length, IfErr, IfOk, IsTrue};
+//! A listing of a tree, made in pieces by two threads, or by one. How a piece is walked is not said here.
+ghost use Rattle.std.specs.Prelude.{◌≡◌, ◌+◌, ◌≤◌, ◌<◌, ◌++◌, length, take, IfErr, IfOk, IsTrue};
 ghost use Rattle.std.specs.List.{flat_map, list_all};
 ghost use Rattle.std.specs.Thread.{IsSync};
-ghost use Rattle.wq_crawl.specs.declared.tree.TreeFault.TheVariants.{TooManyRows};
+ghost use Rattle.wq_crawl.specs.declared.tree.TreeFault.TheVariants.{TooManyRows, Unreadable};
+ghost use Rattle.wq_view.specs.Limit.{max_listing_rows};
 ghost use Rattle.wq_view.specs.Seen.{is_lawful_row};
+ghost use Rattle.wq_walk.specs.Listed.{AreWalkedFrom, AreWalks, parts_of, walked_parts};
+ghost use Rattle.wq_walk.specs.Told.{IsRootFault};
 
 use crate::disk::Disk;
 use crate::guess::names_at_top;
@@ -17,24 +20,6 @@ use std::thread::{Threads, join};
 use wq_crawl::TreeFault;
 use wq_view::{MAX_LISTING_ROWS, Record, Seen};
 
-/// The end of a list of pieces from which a thread takes them.
-#[derive(Clone, Copy)]
-enum End {
-    First,
-    Last,
-}
-
-impl End {
-    /// The piece that is next after so many.
-    fn piece<'a>(self, pieces: &[Piece<'a>], number: usize) -> Option<Piece<'a>> {
-        let place = match self {
-            End::First => number,
-            End::Last => pieces.len().checked_sub(number)?.checked_sub(1)?,
-        };
-        pieces.get(place).copied()
-    }
-}
-
 /// The rows of the files below a root that was not listed before.
 pub(crate) fn first_rows<T: Threads, D: Disk + Sync>(
     threads: &T,
@@ -43,11 +28,12 @@ pub(crate) fn first_rows<T: Threads, D: Disk + Sync>(
     root: &str,
 ) -> Result<Vec<Seen>, TreeFault>
     ensures lawful { IfOk result (λ rows. IsTrue (list_all is_lawful_row rows.items)) }
-    ensures few { IfOk result (λ rows. length rows.items ≤ 1000000) }
+    ensures few { IfOk result (λ rows. length rows.items ≤ max_listing_rows) }
 {
-    let names = names_at_top(disk, alloc, root)?;
+    let path = with_slash(alloc, root)?;
+    let names = names_at_top(disk, alloc, &path)?;
     let pieces = first_pieces(alloc, &names)?;
-    rows_of(threads, disk, alloc, root, &pieces)
+    rows_of(threads, disk, alloc, &path, &pieces)
 }
 
 /// The rows of the files below a root whose last view has these records. They share the names.
@@ -59,13 +45,15 @@ pub(crate) fn rows_again<T: Threads, D: Disk + Sync>(
     last: &[Record],
 ) -> Result<Vec<Seen>, TreeFault>
     ensures lawful { IfOk result (λ rows. IsTrue (list_all is_lawful_row rows.items)) }
-    ensures few { IfOk result (λ rows. length rows.items ≤ 1000000) }
+    ensures few { IfOk result (λ rows. length rows.items ≤ max_listing_rows) }
 {
+    let path = with_slash(alloc, root)?;
     let pieces = pieces_of(alloc, last)?;
-    rows_of(threads, disk, alloc, root, &pieces)
+    rows_of(threads, disk, alloc, &path, &pieces)
 }
 
-/// The rows of the files below a root, of these pieces of its tree. They share the names of the pieces' records.
+/// The rows of the files below a root, whose path ends in a slash, of these pieces of its tree. They share the names of the
+/// pieces' records.
 ///
 /// A root that went while it was walked cannot be read: of what was not looked at yet nothing is known.
 fn rows_of<T: Threads, D: Disk + Sync>(
@@ -76,85 +64,135 @@ fn rows_of<T: Threads, D: Disk + Sync>(
     pieces: &[Piece<'_>],
 ) -> Result<Vec<Seen>, TreeFault>
     ensures lawful { IfOk result (λ rows. IsTrue (list_all is_lawful_row rows.items)) }
-    ensures few { IfOk result (λ rows. length rows.items ≤ 1000000) }
+    ensures few { IfOk result (λ rows. length rows.items ≤ max_listing_rows) }
 {
-    let progress = Progress::new(pieces.len());
-    let rows = match pieces {
-        [piece] => rows_in(disk, alloc, root, *piece, &progress)?.into_rows(),
-        _ => {
-            let listed = rows_by_two(threads, disk, alloc, root, pieces, &progress)?;
-            joined(alloc, listed)?
-        }
-    };
-    match disk.stat(&with_slash(alloc, root)?)? {
+    let walked = walked(threads, disk, alloc, root, pieces)?;
+    let rows = joined(alloc, walked)?;
+    match disk.stat(root)? {
         Some(_) => Ok(rows),
         None => Err(TreeFault::Unreadable),
     }
 }
 
-/// The rows of each piece. Two threads take the pieces, one from the first on and one from the last back, until they meet; where
-/// no thread can be made, one takes all. Where one of them fails the other takes no further piece.
-fn rows_by_two<'a, T: Threads, D: Disk + Sync>(
+/// The rows of each piece. Two threads walk them where they are more than one.
+fn walked<'a, T: Threads, D: Disk + Sync>(
     threads: &T,
     disk: &D,
     alloc: Global,
     root: &str,
     pieces: &[Piece<'a>],
-    progress: &'a Progress,
 ) -> Result<Vec<Rows<'a>>, TreeFault> {
+    match pieces {
+        [_] => walked_by_one(disk, alloc, root, pieces),
+        _ => walked_by_two(threads, disk, alloc, root, pieces),
+    }
+}
+
+/// The rows of each piece, walked one after the other.
+fn walked_by_one<'a, D: Disk>(
+    disk: &D,
+    alloc: Global,
+    root: &str,
+    pieces: &[Piece<'a>],
+) -> Result<Vec<Rows<'a>>, TreeFault>
+    ensures walks { IfOk result (λ walked.
+        AreWalks (D.says disk.now) (D.has disk.now) root.now walked.items) }
+    ensures parts { IfOk result (λ walked. walked_parts walked.items ≡ parts_of pieces.now) }
+    ensures fault { IfErr result
+        (IsRootFault (D.says disk.now) (D.has disk.now) (D.fails disk.now) root.now) }
+{
+    let progress = Progress::new(pieces.len());
+    let mut walked = Vec::with_capacity(alloc, pieces.len())?;
+    for piece in pieces {
+        let rows = rows_in(disk, alloc, root, *piece, &progress)?;
+        walked.push(rows).map_err(AllocError::from)?;
+    }
+    Ok(walked)
+}
+
+/// The rows of each piece. Two threads take the pieces, one from the first on and one from the last back, until they meet; where
+/// no thread can be made, one takes all. Where one of them fails the other takes no further piece.
+///
+/// Each piece is taken by one of them, since they count together. Were it not so, all would be walked here once more.
+fn walked_by_two<'a, T: Threads, D: Disk + Sync>(
+    threads: &T,
+    disk: &D,
+    alloc: Global,
+    root: &str,
+    pieces: &[Piece<'a>],
+) -> Result<Vec<Rows<'a>>, TreeFault> {
+    let progress = Progress::new(pieces.len());
+    let mut turned = Vec::from_slice(alloc, pieces)?;
+    turned.reverse();
+    let backwards = turned.as_slice();
     let (first, rest) = join(
         threads,
         || -> Result<Vec<Rows<'_>>, TreeFault>
             requires { IsSync D.row }
-        { rows_from(disk, alloc, root, pieces, End::First, progress) },
+            ensures { AreWalkedFrom (D.says disk.entry.now) (D.has disk.entry.now)
+                (D.fails disk.entry.now) root.entry.now pieces.entry.now result }
+        { walked_from(disk, alloc, root, pieces, &progress) },
         || -> Result<Vec<Rows<'_>>, TreeFault>
             requires { IsSync D.row }
-        { rows_from(disk, alloc, root, pieces, End::Last, progress) },
+            ensures { AreWalkedFrom (D.says disk.entry.now) (D.has disk.entry.now)
+                (D.fails disk.entry.now) root.entry.now backwards.entry.now result }
+        { walked_from(disk, alloc, root, backwards, &progress) },
     );
-    let (mut listed, rest) = (first?, rest?);
-    for rows in rest.into_iter().rev() {
-        listed.push(rows).map_err(AllocError::from)?;
+    let (mut walked, mut rest) = (first?, rest?);
+    if walked.len() + rest.len() != pieces.len() {
+        return walked_by_one(disk, alloc, root, pieces);
     }
-    Ok(listed)
+    rest.reverse();
+    walked.append(&mut rest).map_err(AllocError::from)?;
+    Ok(walked)
 }
 
-/// The rows of the pieces that one thread takes from one end. Where it fails it leaves no piece for the other thread.
-fn rows_from<'a, D: Disk>(
+/// The rows of the first pieces, as many as one thread takes. Where it fails it leaves no piece for the other thread.
+fn walked_from<'a, D: Disk>(
     disk: &D,
     alloc: Global,
     root: &str,
     pieces: &[Piece<'a>],
-    end: End,
-    progress: &'a Progress,
-) -> Result<Vec<Rows<'a>>, TreeFault> {
-    let listed = rows_of_free(disk, alloc, root, pieces, end, progress);
-    if listed.is_err() {
+    progress: &Progress,
+) -> Result<Vec<Rows<'a>>, TreeFault>
+    ensures walks { IfOk result (λ walked.
+        AreWalks (D.says disk.now) (D.has disk.now) root.now walked.items) }
+    ensures parts { IfOk result (λ walked.
+        walked_parts walked.items ≡ take (length walked.items) (parts_of pieces.now)) }
+    ensures fault { IfErr result
+        (IsRootFault (D.says disk.now) (D.has disk.now) (D.fails disk.now) root.now) }
+{
+    let walked = walked_while_free(disk, alloc, root, pieces, progress);
+    if walked.is_err() {
         progress.stop();
     }
-    listed
+    walked
 }
 
-/// The rows of pieces, one after the other from one end, as long as there are some to be taken.
-fn rows_of_free<'a, D: Disk>(
+/// The rows of the first pieces, one after the other, as long as there are some to be taken.
+fn walked_while_free<'a, D: Disk>(
     disk: &D,
     alloc: Global,
     root: &str,
     pieces: &[Piece<'a>],
-    end: End,
-    progress: &'a Progress,
-) -> Result<Vec<Rows<'a>>, TreeFault> {
-    let mut listed = Vec::with_capacity(alloc, pieces.len())?;
-    for number in 0..pieces.len() {
-        let Some(piece) = end.piece(pieces, number) else {
-            break;
-        };
+    progress: &Progress,
+) -> Result<Vec<Rows<'a>>, TreeFault>
+    ensures walks { IfOk result (λ walked.
+        AreWalks (D.says disk.now) (D.has disk.now) root.now walked.items) }
+    ensures parts { IfOk result (λ walked.
+        walked_parts walked.items ≡ take (length walked.items) (parts_of pieces.now)) }
+    ensures fault { IfErr result
+        (IsRootFault (D.says disk.now) (D.has disk.now) (D.fails disk.now) root.now) }
+{
+    let mut walked = Vec::with_capacity(alloc, pieces.len())?;
+    for piece in pieces {
         if !progress.take() {
             break;
         }
-        let rows = rows_in(disk, alloc, root, piece, progress)?;
-        listed.push(rows).map_err(AllocError::from)?;
+        let rows = rows_in(disk, alloc, root, *piece, progress)?;
+        walked.push(rows).map_err(AllocError::from)?;
     }
-    Ok(listed)
+    Ok(walked)
 }
 
 /// The rows of these pieces, one behind the other. What one of them held is free again once it is added.
@@ -162,9 +200,10 @@ fn joined(alloc: Global, pieces: Vec<Rows<'_>>) -> Result<Vec<Seen>, TreeFault>
     ensures all { IfOk result (λ rows.
         rows.items ≡ flat_map (λ piece. piece.rows.items) pieces.entry.items) }
     ensures many { IfErr result (λ fault. fault ≡ TooManyRows
-        → 1000000 < length (flat_map (λ piece. piece.rows.items) pieces.entry.items)) }
+        → max_listing_rows < length (flat_map (λ piece. piece.rows.items) pieces.entry.items)) }
+    ensures fault { IfErr result (λ fault. fault ≡ Unreadable → ⊥) }
     ensures lawful { IfOk result (λ rows. IsTrue (list_all is_lawful_row rows.items)) }
-    ensures few { IfOk result (λ rows. length rows.items ≤ 1000000) }
+    ensures few { IfOk result (λ rows. length rows.items ≤ max_listing_rows) }
 {
     let mut rows = Vec::with_capacity(alloc, count_of(&pieces))?;
     for piece in pieces {
@@ -187,12 +226,13 @@ fn count_of(pieces: &[Rows<'_>]) -> usize {
 fn with_rows(mut first: Vec<Seen>, mut rest: Vec<Seen>) -> Result<Vec<Seen>, TreeFault>
     requires lawful { IsTrue (list_all is_lawful_row first.items)
         × IsTrue (list_all is_lawful_row rest.items) }
-    requires few { (length first.items ≤ 1000000) × (length rest.items ≤ 1000000) }
+    requires few { (length first.items ≤ max_listing_rows) × (length rest.items ≤ max_listing_rows) }
     ensures all { IfOk result (λ rows. rows.items ≡ first.items ++ rest.items) }
     ensures many { IfErr result (λ fault. fault ≡ TooManyRows
-        → 1000000 < length first.items + length rest.items) }
+        → max_listing_rows < length first.items + length rest.items) }
+    ensures fault { IfErr result (λ fault. fault ≡ Unreadable → ⊥) }
     ensures lawful { IfOk result (λ rows. IsTrue (list_all is_lawful_row rows.items)) }
-    ensures few { IfOk result (λ rows. length rows.items ≤ 1000000) }
+    ensures few { IfOk result (λ rows. length rows.items ≤ max_listing_rows) }
 {
     if first.len() + rest.len() > MAX_LISTING_ROWS {
         return Err(TreeFault::TooManyRows);

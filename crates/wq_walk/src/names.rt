@@ -1,4 +1,9 @@
-//! The names in one folder on disk. What they name is not looked at here.
+//! The names in one directory on disk. What they name is not looked at here.
+ghost use Rattle.std.specs.Prelude.{◌≡◌, ◌++◌, ◌∷◌, [], IfErr, IfNone, IfOk, IfSome, IsTrue, None};
+ghost use Rattle.wq_crawl.specs.declared.tree.TreeFault.TheVariants.{Unreadable};
+ghost use Rattle.wq_walk.specs.Entries.{is_entry};
+ghost use Rattle.wq_walk.specs.Names.{AreOfEntries, name_at};
+ghost use Rattle.wq_walk.specs.Unseen.{HasFailed, HasMissed};
 
 use crate::unseen::walk_fault;
 use std::alloc::{AllocError, Global};
@@ -13,7 +18,7 @@ const BLOCK: usize = 32_768;
 /// How many bytes a head has.
 const HEAD: usize = 16;
 
-/// Room for a block of names, which all folders of a walk use in turn.
+/// Room for a block of names, which all directories of a walk use in turn.
 #[derive(Drop)]
 pub(crate) struct Block {
     bytes: Vec<u8>,
@@ -25,9 +30,14 @@ impl Block {
             bytes: vec![in alloc; 0; BLOCK]?,
         })
     }
+
+    /// Where its memory is from.
+    pub(crate) fn allocator(&self) -> Global {
+        *self.bytes.allocator()
+    }
 }
 
-/// The place of one of a folder's names.
+/// The place of one of a directory's names.
 #[derive(Clone, Copy)]
 pub(crate) struct Place {
     /// Its first bytes as a number, so that most names are compared by one step.
@@ -36,17 +46,20 @@ pub(crate) struct Place {
     end: usize,
 }
 
-/// The names in a folder, in one text.
+/// The names of the entries of a directory, in one text.
 #[derive(Drop)]
 pub(crate) struct Names {
     bytes: Vec<u8>,
     /// Those that were not taken yet, falling.
     places: Vec<Place>,
+    ghost entries: { AreOfEntries bytes.items places.items },
 }
 
 impl Names {
     /// No names. It takes no memory.
-    pub(crate) fn new(alloc: Global) -> Names {
+    pub(crate) fn new(alloc: Global) -> Names
+        ensures { result.places.items ≡ [] }
+    {
         Names {
             bytes: Vec::new(alloc),
             places: Vec::new(alloc),
@@ -59,33 +72,51 @@ impl Names {
     }
 
     /// The first name that was not taken yet.
-    pub(crate) fn first(&self) -> Option<&[u8]> {
+    pub(crate) fn first(&self) -> Option<&[u8]>
+        ensures none { IfNone result (self.now.places.items ≡ []) }
+        ensures some { IfSome result (λ _. self.now.places.items ≡ [] → ⊥) }
+    {
         Some(self.at(*self.places.last()?))
     }
 
     /// Takes the first name.
-    pub(crate) fn take(&mut self) -> Option<Place> {
+    pub(crate) fn take(&mut self) -> Option<Place>
+        ensures text { self.new.bytes ≡ self.old.bytes }
+        ensures none { IfNone result ((self.old.places.items ≡ []) × (self.new.places.items ≡ [])) }
+        ensures taken { IfSome result (λ place.
+            self.old.places.items ≡ self.new.places.items ++ (place ∷ [])) }
+    {
         self.places.pop()
     }
 
     /// The name at a place, also of one that was taken.
-    pub(crate) fn at(&self, place: Place) -> &[u8] {
+    pub(crate) fn at(&self, place: Place) -> &[u8]
+        ensures { result.now ≡ name_at self.now.bytes.items place }
+    {
         text_at(&self.bytes, place)
     }
 
-    /// Adds the names of a block, in which byte 0 ends each, but for those of the folder itself and of the one above it.
+    /// Adds the names of a block, in which byte 0 ends each, but for those of the directory itself and of the one above it.
     fn add(&mut self, block: &[u8]) -> Result<(), AllocError> {
         for name in block.split(|byte| *byte == 0) {
-            if !name.is_empty() && name != b".".as_slice() && name != b"..".as_slice() {
-                let start = self.bytes.len();
-                self.bytes.extend_from_slice(name)?;
-                self.places.push(Place {
-                    head: head_of(name),
-                    start,
-                    end: self.bytes.len(),
-                })?;
+            if is_entry(name) {
+                self.push(name)?;
             }
         }
+        Ok(())
+    }
+
+    /// Adds the name of an entry.
+    fn push(&mut self, name: &[u8]) -> Result<(), AllocError>
+        requires { IsTrue (is_entry name.now) }
+    {
+        let start = self.bytes.len();
+        self.bytes.extend_from_slice(name)?;
+        self.places.push(Place {
+            head: head_of(name),
+            start,
+            end: self.bytes.len(),
+        })?;
         Ok(())
     }
 
@@ -93,24 +124,30 @@ impl Names {
     fn sort(&mut self) {
         let bytes = self.bytes.as_slice();
         self.places.sort_unstable_by(|a, b| order(bytes, *b, *a));
-        self.places.dedup_by(|a, b| order(bytes, *a, *b).is_eq());
+        let is_same = |a: &mut Place, b: &mut Place| -> bool
+            ensures { (a.exit.now ≡ a.entry.now) × (b.exit.now ≡ b.entry.now) }
+        { order(bytes, *a, *b).is_eq() };
+        self.places.dedup_by(is_same);
     }
 }
 
-/// The names in the folder of this path, and nothing where it cannot be read. A path that ends in a slash may lead over a
+/// The names in the directory of this path, and nothing where it cannot be read. A path that ends in a slash may lead over a
 /// link; another that ends in a link is not read.
 pub(crate) fn names_in<R: Files>(
     files: &R,
     block: &mut Block,
     path: &str,
-) -> Result<Option<Names>, TreeFault> {
-    let mut folder = match files.open_dir(path) {
-        Ok(folder) => folder,
+) -> Result<Option<Names>, TreeFault>
+    ensures none { IfOk result (λ names. IfNone names HasMissed) }
+    ensures fault { IfErr result (λ fault. fault ≡ Unreadable → HasFailed) }
+{
+    let mut directory = match files.open_dir(path) {
+        Ok(directory) => directory,
         Err(error) => return nothing(&error),
     };
-    let mut names = Names::new(*block.bytes.allocator());
+    let mut names = Names::new(block.allocator());
     for _ in 0..u64::MAX {
-        match folder.read(&mut block.bytes) {
+        match directory.read(&mut block.bytes) {
             Ok(0) => break,
             Ok(count) => names.add(&block.bytes[..count])?,
             Err(error) if error.kind() == ErrorKind::Interrupted => {}
@@ -119,6 +156,13 @@ pub(crate) fn names_in<R: Files>(
     }
     names.sort();
     Ok(Some(names))
+}
+
+/// Whether a name that the system tells is that of an entry: not of the directory itself, and not of the one above it.
+fn is_entry(name: &[u8]) -> bool
+    ensures { result ≡ is_entry name.now }
+{
+    !name.is_empty() && name != b".".as_slice() && name != b"..".as_slice()
 }
 
 /// The first bytes of a name as a number, of which numbers rise as names do.
@@ -137,12 +181,17 @@ fn order(bytes: &[u8], a: Place, b: Place) -> Ordering {
     }
 }
 
-fn text_at(bytes: &[u8], place: Place) -> &[u8] {
+fn text_at(bytes: &[u8], place: Place) -> &[u8]
+    ensures { result.now ≡ name_at bytes.now place }
+{
     bytes.get(place.start..place.end).unwrap_or(b"")
 }
 
-/// No names, where an error speaks of their folder alone.
-fn nothing(error: &Error) -> Result<Option<Names>, TreeFault> {
+/// No names, where an error speaks of their directory alone.
+fn nothing(error: &Error) -> Result<Option<Names>, TreeFault>
+    ensures none { IfOk result (λ names. (names ≡ None) × HasMissed) }
+    ensures fault { IfErr result (λ fault. fault ≡ Unreadable → HasFailed) }
+{
     match walk_fault(error) {
         Some(fault) => Err(fault),
         None => Ok(None),

@@ -27,20 +27,20 @@ impl Part<'_> {
         is_from && is_below
     }
 
-    /// Whether names below the folder of this name may be in the part: true wherever one is.
+    /// Whether names below the directory of this name may be in the part: true wherever one is.
     #[tactic(auto, using(crate::proofs::Below::from_there, crate::proofs::Below::below_there, crate::proofs::Below::not_behind, crate::proofs::Below::not_before))]
-    pub(crate) fn reaches(&self, folder: &[u8]) -> bool
-        ensures all { (rest : List ℕ) → IsTrue (is_in self.now (name_below folder.now rest))
+    pub(crate) fn reaches(&self, directory: &[u8]) -> bool
+        ensures all { (rest : List ℕ) → IsTrue (is_in self.now (name_below directory.now rest))
             → IsTrue result }
-        ensures only { IsTrue result → MayHaveBelow self.now folder.now }
+        ensures only { IsTrue result → MayHaveBelow self.now directory.now }
     {
         if let Some(cut) = self.from
-            && order_below(folder, cut).is_gt()
+            && order_below(directory, cut).is_gt()
         {
             return false;
         }
         if let Some(cut) = self.below
-            && order_below(folder, cut).is_lt()
+            && order_below(directory, cut).is_lt()
         {
             return false;
         }
@@ -48,14 +48,14 @@ impl Part<'_> {
     }
 }
 
-/// How a cut stands to the names below a folder: before them, among them, or behind them.
+/// How a cut stands to the names below a directory: before them, among them, or behind them.
 #[tactic(auto, using(crate::proofs::Below::order_beside, crate::proofs::Below::order_from, crate::proofs::Below::order_at))]
-fn order_below(folder: &[u8], cut: &[u8]) -> Ordering
-    ensures { IsOrderBelow folder.now cut.now result }
+fn order_below(directory: &[u8], cut: &[u8]) -> Ordering
+    ensures { IsOrderBelow directory.now cut.now result }
 {
-    match cut.strip_prefix(folder) {
+    match cut.strip_prefix(directory) {
         Some([next, ..]) => next.cmp(&b'/'),
         Some([]) => Ordering::Less,
-        None => cut.cmp(folder),
+        None => cut.cmp(directory),
     }
 }

@@ -1,62 +1,78 @@
 //! The path of a file below a root, which also tells the file's name. Nothing is looked up on disk here.
-ghost use Rattle.std.specs.Prelude.{◌≡◌, ◌≤◌, length};
+ghost use Rattle.std.specs.Prelude.{◌≡◌, ◌⊎◌, ◌++◌, ◌∷◌, [], IfOk, MatchOption, OnOk, drop, string_bytes};
+ghost use Rattle.std.specs.Str.{IsUtf8, byte};
 
 use std::alloc::{AllocError, Global};
 use std::str;
 
-/// The root's path with a slash behind it, and then the name of a file below it, which may be empty.
+/// The path of a file below a root: that of the directory in which it is, with a slash at its end, and the name that it has
+/// there.
 #[derive(Drop)]
 pub(crate) struct TreePath {
     bytes: Vec<u8>,
-    /// How many bytes stand before the name.
+    /// How many bytes the path of the root has, with its slash.
     root_len: usize,
-    ghost has_root: { root_len ≤ length bytes.items },
 }
 
 impl TreePath {
-    ghost use Rattle.wq_walk.specs.Path.{name_of};
-
-    /// The path of a root itself, which has a slash behind it already.
-    pub(crate) fn new(alloc: Global, root: &str) -> Result<TreePath, AllocError> {
-        Ok(TreePath {
-            bytes: Vec::from_slice(alloc, root.as_bytes())?,
-            root_len: root.len(),
-        })
+    /// The path of nothing yet. It takes no memory.
+    pub(crate) fn new(alloc: Global, root_len: usize) -> TreePath
+        ensures { result.root_len ≡ root_len }
+    {
+        TreePath {
+            bytes: Vec::new(alloc),
+            root_len,
+        }
     }
 
-    /// How many bytes the path has.
-    pub(crate) fn len(&self) -> usize {
-        self.bytes.len()
+    /// Becomes the path of this name in a directory.
+    pub(crate) fn set(&mut self, directory: &[u8], name: &[u8]) -> Result<(), AllocError>
+        ensures root { self.new.root_len ≡ self.old.root_len }
+        ensures path { OnOk result (self.new.bytes.items ≡ directory.now ++ name.now) }
+    {
+        self.bytes.clear();
+        self.bytes.extend_from_slice(directory)?;
+        self.bytes.extend_from_slice(name)
     }
 
     /// The path as text, if it is in UTF-8.
-    pub(crate) fn text(&self) -> Option<&str> {
-        str::from_utf8(&self.bytes).ok()
-    }
-
-    /// What stands behind the root and its slash.
-    pub(crate) fn name(&self) -> &[u8]
-        ensures { result.now ≡ name_of self.now }
+    pub(crate) fn text(&self) -> Option<&str>
+        ensures { MatchOption result
+            (IsUtf8 self.now.bytes.items → ⊥)
+            (λ text. text.now ≡ self.now.bytes.items) }
     {
-        &self.bytes[self.root_len..]
+        match str::from_utf8(&self.bytes) {
+            Ok(text) => Some(text),
+            Err(_) => None,
+        }
     }
 
-    /// Goes back to the first bytes of the path, but keeps the root.
-    pub(crate) fn cut(&mut self, len: usize) {
-        self.bytes.truncate(len.max(self.root_len));
+    /// The name below the root: what stands after the root and its slash.
+    pub(crate) fn name(&self) -> &[u8]
+        ensures { result.now ≡ drop self.now.root_len self.now.bytes.items }
+    {
+        self.bytes.get(self.root_len..).unwrap_or(b"")
     }
 
-    /// Adds bytes behind the path.
-    pub(crate) fn add(&mut self, bytes: &[u8]) -> Result<(), AllocError> {
-        self.bytes.extend_from_slice(bytes)
+    /// The path with a slash at its end, as that of a directory.
+    pub(crate) fn directory(&self, alloc: Global) -> Result<Vec<u8>, AllocError>
+        ensures { IfOk result (λ path. path.items ≡ self.now.bytes.items ++ (byte "/" ∷ [])) }
+    {
+        let mut path = Vec::with_capacity(alloc, self.bytes.len().saturating_add(1))?;
+        path.extend_from_slice(&self.bytes)?;
+        path.push(b'/')?;
+        Ok(path)
     }
 }
 
-/// The path of a root with a slash behind it, so that a root that is a link is followed.
-pub(crate) fn with_slash(alloc: Global, root: &str) -> Result<String, AllocError> {
-    let mut folder = String::from_str(alloc, root)?;
+/// The path of a root with a slash at its end, so that a root that is a link is followed.
+pub(crate) fn with_slash(alloc: Global, root: &str) -> Result<String, AllocError>
+    ensures { IfOk result (λ path. (string_bytes path ≡ root.now)
+        ⊎ (string_bytes path ≡ root.now ++ (byte "/" ∷ []))) }
+{
+    let mut path = String::from_str(alloc, root)?;
     if !root.ends_with('/') {
-        folder.push('/')?;
+        path.push('/')?;
     }
-    Ok(folder)
+    Ok(path)
 }

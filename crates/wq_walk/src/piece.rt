@@ -8,7 +8,7 @@ use crate::part::Part;
 use std::alloc::{AllocError, Global};
 use wq_view::Record;
 
-/// How many pieces there are at most. The more there are, the closer together two threads end, and the more folders are read
+/// How many pieces there are at most. The more there are, the closer together two threads end, and the more directories are read
 /// twice.
 pub(crate) const MOST_PIECES: usize = 8;
 
@@ -103,7 +103,7 @@ pub(crate) fn first_pieces(alloc: Global, names: &[Vec<u8>]) -> Result<Vec<Piece
 
 /// At most so many pieces, in the order of names, between which as many of these names lie.
 ///
-/// No cut is made within the folder in which its piece begins, since the folder would be read once more for it; but the one in
+/// No cut is made within the directory in which its piece begins, since the directory would be read once more for it; but the one in
 /// the middle always is.
 fn pieces_cut<'a, T: HasName>(
     alloc: Global,
@@ -135,7 +135,7 @@ fn cut_between<'a, T: HasName>(
     is_middle: bool,
 ) -> Option<&'a [u8]> {
     let (first, name) = (names.get(start)?.name(), names.get(end)?.name());
-    let is_apart = is_middle || folder_of(first) != folder_of(name);
+    let is_apart = is_middle || directory_of(first) != directory_of(name);
     (end > start && is_apart).then_some(name)
 }
 
@@ -149,7 +149,7 @@ fn is_behind(name: &[u8], cut: Option<&[u8]>) -> bool
     }
 }
 
-/// The name of the folder of a name; nothing at the top.
-fn folder_of(name: &[u8]) -> Option<&[u8]> {
+/// The name of the directory of a name; nothing at the top.
+fn directory_of(name: &[u8]) -> Option<&[u8]> {
     name.rsplitn(2, |byte| *byte == b'/').nth(1)
 }

@@ -1,7 +1,8 @@
 //! The rows of a listing that is being made. Where they come from is not looked at here.
 ghost use Rattle.std.specs.Prelude.{◌≡◌, ◌≤◌, ◌++◌, ◌∷◌, [], length, IfErr, IfOk, OnOk, IsTrue};
 ghost use Rattle.std.specs.List.{list_all};
-ghost use Rattle.wq_crawl.specs.declared.tree.TreeFault.TheVariants.{TooManyRows};
+ghost use Rattle.wq_crawl.specs.declared.tree.TreeFault.TheVariants.{TooManyRows, Unreadable};
+ghost use Rattle.wq_view.specs.Limit.{max_listing_rows};
 ghost use Rattle.wq_view.specs.Seen.{is_lawful_row};
 ghost use Rattle.wq_walk.specs.Part.{IsListing, is_row_in};
 
@@ -16,7 +17,7 @@ pub(crate) struct Rows<'a> {
     part: Part<'a>,
     rows: Vec<Seen>,
     ghost lawful: { IsTrue (list_all is_lawful_row rows.items) },
-    ghost few: { length rows.items ≤ 1000000 },
+    ghost few: { length rows.items ≤ max_listing_rows },
     ghost within: { IsTrue (list_all (is_row_in part) rows.items) },
 }
 
@@ -27,7 +28,7 @@ impl<'a> Rows<'a> {
         part: Part<'a>,
         room: usize,
     ) -> Result<Rows<'a>, AllocError>
-        ensures { IfOk result (λ rows. rows.part ≡ part.entry) }
+        ensures { IfOk result (λ rows. (rows.part ≡ part.entry) × (rows.rows.items ≡ [])) }
     {
         Ok(Rows {
             part,
@@ -54,7 +55,8 @@ impl<'a> Rows<'a> {
         ensures part { self.new.part ≡ self.old.part }
         ensures row { OnOk result (self.new.rows.items ≡ self.old.rows.items ++ (row ∷ [])) }
         ensures many { IfErr result (λ fault. fault ≡ TooManyRows
-            → length self.old.rows.items ≡ 1000000) }
+            → length self.old.rows.items ≡ max_listing_rows) }
+        ensures fault { IfErr result (λ fault. fault ≡ Unreadable → ⊥) }
     {
         if self.rows.len() >= MAX_LISTING_ROWS {
             return Err(TreeFault::TooManyRows);

@@ -1,10 +1,12 @@
 //! What the system says of one file, as a row of a listing holds it. Nothing is read here.
-ghost use Rattle.std.specs.Prelude.{◌≡◌, IsTrue};
+ghost use Rattle.std.specs.Prelude.{◌≡◌, ◌↔◌, ℤ, IsTrue};
 ghost use Rattle.std.specs.Fs.{file_type, metadata_len};
 ghost use Rattle.wq_view.specs.Seen.{is_count, is_time};
+ghost use Rattle.wq_view.specs.declared.kind.Kind.TheVariants.{Dir};
 ghost use Rattle.wq_walk.specs.Stat.{kind_of_mode, milliseconds_of, nearest_size};
 
 use std::fs::Metadata;
+use std::marker::Model;
 use std::os::unix::fs::MetadataExt;
 use wq_base::{MAX_NUMBER, MAX_SIGNED};
 use wq_view::Kind;
@@ -16,15 +18,35 @@ const MILLISECONDS: i64 = 1000;
 const NANOSECONDS: i64 = 1_000_000;
 
 /// What was seen of a file. Its numbers are in the ranges of a listing.
-#[derive(Clone, Copy)]
+#[derive(Drop)]
 pub(crate) struct Stat {
     pub(crate) kind: Kind,
     /// In bytes.
     pub(crate) size: i64,
     /// In milliseconds of the Unix epoch.
     pub(crate) mtime_ms: i64,
-    ghost has_size: { IsTrue (is_count size) },
-    ghost has_time: { IsTrue (is_time mtime_ms) },
+}
+
+impl Model for Stat {
+    ghost use Rattle.std.specs.Prelude.{IsTrue};
+    ghost use Rattle.wq_view.specs.Seen.{Stat as StatData, stat_code, is_count, is_time};
+
+    ghost Value = { StatData };
+
+    ghost coded = { stat_code };
+
+    ghost view = { λ s. record { kind = s.kind; size = s.size; mtime_ms = s.mtime_ms } };
+
+    ghost invariant = { λ s. IsTrue (is_count s.size) × IsTrue (is_time s.mtime_ms) };
+}
+
+impl Stat {
+    /// Whether it is of a directory.
+    pub(crate) fn is_directory(&self) -> bool
+        ensures { IsTrue result ↔ (self.now.kind ≡ Dir) }
+    {
+        self.kind == Kind::Dir
+    }
 }
 
 /// What a listing says of a file, of which the system says this. A size or a time out of range is brought to the
@@ -32,11 +54,25 @@ pub(crate) struct Stat {
 pub(crate) fn stat_of(metadata: &Metadata) -> Stat
     ensures kind { result.kind ≡ kind_of_mode (file_type metadata.now).bits }
     ensures size { result.size ≡ nearest_size (metadata_len metadata.now) }
+    ensures time { (seconds : ℤ) × (nanoseconds : ℤ)
+        × (result.mtime_ms ≡ milliseconds_of seconds nanoseconds) }
+{
+    let (seconds, nanoseconds) = (metadata.mtime(), metadata.mtime_nsec());
+    stat_from(kind_of(metadata), metadata.len(), seconds, nanoseconds)
+}
+
+/// What a listing says of a file of this kind, of so many bytes, that was modified at this time.
+fn stat_from(kind: Kind, len: u64, seconds: i64, nanoseconds: i64) -> Stat
+    ensures { result ≡ record {
+      kind = kind;
+      size = nearest_size len;
+      mtime_ms = milliseconds_of seconds nanoseconds;
+    } }
 {
     Stat {
-        kind: kind_of(metadata),
-        size: size_of(metadata.len()),
-        mtime_ms: milliseconds(metadata.mtime(), metadata.mtime_nsec()),
+        kind,
+        size: size_of(len),
+        mtime_ms: milliseconds(seconds, nanoseconds),
     }
 }
 

@@ -1,43 +1,50 @@
-//! The walk over a tree: from folder to folder, a row for each file. What a walk is for is not said here.
-ghost use Rattle.std.specs.Prelude.{◌≡◌, IfOk, IfSome, IsTrue};
+//! The walk over a tree: from directory to directory, a row for each file. What a walk is for is not said here.
+ghost use Rattle.std.specs.Prelude.{◌≡◌, ◌⊎◌, ◌++◌, ◌∷◌, [], ℕ, Bool, false, List, MatchOption};
+ghost use Rattle.std.specs.Prelude.{IfErr, IfOk, IsTrue, None, OnOk, Some};
 ghost use Rattle.std.specs.Arc.{arc_slice_items};
+ghost use Rattle.std.specs.Str.{IsUtf8, byte};
+ghost use Rattle.wq_crawl.specs.declared.tree.TreeFault.TheVariants.{Unreadable};
 ghost use Rattle.wq_view.specs.Name.{is_valid_name};
-ghost use Rattle.wq_view.specs.Seen.{is_lawful_row};
-ghost use Rattle.wq_walk.specs.Path.{name_of};
+ghost use Rattle.wq_view.specs.Seen.{SeenData, is_lawful_row};
+ghost use Rattle.wq_walk.specs.Directory.{data_of, entry_at, left_of, walk_of};
+ghost use Rattle.wq_walk.specs.Told.{IsFailure, IsRead, IsRootFault};
+ghost use Rattle.wq_walk.specs.Walk.{Ends, IsDone, IsLooked, IsStep, IsWalk};
+ghost use Rattle.wq_walk.specs.Walk.{fresh, looked, row_of, rows_of_file};
 
+use crate::directory::{Directory, Step};
 use crate::disk::Disk;
-use crate::folder::{Folder, Step};
 use crate::names::{Block, Names, Place};
-use crate::path::{TreePath, with_slash};
+use crate::path::TreePath;
 use crate::piece::Piece;
 use crate::progress::Progress;
 use crate::rows::Rows;
 use crate::stat::Stat;
 use std::alloc::{AllocError, Global};
+use std::mem;
 use std::sync::ArcSlice;
 use wq_crawl::TreeFault;
-use wq_view::{Kind, Known, Seen};
+use wq_view::{Known, Seen};
 
 /// A walk on its way.
 #[derive(Drop)]
-struct Walk<'a> {
+struct Walk<'a, 'p> {
     alloc: Global,
     block: Block,
     path: TreePath,
-    /// From the root down to the folder in which the walk is.
-    folders: Vec<Folder>,
+    /// From the root down to the directory above the one in which the walk is.
+    above: Vec<Directory>,
     rows: Rows<'a>,
     known: Known<'a>,
-    progress: &'a Progress,
+    progress: &'p Progress,
 }
 
 /// The rows of the files below a root whose names are in a piece's part, each of which a pass takes. They share the names of
-/// the piece's records. There is room for as many from the start.
+/// the piece's records. There is room for as many from the start. The root's path ends in a slash.
 ///
-/// The walk reads each folder whole, and then looks at its entries. It follows no links, but one that is the root. An entry
+/// The walk reads each directory whole, and then looks at its entries. It follows no links, but one that is the root. An entry
 /// that cannot be looked at is left out, as one that goes while the walk is on its way; so is one whose name no pass takes.
-/// Of a folder below the root that cannot be read only its own row is listed; but where no more files can be opened, which
-/// says nothing of the folder, the walk fails. Folders below which no name is in the part are not read.
+/// Of a directory below the root that cannot be read only its own row is listed; but where no more files can be opened, which
+/// says nothing of the directory, the walk fails. Directories below which no name is in the part are not read.
 ///
 /// It fails too as soon as more rows of the whole tree were counted than a pass takes.
 pub(crate) fn rows_in<'a, D: Disk>(
@@ -45,132 +52,154 @@ pub(crate) fn rows_in<'a, D: Disk>(
     alloc: Global,
     root: &str,
     piece: Piece<'a>,
-    progress: &'a Progress,
+    progress: &Progress,
 ) -> Result<Rows<'a>, TreeFault>
-    ensures { IfOk result (λ rows. rows.part ≡ piece.entry.part) }
+    ensures part { IfOk result (λ rows. rows.part ≡ piece.entry.part) }
+    ensures walk { IfOk result (λ rows.
+        IsWalk (D.says disk.now) (D.has disk.now) root.now piece.entry.part rows.rows.items) }
+    ensures fault { IfErr result
+        (IsRootFault (D.says disk.now) (D.has disk.now) (D.fails disk.now) root.now) }
 {
-    let rows = Rows::with_room(alloc, piece.part, piece.known.len())?;
+    let mut block = Block::new(alloc)?;
+    let top = top(disk, alloc, &mut block, root)?;
     let known = Known {
         records: piece.known,
     };
-    let mut walk = Walk::new(disk, alloc, root, rows, known, progress)?;
-    walk.run(disk)?;
+    let mut walk = Walk {
+        alloc,
+        block,
+        path: TreePath::new(alloc, root.len()),
+        above: Vec::new(alloc),
+        rows: Rows::with_room(alloc, piece.part, piece.known.len())?,
+        known,
+        progress,
+    };
+    walk.run(disk, top)?;
     Ok(walk.rows)
 }
 
-impl<'a> Walk<'a> {
-    /// The walk that begins at a root, before these rows are found.
-    fn new<D: Disk>(
-        disk: &D,
-        alloc: Global,
-        root: &str,
-        rows: Rows<'a>,
-        known: Known<'a>,
-        progress: &'a Progress,
-    ) -> Result<Walk<'a>, TreeFault>
-        ensures { IfOk result (λ walk. walk.rows ≡ rows.entry) }
-    {
-        let folder = with_slash(alloc, root)?;
-        let mut block = Block::new(alloc)?;
-        let Some(names) = disk.names_in(&mut block, &folder)? else {
-            return Err(TreeFault::Unreadable);
-        };
-        let path = TreePath::new(alloc, &folder)?;
-        let mut folders = Vec::new(alloc);
-        folders
-            .push(Folder::new(alloc, path.len(), names))
-            .map_err(AllocError::from)?;
-        Ok(Walk {
-            alloc,
-            block,
-            path,
-            folders,
-            rows,
-            known,
-            progress,
-        })
-    }
+/// The directory of a root, of which nothing was looked at yet.
+fn top<D: Disk>(
+    disk: &D,
+    alloc: Global,
+    block: &mut Block,
+    root: &str,
+) -> Result<Directory, TreeFault>
+    ensures read { IfOk result (λ top. (names : List (List ℕ)) × D.has disk.now root.now (Some names)
+        × (data_of top ≡ fresh root.now names)) }
+    ensures fault { IfErr result
+        (IsRootFault (D.says disk.now) (D.has disk.now) (D.fails disk.now) root.now) }
+{
+    let Some(names) = disk.names_in(block, root)? else {
+        return Err(TreeFault::Unreadable);
+    };
+    let path = Vec::from_slice(alloc, root.as_bytes())?;
+    Ok(Directory::new(alloc, path, names))
+}
 
-    /// Goes on to the end.
-    fn run<D: Disk>(&mut self, disk: &D) -> Result<(), TreeFault>
-        ensures { self.new.rows.part ≡ self.old.rows.part }
+impl Walk<'_, '_> {
+    /// Goes on from a directory to the end.
+    fn run<D: Disk>(&mut self, disk: &D, mut here: Directory) -> Result<(), TreeFault>
+        ensures part { self.new.rows.part ≡ self.old.rows.part }
+        ensures ends { OnOk result (Ends (D.says disk.now) (D.has disk.now) self.old.path.root_len
+            self.old.rows.part (walk_of self.old.above.items here self.old.rows)
+            self.new.rows.rows.items) }
+        ensures fault { IfErr result (IsFailure (D.fails disk.now)) }
     {
         for _ in 0..u64::MAX {
-            let Some((path_len, step)) = self.step() else {
-                break;
-            };
-            self.take(disk, path_len, step)?;
-        }
-        Ok(())
-    }
-
-    /// What comes next, in the folder whose path has this length.
-    fn step(&mut self) -> Option<(usize, Step)>
-        ensures { self.new.rows ≡ self.old.rows }
-    {
-        let folder = self.folders.last_mut()?;
-        Some((folder.path_len(), folder.step()))
-    }
-
-    /// Does what comes next in the folder whose path has this length, which is the one in which the walk is.
-    fn take<D: Disk>(&mut self, disk: &D, path_len: usize, step: Step) -> Result<(), TreeFault>
-        ensures { self.new.rows.part ≡ self.old.rows.part }
-    {
-        self.path.cut(path_len);
-        match step {
-            Step::Look(name) => self.look(disk, name),
-            Step::Enter(name) => self.enter(disk, name),
-            Step::Leave => {
-                self.folders.pop();
-                Ok(())
+            if !self.take(disk, &mut here)? {
+                return Ok(());
             }
         }
+        // So many steps are those of no tree.
+        Err(TreeFault::TooManyRows)
     }
 
-    /// Looks at the name at a place in the folder in which the walk is, and adds its row.
-    fn look<D: Disk>(&mut self, disk: &D, name: Place) -> Result<(), TreeFault>
-        ensures { self.new.rows.part ≡ self.old.rows.part }
+    /// Does what comes next in the directory in which the walk is. Says whether something was left to be done.
+    fn take<D: Disk>(&mut self, disk: &D, here: &mut Directory) -> Result<bool, TreeFault>
+        ensures part { self.new.rows.part ≡ self.old.rows.part }
+        ensures root { self.new.path.root_len ≡ self.old.path.root_len }
+        ensures goes { IfOk result (λ goes. IsTrue goes → IsStep (D.says disk.now) (D.has disk.now)
+            self.old.path.root_len self.old.rows.part
+            (walk_of self.old.above.items here.old self.old.rows)
+            (walk_of self.new.above.items here.new self.new.rows)) }
+        ensures ends { IfOk result (λ goes. goes ≡ false → IsDone (data_of here.new)
+            × (walk_of self.new.above.items here.new self.new.rows
+            ≡ walk_of self.old.above.items here.old self.old.rows)
+            × (self.new.above.items ≡ [])) }
+        ensures fault { IfErr result (IsFailure (D.fails disk.now)) }
     {
-        self.add(name)?;
-        let reaches = self.rows.part().reaches(self.path.name());
-        if !reaches && !self.rows.part().has(self.path.name()) {
-            return Ok(());
+        match here.step() {
+            Step::Look(name) => self.look(disk, here, name)?,
+            Step::Enter(name) => self.enter(disk, here, name)?,
+            Step::Leave => match self.above.pop() {
+                Some(above) => *here = above,
+                None => return Ok(false),
+            },
         }
-        let Some(shared) = self.known.shared(self.alloc, self.path.name())? else {
-            return Ok(());
-        };
-        let Some(stat) = self.stat(disk)? else {
-            return Ok(());
-        };
-        self.list(shared, &stat)?;
-        if let (true, Kind::Dir, Some(folder)) = (reaches, stat.kind, self.folders.last_mut()) {
-            folder.enter_later(name)?;
+        Ok(true)
+    }
+
+    /// Looks at the name at a place in the directory in which the walk is, and adds its row.
+    fn look<D: Disk>(
+        &mut self,
+        disk: &D,
+        here: &mut Directory,
+        name: Place,
+    ) -> Result<(), TreeFault>
+        ensures part { self.new.rows.part ≡ self.old.rows.part }
+        ensures root { self.new.path.root_len ≡ self.old.path.root_len }
+        ensures above { self.new.above ≡ self.old.above }
+        ensures looked { OnOk result ((rows : List SeenData) × (enters : Bool)
+            × IsLooked (D.says disk.now) self.old.path.root_len self.old.rows.part
+            ((data_of here.old).path ++ entry_at here.old name) rows enters
+            × (self.new.rows.rows.items ≡ self.old.rows.rows.items ++ rows)
+            × (data_of here.new
+            ≡ looked (data_of here.old) (data_of here.old).left (entry_at here.old name) enters)) }
+        ensures fault { IfErr result (IsFailure (D.fails disk.now)) }
+    {
+        self.path.set(here.path(), here.name(name))?;
+        if self.list(disk)? {
+            here.enter_later(name)?;
         }
         Ok(())
     }
 
-    /// Adds the name at a place in the folder in which the walk is to the path.
-    fn add(&mut self, name: Place) -> Result<(), AllocError>
-        ensures { self.new.rows ≡ self.old.rows }
+    /// Looks at the file at the path, and adds its row if its name is in the part. Says whether it is to be entered: whether it
+    /// is a directory below which names may be in the part.
+    fn list<D: Disk>(&mut self, disk: &D) -> Result<bool, TreeFault>
+        ensures part { self.new.rows.part ≡ self.old.rows.part }
+        ensures path { self.new.path ≡ self.old.path }
+        ensures above { self.new.above ≡ self.old.above }
+        ensures looked { IfOk result (λ enters. (rows : List SeenData)
+            × IsLooked (D.says disk.now) self.old.path.root_len self.old.rows.part
+            self.old.path.bytes.items rows enters
+            × (self.new.rows.rows.items ≡ self.old.rows.rows.items ++ rows)) }
+        ensures fault { IfErr result (IsFailure (D.fails disk.now)) }
     {
-        match self.folders.last() {
-            Some(folder) => self.path.add(folder.name(name)),
-            None => Ok(()),
+        let reaches = self.rows.part().reaches(self.path.name());
+        if !reaches && !self.rows.part().has(self.path.name()) {
+            return Ok(false);
         }
-    }
-
-    /// What is seen of the file at the path, if it can be looked at.
-    fn stat<D: Disk>(&self, disk: &D) -> Result<Option<Stat>, TreeFault> {
-        match self.path.text() {
-            Some(path) => disk.stat(path),
-            None => Ok(None),
-        }
+        let Some(name) = self.known.shared(self.alloc, self.path.name())? else {
+            return Ok(false);
+        };
+        let Some(stat) = stat_at(disk, &self.path)? else {
+            return Ok(false);
+        };
+        self.add(name, &stat)?;
+        Ok(reaches && stat.is_directory())
     }
 
     /// Adds the row of the file of this name, if the name is in the part, and counts it.
-    fn list(&mut self, name: ArcSlice<u8>, stat: &Stat) -> Result<(), TreeFault>
+    fn add(&mut self, name: ArcSlice<u8>, stat: &Stat) -> Result<(), TreeFault>
         requires { IsTrue (is_valid_name (arc_slice_items name)) }
         ensures part { self.new.rows.part ≡ self.old.rows.part }
+        ensures path { self.new.path ≡ self.old.path }
+        ensures above { self.new.above ≡ self.old.above }
+        ensures row { OnOk result (self.new.rows.rows.items ≡ self.old.rows.rows.items
+            ++ rows_of_file self.old.rows.part (arc_slice_items name) stat.now) }
+        ensures fault { IfErr result (λ fault. fault ≡ Unreadable → ⊥) }
     {
         if self.rows.part().has(&name) {
             self.rows.add(row_of(name, stat))?;
@@ -179,29 +208,62 @@ impl<'a> Walk<'a> {
         Ok(())
     }
 
-    /// Begins with the folder of the name at a place in the one in which the walk is.
-    fn enter<D: Disk>(&mut self, disk: &D, name: Place) -> Result<(), TreeFault>
-        ensures { self.new.rows ≡ self.old.rows }
+    /// Goes into the directory of the name at a place in the one in which the walk is.
+    fn enter<D: Disk>(
+        &mut self,
+        disk: &D,
+        here: &mut Directory,
+        name: Place,
+    ) -> Result<(), TreeFault>
+        ensures part { self.new.rows.part ≡ self.old.rows.part }
+        ensures root { self.new.path.root_len ≡ self.old.path.root_len }
+        ensures rows { self.new.rows ≡ self.old.rows }
+        ensures above { OnOk result (self.new.above.items ≡ self.old.above.items ++ (here.old ∷ [])) }
+        ensures read { OnOk result ((names : List (List ℕ))
+            × IsRead (D.has disk.now) ((data_of here.old).path ++ entry_at here.old name) names
+            × (data_of here.new ≡ fresh
+            ((data_of here.old).path ++ entry_at here.old name ++ (byte "/" ∷ [])) names)) }
+        ensures fault { IfErr result (IsFailure (D.fails disk.now)) }
     {
-        self.add(name)?;
-        let names = self.names_here(disk)?;
-        self.path.add(b"/")?;
-        let folder = Folder::new(self.alloc, self.path.len(), names);
-        self.folders.push(folder).map_err(AllocError::from)?;
+        self.path.set(here.path(), here.name(name))?;
+        let names = names_at(disk, self.alloc, &mut self.block, &self.path)?;
+        let below = Directory::new(self.alloc, self.path.directory(self.alloc)?, names);
+        let above = mem::replace(here, below);
+        self.above.push(above).map_err(AllocError::from)?;
         Ok(())
     }
+}
 
-    /// The names in the folder at the path, and none where it cannot be read.
-    fn names_here<D: Disk>(&mut self, disk: &D) -> Result<Names, TreeFault>
-        ensures { self.new.rows ≡ self.old.rows }
-    {
-        let Some(path) = self.path.text() else {
-            return Ok(Names::new(self.alloc));
-        };
-        match disk.names_in(&mut self.block, path)? {
-            Some(names) => Ok(names),
-            None => Ok(Names::new(self.alloc)),
-        }
+/// What is seen of the file of a path, if it can be looked at.
+fn stat_at<D: Disk>(disk: &D, path: &TreePath) -> Result<Option<Stat>, TreeFault>
+    ensures told { IfOk result (λ told. MatchOption told
+        ((IsUtf8 path.now.bytes.items → ⊥) ⊎ D.says disk.now path.now.bytes.items None)
+        (λ stat. D.says disk.now path.now.bytes.items (Some stat))) }
+    ensures fault { IfErr result (IsFailure (D.fails disk.now)) }
+{
+    match path.text() {
+        Some(text) => disk.stat(text),
+        None => Ok(None),
+    }
+}
+
+/// The names in the directory of a path, and none where it cannot be read.
+fn names_at<D: Disk>(
+    disk: &D,
+    alloc: Global,
+    block: &mut Block,
+    path: &TreePath,
+) -> Result<Names, TreeFault>
+    ensures read { IfOk result (λ names.
+        IsRead (D.has disk.now) path.now.bytes.items (left_of names)) }
+    ensures fault { IfErr result (IsFailure (D.fails disk.now)) }
+{
+    let Some(text) = path.text() else {
+        return Ok(Names::new(alloc));
+    };
+    match disk.names_in(block, text)? {
+        Some(names) => Ok(names),
+        None => Ok(Names::new(alloc)),
     }
 }
 
@@ -209,7 +271,7 @@ impl<'a> Walk<'a> {
 fn row_of(name: ArcSlice<u8>, stat: &Stat) -> Seen
     requires { IsTrue (is_valid_name (arc_slice_items name)) }
     ensures lawful { IsTrue (is_lawful_row result) }
-    ensures name { result.name ≡ arc_slice_items name }
+    ensures row { result ≡ row_of (arc_slice_items name) stat.now }
 {
     Seen {
         name,

@@ -2,6 +2,7 @@
 ghost use Rattle.std.specs.Prelude.{◌≡◌, ◌≤◌, length, IfErr, IfOk, IsTrue};
 ghost use Rattle.std.specs.List.{list_all};
 ghost use Rattle.wq_crawl.specs.Tree.{IsCounted};
+ghost use Rattle.wq_view.specs.Limit.{max_listing_rows};
 ghost use Rattle.wq_view.specs.Seen.{is_lawful_row};
 
 use crate::disk::FileDisk;
@@ -50,7 +51,7 @@ impl<T: Threads + Drop> Tree for Walker<T> {
     fn list(&mut self, root: &str) -> Result<Vec<Seen>, TreeFault>
         ensures counted { IfErr result (IsCounted self.old.failures self.new.failures) }
         ensures lawful { IfOk result (λ rows. IsTrue (list_all is_lawful_row rows.items)) }
-        ensures few { IfOk result (λ rows. length rows.items ≤ 1000000) }
+        ensures few { IfOk result (λ rows. length rows.items ≤ max_listing_rows) }
     {
         let listed = first_rows(&self.threads, &self.disk, self.alloc, root);
         self.count(&listed);
@@ -61,7 +62,7 @@ impl<T: Threads + Drop> Tree for Walker<T> {
     fn list_again(&mut self, root: &str, last: &View) -> Result<Vec<Seen>, TreeFault>
         ensures counted { IfErr result (IsCounted self.old.failures self.new.failures) }
         ensures lawful { IfOk result (λ rows. IsTrue (list_all is_lawful_row rows.items)) }
-        ensures few { IfOk result (λ rows. length rows.items ≤ 1000000) }
+        ensures few { IfOk result (λ rows. length rows.items ≤ max_listing_rows) }
     {
         let last = last.records();
         let listed = rows_again(&self.threads, &self.disk, self.alloc, root, last);

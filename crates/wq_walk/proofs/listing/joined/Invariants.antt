@@ -2,6 +2,7 @@
 use Rattle.std.proofs.Common.{◌≡◌, ◌≤◌, ◌++◌, length, IsTrue}
 use Rattle.std.specs.List.{flat_map, list_all}
 use Rattle.std.specs.Vec.Iter.{into_iter_items, into_iter_len}
+use Rattle.wq_view.specs.Limit.{max_listing_rows}
 use Rattle.wq_view.specs.Seen.{is_lawful_row}
 use Rattle.wq_walk.proofs.listing.joined.Given as goal
 
@@ -11,4 +12,4 @@ invariant-loop-piece l =
     ≡ flat_map (λ piece. piece.rows.items) (into_iter_items l.initial.piece-iterator))
     × (into_iter_len l.piece-iterator ≡ length (into_iter_items l.piece-iterator))
     × IsTrue (list_all is_lawful_row l.rows.items)
-    × (length l.rows.items ≤ 1000000)
+    × (length l.rows.items ≤ max_listing_rows)

@@ -1,0 +1,40 @@
+-- The names at places of a text, and what is left of places where some are left out.
+use Rattle.std.proofs.Common.{◌≡◌, ℕ, Bool, true, false, List, [], ◌∷◌, ◌++◌, All, IsTrue, IfNone, IfOk, Option, None, Some, Result, Ok, Err, option_map, ap, sym, subst, ◌∙◌}
+use Rattle.std.specs.List.Retain.{DedupsAll, DedupsFrom, IsDeduped}
+use Rattle.std.proofs.lemmas.List.{map-append}
+use Rattle.std.proofs.lemmas.List.Elements.{All-cons, All-head, All-map, All-nil, All-tail}
+use Rattle.wq_walk.specs.declared.names.Names.{Names}
+use Rattle.wq_walk.specs.declared.names.Place.{Place}
+use Rattle.wq_walk.specs.Directory.{left_of}
+use Rattle.wq_walk.specs.Entries.{is_entry}
+use Rattle.wq_walk.specs.Names.{name_at, names_at}
+use Rattle.wq_walk.specs.System.{has_here}
+use Rattle.wq_walk.specs.Unseen.{HasMissed}
+
+-- the name at a last place is the last name
+pub taken : (bytes : List ℕ) (old new : List Place) (place : Place) → old ≡ new ++ (place ∷ [])
+    → names_at bytes old ≡ names_at bytes new ++ (name_at bytes place ∷ [])
+taken bytes old new place is = ap (names_at bytes) is ∙ map-append (name_at bytes) new (place ∷ [])
+
+-- what is told of a directory: the names of its entries, or that a call of the system failed
+pub told_here : {E : Type 0} (path : List ℕ) (result : Result (Option Names) E) → IfOk result (λ names. IfNone names HasMissed) → IfOk result (λ names. has_here path (option_map left_of names))
+told_here path (Ok None) missed = missed
+told_here path (Ok (Some names)) missed = All-map (λ name. IsTrue (is_entry name)) (name_at names.bytes.items) names.places.items names.entries
+told_here path (Err fault) missed = tt
+
+-- what is left where those that a test tells are left out, which changes none, keeps what all have
+pub all_deduped : {X S : Type 0} (P : X → Type 0) (R : S → X → X → Bool → S → X → X → Type 0)
+    → ((s : S) (x k : X) (b : Bool) (t : S) (x' k' : X) → R s x k b t x' k' → (x' ≡ x) × (k' ≡ k))
+    → (s : S) (xs ys : List X) → IsDeduped R s xs ys → All P xs → All P ys
+all_deduped {X} {S} P R same s xs ys deduped all = whole xs deduped.told all
+  where
+    from : (s : S) (k : X) (xs ys : List X) → DedupsFrom R s k xs ys → P k → All P xs → All P ys
+    from s k [] ys is p all = subst (All P) (sym is) (All-cons P k [] p (All-nil P))
+    from s k (x ∷ xs) ys (true, t, x', k', called, rest) p all = from t k' xs ys rest (subst P (sym (same s x k true t x' k' called).1) p) (All-tail P x xs all)
+    from s k (x ∷ xs) ys (false, t, x', k', called, (zs, rest, is)) p all =
+        subst (All P) (sym is) (All-cons P k' zs (subst P (sym (same s x k false t x' k' called).1) p)
+        (from t x' xs zs rest (subst P (sym (same s x k false t x' k' called).0) (All-head P x xs all)) (All-tail P x xs all)))
+
+    whole : (xs : List X) → DedupsAll R s xs ys → All P xs → All P ys
+    whole [] is all = subst (All P) (sym is) all
+    whole (x ∷ xs) is all = from s x xs ys is (All-head P x xs all) (All-tail P x xs all)

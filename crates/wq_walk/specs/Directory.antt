@@ -1,0 +1,44 @@
+-- A directory on the way of a walk, as the code holds it.
+-- No public document is behind it.
+use Rattle.std.specs.Prelude.{◌≡◌, ℕ, List, [], ◌∷◌, ◌++◌, map}
+use Rattle.wq_walk.specs.declared.directory.Directory.{Directory}
+use Rattle.wq_walk.specs.declared.directory.Step.{Step}
+use Rattle.wq_walk.specs.declared.directory.Step.TheVariants.{Look, Enter, Leave}
+use Rattle.wq_walk.specs.declared.names.Names.{Names}
+use Rattle.wq_walk.specs.declared.names.Place.{Place}
+use Rattle.wq_walk.specs.declared.rows.Rows.{Rows}
+use Rattle.wq_walk.specs.Names.{name_at, names_at}
+use Rattle.wq_walk.specs.Walk.{DirectoryData, IsDone, WalkData}
+
+-- the names of a directory that were not taken yet, the next one last
+abbrev pub left_of : Names → List (List ℕ)
+left_of names = names_at names.bytes.items names.places.items
+
+-- the name at a place in a directory
+abbrev pub entry_at : Directory → Place → List ℕ
+entry_at directory place = name_at directory.names.bytes.items place
+
+-- a directory, as definitions see it
+abbrev pub data_of : Directory → DirectoryData
+data_of directory = record {
+  path = directory.path.items;
+  left = left_of directory.names;
+  waiting = names_at directory.names.bytes.items directory.waiting.items;
+}
+
+-- a walk in this directory, with these above it and these rows, as definitions see it
+abbrev pub walk_of : List Directory → Directory → Rows → WalkData
+walk_of above here rows =
+    record { above = map data_of above; here = data_of here; rows = rows.rows.items }
+
+-- this came next in a directory, which it leaves so
+abbrev pub IsNext : Directory → Step → Directory → Type 0
+IsNext before (Look place) after =
+    ((data_of before).left ≡ (data_of after).left ++ (entry_at after place ∷ []))
+    × ((data_of before).path ≡ (data_of after).path)
+    × ((data_of before).waiting ≡ (data_of after).waiting)
+IsNext before (Enter place) after =
+    ((data_of before).waiting ≡ (data_of after).waiting ++ (entry_at after place ∷ []))
+    × ((data_of before).path ≡ (data_of after).path)
+    × ((data_of before).left ≡ (data_of after).left)
+IsNext before Leave after = (data_of after ≡ data_of before) × IsDone (data_of before)

@@ -1,0 +1,137 @@
+-- How a tree is walked: which rows a walk lists of what a disk tells.
+-- No public document is behind it.
+use Rattle.std.specs.Prelude.{◌≡◌, ◌⊎◌, ℕ, zero, suc, Bool, true, false, IsTrue, if◌then◌else◌}
+use Rattle.std.specs.Prelude.{List, [], ◌∷◌, ◌++◌, length, drop, Option, Some, None}
+use Rattle.std.specs.Str.{IsUtf8, byte}
+use Rattle.wq_view.specs.Name.{is_valid_name}
+use Rattle.wq_view.specs.Seen.{SeenData, Stat}
+use Rattle.wq_view.specs.declared.kind.Kind.{Kind}
+use Rattle.wq_view.specs.declared.kind.Kind.TheVariants.{Dir}
+use Rattle.wq_walk.specs.declared.part.Part.{Part}
+use Rattle.wq_walk.specs.Part.{MayHaveBelow, is_in, name_below}
+use Rattle.wq_walk.specs.Told.{Has, IsRead, Says}
+
+-- a directory on the way of a walk: its path with a slash at its end, the names in it that were not
+-- looked at yet, the next one last, and those of directories that are entered later, the next one last
+pub record DirectoryData : Type 0 where
+  pub path : List ℕ
+  pub left : List (List ℕ)
+  pub waiting : List (List ℕ)
+
+-- where a walk is: the directories above the one in which it is, the innermost last, that directory,
+-- and the rows so far
+pub record WalkData : Type 0 where
+  pub above : List DirectoryData
+  pub here : DirectoryData
+  pub rows : List SeenData
+
+-- the name of the file of a path, below a root whose path has so many bytes
+abbrev pub name_of_path : ℕ → List ℕ → List ℕ
+name_of_path root_len path = drop root_len path
+
+-- the row of a file of which the disk says this
+abbrev pub row_of : List ℕ → Stat → SeenData
+row_of name stat =
+    record { name = name; kind = stat.kind; size = stat.size; mtime_ms = stat.mtime_ms }
+
+-- the rows of a file of which the disk says this: one, if its name is in the part
+abbrev pub rows_of_file : Part → List ℕ → Stat → List SeenData
+rows_of_file part name stat = if is_in part name then row_of name stat ∷ [] else []
+
+-- no name below the directory of a name is in a part
+abbrev pub HasNoneBelow : Part → List ℕ → Type 0
+HasNoneBelow part name = (rest : List ℕ) → IsTrue (is_in part (name_below name rest)) → ⊥
+
+-- a file is passed over: neither its name nor one below it is in the part, or no pass takes its name,
+-- or its path is no text, or the disk cannot look at it
+abbrev pub IsPassedOver : Says → Part → List ℕ → List ℕ → Type 0
+IsPassedOver says part path name =
+    ((is_in part name ≡ false) × HasNoneBelow part name)
+    ⊎ ((is_valid_name name ≡ false) ⊎ ((IsUtf8 path → ⊥) ⊎ says path None))
+
+-- whether a file of which the disk says this is entered: a directory alone, below which names may be in
+-- the part; and each below which one is
+abbrev pub IsEntered : Part → List ℕ → Stat → Bool → Type 0
+IsEntered part name stat true = (stat.kind ≡ Dir) × MayHaveBelow part name
+IsEntered part name stat false = stat.kind ≡ Dir → HasNoneBelow part name
+
+-- a file was looked at: these rows are listed of it, and it is entered later or not
+abbrev pub IsLooked : Says → ℕ → Part → List ℕ → List SeenData → Bool → Type 0
+IsLooked says root_len part path rows enters =
+    (IsPassedOver says part path (name_of_path root_len path) × (rows ≡ []) × (enters ≡ false))
+    ⊎ ((stat : Stat) × says path (Some stat)
+    × (rows ≡ rows_of_file part (name_of_path root_len path) stat)
+    × IsEntered part (name_of_path root_len path) stat enters)
+
+-- a directory of which nothing was looked at yet
+abbrev pub fresh : List ℕ → List (List ℕ) → DirectoryData
+fresh path names = record { path = path; left = names; waiting = [] }
+
+-- a directory in which nothing is left to be done
+abbrev pub IsDone : DirectoryData → Type 0
+IsDone directory = (directory.left ≡ []) × (directory.waiting ≡ [])
+
+-- what is left of a directory in which a name was looked at, which is entered later or not
+abbrev pub looked : DirectoryData → List (List ℕ) → List ℕ → Bool → DirectoryData
+looked directory left name enters = record {
+  path = directory.path;
+  left = left;
+  waiting = if enters then directory.waiting ++ (name ∷ []) else directory.waiting;
+}
+
+-- the next name of the directory in which a walk is was looked at
+abbrev pub Looks : Says → ℕ → Part → WalkData → WalkData → Type 0
+Looks says root_len part before after =
+    (name : List ℕ) × (left : List (List ℕ)) × (rows : List SeenData) × (enters : Bool)
+    × (before.here.left ≡ left ++ (name ∷ []))
+    × IsLooked says root_len part (before.here.path ++ name) rows enters
+    × (after ≡ record {
+      above = before.above;
+      here = looked before.here left name enters;
+      rows = before.rows ++ rows;
+    })
+
+-- the next directory that waits was entered, by its path without a slash, so that no link is followed
+abbrev pub Enters : Has → WalkData → WalkData → Type 0
+Enters has before after =
+    (name : List ℕ) × (waiting : List (List ℕ)) × (names : List (List ℕ))
+    × (before.here.waiting ≡ waiting ++ (name ∷ []))
+    × IsRead has (before.here.path ++ name) names
+    × (after ≡ record {
+      above = before.above ++ (record before.here { waiting = waiting } ∷ []);
+      here = fresh (before.here.path ++ name ++ (byte "/" ∷ [])) names;
+      rows = before.rows;
+    })
+
+-- a directory in which nothing is left to be done was left
+abbrev pub Leaves : WalkData → WalkData → Type 0
+Leaves before after =
+    IsDone before.here × (before.above ≡ after.above ++ (after.here ∷ []))
+    × (after.rows ≡ before.rows)
+
+-- a step of a walk: it looks at a name, enters a directory or leaves one
+abbrev pub IsStep : Says → Has → ℕ → Part → WalkData → WalkData → Type 0
+IsStep says has root_len part before after =
+    Looks says root_len part before after ⊎ (Enters has before after ⊎ Leaves before after)
+
+-- so many steps of a walk lead from here to there
+unfoldable pub Leads : Says → Has → ℕ → Part → ℕ → WalkData → WalkData → Type 0
+Leads says has root_len part zero before after = after ≡ before
+Leads says has root_len part (suc n) before after =
+    (mid : WalkData) × Leads says has root_len part n before mid
+    × IsStep says has root_len part mid after
+
+-- a walk on its way ended, after some steps, where nothing is left to be done
+abbrev pub Ends : Says → Has → ℕ → Part → WalkData → List SeenData → Type 0
+Ends says has root_len part before rows =
+    (steps : ℕ) × (last : DirectoryData)
+    × Leads says has root_len part steps before (record { above = []; here = last; rows = rows })
+    × IsDone last
+
+-- a walk of a part of the tree below a root lists these rows: it begins in the root's directory, and
+-- ends where nothing is left to be done
+abbrev pub IsWalk : Says → Has → List ℕ → Part → List SeenData → Type 0
+IsWalk says has root part rows =
+    (names : List (List ℕ)) × has root (Some names)
+    × Ends says has (length root) part
+    (record { above = []; here = fresh root names; rows = [] }) rows

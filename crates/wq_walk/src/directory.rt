@@ -1,0 +1,117 @@
+//! A directory that is being walked: what comes next in it, so that whole names rise. Whole names rise as `a`, `a-b`, `a/x`,
+//! `a0`: between a directory and what lies below it there may be names beside it. Nothing is read here.
+ghost use Rattle.std.specs.Prelude.{◌≡◌, ◌++◌, ◌∷◌, [], IfNone, IfSome, IsTrue, OnOk};
+ghost use Rattle.wq_walk.specs.Directory.{IsNext, data_of, entry_at, left_of};
+ghost use Rattle.wq_walk.specs.Walk.{fresh};
+
+use crate::names::{Names, Place};
+use std::alloc::{AllocError, Global};
+
+/// A directory with its names.
+#[derive(Drop)]
+pub(crate) struct Directory {
+    /// Its path, with a slash at its end.
+    path: Vec<u8>,
+    /// The names that were not looked at yet.
+    names: Names,
+    /// The directories that were looked at and not entered yet. The last one comes first.
+    waiting: Vec<Place>,
+}
+
+/// What comes next in a directory.
+#[derive(Clone, Copy)]
+pub(crate) enum Step {
+    /// The name at this place is looked at.
+    Look(Place),
+    /// The directory of the name at this place is entered.
+    Enter(Place),
+    /// Nothing is left.
+    Leave,
+}
+
+impl Directory {
+    /// A directory of this path, which ends in a slash, of which nothing was looked at yet.
+    pub(crate) fn new(alloc: Global, path: Vec<u8>, names: Names) -> Directory
+        ensures { data_of result ≡ fresh path.items (left_of names) }
+    {
+        Directory {
+            path,
+            names,
+            waiting: Vec::new(alloc),
+        }
+    }
+
+    /// Its path, with a slash at its end.
+    pub(crate) fn path(&self) -> &[u8]
+        ensures { result.now ≡ (data_of self.now).path }
+    {
+        &self.path
+    }
+
+    /// The name at a place.
+    pub(crate) fn name(&self, place: Place) -> &[u8]
+        ensures { result.now ≡ entry_at self.now place }
+    {
+        self.names.at(place)
+    }
+
+    /// What comes next.
+    #[tactic(auto, using(crate::proofs::Entries::taken))]
+    pub(crate) fn step(&mut self) -> Step
+        ensures { IsNext self.old result self.new }
+    {
+        if let Some(directory) = self.take_entered() {
+            return Step::Enter(directory);
+        }
+        match self.names.take() {
+            Some(name) => Step::Look(name),
+            None => Step::Leave,
+        }
+    }
+
+    /// Takes the last directory that waits, if it is entered now.
+    fn take_entered(&mut self) -> Option<Place>
+        ensures path { self.new.path ≡ self.old.path }
+        ensures names { self.new.names ≡ self.old.names }
+        ensures taken { IfSome result (λ place.
+            self.old.waiting.items ≡ self.new.waiting.items ++ (place ∷ [])) }
+        ensures kept { IfNone result (self.new.waiting.items ≡ self.old.waiting.items) }
+        ensures none { IfNone result (self.old.names.places.items ≡ []
+            → self.old.waiting.items ≡ []) }
+    {
+        if self.enters() {
+            self.waiting.pop()
+        } else {
+            None
+        }
+    }
+
+    /// Has the directory of the name at this place entered as soon as all names are looked at that stand before those below
+    /// it.
+    pub(crate) fn enter_later(&mut self, name: Place) -> Result<(), AllocError>
+        ensures { OnOk result (data_of self.new ≡ record (data_of self.old) {
+          waiting = (data_of self.old).waiting ++ (entry_at self.old name ∷ []);
+        }) }
+    {
+        self.waiting.push(name)?;
+        Ok(())
+    }
+
+    /// Whether the last directory that waits is entered now. It is where no name is left.
+    fn enters(&self) -> bool
+        ensures { self.now.names.places.items ≡ [] → IsTrue result }
+    {
+        match (self.waiting.last(), self.names.first()) {
+            (Some(directory), Some(name)) => !comes_before_entries(name, self.name(*directory)),
+            _ => true,
+        }
+    }
+}
+
+/// Whether a name that is above a directory's is below those of the directory's entries.
+fn comes_before_entries(name: &[u8], directory: &[u8]) -> bool {
+    match name.strip_prefix(directory) {
+        Some([next, ..]) => *next < b'/',
+        _ => false,
+    }
+}
