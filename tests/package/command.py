@@ -153,6 +153,6 @@ def tools(room: Path) -> Path:
     """A directory with the commands that the scripts need, and no other."""
     directory = room / "bin"
     directory.mkdir()
-    for name in "sh dirname sed head find cat awk wc date mktemp rm touch env python3".split():
+    for name in "sh dirname sed head tail find cat awk wc date mktemp rm touch env python3 cp mkdir mv grep sleep".split():
         (directory / name).symlink_to(shutil.which(name))
     return directory

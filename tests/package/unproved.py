@@ -19,6 +19,7 @@ echo "$@" >> "$ROOM/calls"
 [ "$1 $2 $4" = "try --seconds --" ] || exit 9
 shift 4
 sleep "${COMPILES:-0}"
+while [ -n "$WAITS" ] && [ ! -e "$ROOM/go" ]; do sleep 0.05; done
 [ -z "$FAILS" ] || { echo "error: it does not compile" >&2; exit 1; }
 exec "$PROGRAM" "$@"
 """
@@ -136,13 +137,15 @@ def check_compilation(tally: built.Tally, room: Path) -> None:
         same(tally, "a compilation that fails", asking.ask(FAILS="1"), built.Ended(failed, b"", 1))
         for number in (signal.SIGTERM, signal.SIGINT):
             before = asking.compilations()
-            call = asking.start(COMPILES="0.5")
+            call = asking.start(WAITS="1")
             wait_until(lambda: asking.compilations() > before)
             call.send_signal(number)
             status = ended(call).status
             same(tally, f"{number.name} to a call that compiles", status in (128 + number, -number, 130), True)
+            (room / "go").touch()
             time.sleep(0.6)
             same(tally, "its server", list(asking.room().glob("*.socket")), [])
+            (room / "go").unlink()
         missing = asking.ask(PATH=f"{Path(os.path.realpath('/bin/sh')).parent}:{python_directory()}")
         words = b"ask: the Rattle kit is missing: its command rt is not on the PATH\n"
         same(tally, "no kit", missing, built.Ended(words, b"", 1))

@@ -1,0 +1,86 @@
+# How ./wqd proves and builds the program. It sets `top`, the directory of the repository, and `built`, the path of the
+# program, first.
+
+# The crates that the program stands on and the program itself, lowest first.
+crates() {
+    awk -F: '
+        function visit(name,    words, count, i) {
+            if (name in seen) return
+            seen[name] = 1
+            count = split(below[name], words, " ")
+            for (i = 1; i <= count; i++) if (words[i] in below) visit(words[i])
+            print name
+        }
+        !/^#/ { below[$1] = $2 }
+        END { visit("wqd") }' "$top/crates.txt"
+}
+
+# How many bytes of code, specifications and proofs a crate has.
+weight() {
+    find "$top/crates/$1/src" "$top/crates/$1/specs" "$top/crates/$1/proofs" -type f -exec cat {} + 2> /dev/null | wc -c
+}
+
+# Copies these crates alone into a directory, without what was built of them.
+copy_crates() {
+    mkdir "$1/crates" && cp "$top/HANDLES" "$1/" || return 1
+    for crate in $(crates); do
+        grep "^$crate:" "$top/crates.txt" >> "$1/crates.txt" && mkdir "$1/crates/$crate" || return 1
+        for part in "$top/crates/$crate"/*; do
+            [ "${part##*/}" = out ] || cp -R "$part" "$1/crates/$crate/" || return 1
+        done
+    done
+}
+
+# The crates that are proved by now, as the prover tells it.
+proved() {
+    sed -n -E 's/^rt: ([a-z_]+) (proved|is kept).*/\1/p' "$1/log"
+}
+
+# Tells each crate that was proved since the last look, and how long the others may take: as long for each byte as those
+# that are proved.
+tell() {
+    proved "$1" | tail -n +$((told + 1)) > "$1/new"
+    while read -r crate; do
+        told=$((told + 1))
+        done_weight=$((done_weight + $(weight "$crate")))
+        took=$(($(date +%s) - began))
+        left=$((took * (all_weight - done_weight) / (done_weight + 1) / 60))
+        if [ "$left" -gt 1 ]; then rest=", about $left minutes left"; else rest=; fi
+        echo "wqd: $crate is proved, $told of $count ($took s so far$rest)" >&2
+    done < "$1/new"
+}
+
+# Proves the copied crates, several at once, and builds the program.
+prove_copy() {
+    count=$(crates | wc -l)
+    told=0 done_weight=0 all_weight=0
+    for crate in $(crates); do all_weight=$((all_weight + $(weight "$crate"))); done
+    : > "$1/log"
+    (cd "$1" && exec rt ci) > "$1/log" 2>&1 &
+    prover=$!
+    while kill -0 "$prover" 2> /dev/null; do
+        tell "$1"
+        sleep 1
+    done
+    tell "$1"
+    wait "$prover"
+}
+
+# Proves and builds the program. The copy is taken away in the end.
+prove_all() {
+    began=$(date +%s)
+    echo "wqd: the program is proved and built first; with four processors that takes about half an hour" >&2
+    copy=$(mktemp -d) || return 1
+    trap 'kill "$prover" 2> /dev/null; rm -rf "$copy"; exit 1' HUP INT TERM
+    if copy_crates "$copy" && prove_copy "$copy" && mkdir -p "${built%/*}" && mv "$copy/crates/wqd/out/wqd" "$built"; then
+        rm -rf "$copy"
+        trap - HUP INT TERM
+        touch "$built"
+        echo "wqd: built in $(($(date +%s) - began)) s" >&2
+        return 0
+    fi
+    tail -n 40 "$copy/log" >&2
+    echo "wqd: the program could not be built" >&2
+    rm -rf "$copy"
+    return 1
+}

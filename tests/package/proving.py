@@ -1,0 +1,100 @@
+"""./wqd if nothing is built: it proves a copy of the program's crates alone, tells how far that is, and runs the program. A
+stand-in for the kit's `rt` says what the real one says, and leaves the built program as that does."""
+
+import os
+import re
+import shutil
+import subprocess
+from pathlib import Path
+
+import built
+from client import same
+from command import bare, tools
+
+CRATES = "# One line a crate.\nwq_base: itoa\nwq_cases: wq_base\nwqd: wq_base clap\n"
+KIT = """#!/bin/sh
+[ "$*" = ci ] || exit 9
+{ ls -R crates; cat crates.txt HANDLES; } > "$SEEN"
+echo 'rt: wq_base is kept: an earlier run on this machine proved the same files over the same libraries'
+echo 'rt: wqd proved'
+if [ -n "$FAULT" ]; then echo "$FAULT"; exit 1; fi
+mkdir crates/wqd/out && cp "$PROGRAM" crates/wqd/out/wqd
+echo '4 passed, 0 failed'
+"""
+SEEN = """crates:
+wq_base
+wqd
+
+crates/wq_base:
+proofs
+specs
+src
+
+crates/wq_base/proofs:
+
+crates/wq_base/specs:
+
+crates/wq_base/src:
+lib.rt
+
+crates/wqd:
+proofs
+specs
+src
+
+crates/wqd/proofs:
+
+crates/wqd/specs:
+
+crates/wqd/src:
+main.rt
+wq_base: itoa
+wqd: wq_base clap
+Handles allowed: none.
+"""
+BEGINS = "wqd: the program is proved and built first; with four processors that takes about half an hour\n"
+STEPS = r"wqd: wq_base is proved, 1 of 2 \(\d+ s so far.*\)\nwqd: wqd is proved, 2 of 2 \(\d+ s so far\)\n"
+
+
+def check_proving(tally: built.Tally, room: Path) -> None:
+    bare(room)
+    (room / "crates.txt").write_text(CRATES)
+    (room / "HANDLES").write_text("Handles allowed: none.\n")
+    for part in ("src", "specs", "proofs", "out"):
+        (room / "crates" / "wq_base" / part).mkdir(parents=True)
+    (room / "crates" / "wq_base" / "src" / "lib.rt").write_text("")
+    (room / "crates" / "wq_base" / "out" / "kept").write_text("")
+    (room / "temporary").mkdir()
+    kit = tools(room)
+    (kit / "ls").symlink_to(shutil.which("ls"))
+    (kit / "rt").write_text(KIT)
+    (kit / "rt").chmod(0o755)
+
+    def replay(fault: str) -> built.Ended:
+        values = {
+            "PATH": str(kit), "TMPDIR": str(room / "temporary"), "SEEN": str(room / "seen"), "FAULT": fault,
+            "PROGRAM": str(built.program_path()),
+        }
+        environment = {name: value for name, value in os.environ.items() if name != "WQD"}
+        done = subprocess.run(
+            [str(room / "wqd"), "replay"], stdin=subprocess.DEVNULL, stdout=subprocess.PIPE, stderr=subprocess.PIPE,
+            env={**environment, **values},
+        )
+        return built.Ended(done.stdout, done.stderr, done.returncode)
+
+    refused = replay("fn wqd::main: no proof")
+    same(tally, "a crate that is not proved", (refused.status, refused.output), (1, b""))
+    ends = r"rt: wq_base is kept: .*\nrt: wqd proved\nfn wqd::main: no proof\nwqd: the program could not be built\n"
+    said(tally, "what is said of it", refused.errors, STEPS + ends)
+    same(tally, "what that leaves", (room / "crates" / "wqd" / "out" / "wqd").exists(), False)
+    proved = replay("")
+    same(tally, "a program that is proved first", (proved.status, proved.output), (0, b""))
+    said(tally, "what is said on the way", proved.errors, STEPS + r"wqd: built in \d+ s\n")
+    same(tally, "the copy that is proved", (room / "seen").read_text(), SEEN)
+    same(tally, "the copies are gone", list((room / "temporary").iterdir()), [])
+    same(tally, "the next run", replay("not asked"), built.Ended(b"", b"", 0))
+
+
+def said(tally: built.Tally, name: str, errors: bytes, pattern: str) -> None:
+    text = errors.decode()
+    same(tally, name, text if re.fullmatch(re.escape(BEGINS) + pattern, text) else "another text: " + text, text)
