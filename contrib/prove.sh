@@ -1,7 +1,7 @@
 # How ./wqd proves and builds the program. It sets `top`, the directory of the repository, and `built`, the path of the
 # program, first.
 
-# The crates that the program stands on and the program itself, lowest first.
+# The crates that the program is built from, and the program itself, lowest first.
 crates() {
     awk -F: '
         function visit(name,    words, count, i) {
