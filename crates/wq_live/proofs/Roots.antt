@@ -54,6 +54,17 @@ found_passes p P (y ∷ ys) x h all = at (p y) refl (λ k. found_passes p P ys x
     at true e later = let same : y ≡ x = some_same (subst (λ c. cond c (Some y) (find p ys) ≡ Some x) e h) in (subst (λ z. p z ≡ true) same e, subst P same all.0)
     at false e later = later (subst (λ c. cond c (Some y) (find p ys) ≡ Some x) e h)
 
+-- a root that is found by a number has it
+pub found_number : (n : ℕ) (roots : List RootView) (r : RootView) → find (has_number n) roots ≡ Some r → r.number ≡ n
+found_number n [] r h = absurd cc
+found_number n (y ∷ ys) r h = at (y.number == n) refl (λ k. found_number n ys r k)
+  where
+    at : (b : Bool) → (y.number == n) ≡ b → (find (has_number n) ys ≡ Some r → r.number ≡ n) → r.number ≡ n
+    at true e later =
+        let same : y ≡ r = some_same (subst (λ c. cond c (Some y) (find (has_number n) ys) ≡ Some r) e h) in
+        subst (λ (z : RootView). z.number ≡ n) same (same_number y.number n e)
+    at false e later = later (subst (λ c. cond c (Some y) (find (has_number n) ys) ≡ Some r) e h)
+
 -- another view changes neither numbers nor texts
 pub same_roots : (n : ℕ) (view : ViewData) (roots : List RootView) → map root_of (map (with_view n view) roots) ≡ map root_of roots
 same_roots n view [] = refl

@@ -235,10 +235,27 @@ impl<N: Named> Look<N> {
 
     /// The view of the root of this number, where it is shown in the look's list.
     pub fn view(&self, number: u64) -> Option<&View>
+        ensures lawful { IsLawfulList self.now }
         ensures shown { is_some result ≡ is_shown self.now number }
         ensures view { IfSome result (λ view. IsViewOf (passes_over number self.now) view.now) }
+        ensures bound { IfSome result (λ _. number ≤ max_number) }
     {
         self.table().view(number)
+    }
+
+    /// A share of the view of the root of this number, where it is shown in the look's list. The share outlives the
+    /// look.
+    ///
+    /// Refused where no share can be had; then the look still lends the view.
+    pub fn share_of(&self, number: u64) -> Result<Option<Arc<View>>, AllocError>
+        ensures lawful { IsLawfulList self.now }
+        ensures shown { IfOk result (λ it. is_some it ≡ is_shown self.now number) }
+        ensures view { IfOk result (λ it.
+            IfSome it (λ view. IsViewOf (passes_over number self.now) view.value)) }
+        ensures bound { IfOk result (λ it. IfSome it (λ _. number ≤ max_number)) }
+    {
+        let share = self.table().share_of(number)?;
+        Ok(share)
     }
 
     /// The seat, whose next look begins with this one's list.

@@ -152,11 +152,24 @@ impl RootTable {
 
     /// The view of the root of this number, if it is shown.
     pub fn view(&self, number: u64) -> Option<&View>
-        ensures { option_map (λ view. view.now) result
+        ensures view { option_map (λ view. view.now) result
             ≡ option_map (λ root. root.view) (find (has_number number) self.now.roots) }
+        ensures bound { IfSome result (λ _. number ≤ max_number) }
     {
         let root = self.root_of_number(number)?;
         Some(&root.view)
+    }
+
+    /// A share of the view of the root of this number, if it is shown. Refused where no share can be had.
+    pub fn share_of(&self, number: u64) -> Result<Option<Arc<View>>, AllocError>
+        ensures view { IfOk result (λ it. option_map (λ view. view.value) it
+            ≡ option_map (λ root. root.view) (find (has_number number) self.now.roots)) }
+        ensures bound { IfOk result (λ it. IfSome it (λ _. number ≤ max_number)) }
+    {
+        match self.root_of_number(number) {
+            Some(root) => Ok(Some(root.view.clone()?)),
+            None => Ok(None),
+        }
     }
 
     /// The numbers of the roots that are shown, in the order of their starts.
