@@ -7,7 +7,9 @@ use Rattle.wq_view.specs.View.{ViewData}
 use Rattle.wq_base.specs.Fault.{or_fault, or_its_fault, or_own_fault, unless_fault}
 use Rattle.wq_code.specs.declared.raw.Raw.{Raw}
 use Rattle.wq_query.specs.Query.{QueryData, PlanData, SinceData, at_bound, at_cursor}
+use Rattle.wq_follow.specs.Subscription.{SubscriptionData, subscribed}
 use Rattle.wq_query.specs.Reading.{asks as queries}
+use Rattle.wq_query.specs.Subscribed.{subscribes as subscription_of}
 use Rattle.wq_query.specs.declared.fault.QueryFault.{QueryFault}
 use Rattle.wq_registry.specs.Limit.{max_programs}
 use Rattle.wq_registry.specs.ByName.{has_no_place}
@@ -15,20 +17,22 @@ use Rattle.wq_registry.specs.Shelf.{root_has_no_place}
 use Rattle.wq_registry.specs.History.{after_all}
 use Rattle.wq_session.specs.Accepted.{CallNow, Accepts, AnswersAreCalls, calls_of, cursor_calls, query_calls, shown_calls, unset_calls}
 use Rattle.wq_session.specs.Answer.{AnswerData, finished, without_cursor}
+use Rattle.wq_session.specs.Program.{is_name}
+use Rattle.wq_session.specs.Subscribe.{begun_subscription, first_plan}
 use Rattle.wq_session.specs.At.{AtData, ShelfNow, is_watched}
 use Rattle.wq_session.specs.Begun.{or_refused, tried}
 use Rattle.wq_session.specs.Clock.{clock_data}
 use Rattle.wq_session.specs.Out.{OutData, replies, runs_out}
 use Rattle.wq_session.specs.Query.{begun_query, has_place, moved_cursor, plan_at, program_for, used_at}
-use Rattle.wq_session.specs.Work.{BegunData, evaluates, saying}
+use Rattle.wq_session.specs.Work.{BegunData, begins, evaluates, saying}
 use Rattle.wq_session.specs.declared.ask.Ask.{Ask}
 use Rattle.wq_session.specs.declared.ask.Ask.TheVariants.{Refused, Watch, ListRoots, Unwatch}
 use Rattle.wq_session.specs.declared.ask.Ask.TheVariants.{Query as AsksQuery, Clock, Version}
 use Rattle.wq_session.specs.declared.ask.Ask.TheVariants.{SocketName, ShutDown, AddProgram, ListPrograms}
-use Rattle.wq_session.specs.declared.ask.Ask.TheVariants.{DeleteProgram, Leave, Nothing}
+use Rattle.wq_session.specs.declared.ask.Ask.TheVariants.{DeleteProgram, Leave, Nothing, Subscribe, Unsubscribe}
 use Rattle.wq_session.specs.declared.cursor.Cursor.{Cursor}
 use Rattle.wq_session.specs.declared.refusal.Refusal.{Refusal}
-use Rattle.wq_session.specs.declared.refusal.Refusal.TheVariants.{NotWatched, Query as BadQuery, ShelfFull, TooManyRoots}
+use Rattle.wq_session.specs.declared.refusal.Refusal.TheVariants.{NotWatched, Query as BadQuery, ShelfFull, TooManyRoots, BadName}
 
 -- what is begun leaves the shelf to which these calls lead
 abbrev Leads : List CallNow → ShelfNow → Result BegunData Refusal → Type 0
@@ -74,6 +78,24 @@ module _ (shelf : ShelfNow) where
   of_view None out = tt
   of_view (Some view) out = refl
 
+  -- what `subscribe` comes to leaves the shelf
+  with_subscription : (root name : List ℕ) (instance : InstanceData) (d : Data) (view : Option ViewData)
+      → Leads [] shelf (or_fault NotWatched view (λ view. unless_fault BadName (is_name name) (
+      or_its_fault BadQuery (subscription_of instance d) (λ q. begun_subscription root name instance.root q shelf))))
+  with_subscription root name instance d None = tt
+  with_subscription root name instance d (Some view) = by (is_name name) (subscription_of instance d)
+    where
+      found : (q : QueryData) (program : Result (Option Raw) Refusal) → Leads [] shelf (or_own_fault program (λ program.
+          Ok (record { work = begins (subscribed name root instance.root (first_plan q program)); shelf = shelf })))
+      found q (Err refusal) = tt
+      found q (Ok program) = refl
+
+      by : (test : Bool) (q : Result QueryData QueryFault) → Leads [] shelf (unless_fault BadName test (
+          or_its_fault BadQuery q (λ q. begun_subscription root name instance.root q shelf)))
+      by false q = tt
+      by true (Err fault) = tt
+      by true (Ok q) = found q (program_for q shelf)
+
   -- what follows where the root is watched
   where_watched : (at : AtData) (test : Bool) (calls : List CallNow) (next : AtData → Result BegunData Refusal)
       → Leads calls shelf (next at) → Leads calls shelf (or_fault NotWatched (if test then Some at else None) next)
@@ -112,6 +134,13 @@ leads (AddProgram name program) at shelf =
 leads ListPrograms None shelf = refl
 leads ListPrograms (Some at) shelf = refl
 leads (DeleteProgram name) at shelf = refl
+leads (Subscribe root name q) None shelf = tt
+leads (Subscribe root name q) (Some at) shelf =
+    where_watched shelf at (is_watched root at shelf) [] _
+    (with_subscription shelf root name at.instance (data_of q) at.view)
+leads (Unsubscribe root name) None shelf = tt
+leads (Unsubscribe root name) (Some at) shelf =
+    where_watched shelf at (is_watched root at shelf) [] _ (unless BadName (is_name name) [] shelf _ refl)
 leads Leave None shelf = refl
 leads Leave (Some at) shelf = refl
 leads Nothing None shelf = refl
@@ -124,10 +153,10 @@ one_more [] None shelf = refl
 one_more [] (Some cursor) shelf = refl
 one_more (c ∷ cs) cursor shelf = one_more cs cursor _
 
-module _ (ask : Ask) (at : Option AtData) (shelf : ShelfNow) where
+module _ (ask : Ask) (at : Option AtData) (shelf : ShelfNow) (follows : List SubscriptionData) where
   -- the answer, by what came of the ask
   whole : (r : Result BegunData Refusal) → tried ask at shelf ≡ r → Leads (calls_of ask at) shelf r
-      → (calls : List CallNow) × Accepts ask at shelf (finished (or_refused r shelf).work at) calls
+      → (calls : List CallNow) × Accepts ask at shelf follows (finished (or_refused r shelf).work at follows).out calls
       × ((or_refused r shelf).shelf ≡ after_all calls shelf)
   whole (Ok b) is so = (calls_of ask at, inl (b, is, refl, refl), so)
   whole (Err refusal) is so = ([], inr (inl (refusal, is, refl, refl)), refl)
@@ -135,7 +164,7 @@ module _ (ask : Ask) (at : Option AtData) (shelf : ShelfNow) where
   -- memory that ran out over the files
   unfinished : (r : Result BegunData Refusal) → tried ask at shelf ≡ r → Leads (calls_of ask at) shelf r
       → (plan : PlanData) (cursor : Option Cursor) → (or_refused r shelf).work ≡ evaluates plan cursor
-      → (calls : List CallNow) × Accepts ask at shelf (runs_out None) calls
+      → (calls : List CallNow) × Accepts ask at shelf follows (runs_out None) calls
       × (without_cursor cursor (or_refused r shelf).shelf ≡ after_all calls shelf)
   unfinished (Ok b) is so plan cursor work = (
     calls_of ask at ++ unset_calls cursor,
@@ -146,11 +175,11 @@ module _ (ask : Ask) (at : Option AtData) (shelf : ShelfNow) where
 
 -- the law
 pub answers_are_calls : AnswersAreCalls
-answers_are_calls ask at shelf out after (inl is) =
-    let it = whole ask at shelf (tried ask at shelf) refl (leads ask at shelf) in
-    subst (λ (a : AnswerData). (calls : List CallNow) × Accepts ask at shelf a.out calls × (a.shelf ≡ after_all calls shelf)) is it
-answers_are_calls ask at shelf out after (inr (inl (takes, short, same))) =
+answers_are_calls ask at shelf follows out after left (inl is) =
+    let it = whole ask at shelf follows (tried ask at shelf) refl (leads ask at shelf) in
+    subst (λ (a : AnswerData). (calls : List CallNow) × Accepts ask at shelf follows (a.done).out calls × (a.shelf ≡ after_all calls shelf)) is it
+answers_are_calls ask at shelf follows out after left (inr (inl (takes, short, same, stay))) =
     ([], inr (inr (inl (takes, short, refl))), same)
-answers_are_calls ask at shelf out after (inr (inr (plan, cursor, work, short, same))) =
-    let it = unfinished ask at shelf (tried ask at shelf) refl (leads ask at shelf) plan cursor work in
-    (it.0, subst (λ o. Accepts ask at shelf o it.0) (sym short) it.1, same ∙ it.2)
+answers_are_calls ask at shelf follows out after left (inr (inr (plan, cursor, work, short, same, stay))) =
+    let it = unfinished ask at shelf follows (tried ask at shelf) refl (leads ask at shelf) plan cursor work in
+    (it.0, subst (λ o. Accepts ask at shelf follows o it.0) (sym short) it.1, same ∙ it.2)

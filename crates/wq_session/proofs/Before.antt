@@ -1,5 +1,5 @@
 -- What `query` comes to, of a query that was read before.
-use Rattle.std.proofs.Common.{◌≡◌, ℕ, Bool, true, false, List, Option, Some, None, Result, Ok, Err, if◌then◌else◌, refl, sym, ap, subst, ◌∙◌}
+use Rattle.std.proofs.Common.{◌≡◌, ℕ, Bool, true, false, List, Option, Some, None, Result, Ok, Err, IfOk, if◌then◌else◌, refl, sym, ap, subst, ◌∙◌}
 use Rattle.std.specs.Prelude.{codes, not}
 use Rattle.serde_json.specs.Data.{Data}
 use Rattle.serde_json.specs.Find.{get}
@@ -7,9 +7,12 @@ use Rattle.serde_json.specs.View.{view as data_of}
 use Rattle.wq_base.specs.Fault.{or_fault, or_its_fault, unless_fault}
 use Rattle.wq_clock.specs.Instance.{InstanceData}
 use Rattle.wq_query.specs.Generator.{suffixes_of, paths_of}
+use Rattle.wq_query.specs.Outcome.{GivesQuery}
 use Rattle.wq_query.specs.Query.{QueryData, asked_of}
+use Rattle.wq_query.specs.declared.query.Query.{Query}
 use Rattle.wq_query.specs.Reading.{asks as queries, expression_of, fields_of, flag_of, has_both, has_left_out_key}
 use Rattle.wq_query.specs.Reading.{is_whole_or_absent, program_name, since_of}
+use Rattle.wq_query.specs.Subscribed.{comes_first, has_cursor, has_generator, subscribes, without_generators}
 use Rattle.wq_query.specs.declared.fault.QueryFault.{QueryFault}
 use Rattle.wq_query.specs.declared.fault.QueryFault.TheVariants.{LeftOutKey, ExpressionAndProgram, Expression, UnknownField}
 use Rattle.wq_query.specs.declared.fault.QueryFault.TheVariants.{BadGenerator, BadClockSpec, WrongValue}
@@ -18,29 +21,38 @@ use Rattle.wq_term.specs.declared.fault.TermFault.{TermFault}
 use Rattle.wq_view.specs.View.{ViewData}
 use Rattle.wq_session.specs.Answer.{TakesAsk}
 use Rattle.wq_session.specs.At.{AtData, ShelfNow, is_watched, watched}
-use Rattle.wq_session.specs.Prepared.{AreRead, IsRead, IsReadAt, IsReadFor, IsReadOf}
+use Rattle.wq_session.specs.Prepared.{AreRead, GivesRead, IsRead, IsReadAt, IsReadBy, IsReadFor, IsReadOf}
+use Rattle.wq_session.specs.Prepared.{IsSubscribedAt, Reads}
+use Rattle.wq_session.specs.Program.{is_name}
 use Rattle.wq_session.specs.Query.{begun_query, try_query}
-use Rattle.wq_session.specs.Work.{Begins, WorkData}
+use Rattle.wq_session.specs.Subscribe.{begun_subscription, try_subscribe}
+use Rattle.wq_session.specs.Work.{BegunData, Begins, WorkData}
 use Rattle.wq_session.specs.declared.ask.Ask.{Ask}
 use Rattle.wq_session.specs.declared.ask.Ask.TheVariants.{Refused, Watch, ListRoots, Unwatch}
 use Rattle.wq_session.specs.declared.ask.Ask.TheVariants.{Query as AsksQuery, Clock, Version}
 use Rattle.wq_session.specs.declared.ask.Ask.TheVariants.{SocketName, ShutDown, AddProgram, ListPrograms}
-use Rattle.wq_session.specs.declared.ask.Ask.TheVariants.{DeleteProgram, Leave, Nothing}
+use Rattle.wq_session.specs.declared.ask.Ask.TheVariants.{DeleteProgram, Leave, Nothing, Subscribe, Unsubscribe}
 use Rattle.wq_session.specs.declared.read_query.ReadQuery.{ReadQuery}
 use Rattle.wq_session.specs.declared.refusal.Refusal.{Refusal}
-use Rattle.wq_session.specs.declared.refusal.Refusal.TheVariants.{NotWatched, Query as BadQuery}
+use Rattle.wq_session.specs.declared.refusal.Refusal.TheVariants.{NotWatched, Query as BadQuery, BadName, NoMemory}
+use Rattle.wq_session.specs.declared.refusal.Refusal.TheVariants.{LineTooLong, Bser, NotJson, NotACommand, UnknownCommand}
+use Rattle.wq_session.specs.declared.refusal.Refusal.TheVariants.{WrongArguments, RootNotAbsolute, TooManyRoots, TooManySessions}
+use Rattle.wq_session.specs.declared.refusal.Refusal.TheVariants.{UnreadableRoot, TooManyFiles, TicksSpent, NoSuchProgram}
+use Rattle.wq_session.specs.declared.refusal.Refusal.TheVariants.{ProgramTooLarge, TooManySubscriptions, NotBase64, ShelfFull}
+use Rattle.wq_session.specs.declared.refusal.Refusal.TheVariants.{WrongFile, WrongProgram}
 use Rattle.wq_session.specs.declared.work.Work.{Work}
 
 -- what was read of an object is known
-pub are_read : (d : Data) (at : Option AtData) (read : Option (Result ReadQuery Refusal)) → IsReadAt d at read → AreRead read
-are_read d (Some at) (Some (Ok read)) is = of at.view is
+pub are_read : (reads : Reads) (d : Data) (at : Option AtData) (read : Option (Result ReadQuery Refusal))
+    → IsReadBy reads d at read → AreRead read
+are_read reads d (Some at) (Some (Ok read)) is = of at.view is
   where
-    of : (view : Option ViewData) → IsReadOf d at.instance view (Some (Ok read)) → IsRead read
+    of : (view : Option ViewData) → IsReadOf reads d at.instance view (Some (Ok read)) → IsRead read
     of (Some view) is = is.1
     of None is = elim is [ ]
-are_read d None (Some (Ok read)) is = elim is [ ]
-are_read d at (Some (Err refusal)) is = tt
-are_read d at None is = tt
+are_read reads d None (Some (Ok read)) is = elim is [ ]
+are_read reads d at (Some (Err refusal)) is = tt
+are_read reads d at None is = tt
 
 -- if none was read nothing has to be known
 none_read : (read : Option (Result ReadQuery Refusal)) → read ≡ None → AreRead read
@@ -49,7 +61,9 @@ none_read (Some read) is = absurd cc
 
 -- what was read of an ask is known
 pub asked_read : (ask : Ask) (at : Option AtData) (read : Option (Result ReadQuery Refusal)) → IsReadFor ask at read → AreRead read
-asked_read (AsksQuery root crawl q) at read is = are_read (data_of q) at read is
+asked_read (AsksQuery root crawl q) at read is = are_read queries (data_of q) at read is
+asked_read (Subscribe root name q) at read is = are_read subscribes (data_of q) at read is
+asked_read (Unsubscribe root name) at read is = none_read read is
 asked_read (Refused refusal) at read is = none_read read is
 asked_read (Watch root) at read is = none_read read is
 asked_read ListRoots at read is = none_read read is
@@ -85,9 +99,9 @@ module _ (root : List ℕ) (d : Data) (at : Option AtData) (shelf : ShelfNow) (a
 
   -- it was read there
   pub read_there : (view : ViewData) → a.view ≡ Some view → (read : Option (Result ReadQuery Refusal)) → IsReadAt d at read
-      → IsReadOf d a.instance (Some view) read
+      → IsReadOf queries d a.instance (Some view) read
   read_there view shown read said =
-      subst (λ v. IsReadOf d a.instance v read) shown (subst (λ at. IsReadAt d at read) (there root at shelf a is) said)
+      subst (λ v. IsReadOf queries d a.instance v read) shown (subst (λ at. IsReadAt d at read) (there root at shelf a is) said)
 
   -- so what is begun of the query that was read is what `query` comes to
   pub begins_read : (view : ViewData) → a.view ≡ Some view → (read : ReadQuery) → IsReadAt d at (Some (Ok read))
@@ -100,6 +114,97 @@ module _ (root : List ℕ) (d : Data) (at : Option AtData) (shelf : ShelfNow) (a
       ∙ ap (λ r. or_its_fault BadQuery r (λ q. begun_query (a.instance).root view.tick q shelf)) (read_there view shown (Some (Ok read)) said).0
       ∙ ap (λ t. begun_query (a.instance).root t (asked_of read.query) shelf) (sym told)))
       begins
+
+-- the fault of an object that was read is why a line is refused
+refused_for : (asked : Result QueryData QueryFault) (next : QueryData → Result BegunData Refusal) (shelf : ShelfNow) (refusal : Refusal)
+    → GivesRead (Err refusal) asked → Begins (or_its_fault BadQuery asked next) shelf (Err refusal) shelf
+refused_for asked next shelf NoMemory said = refl
+refused_for asked next shelf (BadQuery fault) said = (ap (λ r. or_its_fault BadQuery r next) said, refl)
+refused_for asked next shelf LineTooLong said = elim said [ ]
+refused_for asked next shelf Bser said = elim said [ ]
+refused_for asked next shelf NotJson said = elim said [ ]
+refused_for asked next shelf NotACommand said = elim said [ ]
+refused_for asked next shelf UnknownCommand said = elim said [ ]
+refused_for asked next shelf WrongArguments said = elim said [ ]
+refused_for asked next shelf RootNotAbsolute said = elim said [ ]
+refused_for asked next shelf NotWatched said = elim said [ ]
+refused_for asked next shelf BadName said = elim said [ ]
+refused_for asked next shelf TooManyRoots said = elim said [ ]
+refused_for asked next shelf TooManySessions said = elim said [ ]
+refused_for asked next shelf UnreadableRoot said = elim said [ ]
+refused_for asked next shelf TooManyFiles said = elim said [ ]
+refused_for asked next shelf TicksSpent said = elim said [ ]
+refused_for asked next shelf NoSuchProgram said = elim said [ ]
+refused_for asked next shelf ProgramTooLarge said = elim said [ ]
+refused_for asked next shelf TooManySubscriptions said = elim said [ ]
+refused_for asked next shelf NotBase64 said = elim said [ ]
+refused_for asked next shelf ShelfFull said = elim said [ ]
+refused_for asked next shelf (WrongFile fault) said = elim said [ ]
+refused_for asked next shelf (WrongProgram fault place) said = elim said [ ]
+
+module _ (root name : List ℕ) (d : Data) (at : Option AtData) (shelf : ShelfNow) (a : AtData) (is : watched root at shelf ≡ Some a)
+    (named : is_name name ≡ true) where
+  -- what `subscribe` comes to at a root that is shown
+  subscribed_at : (view : ViewData) → a.view ≡ Some view
+      → try_subscribe root name d at shelf
+      ≡ or_its_fault BadQuery (subscribes a.instance d) (λ q. begun_subscription root name (a.instance).root q shelf)
+  subscribed_at view shown =
+      ap (λ w. or_fault NotWatched w (λ (at : AtData). or_fault NotWatched at.view (λ view. unless_fault BadName (is_name name) (
+      or_its_fault BadQuery (subscribes at.instance d) (λ q. begun_subscription root name (at.instance).root q shelf))))) is
+      ∙ ap (λ v. or_fault NotWatched v (λ (view : ViewData). unless_fault BadName (is_name name) (
+      or_its_fault BadQuery (subscribes a.instance d) (λ q. begun_subscription root name (a.instance).root q shelf)))) shown
+      ∙ ap (λ t. unless_fault BadName t (
+      or_its_fault BadQuery (subscribes a.instance d) (λ q. begun_subscription root name (a.instance).root q shelf))) named
+
+  -- its object was read there
+  object_there : (view : ViewData) → a.view ≡ Some view → (read : Option (Result ReadQuery Refusal)) → IsSubscribedAt d at read
+      → IsReadOf subscribes d a.instance (Some view) read
+  object_there view shown read said =
+      subst (λ v. IsReadOf subscribes d a.instance v read) shown (subst (λ at. IsSubscribedAt d at read) (there root at shelf a is) said)
+
+  -- what is begun of the query of a subscription, which was read, is what `subscribe` comes to
+  pub begins_subscribed : (view : ViewData) → a.view ≡ Some view → (read : ReadQuery) → IsSubscribedAt d at (Some (Ok read))
+      → (result : Result Work Refusal)
+      → Begins (begun_subscription root name (a.instance).root (asked_of read.query) shelf) shelf result shelf
+      → Begins (try_subscribe root name d at shelf) shelf result shelf
+  begins_subscribed view shown read said result begins =
+      subst (λ b. Begins b shelf result shelf)
+      (sym (subscribed_at view shown
+      ∙ ap (λ r. or_its_fault BadQuery r (λ q. begun_subscription root name (a.instance).root q shelf))
+      (object_there view shown (Some (Ok read)) said).0))
+      begins
+
+  -- and its fault is why `subscribe` is refused
+  pub refuses_subscribed : (view : ViewData) → a.view ≡ Some view → (refusal : Refusal) → IsSubscribedAt d at (Some (Err refusal))
+      → Begins (try_subscribe root name d at shelf) shelf (Err refusal) shelf
+  refuses_subscribed view shown refusal said =
+      subst (λ b. Begins b shelf (Err refusal) shelf) (sym (subscribed_at view shown))
+      (refused_for (subscribes a.instance d) (λ q. begun_subscription root name (a.instance).root q shelf) shelf refusal
+      (object_there view shown (Some (Err refusal)) said))
+
+-- what a subscription asks is asked as a query
+pub asked_plain : (instance : InstanceData) (d : Data) (q : QueryData) → subscribes instance d ≡ Ok q → queries instance d ≡ Ok q
+asked_plain instance d q is = by (queries instance d) (has_generator d) (has_cursor d) is
+  where
+    by : (asked : Result QueryData QueryFault) (generator cursor : Bool) → without_generators asked generator cursor ≡ Ok q → asked ≡ Ok q
+    by (Ok asked) true cursor is = absurd cc
+    by (Ok asked) false true is = absurd cc
+    by (Ok asked) false false is = is
+    by (Err fault) generator cursor is = of (comes_first fault) generator cursor is
+      where
+        of : (first generator cursor : Bool)
+            → (if first then Err fault else if generator then Err BadGenerator else if cursor then Err BadClockSpec else Err fault) ≡ Ok q
+            → Err fault ≡ Ok q
+        of true generator cursor is = is
+        of false true cursor is = absurd cc
+        of false false true is = absurd cc
+        of false false false is = is
+
+-- what was read of the object of a subscription was read as a query
+pub plain_read : (instance : InstanceData) (d : Data) (query : Result Query QueryFault) → GivesQuery query (subscribes instance d)
+    → IfOk query (λ query. queries instance d ≡ Ok (asked_of query))
+plain_read instance d (Ok query) is = asked_plain instance d (asked_of query) is
+plain_read instance d (Err fault) is = tt
 
 -- what is taken of an ask that was prepared is taken of that ask
 pub taken_as : (ask asked : Ask) (at asked_at : Option AtData) (shelf same : ShelfNow) (work : WorkData) (after : ShelfNow) → asked ≡ ask

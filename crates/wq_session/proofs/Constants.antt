@@ -1,12 +1,12 @@
 -- Replies that are always the same.
-use Rattle.std.proofs.Common.{◌≡◌, ℕ, Bool, true, false, not, ◌||◌, List, Option, Some, None, refl, ap, ◌∙◌}
+use Rattle.std.proofs.Common.{◌≡◌, ℕ, Bool, true, false, not, ◌||◌, List, [], Option, Some, None, refl, ap, ◌∙◌}
 use mathlib.Core.Bool.{false≢true}
 use Rattle.json.specs.Print.{escape_byte}
 use Rattle.serde_json.specs.Written.{compact_text}
 use Rattle.wq_session.specs.Out.{OutData, refuses, replies, runs_out, saying_text, shuts_with}
 use Rattle.wq_session.specs.Refusal.{ends_session, is_fixed, is_no_memory}
 use Rattle.wq_session.specs.Reply.{error_data, reply_line}
-use Rattle.wq_session.specs.Said.{text_of}
+use Rattle.wq_session.specs.Line.{text_of}
 use Rattle.wq_session.specs.Server.{shutdown_data, version_data}
 use Rattle.wq_session.specs.declared.cursor.Cursor.{Cursor}
 use Rattle.wq_session.specs.declared.fixed.TheConstants.{BSER, LINE_TOO_LONG, NO_MEMORY, SHUTS_DOWN, TOO_MANY_SESSIONS, VERSION_ALONE}
@@ -55,30 +55,30 @@ goes_on refusal is = by (ends_session refusal) is
 -- what is given out of the line that is kept of a refusal
 pub fixed_said : (refusal : Refusal) (line : List ℕ) (ends : Bool) → line ≡ reply_line (error_data refusal)
     → ends ≡ ends_session refusal
-    → (record { reply = Some (text_of line); goes_on = not ends; shuts = false; unset = None }) ≡ refuses refusal
+    → (record { reply = Some (text_of line); lists = []; goes_on = not ends; shuts = false; unset = None }) ≡ refuses refusal
 fixed_said refusal line ends is same =
     ap (λ t. said t (not ends)) (kept_text (compact_text (error_data refusal)) line is)
     ∙ ap (λ e. said (compact_text (error_data refusal)) (not e)) same
   where
     said : List ℕ → Bool → OutData
-    said text goes_on = record { reply = Some text; goes_on = goes_on; shuts = false; unset = None }
+    said text goes_on = record { reply = Some text; lists = []; goes_on = goes_on; shuts = false; unset = None }
 
 -- that memory ran out
 pub ran_out_said : (cursor : Option Cursor)
-    → (record { reply = Some (text_of NO_MEMORY.now); goes_on = true; shuts = false; unset = cursor }) ≡ runs_out cursor
+    → (record { reply = Some (text_of NO_MEMORY.now); lists = []; goes_on = true; shuts = false; unset = cursor }) ≡ runs_out cursor
 ran_out_said cursor =
     ap (λ t. said t) (kept_text (compact_text (error_data NoMemory)) NO_MEMORY.now ran_out)
   where
     said : List ℕ → OutData
-    said text = record { reply = Some text; goes_on = true; shuts = false; unset = cursor }
+    said text = record { reply = Some text; lists = []; goes_on = true; shuts = false; unset = cursor }
 
 -- the version alone
-pub version_said : (record { reply = Some (text_of VERSION_ALONE.now); goes_on = true; shuts = false; unset = None }) ≡ replies version_data
+pub version_said : (record { reply = Some (text_of VERSION_ALONE.now); lists = []; goes_on = true; shuts = false; unset = None }) ≡ replies version_data
 version_said = ap saying_text (kept_text (compact_text version_data) VERSION_ALONE.now version_alone)
 
 -- that the server ends
-pub shutdown_said : (record { reply = Some (text_of SHUTS_DOWN.now); goes_on = false; shuts = true; unset = None }) ≡ shuts_with shutdown_data
+pub shutdown_said : (record { reply = Some (text_of SHUTS_DOWN.now); lists = []; goes_on = false; shuts = true; unset = None }) ≡ shuts_with shutdown_data
 shutdown_said = ap (λ t. said t) (kept_text (compact_text shutdown_data) SHUTS_DOWN.now shuts_down)
   where
     said : List ℕ → OutData
-    said text = record { reply = Some text; goes_on = false; shuts = true; unset = None }
+    said text = record { reply = Some text; lists = []; goes_on = false; shuts = true; unset = None }

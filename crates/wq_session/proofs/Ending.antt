@@ -1,27 +1,54 @@
 -- What is taken and then finished is the answer.
-use Rattle.std.proofs.Common.{◌≡◌, inl, inr, true, Option, Some, None, refl, sym, ap, subst, ◌∙◌}
+use Rattle.std.proofs.Common.{◌≡◌, inl, inr, Bool, true, false, if◌then◌else◌, List, Option, Some, None, refl, sym, ap, subst, ◌∙◌}
 use Rattle.std.specs.Option.{option_map_or}
 use Rattle.wq_query.specs.Query.{PlanData}
 use Rattle.wq_query.specs.Reply.{reply_of}
 use Rattle.wq_view.specs.View.{ViewData}
 use Rattle.wq_registry.specs.Shelf.{cursor_unset}
-use Rattle.wq_session.specs.Answer.{AnswersAsk, Finishes, TakesAsk, AnswerData, finished, settled, unmade, without_cursor}
+use Rattle.wq_follow.specs.Subscription.{SubscriptionData}
+use Rattle.wq_clock.specs.Instance.{InstanceData}
+use Rattle.wq_session.proofs.Follows.{followed_stays, is_followed}
+use Rattle.wq_session.specs.Answer.{AnswersAsk, Finishes, TakesAsk, AnswerData, DoneData, begun_at, begun_by, finished, following, giving, listed, settled, unmade, without_cursor}
+use Rattle.wq_session.specs.Followed.{has_no_room}
+use Rattle.wq_session.specs.declared.refusal.Refusal.TheVariants.{TooManySubscriptions}
 use Rattle.wq_session.specs.At.{AtData, ShelfNow}
 use Rattle.wq_session.specs.Begun.{begun, takes_memory}
-use Rattle.wq_session.specs.Out.{OutData, replies, runs_out, silence}
-use Rattle.wq_session.specs.Work.{BegunData, WorkData, says, evaluates}
+use Rattle.wq_session.specs.Out.{OutData, refuses, replies, runs_out, silence}
+use Rattle.wq_session.specs.Work.{BegunData, WorkData, says, evaluates, begins, drops}
 use Rattle.wq_session.specs.declared.ask.Ask.{Ask}
 use Rattle.wq_session.specs.declared.cursor.Cursor.{Cursor}
 
--- what is finished names no cursor
-pub none_named : (work : WorkData) (at : Option AtData) → (finished work at).unset ≡ None
-none_named (says out) at = refl
-none_named (evaluates plan cursor) None = refl
-none_named (evaluates plan cursor) (Some at) = by at.view
+-- what is listed names no cursor
+none_listed : (plan : PlanData) (at : Option AtData) → (listed plan at).unset ≡ None
+none_listed plan None = refl
+none_listed plan (Some at) = by at.view
   where
     by : (view : Option ViewData) → (option_map_or (λ view. replies (reply_of plan at.instance view)) view (silence true)).unset ≡ None
     by None = refl
     by (Some view) = refl
+
+-- what is given out when a subscription begins names none
+none_begun : (s : SubscriptionData) (at : Option AtData) (follows : List SubscriptionData)
+    → (following s at follows).out.unset ≡ None
+none_begun s at follows = by (has_no_room s.number s.name follows) at
+  where
+    shown : (instance : InstanceData) (view : Option ViewData)
+        → (option_map_or (λ view. begun_at s instance view follows) view (giving (silence true) follows)).out.unset ≡ None
+    shown instance None = refl
+    shown instance (Some view) = refl
+
+    by : (full : Bool) (at : Option AtData)
+        → (if full then giving (refuses TooManySubscriptions) follows else begun_by s at follows).out.unset ≡ None
+    by true at = refl
+    by false None = refl
+    by false (Some at) = shown at.instance at.view
+
+-- what is finished names no cursor
+pub none_named : (work : WorkData) (at : Option AtData) (follows : List SubscriptionData) → (finished work at follows).out.unset ≡ None
+none_named (says out) at follows = refl
+none_named (evaluates plan cursor) at follows = none_listed plan at
+none_named (begins s) at follows = none_begun s at follows
+none_named (drops number name) at follows = refl
 
 -- where no cursor is named, nothing more is done
 nothing_more : (out : OutData) (shelf : ShelfNow) → out.unset ≡ None → without_cursor out.unset shelf ≡ shelf
@@ -30,59 +57,92 @@ nothing_more out shelf none = ap (λ cursor. without_cursor cursor shelf) none
 -- and what is given out is that
 all_given : (out : OutData) → out.unset ≡ None → settled out ≡ out
 all_given out none =
-    ap (λ cursor. record { reply = out.reply; goes_on = out.goes_on; shuts = out.shuts; unset = cursor }) (sym none)
+    ap (λ cursor. record { reply = out.reply; lists = out.lists; goes_on = out.goes_on; shuts = out.shuts; unset = cursor }) (sym none)
 
--- the whole of an answer
-whole : (ask : Ask) (at : Option AtData) (shelf : ShelfNow) (work : WorkData) (after : ShelfNow)
-    → begun ask at shelf ≡ record { work = work; shelf = after }
-    → AnswersAsk ask at shelf (settled (finished work at)) (without_cursor (finished work at).unset after)
-whole ask at shelf work after is =
-    let none = none_named work at in
-    inl (ap (λ (b : BegunData). record { out = finished b.work at; shelf = b.shelf }) is
-    ∙ sym (both (settled (finished work at)) (finished work at)
-    (without_cursor (finished work at).unset after) after (all_given (finished work at) none) (nothing_more (finished work at) after none)))
-  where
-    both : (o p : OutData) (s t : ShelfNow) → o ≡ p → s ≡ t
-        → ◌≡◌ {A = AnswerData} (record { out = o; shelf = s }) (record { out = p; shelf = t })
-    both o p s t same alike = ap (λ x. record { out = x; shelf = s }) same ∙ ap (λ x. record { out = p; shelf = x }) alike
+module _ (ask : Ask) (at : Option AtData) (shelf : ShelfNow) (follows : List SubscriptionData) where
+  -- the whole of an answer
+  whole : (work : WorkData) (after : ShelfNow) (out : OutData) (left : List SubscriptionData)
+      → begun ask at shelf ≡ record { work = work; shelf = after } → finished work at follows ≡ giving out left
+      → AnswersAsk ask at shelf follows (settled out) (without_cursor out.unset after) left
+  whole work after out left is done =
+      let none : out.unset ≡ None = ap (λ (d : DoneData). d.out.unset) (sym done) ∙ none_named work at follows in
+      inl (ap (λ (b : BegunData). record { done = finished b.work at follows; shelf = b.shelf }) is
+      ∙ ap (λ (d : DoneData). record { done = d; shelf = after }) done
+      ∙ sym (both (settled out) out (without_cursor out.unset after) after (all_given out none) (nothing_more out after none)))
+    where
+      both : (o p : OutData) (s t : ShelfNow) → o ≡ p → s ≡ t
+          → ◌≡◌ {A = AnswerData} (record { done = giving o left; shelf = s }) (record { done = giving p left; shelf = t })
+      both o p s t same alike =
+          ap (λ x. record { done = giving x left; shelf = s }) same ∙ ap (λ x. record { done = giving p left; shelf = x }) alike
 
--- memory ran out when files were listed
-unlisted : (ask : Ask) (at : Option AtData) (shelf : ShelfNow) (plan : PlanData) (cursor : Option Cursor) (after : ShelfNow)
-    → begun ask at shelf ≡ record { work = evaluates plan cursor; shelf = after }
-    → AnswersAsk ask at shelf (runs_out None) (without_cursor cursor after)
-unlisted ask at shelf plan cursor after is =
-    inr (inr (plan, cursor, ap (λ (b : BegunData). b.work) is, refl, ap (λ (b : BegunData). without_cursor cursor b.shelf) (sym is)))
+  -- memory ran out when files were listed
+  unlisted : (plan : PlanData) (cursor : Option Cursor) (after : ShelfNow)
+      → begun ask at shelf ≡ record { work = evaluates plan cursor; shelf = after }
+      → AnswersAsk ask at shelf follows (runs_out None) (without_cursor cursor after) follows
+  unlisted plan cursor after is = inr (inr (
+    plan,
+    cursor,
+    ap (λ (b : BegunData). b.work) is,
+    refl,
+    ap (λ (b : BegunData). without_cursor cursor b.shelf) (sym is),
+    refl,
+  ))
 
--- or was told before
-unmade_work : (ask : Ask) (at : Option AtData) (shelf : ShelfNow) (work : WorkData) (after : ShelfNow)
-    → begun ask at shelf ≡ record { work = work; shelf = after }
-    → AnswersAsk ask at shelf (settled (unmade work)) (without_cursor (unmade work).unset after)
-unmade_work ask at shelf (says out) after is = whole ask at shelf (says out) after is
-unmade_work ask at shelf (evaluates plan cursor) after is = unlisted ask at shelf plan cursor after is
+  -- or when a subscription began or ended, for which the shelf stays
+  unkept : (work : WorkData) (after : ShelfNow) → is_followed work ≡ true
+      → begun ask at shelf ≡ record { work = work; shelf = after }
+      → AnswersAsk ask at shelf follows (runs_out None) after follows
+  unkept work after kind is =
+      let it = followed_stays ask at shelf (subst (λ (b : BegunData). is_followed b.work ≡ true) (sym is) kind) in
+      inr (inl (it.0, refl, ap (λ (b : BegunData). b.shelf) (sym is) ∙ it.1, refl))
 
--- memory ran out before anything was done
-untaken : (ask : Ask) (at : Option AtData) (shelf : ShelfNow) (after : ShelfNow) (out : OutData) → takes_memory ask ≡ true
-    → after ≡ shelf → Finishes (says (runs_out None)) at out → AnswersAsk ask at shelf (settled out) (without_cursor out.unset after)
-untaken ask at shelf after out takes same (inl is) =
-    subst (λ (o : OutData). AnswersAsk ask at shelf (settled o) (without_cursor o.unset after)) (sym is) (inr (inl (takes, refl, same)))
-untaken ask at shelf after out takes same (inr is) =
-    subst (λ (o : OutData). AnswersAsk ask at shelf (settled o) (without_cursor o.unset after)) (sym is) (inr (inl (takes, refl, same)))
+  -- or was told before
+  unmade_work : (work : WorkData) (after : ShelfNow) → begun ask at shelf ≡ record { work = work; shelf = after }
+      → AnswersAsk ask at shelf follows (settled (unmade work)) (without_cursor (unmade work).unset after) follows
+  unmade_work (says out) after is = whole (says out) after (settled out) follows is refl
+  unmade_work (evaluates plan cursor) after is = unlisted plan cursor after is
+  unmade_work (begins s) after is = unkept (begins s) after refl is
+  unmade_work (drops number name) after is = unkept (drops number name) after refl is
 
--- what is taken and then finished is the answer
-pub answered : (ask : Ask) (at : Option AtData) (shelf : ShelfNow) (work : WorkData) (after : ShelfNow) (out : OutData)
-    → TakesAsk ask at shelf work after → Finishes work at out → AnswersAsk ask at shelf (settled out) (without_cursor out.unset after)
-answered ask at shelf work after out (inl is) (inl done) =
-    subst (λ (o : OutData). AnswersAsk ask at shelf (settled o) (without_cursor o.unset after)) (sym done) (whole ask at shelf work after is)
-answered ask at shelf work after out (inl is) (inr done) =
-    subst (λ (o : OutData). AnswersAsk ask at shelf (settled o) (without_cursor o.unset after)) (sym done) (unmade_work ask at shelf work after is)
-answered ask at shelf work after out (inr refused) done =
-    untaken ask at shelf after out refused.0 refused.2 (subst (λ w. Finishes w at out) refused.1 done)
+  -- memory ran out before anything was done
+  untaken : (after : ShelfNow) (out : OutData) (left : List SubscriptionData) → takes_memory ask ≡ true
+      → after ≡ shelf → Finishes (says (runs_out None)) at follows out left
+      → AnswersAsk ask at shelf follows (settled out) (without_cursor out.unset after) left
+  untaken after out left takes same (inl is) = of (ap (λ (d : DoneData). d.out) (sym is)) (ap (λ (d : DoneData). d.follows) (sym is))
+    where
+      of : out ≡ settled (runs_out None) → left ≡ follows → AnswersAsk ask at shelf follows (settled out) (without_cursor out.unset after) left
+      of is stay = subst (λ (o : OutData). AnswersAsk ask at shelf follows (settled o) (without_cursor o.unset after) left) (sym is)
+          (inr (inl (takes, refl, same, stay)))
+  untaken after out left takes same (inr is) =
+      subst (λ (o : OutData). AnswersAsk ask at shelf follows (settled o) (without_cursor o.unset after) left) (sym is.0)
+      (inr (inl (takes, refl, same, is.1)))
 
--- and where a cursor is named, it is unset
-pub answered_with : (ask : Ask) (at : Option AtData) (shelf : ShelfNow) (work : WorkData) (after : ShelfNow) (out given : OutData)
-    (cursor : Cursor) (kept : ShelfNow) → TakesAsk ask at shelf work after → Finishes work at out → given ≡ settled out
-    → out.unset ≡ Some cursor → kept ≡ cursor_unset cursor.root cursor.name after → AnswersAsk ask at shelf given kept
-answered_with ask at shelf work after out given cursor kept takes done is named unset =
-    let left : kept ≡ without_cursor out.unset after = unset ∙ ap (λ c. without_cursor c after) (sym named) in
-    subst (λ (o : OutData). AnswersAsk ask at shelf o kept) (sym is)
-    (subst (λ (s : ShelfNow). AnswersAsk ask at shelf (settled out) s) (sym left) (answered ask at shelf work after out takes done))
+  -- what is taken and then finished is the answer
+  pub answered : (work : WorkData) (after : ShelfNow) (out : OutData) (left : List SubscriptionData)
+      → TakesAsk ask at shelf work after → Finishes work at follows out left
+      → AnswersAsk ask at shelf follows (settled out) (without_cursor out.unset after) left
+  answered work after out left (inl is) (inl done) = whole work after out left is done
+  answered work after out left (inl is) (inr done) =
+      subst (λ (l : List SubscriptionData). AnswersAsk ask at shelf follows (settled out) (without_cursor out.unset after) l) (sym done.1)
+      (subst (λ (o : OutData). AnswersAsk ask at shelf follows (settled o) (without_cursor o.unset after) follows) (sym done.0)
+      (unmade_work work after is))
+  answered work after out left (inr refused) done =
+      untaken after out left refused.0 refused.2 (subst (λ w. Finishes w at follows out left) refused.1 done)
+
+  -- and where a cursor is named, it is unset
+  pub answered_with : (work : WorkData) (after : ShelfNow) (out given : OutData) (left : List SubscriptionData)
+      (cursor : Cursor) (kept : ShelfNow) → TakesAsk ask at shelf work after → Finishes work at follows out left → given ≡ settled out
+      → out.unset ≡ Some cursor → kept ≡ cursor_unset cursor.root cursor.name after → AnswersAsk ask at shelf follows given kept left
+  answered_with work after out given left cursor kept takes done is named unset =
+      let same : kept ≡ without_cursor out.unset after = unset ∙ ap (λ c. without_cursor c after) (sym named) in
+      subst (λ (o : OutData). AnswersAsk ask at shelf follows o kept left) (sym is)
+      (subst (λ (s : ShelfNow). AnswersAsk ask at shelf follows (settled out) s left) (sym same) (answered work after out left takes done))
+
+  -- and where none is named, nothing is
+  pub answered_plain : (work : WorkData) (after : ShelfNow) (out given : OutData) (left : List SubscriptionData)
+      → TakesAsk ask at shelf work after → Finishes work at follows out left → given ≡ settled out → out.unset ≡ None
+      → AnswersAsk ask at shelf follows given after left
+  answered_plain work after out given left takes done is none =
+      subst (λ (o : OutData). AnswersAsk ask at shelf follows o after left) (sym is)
+      (subst (λ (s : ShelfNow). AnswersAsk ask at shelf follows (settled out) s left) (nothing_more out after none)
+      (answered work after out left takes done))

@@ -1,11 +1,13 @@
 -- Where files are to be listed, there is a view of which they can be.
-use Rattle.std.proofs.Common.{◌≡◌, ℕ, Bool, true, false, not, is_some, if◌then◌else◌, Option, Some, None, Result, Ok, Err, inl, inr, refl, sym, ap, subst}
+use Rattle.std.proofs.Common.{◌≡◌, ℕ, Bool, true, false, not, is_some, if◌then◌else◌, List, Option, Some, None, Result, Ok, Err, inl, inr, refl, sym, ap, subst}
 use Rattle.serde_json.specs.Data.{Data}
 use Rattle.serde_json.specs.View.{view as data_of}
 use Rattle.wq_base.specs.Fault.{or_fault, or_its_fault, or_own_fault, unless_fault}
 use Rattle.wq_code.specs.declared.raw.Raw.{Raw}
 use Rattle.wq_query.specs.Query.{QueryData}
+use Rattle.wq_follow.specs.Subscription.{subscribed}
 use Rattle.wq_query.specs.Reading.{asks as queries}
+use Rattle.wq_query.specs.Subscribed.{subscribes as subscription_of}
 use Rattle.wq_query.specs.declared.fault.QueryFault.{QueryFault}
 use Rattle.wq_registry.specs.Limit.{max_programs}
 use Rattle.wq_registry.specs.ByName.{has_no_place}
@@ -16,15 +18,17 @@ use Rattle.wq_session.specs.At.{AtData, ShelfNow, is_watched}
 use Rattle.wq_session.specs.Begun.{or_refused, tried}
 use Rattle.wq_session.specs.Clock.{clock_data}
 use Rattle.wq_session.specs.Out.{OutData, replies}
+use Rattle.wq_session.specs.Program.{is_name}
+use Rattle.wq_session.specs.Subscribe.{begun_subscription, first_plan}
 use Rattle.wq_session.specs.Query.{begun_query, has_place, moved_cursor, plan_at, program_for, used_at}
-use Rattle.wq_session.specs.Work.{BegunData, WorkData, evaluates, says, saying}
+use Rattle.wq_session.specs.Work.{BegunData, WorkData, begins, drops, evaluates, says, saying}
 use Rattle.wq_session.specs.declared.ask.Ask.{Ask}
 use Rattle.wq_session.specs.declared.ask.Ask.TheVariants.{Refused, Watch, ListRoots, Unwatch}
 use Rattle.wq_session.specs.declared.ask.Ask.TheVariants.{Query as AsksQuery, Clock, Version}
 use Rattle.wq_session.specs.declared.ask.Ask.TheVariants.{SocketName, ShutDown, AddProgram, ListPrograms}
-use Rattle.wq_session.specs.declared.ask.Ask.TheVariants.{DeleteProgram, Leave, Nothing}
+use Rattle.wq_session.specs.declared.ask.Ask.TheVariants.{DeleteProgram, Leave, Nothing, Subscribe, Unsubscribe}
 use Rattle.wq_session.specs.declared.refusal.Refusal.{Refusal}
-use Rattle.wq_session.specs.declared.refusal.Refusal.TheVariants.{NotWatched, Query as BadQuery, ShelfFull, TooManyRoots}
+use Rattle.wq_session.specs.declared.refusal.Refusal.TheVariants.{NotWatched, Query as BadQuery, ShelfFull, TooManyRoots, BadName}
 
 -- what is begun can be finished at what is looked at
 abbrev Fits : Option AtData → Result BegunData Refusal → Type 0
@@ -79,6 +83,30 @@ module _ (at : AtData) (shelf : ShelfNow) where
   with_view d None is = tt
   with_view d (Some view) is = with_query (at.instance).root view.tick (queries at.instance d) (ap is_some is)
 
+  -- what `subscribe` comes to can be
+  with_subscription : (root name : List ℕ) (d : Data) (view : Option ViewData) → at.view ≡ view
+      → Fits (Some at) (or_fault NotWatched view (λ view. unless_fault BadName (is_name name) (
+      or_its_fault BadQuery (subscription_of at.instance d) (λ q. begun_subscription root name (at.instance).root q shelf))))
+  with_subscription root name d None is = tt
+  with_subscription root name d (Some view) is = by (is_name name) (subscription_of at.instance d)
+    where
+      found : (q : QueryData) (program : Result (Option Raw) Refusal) → Fits (Some at) (or_own_fault program (λ program.
+          Ok (record { work = begins (subscribed name root (at.instance).root (first_plan q program)); shelf = shelf })))
+      found q (Err refusal) = tt
+      found q (Ok program) = ap is_some is
+
+      by : (test : Bool) (q : Result QueryData QueryFault) → Fits (Some at) (unless_fault BadName test (
+          or_its_fault BadQuery q (λ q. begun_subscription root name (at.instance).root q shelf)))
+      by false q = tt
+      by true (Err fault) = tt
+      by true (Ok q) = found q (program_for q shelf)
+
+  -- what `unsubscribe` comes to can be
+  with_name : (number : ℕ) (name : List ℕ) (test : Bool)
+      → Fits (Some at) (unless_fault BadName test (Ok (record { work = drops number name; shelf = shelf })))
+  with_name number name false = tt
+  with_name number name true = tt
+
 -- what an ask comes to can be finished
 tried_fits : (ask : Ask) (at : Option AtData) (shelf : ShelfNow) → Fits at (tried ask at shelf)
 tried_fits (Refused refusal) at shelf = tt
@@ -101,6 +129,12 @@ tried_fits (AddProgram name program) at shelf =
     unless_said ShelfFull (not (has_no_place max_programs name shelf.programs)) _ _ at
 tried_fits ListPrograms at shelf = tt
 tried_fits (DeleteProgram name) at shelf = tt
+tried_fits (Subscribe root name q) None shelf = tt
+tried_fits (Subscribe root name q) (Some at) shelf =
+    where_watched at shelf (is_watched root at shelf) _ (with_subscription at shelf root name (data_of q) at.view refl)
+tried_fits (Unsubscribe root name) None shelf = tt
+tried_fits (Unsubscribe root name) (Some at) shelf =
+    where_watched at shelf (is_watched root at shelf) _ (with_name at shelf (at.instance).root name (is_name name))
 tried_fits Leave at shelf = tt
 tried_fits Nothing at shelf = tt
 

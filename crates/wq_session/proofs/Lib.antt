@@ -10,3 +10,8 @@ mod Newlines
 pub mod Finishing
 mod Programs
 mod Before
+mod Follows
+mod Called
+mod Placed
+mod Polled
+mod Moments

@@ -1,7 +1,7 @@
 -- Lines, which end with a newline.
 use Rattle.std.proofs.Common.{◌≡◌, ◌≤◌, ℕ, ◌-◌, List, ◌++◌, length, take, codes, refl, sym, ap, subst, ◌∙◌, arith, length-append}
 use Rattle.std.proofs.Math.Seq.{take-append_seam}
-use Rattle.wq_session.specs.Said.{IsLine, text_of}
+use Rattle.wq_session.specs.Line.{IsLine, text_of}
 
 -- what is before the newline that was put to a text
 pub text_before : (text : List ℕ) → text_of (text ++ codes "\n") ≡ text

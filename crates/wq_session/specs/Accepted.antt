@@ -4,6 +4,7 @@ use Rattle.std.specs.Prelude.{◌≡◌, ◌⊎◌, ℕ, true, List, [], ◌∷�
 use Rattle.serde_json.specs.Data.{Data}
 use Rattle.serde_json.specs.View.{view as data_of}
 use Rattle.wq_clock.specs.Instance.{InstanceData}
+use Rattle.wq_follow.specs.Subscription.{SubscriptionData}
 use Rattle.wq_query.specs.Query.{QueryData, PlanData, SinceData, at_bound, at_cursor}
 use Rattle.wq_query.specs.Reading.{asks as queries}
 use Rattle.wq_query.specs.declared.fault.QueryFault.{QueryFault}
@@ -66,9 +67,11 @@ unset_calls (Some cursor) = unsets_cursor cursor.root cursor.name ∷ []
 -- these calls were accepted of an ask that was answered so: its own; or none, where the line was
 -- refused or memory ran out first; or, where it ran out over the files, its own and then that the
 -- cursor is unset
-abbrev pub Accepts : Ask → Option AtData → ShelfNow → OutData → List CallNow → Type 0
-Accepts ask at shelf out calls =
-    ((begun : BegunData) × (tried ask at shelf ≡ Ok begun) × (out ≡ finished begun.work at)
+abbrev pub Accepts : Ask → Option AtData → ShelfNow → List SubscriptionData → OutData → List CallNow
+    → Type 0
+Accepts ask at shelf follows out calls =
+    ((begun : BegunData) × (tried ask at shelf ≡ Ok begun)
+    × (out ≡ (finished begun.work at follows).out)
     × (calls ≡ calls_of ask at))
     ⊎ ((refusal : Refusal) × (tried ask at shelf ≡ Err refusal) × (out ≡ refuses refusal)
     × (calls ≡ []))
@@ -79,6 +82,8 @@ Accepts ask at shelf out calls =
 
 -- what an answer leaves of the shelf is what the calls come to that were accepted of the ask
 abbrev pub AnswersAreCalls : Type 0
-AnswersAreCalls = (ask : Ask) (at : Option AtData) (shelf : ShelfNow) (out : OutData)
-    (after : ShelfNow) → AnswersAsk ask at shelf out after
-    → (calls : List CallNow) × Accepts ask at shelf out calls × (after ≡ after_all calls shelf)
+AnswersAreCalls = (ask : Ask) (at : Option AtData) (shelf : ShelfNow)
+    (follows : List SubscriptionData) (out : OutData) (after : ShelfNow)
+    (left : List SubscriptionData) → AnswersAsk ask at shelf follows out after left
+    → (calls : List CallNow) × Accepts ask at shelf follows out calls
+    × (after ≡ after_all calls shelf)

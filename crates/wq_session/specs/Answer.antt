@@ -1,19 +1,26 @@
 -- The answer to an ask, whole: what is begun while the shelf is held, and finished without it. And
 -- what it may come to where memory runs out.
 -- It is this server's own that a cursor is unset whose reply could not be made.
-use Rattle.std.specs.Prelude.{◌≡◌, ◌⊎◌, true, false, is_some, Option, Some, None}
+use Rattle.std.specs.Prelude.{◌≡◌, ◌⊎◌, ℕ, true, false, is_some, List, Option, Some, None}
+use Rattle.std.specs.Prelude.{if◌then◌else◌}
 use Rattle.std.specs.Option.{option_map_or}
+use Rattle.wq_clock.specs.Instance.{InstanceData}
+use Rattle.wq_follow.specs.Subscription.{SubscriptionData, caught_up, list_of}
 use Rattle.wq_query.specs.Query.{PlanData}
 use Rattle.wq_query.specs.Reply.{reply_of}
 use Rattle.wq_registry.specs.Shelf.{cursor_unset}
+use Rattle.wq_view.specs.View.{ViewData}
 use Rattle.wq_session.specs.At.{AtData, ShelfNow}
 use Rattle.wq_session.specs.Begun.{begun, takes_memory}
-use Rattle.wq_session.specs.Out.{OutData, refuses, replies, runs_out, silence}
-use Rattle.wq_session.specs.Work.{WorkData, says, evaluates}
+use Rattle.wq_session.specs.Followed.{has_called, has_no_room, with_subscription, without_called}
+use Rattle.wq_session.specs.Out.{OutData, refuses, replies, replies_with, runs_out, silence}
+use Rattle.wq_session.specs.Subscribe.{subscribe_data, unsubscribe_data}
+use Rattle.wq_session.specs.Work.{WorkData, says, evaluates, begins, drops}
 use Rattle.wq_session.specs.declared.ask.Ask.{Ask}
 use Rattle.wq_session.specs.Refusal.{ends_session}
 use Rattle.wq_session.specs.declared.cursor.Cursor.{Cursor}
 use Rattle.wq_session.specs.declared.refusal.Refusal.{Refusal}
+use Rattle.wq_session.specs.declared.refusal.Refusal.TheVariants.{TooManySubscriptions}
 
 -- the files of a plan, of what is looked at
 abbrev pub listed : PlanData → Option AtData → OutData
@@ -25,30 +32,69 @@ listed plan (Some at) =
 abbrev pub settled : OutData → OutData
 settled out = record {
   reply = out.reply;
+  lists = out.lists;
   goes_on = out.goes_on;
   shuts = out.shuts;
   unset = None;
 }
 
--- what is given out when the work is done
-abbrev pub finished : WorkData → Option AtData → OutData
-finished (says out) at = settled out
-finished (evaluates plan cursor) at = listed plan at
+-- what is given out when work is done, and the subscriptions of the session then
+pub record DoneData : Type 0 where
+  pub out : OutData
+  pub follows : List SubscriptionData
+
+-- this is given out, and the subscriptions stay
+abbrev pub giving : OutData → List SubscriptionData → DoneData
+giving out follows = record { out = out; follows = follows }
+
+-- a subscription began, at a view of its root: it is kept, and its first list was told
+abbrev pub begun_at : SubscriptionData → InstanceData → ViewData → List SubscriptionData → DoneData
+begun_at s instance view follows = record {
+  out = replies_with (subscribe_data instance view s.name) (list_of instance view s);
+  follows = with_subscription (caught_up view s) follows;
+}
+
+-- the same at what is looked at, which shows a view
+abbrev pub begun_by : SubscriptionData → Option AtData → List SubscriptionData → DoneData
+begun_by s None follows = giving (silence true) follows
+begun_by s (Some at) follows =
+    option_map_or (λ view. begun_at s at.instance view follows) at.view
+    (giving (silence true) follows)
+
+-- a subscription began, or there is no room for it
+abbrev pub following : SubscriptionData → Option AtData → List SubscriptionData → DoneData
+following s at follows =
+    if has_no_room s.number s.name follows then giving (refuses TooManySubscriptions) follows
+    else begun_by s at follows
+
+-- the subscription that is called so ended, if there is one
+abbrev pub dropped : ℕ → List ℕ → List SubscriptionData → DoneData
+dropped number name follows = record {
+  out = replies (unsubscribe_data name (has_called number name follows));
+  follows = without_called number name follows;
+}
+
+-- what is given out when the work is done, and the subscriptions then
+abbrev pub finished : WorkData → Option AtData → List SubscriptionData → DoneData
+finished (says out) at follows = giving (settled out) follows
+finished (evaluates plan cursor) at follows = giving (listed plan at) follows
+finished (begins s) at follows = following s at follows
+finished (drops number name) at follows = dropped number name follows
 
 -- what a refusal may come to: it is said; or memory ran out, but not where the session ends with it
 abbrev pub MayRefuse : Refusal → OutData → Type 0
 MayRefuse refusal out =
     (out ≡ refuses refusal) ⊎ ((ends_session refusal ≡ false) × (out ≡ runs_out None))
 
--- an answer
+-- an answer, with the shelf and the subscriptions of the session then
 pub record AnswerData : Type 0 where
-  pub out : OutData
+  pub done : DoneData
   pub shelf : ShelfNow
 
--- the answer to an ask, at a root that is looked at and a shelf
-abbrev pub answer : Ask → Option AtData → ShelfNow → AnswerData
-answer ask at shelf = record {
-  out = finished (begun ask at shelf).work at;
+-- the answer to an ask, at a root that is looked at, a shelf and the subscriptions of a session
+abbrev pub answer : Ask → Option AtData → ShelfNow → List SubscriptionData → AnswerData
+answer ask at shelf follows = record {
+  done = finished (begun ask at shelf).work at follows;
   shelf = (begun ask at shelf).shelf;
 }
 
@@ -63,16 +109,27 @@ TakesAsk ask at shelf work after =
 abbrev pub unmade : WorkData → OutData
 unmade (says out) = settled out
 unmade (evaluates plan cursor) = runs_out cursor
+unmade (begins s) = runs_out None
+unmade (drops number name) = runs_out None
 
--- what work was finished to
-abbrev pub Finishes : WorkData → Option AtData → OutData → Type 0
-Finishes work at out = (out ≡ finished work at) ⊎ (out ≡ unmade work)
+-- what work was finished to, with the subscriptions of the session before and after: without memory
+-- they stay
+abbrev pub Finishes : WorkData → Option AtData → List SubscriptionData → OutData
+    → List SubscriptionData → Type 0
+Finishes work at follows out left =
+    (finished work at follows ≡ giving out left) ⊎ ((out ≡ unmade work) × (left ≡ follows))
+
+-- a view is looked at
+abbrev pub HasView : Option AtData → Type 0
+HasView None = ⊥
+HasView (Some at) = is_some at.view ≡ true
 
 -- files can be listed of what is looked at, if any are to be listed
 abbrev pub CanFinish : WorkData → Option AtData → Type 0
 CanFinish (says out) at = Unit {0}
-CanFinish (evaluates plan cursor) None = ⊥
-CanFinish (evaluates plan cursor) (Some at) = is_some at.view ≡ true
+CanFinish (evaluates plan cursor) at = HasView at
+CanFinish (begins s) at = HasView at
+CanFinish (drops number name) at = Unit {0}
 
 -- the shelf without a cursor, if there is one
 abbrev pub without_cursor : Option Cursor → ShelfNow → ShelfNow
@@ -81,11 +138,13 @@ without_cursor (Some cursor) shelf = cursor_unset cursor.root cursor.name shelf
 
 -- what an ask was answered: its answer; or that memory ran out, before anything changed, or when the
 -- files were listed: then the cursor is unset which the answer would have moved
-abbrev pub AnswersAsk : Ask → Option AtData → ShelfNow → OutData → ShelfNow → Type 0
-AnswersAsk ask at shelf out after =
-    (answer ask at shelf ≡ record { out = out; shelf = after })
-    ⊎ ((takes_memory ask ≡ true) × (out ≡ runs_out None) × (after ≡ shelf))
+abbrev pub AnswersAsk : Ask → Option AtData → ShelfNow → List SubscriptionData → OutData → ShelfNow
+    → List SubscriptionData → Type 0
+AnswersAsk ask at shelf follows out after left =
+    (answer ask at shelf follows ≡ record { done = giving out left; shelf = after })
+    ⊎ ((takes_memory ask ≡ true) × (out ≡ runs_out None) × (after ≡ shelf) × (left ≡ follows))
     ⊎ ((plan : PlanData) × (cursor : Option Cursor)
     × ((begun ask at shelf).work ≡ evaluates plan cursor)
     × (out ≡ runs_out None)
-    × (after ≡ without_cursor cursor (begun ask at shelf).shelf))
+    × (after ≡ without_cursor cursor (begun ask at shelf).shelf)
+    × (left ≡ follows))

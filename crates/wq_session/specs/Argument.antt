@@ -10,6 +10,8 @@ pub data RequestData : Type 0 where
   complete : Ask → RequestData
   -- which files of a root there are, as an object says, and whether the root is crawled first
   queries : (root : List ℕ) → (crawl : Bool) → Data → RequestData
+  -- that the client is told of the files of a root that an object asks for, under a name
+  subscribes : (root : List ℕ) → (name : List ℕ) → Data → RequestData
   -- that the program of a file is kept under a name
   adds : (name : List ℕ) → (file : List ℕ) → RequestData
 

@@ -6,6 +6,7 @@ use Rattle.wq_session.specs.At.{AtData, ShelfNow}
 use Rattle.wq_session.specs.Clock.{try_clock}
 use Rattle.wq_session.specs.Out.{refuses, silence}
 use Rattle.wq_session.specs.Program.{deleting, listing_programs, try_add}
+use Rattle.wq_session.specs.Subscribe.{try_subscribe, try_unsubscribe}
 use Rattle.wq_session.specs.Query.{try_query}
 use Rattle.wq_session.specs.Refusal.{ends_session}
 use Rattle.wq_session.specs.Server.{shutting_down, telling_socket, telling_version}
@@ -16,6 +17,7 @@ use Rattle.wq_session.specs.declared.ask.Ask.TheVariants.{Refused, Watch, ListRo
 use Rattle.wq_session.specs.declared.ask.Ask.TheVariants.{Query, Clock, Version}
 use Rattle.wq_session.specs.declared.ask.Ask.TheVariants.{SocketName, ShutDown, AddProgram, ListPrograms}
 use Rattle.wq_session.specs.declared.ask.Ask.TheVariants.{DeleteProgram, Leave, Nothing}
+use Rattle.wq_session.specs.declared.ask.Ask.TheVariants.{Subscribe, Unsubscribe}
 use Rattle.wq_session.specs.declared.refusal.Refusal.{Refusal}
 
 -- what an ask comes to at a root that is looked at and a shelf, or why the line is refused there
@@ -32,6 +34,8 @@ tried ShutDown at shelf = Ok (shutting_down shelf)
 tried (AddProgram name program) at shelf = try_add name program shelf
 tried ListPrograms at shelf = Ok (listing_programs shelf)
 tried (DeleteProgram name) at shelf = Ok (deleting name shelf)
+tried (Subscribe root name q) at shelf = try_subscribe root name (data_of q) at shelf
+tried (Unsubscribe root name) at shelf = try_unsubscribe root name at shelf
 tried Leave at shelf = Ok (saying (silence false) shelf)
 tried Nothing at shelf = Ok (saying (silence true) shelf)
 
@@ -52,3 +56,8 @@ takes_memory ShutDown = false
 takes_memory Leave = false
 takes_memory Nothing = false
 takes_memory _ = true
+
+-- whether an ask hands in a program, which the shelf is to keep
+abbrev pub hands_in_program : Ask → Bool
+hands_in_program (AddProgram name program) = true
+hands_in_program _ = false

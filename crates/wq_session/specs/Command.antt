@@ -7,13 +7,14 @@ use Rattle.wq_session.specs.declared.command.Command.TheVariants.{Watch, WatchPr
 use Rattle.wq_session.specs.declared.command.Command.TheVariants.{Unwatch}
 use Rattle.wq_session.specs.declared.command.Command.TheVariants.{Query, Clock, Version, SocketName}
 use Rattle.wq_session.specs.declared.command.Command.TheVariants.{ShutDown, AddProgram, ListPrograms}
-use Rattle.wq_session.specs.declared.command.Command.TheVariants.{DeleteProgram}
+use Rattle.wq_session.specs.declared.command.Command.TheVariants.{DeleteProgram, Subscribe}
+use Rattle.wq_session.specs.declared.command.Command.TheVariants.{Unsubscribe}
 
 -- every command
 abbrev pub all_commands : List Command
 all_commands =
     Watch ∷ WatchProject ∷ ListRoots ∷ Unwatch ∷ Query ∷ Clock ∷ Version ∷ SocketName ∷ ShutDown
-    ∷ AddProgram ∷ ListPrograms ∷ DeleteProgram ∷ []
+    ∷ AddProgram ∷ ListPrograms ∷ DeleteProgram ∷ Subscribe ∷ Unsubscribe ∷ []
 
 -- the name of a command
 abbrev pub command_name : Command → List ℕ
@@ -29,6 +30,8 @@ command_name ShutDown = codes "shutdown-server"
 command_name AddProgram = codes "program-add"
 command_name ListPrograms = codes "program-list"
 command_name DeleteProgram = codes "program-del"
+command_name Subscribe = codes "subscribe"
+command_name Unsubscribe = codes "unsubscribe"
 
 -- the command of a name
 abbrev pub command_named : List ℕ → Option Command

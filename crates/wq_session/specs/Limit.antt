@@ -9,3 +9,7 @@ max_root_length = 4096
 -- the most bytes of the name of a program
 abbrev pub max_program_name : ℕ
 max_program_name = 255
+
+-- the most subscriptions of a session
+abbrev pub max_subscriptions : ℕ
+max_subscriptions = 64

@@ -4,6 +4,7 @@
 use Rattle.std.specs.Prelude.{ℕ, Bool, true, false, List}
 use Rattle.wq_session.specs.declared.ask.Ask.{Ask}
 use Rattle.wq_session.specs.declared.ask.Ask.TheVariants.{Watch, Unwatch, Query, Clock}
+use Rattle.wq_session.specs.declared.ask.Ask.TheVariants.{Subscribe, Unsubscribe}
 
 -- what is needed first
 pub data NeedData : Type 0 where
@@ -29,4 +30,6 @@ need_of (Watch root) = watch root
 need_of (Unwatch root) = unwatch root
 need_of (Query root first query) = seen first root
 need_of (Clock root first) = seen first root
+need_of (Subscribe root name query) = look root
+need_of (Unsubscribe root name) = look root
 need_of _ = none

@@ -1,7 +1,7 @@
 -- What a session gives out for an event.
 -- A reply to each line is from Watchman's documentation of its socket interface; the rest is this
 -- server's own.
-use Rattle.std.specs.Prelude.{ℕ, Bool, true, false, not, List, Option, Some, None}
+use Rattle.std.specs.Prelude.{ℕ, Bool, true, false, not, List, [], ◌∷◌, Option, Some, None}
 use Rattle.serde_json.specs.Data.{Data}
 use Rattle.serde_json.specs.Written.{compact_text}
 use Rattle.wq_session.specs.Reply.{error_data}
@@ -14,6 +14,8 @@ use Rattle.wq_session.specs.Refusal.{ends_session}
 pub record OutData : Type 0 where
   -- the text of the reply, without a newline
   pub reply : Option (List ℕ)
+  -- the texts of the lists of subscriptions, which follow the reply
+  pub lists : List (List ℕ)
   -- whether the session goes on
   pub goes_on : Bool
   -- whether the server is to end
@@ -23,7 +25,13 @@ pub record OutData : Type 0 where
 
 -- a text, after which the session goes on
 abbrev pub saying_text : List ℕ → OutData
-saying_text text = record { reply = Some text; goes_on = true; shuts = false; unset = None }
+saying_text text = record {
+  reply = Some text;
+  lists = [];
+  goes_on = true;
+  shuts = false;
+  unset = None;
+}
 
 -- a reply, after which the session goes on
 abbrev pub replies : Data → OutData
@@ -31,12 +39,19 @@ replies d = saying_text (compact_text d)
 
 -- the last reply of a session that ends the server
 abbrev pub shuts_with : Data → OutData
-shuts_with d = record { reply = Some (compact_text d); goes_on = false; shuts = true; unset = None }
+shuts_with d = record {
+  reply = Some (compact_text d);
+  lists = [];
+  goes_on = false;
+  shuts = true;
+  unset = None;
+}
 
 -- that a line is refused
 abbrev pub refuses : Refusal → OutData
 refuses refusal = record {
   reply = Some (compact_text (error_data refusal));
+  lists = [];
   goes_on = not (ends_session refusal);
   shuts = false;
   unset = None;
@@ -44,13 +59,38 @@ refuses refusal = record {
 
 -- nothing, and whether the session goes on
 abbrev pub silence : Bool → OutData
-silence goes_on = record { reply = None; goes_on = goes_on; shuts = false; unset = None }
+silence goes_on = record { reply = None; lists = []; goes_on = goes_on; shuts = false; unset = None }
 
 -- that memory ran out, with the cursor that was moved
 abbrev pub runs_out : Option Cursor → OutData
 runs_out cursor = record {
   reply = Some (compact_text (error_data NoMemory));
+  lists = [];
   goes_on = true;
   shuts = false;
   unset = cursor;
+}
+
+-- a text and the list that follows it, after which the session goes on
+abbrev pub saying_with : List ℕ → List ℕ → OutData
+saying_with text list = record {
+  reply = Some text;
+  lists = list ∷ [];
+  goes_on = true;
+  shuts = false;
+  unset = None;
+}
+
+-- a reply and the list that follows it, after which the session goes on
+abbrev pub replies_with : Data → Data → OutData
+replies_with d list = saying_with (compact_text d) (compact_text list)
+
+-- lists alone, after which the session goes on
+abbrev pub tells_lists : List (List ℕ) → OutData
+tells_lists lists = record {
+  reply = None;
+  lists = lists;
+  goes_on = true;
+  shuts = false;
+  unset = None;
 }

@@ -11,13 +11,14 @@ use Rattle.wq_compile.specs.Large.{is_too_large}
 use Rattle.wq_compile.specs.Meaning.{AnswersMeaning}
 use Rattle.wq_query.specs.Query.{QueryData, asked_of}
 use Rattle.wq_query.specs.Reading.{asks as queries}
+use Rattle.wq_query.specs.Subscribed.{subscribes}
 use Rattle.wq_query.specs.declared.fault.QueryFault.{QueryFault}
 use Rattle.wq_registry.specs.CacheKey.{CacheKeyData, Says}
 use Rattle.wq_registry.specs.Kept.{StandsFor}
 use Rattle.wq_view.specs.View.{ViewData}
 use Rattle.wq_session.specs.At.{AtData, at_data}
 use Rattle.wq_session.specs.declared.ask.Ask.{Ask}
-use Rattle.wq_session.specs.declared.ask.Ask.TheVariants.{Query as AsksQuery}
+use Rattle.wq_session.specs.declared.ask.Ask.TheVariants.{Query as AsksQuery, Subscribe}
 use Rattle.wq_session.specs.declared.prepared.Prepared.{Prepared}
 use Rattle.wq_session.specs.declared.read_query.ReadQuery.{ReadQuery}
 use Rattle.wq_session.specs.declared.refusal.Refusal.{Refusal}
@@ -39,19 +40,31 @@ GivesRead (Err NoMemory) said = Unit {0}
 GivesRead (Err (Query fault)) said = said ≡ Err fault
 GivesRead (Err _) said = ⊥
 
--- the query of an object was read at an instance, if a view of the root is shown, and else it was not
-abbrev pub IsReadOf : Data → InstanceData → Option ViewData → Option (Result ReadQuery Refusal)
-    → Type 0
-IsReadOf d instance (Some view) (Some read) = GivesRead read (queries instance d)
-IsReadOf d instance (Some view) None = ⊥
-IsReadOf d instance None (Some read) = ⊥
-IsReadOf d instance None None = Unit {0}
+-- how an object is read as a query
+abbrev pub Reads : Type 0
+Reads = InstanceData → Data → Result QueryData QueryFault
 
--- the query of an object was read at what is looked at, if there is something
+-- the query of an object was read at an instance, if a view of the root is shown, and else it was not
+abbrev pub IsReadOf : Reads → Data → InstanceData → Option ViewData
+    → Option (Result ReadQuery Refusal) → Type 0
+IsReadOf reads d instance (Some view) (Some read) = GivesRead read (reads instance d)
+IsReadOf reads d instance (Some view) None = ⊥
+IsReadOf reads d instance None (Some read) = ⊥
+IsReadOf reads d instance None None = Unit {0}
+
+-- the query of an object was read so at what is looked at, if there is something
+abbrev pub IsReadBy : Reads → Data → Option AtData → Option (Result ReadQuery Refusal) → Type 0
+IsReadBy reads d (Some at) read = IsReadOf reads d at.instance at.view read
+IsReadBy reads d None (Some read) = ⊥
+IsReadBy reads d None None = Unit {0}
+
+-- an object was read there as a query
 abbrev pub IsReadAt : Data → Option AtData → Option (Result ReadQuery Refusal) → Type 0
-IsReadAt d (Some at) read = IsReadOf d at.instance at.view read
-IsReadAt d None (Some read) = ⊥
-IsReadAt d None None = Unit {0}
+IsReadAt = IsReadBy queries
+
+-- an object was read there as the query of a subscription
+abbrev pub IsSubscribedAt : Data → Option AtData → Option (Result ReadQuery Refusal) → Type 0
+IsSubscribedAt = IsReadBy subscribes
 
 -- what is known of a query, if it was read
 abbrev pub AreRead : Option (Result ReadQuery Refusal) → Type 0
@@ -61,6 +74,7 @@ AreRead _ = Unit {0}
 -- the query of an ask was read, if it has one, and else none was
 abbrev pub IsReadFor : Ask → Option AtData → Option (Result ReadQuery Refusal) → Type 0
 IsReadFor (AsksQuery root crawl q) at read = IsReadAt (data_of q) at read
+IsReadFor (Subscribe root name q) at read = IsSubscribedAt (data_of q) at read
 IsReadFor _ at read = read ≡ None
 
 -- the ask that was prepared

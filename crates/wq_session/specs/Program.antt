@@ -25,7 +25,7 @@ use Rattle.wq_session.specs.declared.refusal.Refusal.{Refusal}
 use Rattle.wq_session.specs.declared.refusal.Refusal.TheVariants.{WrongArguments, BadName}
 use Rattle.wq_session.specs.declared.refusal.Refusal.TheVariants.{NotBase64, ShelfFull, NoMemory}
 
--- whether a text may be the name of a program
+-- whether a text may be the name of a program or of a subscription
 abbrev pub is_name : List ℕ → Bool
 is_name name = nat_le 1 (length name) && nat_le (length name) max_program_name
 

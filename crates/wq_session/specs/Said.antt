@@ -1,26 +1,25 @@
 -- What the lines of replies stand for.
 -- No public document is behind it.
-use Rattle.std.specs.Prelude.{◌≡◌, ℕ, ◌-◌, List, ◌++◌, length, take, codes}
-use Rattle.std.specs.Prelude.{Option, Some, None as Nothing}
+use Rattle.std.specs.Prelude.{ℕ, List, []}
+use Rattle.std.specs.Prelude.{Option, Some, None as Nothing, Vec}
+use Rattle.std.specs.declared.alloc.Global.{Global}
+use Rattle.wq_session.specs.Line.{IsLine, text_of}
 use Rattle.wq_session.specs.declared.outcome.Reply.{Reply}
 use Rattle.wq_session.specs.declared.outcome.Reply.TheVariants.{None, Made, Fixed}
-
--- a line without the newline at its end
-abbrev pub text_of : List ℕ → List ℕ
-text_of line = take (length line - 1) line
 
 -- the text of a reply, if there is one
 abbrev pub reply_text : Reply → Option (List ℕ)
 reply_text None = Nothing
-reply_text (Made line) = Some (text_of line)
+reply_text (Made text) = Some text
 reply_text (Fixed line) = Some (text_of line.now)
 
--- a line ends with a newline
-abbrev pub IsLine : List ℕ → Type 0
-IsLine line = line ≡ text_of line ++ codes "\n"
+-- the texts of lists, if there are any
+abbrev pub list_texts : Option (Vec (List ℕ) Global) → List (List ℕ)
+list_texts Nothing = []
+list_texts (Some lines) = lines.items
 
--- a reply ends with a newline, if there is one
+-- a reply that is kept ends with a newline
 abbrev pub EndsLine : Reply → Type 0
 EndsLine None = Unit {0}
-EndsLine (Made line) = IsLine line
+EndsLine (Made text) = Unit {0}
 EndsLine (Fixed line) = IsLine line.now

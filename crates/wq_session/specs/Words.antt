@@ -18,3 +18,8 @@ one_behind _ = None
 abbrev pub two_behind : List Value → Option (Value × Value)
 two_behind (name ∷ first ∷ second ∷ []) = Some (first, second)
 two_behind _ = None
+
+-- three words
+abbrev pub three_behind : List Value → Option (Value × Value × Value)
+three_behind (name ∷ first ∷ second ∷ third ∷ []) = Some (first, second, third)
+three_behind _ = None

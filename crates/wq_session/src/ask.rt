@@ -50,6 +50,17 @@ pub enum Ask {
     DeleteProgram {
         name: Text,
     },
+    /// That the client is told of the files of a root that the object asks for, under a name.
+    Subscribe {
+        root: RootText,
+        name: Text,
+        query: Value,
+    },
+    /// That the client is told no more of what it subscribed to under a name.
+    Unsubscribe {
+        root: RootText,
+        name: Text,
+    },
     /// Nothing: the client has gone.
     Leave,
     /// Nothing.

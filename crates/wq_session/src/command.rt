@@ -4,7 +4,7 @@ ghost use Rattle.std.specs.Prelude.{◌≡◌, option_map, true, false, IfErr};
 ghost use Rattle.serde_json.specs.View.{items_view};
 ghost use Rattle.wq_session.specs.Argument.{behind};
 ghost use Rattle.wq_session.specs.At.{at_data};
-ghost use Rattle.wq_session.specs.Begun.{takes_memory, tried};
+ghost use Rattle.wq_session.specs.Begun.{hands_in_program, takes_memory, tried};
 ghost use Rattle.wq_session.specs.Command.{command_named};
 ghost use Rattle.wq_session.specs.Need.{need_of, seen};
 ghost use Rattle.wq_session.specs.Needed.{need_data};
@@ -17,6 +17,7 @@ mod clock;
 mod program;
 mod query;
 mod server;
+mod subscribe;
 mod watch;
 
 use crate::ask::Ask;
@@ -34,6 +35,8 @@ use query::{ask_query, begin_query};
 use serde_json::Value;
 use server::{ask_shutdown, ask_socket, ask_version, begin_socket};
 use std::alloc::Global;
+use subscribe::{ask_subscribe, ask_unsubscribe, begin_subscribe, begin_unsubscribe};
+pub(crate) use subscribe::{subscribe_reply, unsubscribe_reply};
 use watch::{ask_list, ask_unwatch, ask_watch, begin_list, begin_unwatch, begin_watch};
 use wq_registry::Shelf;
 
@@ -64,6 +67,10 @@ pub(crate) enum Command {
     ListPrograms,
     /// A program is kept no more.
     DeleteProgram,
+    /// A client is told of changes.
+    Subscribe,
+    /// It is told no more.
+    Unsubscribe,
 }
 
 impl Command {
@@ -84,6 +91,8 @@ impl Command {
             "program-add" => Some(Command::AddProgram),
             "program-list" => Some(Command::ListPrograms),
             "program-del" => Some(Command::DeleteProgram),
+            "subscribe" => Some(Command::Subscribe),
+            "unsubscribe" => Some(Command::Unsubscribe),
             _ => None,
         }
     }
@@ -104,6 +113,8 @@ impl Command {
             Command::AddProgram => ask_add(alloc, words),
             Command::ListPrograms => ask_names(&words),
             Command::DeleteProgram => ask_delete(words),
+            Command::Subscribe => ask_subscribe(alloc, words),
+            Command::Unsubscribe => ask_unsubscribe(alloc, words),
         }
     }
 }
@@ -117,6 +128,8 @@ impl Ask {
         match self {
             Ask::Query { root, crawl, .. } => seen(*crawl, root),
             Ask::Clock { root, crawl } => seen(*crawl, root),
+            Ask::Subscribe { root, .. } => Need::Look(root.as_str()),
+            Ask::Unsubscribe { root, .. } => Need::Look(root.as_str()),
             Ask::Watch { root } => Need::Watch(root.as_str()),
             Ask::Unwatch { root } => Need::Unwatch(root.as_str()),
             _ => Need::None,
@@ -150,18 +163,41 @@ pub(crate) fn tried(
         ends_session refusal ≡ false → takes_memory ask ≡ true) }
 {
     match ask {
-        Ask::Refused(refusal) => Err(refusal),
-        Ask::Watch { root } => begin_watch(alloc, &root, at, shelf),
+        Ask::AddProgram { name, program } => begin_add(alloc, &name, program, shelf),
+        ask => tried_as(alloc, &ask, at, read, shelf),
+    }
+}
+
+/// The same of an ask that hands in no program, and so has nothing that the shelf keeps.
+fn tried_as(
+    alloc: Global,
+    ask: &Ask,
+    at: Option<At<'_>>,
+    read: Option<Result<ReadQuery, Refusal>>,
+    shelf: &mut Shelf<()>,
+) -> Result<Work, Refusal>
+    requires read { IsReadFor ask.now (option_map at_data at) read }
+    requires plain { hands_in_program ask.now ≡ false }
+    ensures begun { Begins (tried ask.now (option_map at_data at.entry) shelf.old) shelf.old
+        result shelf.new }
+    ensures memory { IfErr result (λ refusal.
+        ends_session refusal ≡ false → takes_memory ask.now ≡ true) }
+{
+    match ask {
+        Ask::Refused(refusal) => Err(*refusal),
+        Ask::Watch { root } => begin_watch(alloc, root, at, shelf),
         Ask::ListRoots => begin_list(alloc, shelf),
-        Ask::Unwatch { root } => begin_unwatch(alloc, &root, at, shelf),
-        Ask::Query { root, .. } => begin_query(alloc, &root, read, at, shelf),
-        Ask::Clock { root, .. } => begin_clock(alloc, &root, at, shelf),
+        Ask::Unwatch { root } => begin_unwatch(alloc, root, at, shelf),
+        Ask::Query { root, .. } => begin_query(alloc, root, read, at, shelf),
+        Ask::Clock { root, .. } => begin_clock(alloc, root, at, shelf),
         Ask::Version => Ok(Work::Says(Out::version())),
         Ask::SocketName => begin_socket(alloc, shelf),
         Ask::ShutDown => Ok(Work::Says(Out::shutdown())),
-        Ask::AddProgram { name, program } => begin_add(alloc, &name, program, shelf),
+        Ask::AddProgram { .. } => unreachable!(),
         Ask::ListPrograms => begin_names(alloc, shelf),
-        Ask::DeleteProgram { name } => begin_delete(alloc, &name, shelf),
+        Ask::DeleteProgram { name } => begin_delete(alloc, name, shelf),
+        Ask::Subscribe { root, name, .. } => begin_subscribe(alloc, root, name, read, at, shelf),
+        Ask::Unsubscribe { root, name } => begin_unsubscribe(alloc, root, name, at, shelf),
         Ask::Leave => Ok(Work::Says(Out::silence(false))),
         Ask::Nothing => Ok(Work::Says(Out::silence(true))),
     }

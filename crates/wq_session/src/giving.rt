@@ -1,18 +1,19 @@
 //! What is given out: replies that were made, and those that are always the same.
 ghost use Rattle.std.specs.Prelude.{◌≡◌, ◌⊎◌, ◌++◌, codes, ℕ, List, Some, None, false, option_map, IfOk};
 ghost use Rattle.wq_session.specs.Answer.{MayRefuse};
-ghost use Rattle.wq_session.specs.Out.{refuses, replies, runs_out, saying_text, shuts_with, silence};
+ghost use Rattle.wq_session.specs.Out.{refuses, replies, runs_out, saying_text, saying_with};
+ghost use Rattle.wq_session.specs.Out.{shuts_with, silence, tells_lists};
 ghost use Rattle.wq_session.specs.Reply.{error_data};
-ghost use Rattle.wq_session.specs.Said.{IsLine, text_of};
+ghost use Rattle.wq_session.specs.Line.{IsLine, text_of};
 ghost use Rattle.wq_session.specs.Server.{shutdown_data, version_data};
 
 use crate::cursor::Cursor;
 use crate::fixed::{NO_MEMORY, SHUTS_DOWN, VERSION_ALONE};
+use crate::line::Line;
 use crate::outcome::{Out, Reply};
 use crate::refusal::Refusal;
 use crate::reply::{error_reply, print};
 use std::alloc::{AllocError, Global};
-use wq_base::Table;
 
 impl Out {
     /// The text of the reply, without a newline.
@@ -21,7 +22,7 @@ impl Out {
     {
         match &self.reply {
             Reply::None => None,
-            Reply::Made(line) => Some(without_newline(line.as_slice())),
+            Reply::Made(line) => Some(without_newline(line.as_bytes())),
             Reply::Fixed(line) => Some(without_newline(line)),
         }
     }
@@ -33,8 +34,18 @@ impl Out {
     {
         match &self.reply {
             Reply::None => None,
-            Reply::Made(line) => Some(line.as_slice()),
+            Reply::Made(line) => Some(line.as_bytes()),
             Reply::Fixed(line) => Some(line),
+        }
+    }
+
+    /// The lists of subscriptions that follow the reply.
+    pub fn lists(&self) -> &[Line]
+        ensures { result.now ≡ self.now.lists }
+    {
+        match &self.lists {
+            None => &[],
+            Some(lists) => lists.as_slice(),
         }
     }
 
@@ -53,18 +64,44 @@ impl Out {
     }
 
     /// The reply of this text, to which a newline is put, and after which the session goes on.
-    #[tactic(auto, using(crate::proofs::Newlines::text_before, crate::proofs::Newlines::is_line))]
     pub(crate) fn of_text(text: Vec<u8>) -> Result<Out, AllocError>
         ensures { IfOk result (λ out. out ≡ saying_text text.items) }
     {
-        let mut line = text;
-        line.push(b'\n')?;
         Ok(Out {
-            reply: Reply::Made(Table::from_vec(line)),
+            reply: Reply::Made(Line::of_text(text)?),
+            lists: None,
             goes_on: true,
             shuts: false,
             unset: None,
         })
+    }
+
+    /// A reply, and the list that follows it, of these texts, after which the session goes on.
+    pub(crate) fn with_list(alloc: Global, text: Vec<u8>, list: Vec<u8>) -> Result<Out, AllocError>
+        ensures { IfOk result (λ out. out ≡ saying_with text.items list.items) }
+    {
+        let mut lists = Vec::new(alloc);
+        lists.push(Line::of_text(list)?)?;
+        Ok(Out {
+            reply: Reply::Made(Line::of_text(text)?),
+            lists: Some(lists),
+            goes_on: true,
+            shuts: false,
+            unset: None,
+        })
+    }
+
+    /// Lists alone, after which the session goes on.
+    pub(crate) fn of_lists(lists: Vec<Line>) -> Out
+        ensures { result ≡ tells_lists lists.items }
+    {
+        Out {
+            reply: Reply::None,
+            lists: Some(lists),
+            goes_on: true,
+            shuts: false,
+            unset: None,
+        }
     }
 
     /// The version alone.
@@ -74,6 +111,7 @@ impl Out {
     {
         Out {
             reply: Reply::Fixed(VERSION_ALONE),
+            lists: None,
             goes_on: true,
             shuts: false,
             unset: None,
@@ -87,6 +125,7 @@ impl Out {
     {
         Out {
             reply: Reply::Fixed(SHUTS_DOWN),
+            lists: None,
             goes_on: false,
             shuts: true,
             unset: None,
@@ -94,11 +133,12 @@ impl Out {
     }
 
     /// No reply, and whether the session goes on.
-    pub(crate) fn silence(goes_on: bool) -> Out
+    pub fn silence(goes_on: bool) -> Out
         ensures { result ≡ silence goes_on }
     {
         Out {
             reply: Reply::None,
+            lists: None,
             goes_on,
             shuts: false,
             unset: None,
@@ -112,6 +152,7 @@ impl Out {
     {
         Out {
             reply: Reply::Fixed(NO_MEMORY),
+            lists: None,
             goes_on: true,
             shuts: false,
             unset: cursor,
@@ -126,6 +167,7 @@ impl Out {
         match refusal.fixed_line() {
             Some(line) => Out {
                 reply: Reply::Fixed(line),
+                lists: None,
                 goes_on: !refusal.ends_session(),
                 shuts: false,
                 unset: None,

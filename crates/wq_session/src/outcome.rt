@@ -1,14 +1,15 @@
 //! What a session gives out for an event.
 
 use crate::cursor::Cursor;
+use crate::line::Line;
 use std::marker::Model;
-use wq_base::Table;
 
-/// What a session gives out for an event: a reply or none, and whether it goes on. The reply is compact JSON with keys in
-/// byte order, and a newline.
+/// What a session gives out for an event: a reply or none, the lists of subscriptions that follow it, and whether the
+/// session goes on. Each is compact JSON with keys in byte order, and a newline.
 #[derive(Drop)]
 pub struct Out {
     pub(crate) reply: Reply,
+    pub(crate) lists: Option<Vec<Line>>,
     pub(crate) goes_on: bool,
     pub(crate) shuts: bool,
     pub(crate) unset: Option<Cursor>,
@@ -20,19 +21,20 @@ pub(crate) enum Reply {
     /// There is none.
     None,
     /// One that was made.
-    Made(Table<u8>),
+    Made(Line),
     /// One that is always the same, and takes no memory.
     Fixed(&'static [u8]),
 }
 
 impl Model for Out {
     ghost use Rattle.wq_session.specs.Out.{OutData};
-    ghost use Rattle.wq_session.specs.Said.{EndsLine, reply_text};
+    ghost use Rattle.wq_session.specs.Said.{EndsLine, list_texts, reply_text};
 
     ghost Value = { OutData };
 
     ghost view = { λ o. record {
       reply = reply_text o.reply;
+      lists = list_texts o.lists;
       goes_on = o.goes_on;
       shuts = o.shuts;
       unset = o.unset;

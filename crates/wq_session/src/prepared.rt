@@ -3,7 +3,8 @@
 ghost use Rattle.std.specs.Prelude.{◌≡◌, option_map};
 ghost use Rattle.serde_json.specs.View.{view as data_of};
 ghost use Rattle.wq_session.specs.At.{at_data};
-ghost use Rattle.wq_session.specs.Prepared.{IsFoundFor, IsPrepared, IsReadAt, IsReadFor, asked, asked_at, key_in};
+ghost use Rattle.wq_session.specs.Prepared.{IsFoundFor, IsPrepared, IsReadAt, IsReadFor, IsSubscribedAt};
+ghost use Rattle.wq_session.specs.Prepared.{asked, asked_at, key_in};
 
 use crate::ask::Ask;
 use crate::at::At;
@@ -85,6 +86,7 @@ fn query_of(alloc: Global, ask: &Ask, at: Option<At<'_>>) -> Option<Result<ReadQ
 {
     match ask {
         Ask::Query { query, .. } => read_at(alloc, query, at),
+        Ask::Subscribe { query, .. } => subscribed_at(alloc, query, at),
         _ => None,
     }
 }
@@ -98,4 +100,19 @@ fn read_at(alloc: Global, object: &Value, at: Option<At<'_>>) -> Option<Result<R
         return None;
     }
     Some(ReadQuery::read(alloc, object, &at.instance))
+}
+
+/// The query of the object of a subscription, at what is looked at.
+fn subscribed_at(
+    alloc: Global,
+    object: &Value,
+    at: Option<At<'_>>,
+) -> Option<Result<ReadQuery, Refusal>>
+    ensures { IsSubscribedAt (data_of object.now) (option_map at_data at.entry) result }
+{
+    let at = at?;
+    if at.view.is_none() {
+        return None;
+    }
+    Some(ReadQuery::read_subscription(alloc, object, &at.instance))
 }

@@ -1,9 +1,12 @@
 //! A query that is read before the shelf is held, with what its program is looked for by.
-ghost use Rattle.std.specs.Prelude.{◌≡◌, Ok, Some, false, IfSome};
+ghost use Rattle.std.specs.Prelude.{◌≡◌, Ok, Result, Some, false, IfOk, IfSome};
 ghost use Rattle.serde_json.specs.View.{view as data_of};
 ghost use Rattle.wq_clock.specs.Instance.{instance_data};
-ghost use Rattle.wq_query.specs.Query.{asked_of};
+ghost use Rattle.wq_query.specs.Outcome.{GivesQuery};
+ghost use Rattle.wq_query.specs.Query.{QueryData, asked_of};
 ghost use Rattle.wq_query.specs.Reading.{asks as queries};
+ghost use Rattle.wq_query.specs.Subscribed.{subscribes};
+ghost use Rattle.wq_query.specs.declared.fault.QueryFault.{QueryFault};
 ghost use Rattle.wq_registry.specs.CacheKey.{Says};
 ghost use Rattle.wq_session.specs.Prepared.{GivesRead, IsFoundFor, IsRead};
 ghost use Rattle.wq_term.specs.Limit.{max_depth};
@@ -42,7 +45,40 @@ impl ReadQuery {
         ensures { GivesRead result
             (queries (instance_data instance.now) (data_of object.now)) }
     {
-        match Query::read(alloc, object, instance) {
+        ReadQuery::of(
+            alloc,
+            object,
+            instance,
+            Query::read(alloc, object, instance),
+        )
+    }
+
+    /// The query of the object of a subscription, at this instance of the server.
+    pub(crate) fn read_subscription(
+        alloc: Global,
+        object: &Value,
+        instance: &Instance,
+    ) -> Result<ReadQuery, Refusal>
+        ensures { GivesRead result
+            (subscribes (instance_data instance.now) (data_of object.now)) }
+    {
+        let query = Query::read_subscription(alloc, object, instance);
+        ReadQuery::of(alloc, object, instance, query)
+    }
+
+    /// What was read of an object as a query, with the key of its expression.
+    fn of(
+        alloc: Global,
+        object: &Value,
+        instance: &Instance,
+        query: Result<Query, QueryFault>,
+    ) -> Result<ReadQuery, Refusal>
+        requires { IfOk query (λ query.
+            queries (instance_data instance.now) (data_of object.now) ≡ Ok (asked_of query)) }
+        ensures { (said : Result QueryData QueryFault) → GivesQuery query said
+            → GivesRead result said }
+    {
+        match query {
             Ok(query) => Ok(ReadQuery {
                 is_large: is_too_large(query.expr()),
                 key: key_of(alloc, object, instance, &query),

@@ -48,6 +48,8 @@ pub enum Refusal {
     NoSuchProgram,
     /// The query's expression has no program: its code or a list in it is too long.
     ProgramTooLarge,
+    /// The session has as many subscriptions as may be.
+    TooManySubscriptions,
     /// The text of a program is not base64.
     NotBase64,
     /// The bytes of a program are no program file.
@@ -99,6 +101,9 @@ impl Refusal {
             Refusal::NoSuchProgram => String::from_str(alloc, "E34: no such program"),
             Refusal::ShelfFull => String::from_str(alloc, "E35: shelf is full"),
             Refusal::BadName => String::from_str(alloc, "E36: bad name"),
+            Refusal::TooManySubscriptions => {
+                String::from_str(alloc, "E41: too many subscriptions")
+            }
             Refusal::NoMemory => String::from_str(alloc, NO_MEMORY),
         }
     }

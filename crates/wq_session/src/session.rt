@@ -1,10 +1,14 @@
-//! A session's step: the part of an answer that needs what all clients share, the part that needs only the view, and
-//! what is to be unset where memory did not suffice for that one.
-ghost use Rattle.std.specs.Prelude.{◌≡◌, option_map};
+//! A session's step: the part of an answer that needs what all clients share, the part that needs only the view and what
+//! the session keeps, and what is to be unset where memory did not suffice for that one.
+ghost use Rattle.std.specs.Prelude.{◌≡◌, [], Some, map, option_map};
+ghost use Rattle.wq_clock.specs.Instance.{instance_data};
+ghost use Rattle.wq_follow.specs.Followed.{subscription_data};
+ghost use Rattle.wq_query.specs.Query.{planned};
 ghost use Rattle.wq_session.specs.Answer.{AnswersAsk, CanFinish, Finishes, TakesAsk, settled};
 ghost use Rattle.wq_session.specs.At.{at_data};
+ghost use Rattle.wq_session.specs.Followed.{follows_of};
 ghost use Rattle.wq_session.specs.Prepared.{IsPrepared, asked, asked_at};
-ghost use Rattle.wq_session.specs.Work.{work_data};
+ghost use Rattle.wq_session.specs.Work.{evaluates, work_data};
 
 use crate::ask::Ask;
 use crate::at::At;
@@ -14,74 +18,141 @@ use crate::outcome::Out;
 use crate::prepared::Prepared;
 use crate::work::Work;
 use std::alloc::Global;
+use wq_clock::Instance;
+use wq_follow::Subscription;
+use wq_query::Plan;
 use wq_registry::Shelf;
+use wq_view::View;
 
-/// What a server keeps of one client. It is nothing yet: what is asked of a session does not depend on the lines
+/// What a server keeps of one client: its subscriptions. What is asked of a session depends on nothing else that came
 /// before.
 #[derive(Drop)]
-pub struct Session {}
+pub struct Session {
+    pub(crate) subscriptions: Vec<Subscription>,
+}
 
 impl Session {
-    /// The session of a client of which nothing has come.
-    pub fn new() -> Session {
-        Session {}
+    /// The session of a client of which nothing has come. It takes no memory.
+    pub fn new(alloc: Global) -> Session
+        ensures { follows_of result ≡ [] }
+    {
+        Session {
+            subscriptions: Vec::new(alloc),
+        }
     }
 
-    /// The part of an answer for which the shelf is held: names are looked up, a cursor is moved, a command is done. No
-    /// file is looked at, and no query read or compiled. A command that speaks of a root is refused where nothing is
-    /// looked at, and also, but for `watch`, where the root does not stand on the shelf under the number of what is looked
-    /// at. `watch` puts it there under that number.
-    ///
-    /// Where memory runs out, that is the answer, and the shelf is as it was.
-    pub fn take(&mut self, alloc: Global, prepared: Prepared<'_>, shelf: &mut Shelf<()>) -> Work
-        requires { IsPrepared prepared }
-        ensures { TakesAsk (asked prepared.entry) (asked_at prepared.entry) shelf.old
-            (work_data result) shelf.new }
+    /// The subscriptions, in the order in which they began.
+    pub fn subscriptions(&self) -> &[Subscription]
+        ensures { map subscription_data result.now ≡ follows_of self.now }
     {
-        let Prepared { ask, at, query } = prepared;
-        match tried(alloc, ask, at, query, shelf) {
-            Ok(work) => work,
-            Err(refusal) => Work::Says(Out::refused(alloc, refusal)),
+        self.subscriptions.as_slice()
+    }
+
+    /// The part of an answer for which the shelf is not held: the files are listed and the text is made; a subscription
+    /// is kept once its first list is made, or ends. What is looked at is what the ask was
+    /// [prepared](crate::Ask::prepare) at.
+    ///
+    /// Where memory runs out, that is given out, and the subscriptions stay.
+    pub fn finish(&mut self, alloc: Global, work: Work, at: Option<At<'_>>) -> Out
+        requires { CanFinish (work_data work) (option_map at_data at) }
+        ensures { Finishes (work_data work) (option_map at_data at.entry) (follows_of self.old)
+            result (follows_of self.new) }
+    {
+        match work {
+            Work::Says(mut out) => {
+                out.unset = None;
+                out
+            }
+            Work::Evaluates(plan, cursor) => match at {
+                Some(
+                    At {
+                        instance,
+                        view: Some(view),
+                    },
+                ) => self.list(alloc, &plan, cursor, &instance, view),
+                _ => unreachable!(),
+            },
+            Work::Begins(subscription) => match at {
+                Some(
+                    At {
+                        instance,
+                        view: Some(view),
+                    },
+                ) => self.begin(alloc, subscription, &instance, view),
+                _ => unreachable!(),
+            },
+            Work::Drops(root, name) => self.drop_called(alloc, root, &name),
         }
+    }
+
+    /// The listing of the files of a plan, of a root with this view. The subscriptions stay.
+    fn list(
+        &self,
+        alloc: Global,
+        plan: &Plan,
+        cursor: Option<Cursor>,
+        instance: &Instance,
+        view: &View,
+    ) -> Out
+        ensures { Finishes (evaluates (planned plan.now) cursor)
+            (Some (record { instance = instance_data instance.now; view = Some view.now }))
+            (follows_of self.now) result (follows_of self.now) }
+    {
+        listed(alloc, plan, cursor, instance, view)
     }
 
     /// What stands to be undone on the shelf: a cursor that was moved for a reply which memory did not suffice for.
     /// Before the next event it is to be unset there.
-    pub fn settle(&mut self, out: &mut Out) -> Option<Cursor>
+    pub fn settle(&self, out: &mut Out) -> Option<Cursor>
         ensures named { result ≡ out.old.unset }
         ensures taken { out.new ≡ settled out.old }
     {
         out.unset.take()
     }
 
-    /// The answer whole: [`prepare`](Ask::prepare), [`take`](Session::take), [`finish`](Work::finish),
+    /// The answer whole: [`prepare`](Ask::prepare), [`take`](Prepared::take), [`finish`](Session::finish),
     /// [`settle`](Session::settle), and the cursor unset that it names.
     #[tactic(auto, using(crate::proofs::Finishing::can_finish))]
     pub fn on(&mut self, alloc: Global, ask: Ask, at: Option<At<'_>>, shelf: &mut Shelf<()>) -> Out
-        ensures { AnswersAsk ask (option_map at_data at.entry) shelf.old result shelf.new }
+        ensures { AnswersAsk ask (option_map at_data at.entry) shelf.old (follows_of self.old)
+            result shelf.new (follows_of self.new) }
     {
-        let work = self.prepare_and_take(alloc, ask, at, shelf);
-        let mut out = work.finish(alloc, at);
+        let work = prepare_and_take(alloc, ask, at, shelf);
+        let mut out = self.finish(alloc, work, at);
         if let Some(cursor) = self.settle(&mut out) {
             shelf.unset_cursor(cursor.root, cursor.name.as_str());
         }
         out
     }
+}
 
-    /// The work of an ask that is prepared first.
-    fn prepare_and_take(
-        &mut self,
-        alloc: Global,
-        ask: Ask,
-        at: Option<At<'_>>,
-        shelf: &mut Shelf<()>,
-    ) -> Work
-        ensures { TakesAsk ask (option_map at_data at.entry) shelf.old (work_data result)
-            shelf.new }
+impl Prepared<'_> {
+    /// The part of an answer for which the shelf is held: names are looked up, a cursor is moved, a command is done. No
+    /// file is looked at, and no query read or compiled. A command that speaks of a root is refused where nothing is
+    /// looked at, and also, but for `watch`, where the root does not stand on the shelf under the number of what is looked
+    /// at. `watch` puts it there under that number.
+    ///
+    /// Where memory runs out, that is the answer, and the shelf is as it was.
+    pub fn take(self, alloc: Global, shelf: &mut Shelf<()>) -> Work
+        requires { IsPrepared self }
+        ensures { TakesAsk (asked self.entry) (asked_at self.entry) shelf.old
+            (work_data result) shelf.new }
     {
-        let prepared = prepare(alloc, ask, at, shelf);
-        self.take(alloc, prepared, shelf)
+        let Prepared { ask, at, query } = self;
+        match tried(alloc, ask, at, query, shelf) {
+            Ok(work) => work,
+            Err(refusal) => Work::Says(Out::refused(alloc, refusal)),
+        }
     }
+}
+
+/// The work of an ask that is prepared first.
+fn prepare_and_take(alloc: Global, ask: Ask, at: Option<At<'_>>, shelf: &mut Shelf<()>) -> Work
+    ensures { TakesAsk ask (option_map at_data at.entry) shelf.old (work_data result)
+        shelf.new }
+{
+    let prepared = prepare(alloc, ask, at, shelf);
+    prepared.take(alloc, shelf)
 }
 
 /// An ask with its query read, and the program of that found in the cache of a shelf, or compiled and kept there.
@@ -101,29 +172,4 @@ fn prepare<'a>(alloc: Global, ask: Ask, at: Option<At<'a>>, shelf: &mut Shelf<()
         shelf.cache().keep(compiled);
     }
     prepared
-}
-
-impl Work {
-    /// The part of an answer for which the shelf is not held: the files are listed and the text is made. What is looked
-    /// at is what [`take`](Session::take) was given.
-    pub fn finish(self, alloc: Global, at: Option<At<'_>>) -> Out
-        requires { CanFinish (work_data self) (option_map at_data at) }
-        ensures { Finishes (work_data self) (option_map at_data at.entry) result }
-    {
-        match self {
-            Work::Says(mut out) => {
-                out.unset = None;
-                out
-            }
-            Work::Evaluates(plan, cursor) => match at {
-                Some(
-                    At {
-                        instance,
-                        view: Some(view),
-                    },
-                ) => listed(alloc, &plan, cursor, &instance, view),
-                _ => unreachable!(),
-            },
-        }
-    }
 }

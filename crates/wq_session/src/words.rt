@@ -2,7 +2,7 @@
 ghost use Rattle.std.specs.Prelude.{◌≡◌};
 ghost use Rattle.serde_json.specs.View.{view as data_of, items_view};
 ghost use Rattle.wq_session.specs.Argument.{are_none, are_options, behind, one_text, two_texts};
-ghost use Rattle.wq_session.specs.Words.{as_text, one_behind, two_behind};
+ghost use Rattle.wq_session.specs.Words.{as_text, one_behind, three_behind, two_behind};
 
 use serde_json::Value;
 use wq_base::Text;
@@ -79,4 +79,17 @@ pub(crate) fn two_behind(mut words: Vec<Value>) -> Option<(Value, Value)>
     let second = words.pop()?;
     let first = words.pop()?;
     Some((first, second))
+}
+
+/// The three words after the first.
+pub(crate) fn three_behind(mut words: Vec<Value>) -> Option<(Value, Value, Value)>
+    ensures { result ≡ three_behind words.items }
+{
+    if words.len() != 4 {
+        return None;
+    }
+    let third = words.pop()?;
+    let second = words.pop()?;
+    let first = words.pop()?;
+    Some((first, second, third))
 }

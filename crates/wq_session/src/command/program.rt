@@ -74,8 +74,8 @@ fn adding(alloc: Global, name: Text, text: &Text) -> Result<Ask, Refusal>
     added(alloc, name, &file)
 }
 
-/// Whether a text may be the name of a program.
-fn is_name(name: &Text) -> bool
+/// Whether a text may be the name of a program or of a subscription.
+pub(super) fn is_name(name: &Text) -> bool
     ensures { result ≡ is_name name.now }
 {
     let length = name.as_bytes().len();

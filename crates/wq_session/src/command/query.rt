@@ -1,9 +1,10 @@
 //! `query`: which files there are, and which of them changed. It is read, and its expression compiled, before the
 //! shelf is held; while it is held a program is looked up by its name and the cursor moved; the files are listed without it.
-ghost use Rattle.std.specs.Prelude.{◌≡◌, Some, false, is_none, option_map, IfOk};
+ghost use Rattle.std.specs.Prelude.{◌≡◌, List, Some, false, is_none, option_map, IfOk};
 ghost use Rattle.serde_json.specs.Data.{Data};
 ghost use Rattle.serde_json.specs.View.{view as data_of, items_view};
 ghost use Rattle.wq_clock.specs.Instance.{instance_data};
+ghost use Rattle.wq_follow.specs.Subscription.{SubscriptionData};
 ghost use Rattle.wq_query.specs.Query.{asked_of, planned};
 ghost use Rattle.wq_registry.specs.Root.{numbered};
 ghost use Rattle.wq_session.specs.Answer.{Finishes};
@@ -126,7 +127,7 @@ fn begin_read(
 }
 
 /// The program that says which files match a query.
-fn program_for(read: &ReadQuery, shelf: &Shelf<()>) -> Result<Arc<Program>, Refusal>
+pub(super) fn program_for(read: &ReadQuery, shelf: &Shelf<()>) -> Result<Arc<Program>, Refusal>
     requires { IsRead read.now }
     ensures { FindsProgram (asked_of (read.now).query) shelf.now result }
 {
@@ -198,8 +199,9 @@ pub(crate) fn listed(
     instance: &Instance,
     view: &View,
 ) -> Out
-    ensures { Finishes (evaluates (planned plan.now) cursor)
-        (Some (record { instance = instance_data instance.now; view = Some view.now })) result }
+    ensures { (follows : List SubscriptionData) → Finishes (evaluates (planned plan.now) cursor)
+        (Some (record { instance = instance_data instance.now; view = Some view.now }))
+        follows result follows }
 {
     let Ok(text) = answer_bytes(alloc, plan, instance, view) else {
         return Out::runs_out(cursor);

@@ -4,7 +4,7 @@ use Rattle.wq_session.proofs.Before.{taken_as}
 use Rattle.wq_session.specs.At.{at_data}
 use Rattle.wq_session.specs.Prepared.{asked, asked_at}
 use Rattle.wq_session.specs.Work.{work_data}
-use Rattle.wq_session.proofs.session.Session.prepare_and_take.Goals as goal
+use Rattle.wq_session.proofs.session.prepare_and_take.Goals as goal
 
 pub returns : goal.returns
 returns c =

@@ -1,0 +1,169 @@
+-- Work that begins or ends a subscription leaves the shelf.
+use Rattle.std.proofs.Common.{◌≡◌, ℕ, Bool, true, false, not, if◌then◌else◌, List, Option, Some, None, Result, Ok, Err, refl}
+use mathlib.Core.Bool.{false≢true}
+use Rattle.serde_json.specs.Data.{Data}
+use Rattle.serde_json.specs.View.{view as data_of}
+use Rattle.wq_base.specs.Fault.{or_fault, or_its_fault, or_own_fault, unless_fault}
+use Rattle.wq_clock.specs.Instance.{InstanceData}
+use Rattle.wq_code.specs.declared.raw.Raw.{Raw}
+use Rattle.wq_follow.specs.Subscription.{subscribed}
+use Rattle.wq_query.specs.Query.{QueryData}
+use Rattle.wq_query.specs.Reading.{asks as queries}
+use Rattle.wq_query.specs.Subscribed.{subscribes as subscription_of}
+use Rattle.wq_query.specs.declared.fault.QueryFault.{QueryFault}
+use Rattle.wq_registry.specs.Limit.{max_programs}
+use Rattle.wq_registry.specs.ByName.{has_no_place}
+use Rattle.wq_registry.specs.Shelf.{root_has_no_place}
+use Rattle.wq_view.specs.View.{ViewData}
+use Rattle.wq_session.specs.At.{AtData, ShelfNow, is_watched}
+use Rattle.wq_session.specs.Begun.{begun, or_refused, takes_memory, tried}
+use Rattle.wq_session.specs.Clock.{clock_data}
+use Rattle.wq_session.specs.Out.{OutData, replies}
+use Rattle.wq_session.specs.Program.{is_name}
+use Rattle.wq_session.specs.Query.{begun_query, has_place, moved_cursor, plan_at, program_for, used_at}
+use Rattle.wq_session.specs.Subscribe.{begun_subscription, first_plan}
+use Rattle.wq_session.specs.Work.{BegunData, WorkData, begins, drops, evaluates, says, saying}
+use Rattle.wq_session.specs.declared.ask.Ask.{Ask}
+use Rattle.wq_session.specs.declared.ask.Ask.TheVariants.{Refused, Watch, ListRoots, Unwatch}
+use Rattle.wq_session.specs.declared.ask.Ask.TheVariants.{Query as AsksQuery, Clock, Version}
+use Rattle.wq_session.specs.declared.ask.Ask.TheVariants.{SocketName, ShutDown, AddProgram, ListPrograms}
+use Rattle.wq_session.specs.declared.ask.Ask.TheVariants.{DeleteProgram, Leave, Nothing, Subscribe, Unsubscribe}
+use Rattle.wq_session.specs.declared.refusal.Refusal.{Refusal}
+use Rattle.wq_session.specs.declared.refusal.Refusal.TheVariants.{NotWatched, Query as BadQuery, ShelfFull, TooManyRoots, BadName}
+
+-- whether work begins or ends a subscription
+abbrev pub is_followed : WorkData → Bool
+is_followed (says out) = false
+is_followed (evaluates plan cursor) = false
+is_followed (begins s) = true
+is_followed (drops number name) = true
+
+-- if it does, memory may be taken for it, and the shelf stays
+abbrev Stays : Ask → ShelfNow → Result BegunData Refusal → Type 0
+Stays ask shelf (Ok b) = is_followed b.work ≡ true → (takes_memory ask ≡ true) × (b.shelf ≡ shelf)
+Stays ask shelf (Err refusal) = Unit {0}
+
+module _ (ask : Ask) (shelf : ShelfNow) where
+  -- what is said does not
+  said : (out : OutData) (after : ShelfNow) → Stays ask shelf (Ok (record { work = says out; shelf = after }))
+  said out after = λ is. absurd (false≢true is)
+
+  unless_said : (refusal : Refusal) (test : Bool) (out : OutData) (after : ShelfNow)
+      → Stays ask shelf (unless_fault refusal test (Ok (record { work = says out; shelf = after })))
+  unless_said refusal false out after = tt
+  unless_said refusal true out after = said out after
+
+  -- what follows if the root is watched
+  if_watched : (at : AtData) (test : Bool) (next : AtData → Result BegunData Refusal) → Stays ask shelf (next at)
+      → Stays ask shelf (or_fault NotWatched (if test then Some at else None) next)
+  if_watched at false next so = tt
+  if_watched at true next so = so
+
+  -- what is said of a view
+  of_view : (view : Option ViewData) (out : ViewData → OutData)
+      → Stays ask shelf (or_fault NotWatched view (λ view. Ok (saying (out view) shelf)))
+  of_view None out = tt
+  of_view (Some view) out = said (out view) shelf
+
+  with_place : (root tick : ℕ) (q : QueryData) (program : Option Raw) (test : Bool)
+      → Stays ask shelf (unless_fault ShelfFull test (Ok (record {
+        work = evaluates (plan_at root q program shelf) (moved_cursor root q.since);
+        shelf = used_at root q.since tick shelf;
+      })))
+  with_place root tick q program false = tt
+  with_place root tick q program true = λ is. absurd (false≢true is)
+
+  with_program : (root tick : ℕ) (q : QueryData) (program : Result (Option Raw) Refusal)
+      → Stays ask shelf (or_own_fault program (λ program.
+      unless_fault ShelfFull (has_place root q.since shelf) (
+      Ok (record {
+        work = evaluates (plan_at root q program shelf) (moved_cursor root q.since);
+        shelf = used_at root q.since tick shelf;
+      }))))
+  with_program root tick q (Err refusal) = tt
+  with_program root tick q (Ok program) = with_place root tick q program (has_place root q.since shelf)
+
+  with_query : (root tick : ℕ) (q : Result QueryData QueryFault)
+      → Stays ask shelf (or_its_fault BadQuery q (λ q. begun_query root tick q shelf))
+  with_query root tick (Err fault) = tt
+  with_query root tick (Ok q) = with_program root tick q (program_for q shelf)
+
+  with_view : (instance : InstanceData) (d : Data) (view : Option ViewData)
+      → Stays ask shelf (or_fault NotWatched view (λ view.
+      or_its_fault BadQuery (queries instance d) (λ q. begun_query instance.root view.tick q shelf)))
+  with_view instance d None = tt
+  with_view instance d (Some view) = with_query instance.root view.tick (queries instance d)
+
+  module _ (takes : takes_memory ask ≡ true) where
+    -- what `subscribe` comes to
+    found : (root name : List ℕ) (number : ℕ) (q : QueryData) (program : Result (Option Raw) Refusal)
+        → Stays ask shelf (or_own_fault program (λ program.
+        Ok (record { work = begins (subscribed name root number (first_plan q program)); shelf = shelf })))
+    found root name number q (Err refusal) = tt
+    found root name number q (Ok program) = λ is. (takes, refl)
+
+    subscribed_as : (root name : List ℕ) (number : ℕ) (test : Bool) (q : Result QueryData QueryFault)
+        → Stays ask shelf (unless_fault BadName test (
+        or_its_fault BadQuery q (λ q. begun_subscription root name number q shelf)))
+    subscribed_as root name number false q = tt
+    subscribed_as root name number true (Err fault) = tt
+    subscribed_as root name number true (Ok q) = found root name number q (program_for q shelf)
+
+    with_subscription : (root name : List ℕ) (instance : InstanceData) (d : Data) (view : Option ViewData)
+        → Stays ask shelf (or_fault NotWatched view (λ view. unless_fault BadName (is_name name) (
+        or_its_fault BadQuery (subscription_of instance d) (λ q. begun_subscription root name instance.root q shelf))))
+    with_subscription root name instance d None = tt
+    with_subscription root name instance d (Some view) =
+        subscribed_as root name instance.root (is_name name) (subscription_of instance d)
+
+    -- what `unsubscribe` comes to
+    with_name : (number : ℕ) (name : List ℕ) (test : Bool)
+        → Stays ask shelf (unless_fault BadName test (Ok (record { work = drops number name; shelf = shelf })))
+    with_name number name false = tt
+    with_name number name true = λ is. (takes, refl)
+
+-- what an ask comes to
+stays : (ask : Ask) (at : Option AtData) (shelf : ShelfNow) → Stays ask shelf (tried ask at shelf)
+stays (Refused refusal) at shelf = tt
+stays (Watch root) None shelf = tt
+stays (Watch root) (Some at) shelf =
+    unless_said (Watch root) shelf TooManyRoots (not (root_has_no_place root (at.instance).root shelf)) _ _
+stays ListRoots at shelf = λ is. absurd (false≢true is)
+stays (Unwatch root) None shelf = tt
+stays (Unwatch root) (Some at) shelf =
+    if_watched (Unwatch root) shelf at (is_watched root at shelf) _ (λ is. absurd (false≢true is))
+stays (AsksQuery root crawl q) None shelf = tt
+stays (AsksQuery root crawl q) (Some at) shelf =
+    if_watched (AsksQuery root crawl q) shelf at (is_watched root at shelf) _
+    (with_view (AsksQuery root crawl q) shelf at.instance (data_of q) at.view)
+stays (Clock root crawl) None shelf = tt
+stays (Clock root crawl) (Some at) shelf =
+    if_watched (Clock root crawl) shelf at (is_watched root at shelf) _
+    (of_view (Clock root crawl) shelf at.view (λ view. replies (clock_data at.instance view)))
+stays Version at shelf = λ is. absurd (false≢true is)
+stays SocketName at shelf = λ is. absurd (false≢true is)
+stays ShutDown at shelf = λ is. absurd (false≢true is)
+stays (AddProgram name program) at shelf =
+    unless_said (AddProgram name program) shelf ShelfFull (not (has_no_place max_programs name shelf.programs)) _ _
+stays ListPrograms at shelf = λ is. absurd (false≢true is)
+stays (DeleteProgram name) at shelf = λ is. absurd (false≢true is)
+stays (Subscribe root name q) None shelf = tt
+stays (Subscribe root name q) (Some at) shelf =
+    if_watched (Subscribe root name q) shelf at (is_watched root at shelf) _
+    (with_subscription (Subscribe root name q) shelf refl root name at.instance (data_of q) at.view)
+stays (Unsubscribe root name) None shelf = tt
+stays (Unsubscribe root name) (Some at) shelf =
+    if_watched (Unsubscribe root name) shelf at (is_watched root at shelf) _
+    (with_name (Unsubscribe root name) shelf refl (at.instance).root name (is_name name))
+stays Leave at shelf = λ is. absurd (false≢true is)
+stays Nothing at shelf = λ is. absurd (false≢true is)
+
+-- so where such work was begun
+pub followed_stays : (ask : Ask) (at : Option AtData) (shelf : ShelfNow) → is_followed (begun ask at shelf).work ≡ true
+    → (takes_memory ask ≡ true) × ((begun ask at shelf).shelf ≡ shelf)
+followed_stays ask at shelf is = by (tried ask at shelf) (stays ask at shelf) is
+  where
+    by : (r : Result BegunData Refusal) → Stays ask shelf r → is_followed (or_refused r shelf).work ≡ true
+        → (takes_memory ask ≡ true) × ((or_refused r shelf).shelf ≡ shelf)
+    by (Ok b) so is = so is
+    by (Err refusal) so is = absurd (false≢true is)

@@ -1,0 +1,12 @@
+-- What is ended is what the work comes to.
+use Rattle.std.proofs.Common.{ap, option_map, subst, sym}
+use Rattle.wq_session.specs.Answer.{Finishes}
+use Rattle.wq_session.specs.At.{at_data}
+use Rattle.wq_session.specs.Followed.{follows_of}
+use Rattle.wq_session.specs.Work.{WorkData, work_data}
+use Rattle.wq_session.proofs.session.Session.finish.Goals as goal
+
+pub returns-in-Drops : goal.returns-in-Drops
+returns-in-Drops c =
+    subst (λ (w : WorkData). Finishes w (option_map at_data c.args.at) (follows_of c.args.self.now) c.drop_called.result
+    (follows_of c.drop_called.new.self)) (sym (ap work_data c.in-Drops.is)) (c.drop_called.ensures (option_map at_data c.args.at))
