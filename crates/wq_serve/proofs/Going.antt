@@ -5,37 +5,53 @@ use Rattle.std.proofs.lemmas.List.{append-nil, append_assoc}
 use Rattle.wq_stream.specs.declared.event.Event.{Event}
 use Rattle.wq_session.specs.Out.{OutData}
 use Rattle.wq_serve.specs.Limit.{max_events}
-use Rattle.wq_serve.specs.Serving.{GoesOn, IsServed, PlaceData, Serves, line_for}
+use Rattle.wq_stream.specs.declared.event.Event.TheVariants.{Line, Long, Binary, Idle, End, Fault}
+use Rattle.wq_session.specs.Reading.{Asks}
+use Rattle.wq_session.specs.declared.ask.Ask.{Ask}
+use Rattle.wq_serve.specs.Desk.{StandData}
+use Rattle.wq_serve.specs.Ready.{KnownData}
+use Rattle.wq_serve.specs.Serving.{Does, GoesOn, IsAnswered, IsServed, PlaceData, Serves, written_for}
 use Rattle.wq_base.specs.Writing.{WritesFront}
 use Rattle.wq_base.proofs.Fronts.{appends_then}
 use Rattle.wq_clock.specs.declared.run.Run.{Run}
 
+-- an event that is no idle moment asks something, which is answered
+pub does_other : (run : Run) (event : Event) (before : KnownData) (stand : StandData) (out : OutData) (after : KnownData) (left : StandData)
+    → ((root : ℕ) → event ≡ Idle root → ⊥) → (ask : Ask) → Asks event ask → IsAnswered run ask before stand out after left
+    → Does run event before stand out after left
+does_other run (Idle root) before stand out after left other ask asks it = absurd (other root refl)
+does_other run (Line line) before stand out after left other ask asks it = (ask, asks, it)
+does_other run Long before stand out after left other ask asks it = (ask, asks, it)
+does_other run Binary before stand out after left other ask asks it = (ask, asks, it)
+does_other run End before stand out after left other ask asks it = (ask, asks, it)
+does_other run Fault before stand out after left other ask asks it = (ask, asks, it)
+
 pub goes_on_by : (run : Run) (before : PlaceData) (events : List Event) (lines : List ℕ) (now : PlaceData) (event : Event) (out : OutData) (after : PlaceData)
     → GoesOn run before events lines now → Serves run now event out after → out.goes_on ≡ true
-    → GoesOn run before (events ++ event ∷ []) (lines ++ line_for out.reply) after
+    → GoesOn run before (events ++ event ∷ []) (lines ++ written_for out) after
 goes_on_by run before [] lines now event out after (none, same) serves on = (
   out,
   after,
   [],
   subst (λ p. Serves run p event out after) same serves,
   on,
-  ap (λ l. l ++ line_for out.reply) none ∙ sym (append-nil (line_for out.reply)),
+  ap (λ l. l ++ written_for out) none ∙ sym (append-nil (written_for out)),
   (refl, refl),
 )
 goes_on_by run before (first ∷ events) lines now event out after (given, next, rest, served, went_on, is, later) serves on = (
   given,
   next,
-  rest ++ line_for out.reply,
+  rest ++ written_for out,
   served,
   went_on,
-  ap (λ l. l ++ line_for out.reply) is ∙ append_assoc (line_for given.reply) rest (line_for out.reply),
+  ap (λ l. l ++ written_for out) is ∙ append_assoc (written_for given) rest (written_for out),
   goes_on_by run next events rest now event out after later serves on,
 )
 
 -- a session ends well with an event after which it does not go on
 pub ends_well : (run : Run) (before : PlaceData) (old mid new : Option (List ℕ)) (events : List Event) (lines : List ℕ) (now : PlaceData) (event : Event)
     (out : OutData) (after : PlaceData) (shut : Bool) → length events < max_events → GoesOn run before events lines now → Serves run now event out after
-    → out.goes_on ≡ false → shut ≡ out.shuts → Appends old mid lines → Appends mid new (line_for out.reply)
+    → out.goes_on ≡ false → shut ≡ out.shuts → Appends old mid lines → Appends mid new (written_for out)
     → IsServed run before old new after (record { shut = shut; fault = false })
 ends_well run before old mid new events lines now event out after shut few goes serves off shuts first second =
     inl (record {
@@ -49,13 +65,13 @@ ends_well run before old mid new events lines now event out after shut few goes 
       serves = serves;
       ends = λ _. off;
       shuts = shuts;
-      wrote = appends_then old mid new lines (line_for out.reply) first second;
+      wrote = appends_then old mid new lines (written_for out) first second;
     })
 
--- a session ends with an event the reply to which was not written whole
+-- a session ends with an event the lines for which were not written whole
 pub ends_within : (run : Run) (before : PlaceData) (old mid new : Option (List ℕ)) (events : List Event) (lines : List ℕ) (now : PlaceData) (event : Event)
     (out : OutData) (after : PlaceData) (shut : Bool) → length events < max_events → GoesOn run before events lines now → Serves run now event out after
-    → shut ≡ out.shuts → Appends old mid lines → WritesFront mid new (line_for out.reply)
+    → shut ≡ out.shuts → Appends old mid lines → WritesFront mid new (written_for out)
     → IsServed run before old new after (record { shut = shut; fault = true })
 ends_within run before old mid new events lines now event out after shut few goes serves shuts first front =
     inl (record {

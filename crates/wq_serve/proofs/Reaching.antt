@@ -35,8 +35,10 @@ module _ (answers_are_calls : AnswersAreCalls) where
   -- the calls of a turn
   calls : (turn : TurnData) (before after : ShelfNow) → Turns turn before after → (calls : List CallNow) × (after ≡ after_all calls before)
   calls (takes ask at work) before after taken =
-      let answers = none_unset ask at before after work (finished work at) (settled (finished work at)) taken (inl refl) refl (none_named work at) in
-      let it = answers_are_calls ask at before (settled (finished work at)) after answers in
+      let done = finished work at [] in
+      let answers =
+      none_unset ask at [] done.follows work done.out (settled done.out) before after taken (inl refl) refl (none_named work at []) in
+      let it = answers_are_calls ask at before [] (settled done.out) after done.follows answers in
       (it.0, it.2)
   calls (unsets root name) before after is = (unsets_cursor root name ∷ [], is)
 

@@ -9,13 +9,15 @@ use Rattle.wq_session.specs.Crawl.{crawl_refusal}
 use Rattle.wq_session.specs.Need.{NeedData, none, look, crawl, watch, unwatch, need_of}
 use Rattle.wq_session.specs.Out.{OutData}
 use Rattle.wq_session.specs.At.{AtData, ShelfNow}
+use Rattle.wq_session.specs.Followed.{follows_of}
 use Rattle.wq_session.specs.declared.ask.Ask.{Ask}
 use Rattle.wq_crawl.specs.declared.fault.CrawlFault.{CrawlFault}
-use Rattle.wq_serve.specs.Desk.{AnswersAt}
+use Rattle.wq_serve.specs.Desk.{AnswersAt, StandData}
 use Rattle.wq_serve.specs.Ready.{KnownData, Learns, ended}
 use Rattle.wq_crawl.specs.Crawl.{CrawlerData}
 use Rattle.wq_serve.specs.Run.{ShowsAt}
 use Rattle.wq_clock.specs.declared.run.Run.{Run}
+use Rattle.wq_serve.specs.declared.client.Client.{Client}
 use Rattle.wq_serve.specs.declared.looking.SharedAt.{SharedAt}
 
 -- what is looked at, of a root with a share of its view
@@ -24,6 +26,10 @@ shared_data shared = record {
   instance = instance_data shared.instance;
   view = Some (shared.view).value;
 }
+
+-- what stands when a client is answered: the shelf, if one is shown, and the client's subscriptions
+abbrev pub stand_of : Option ShelfNow → Client → StandData
+stand_of shelf client = record { shelf = shelf; follows = follows_of client.session }
 
 -- what is known of the roots, from its parts
 abbrev pub known : Option CrawlerData → List RootEvent → KnownData
@@ -43,19 +49,19 @@ SeesNeeded run need before at after =
     (IsPrefix before after × ShowsNeeded run need after at) ⊎ ((after ≡ before) × (at ≡ None))
 
 -- the root is looked at, and the ask is answered at it
-abbrev pub SeesFirst : Run → Ask → List RootEvent → Option ShelfNow → OutData → List RootEvent
-    → Option ShelfNow → Type 0
-SeesFirst run ask before shelf out after left =
-    (at : Option AtData) × SeesNeeded run (need_of ask) before at after × AnswersAt shelf ask at out left
+abbrev pub SeesFirst : Run → Ask → List RootEvent → StandData → OutData → List RootEvent
+    → StandData → Type 0
+SeesFirst run ask before stand out after left =
+    (at : Option AtData) × SeesNeeded run (need_of ask) before at after × AnswersAt stand ask at out left
 
 -- the roots told this, and then the root is looked at, and the ask is answered
 abbrev pub AnswersAfter : Run → Ask → Result (Option (List RootEvent)) CrawlFault → List RootEvent
-    → Option ShelfNow → OutData → List RootEvent → Option ShelfNow → Type 0
-AnswersAfter run ask (Ok told) before shelf out after left =
+    → StandData → OutData → List RootEvent → StandData → Type 0
+AnswersAfter run ask (Ok told) before stand out after left =
     (heard : List RootEvent) × Learns before (Ok told) heard
-    × SeesFirst run ask heard shelf out after left
-AnswersAfter run ask (Err fault) before shelf out after left =
-    MayRefuse (crawl_refusal fault) out × (after ≡ before) × (left ≡ shelf)
+    × SeesFirst run ask heard stand out after left
+AnswersAfter run ask (Err fault) before stand out after left =
+    MayRefuse (crawl_refusal fault) out × (after ≡ before) × (left ≡ stand)
 
 -- the number of the root that an ask needs is looked for
 abbrev pub SeesNumber : Run → NeedData → List RootEvent → Option InstanceData → List RootEvent
@@ -66,12 +72,12 @@ SeesNumber run need before instance after =
 
 -- the end of a root of this number was told, or refused, and then the ask is answered
 abbrev pub AnswersEnd : InstanceData → Ask → Result (List RootEvent) CrawlFault → List RootEvent
-    → Option ShelfNow → OutData → List RootEvent → Option ShelfNow → Type 0
-AnswersEnd instance ask (Ok told) before shelf out after left =
+    → StandData → OutData → List RootEvent → StandData → Type 0
+AnswersEnd instance ask (Ok told) before stand out after left =
     Learns before (Ok (Some told)) after
-    × AnswersAt shelf ask (Some (ended instance)) out left
-AnswersEnd instance ask (Err fault) before shelf out after left =
-    MayRefuse (crawl_refusal fault) out × (after ≡ before) × (left ≡ shelf)
+    × AnswersAt stand ask (Some (ended instance)) out left
+AnswersEnd instance ask (Err fault) before stand out after left =
+    MayRefuse (crawl_refusal fault) out × (after ≡ before) × (left ≡ stand)
 
 -- this holds where an ask needs that a root is retired
 abbrev pub IfUnwatches : NeedData → Type 0 → Type 0

@@ -1,6 +1,7 @@
 -- What happens at the shelf that all clients share, while it is held for one of them.
 -- No public document is behind it.
-use Rattle.std.specs.Prelude.{◌≡◌, Option, Some, None, option_map}
+use Rattle.std.specs.Prelude.{◌≡◌, List, Option, Some, None, option_map}
+use Rattle.wq_follow.specs.Subscription.{SubscriptionData}
 use Rattle.wq_registry.specs.Shelf.{cursor_unset}
 use Rattle.wq_session.specs.Answer.{AnswersAsk, TakesAsk}
 use Rattle.wq_session.specs.Work.{WorkData}
@@ -22,10 +23,23 @@ HoldsShelf None ask at work after =
 abbrev pub Unsets : Option ShelfNow → Cursor → Option ShelfNow → Type 0
 Unsets shelf cursor after = after ≡ option_map (cursor_unset cursor.root cursor.name) shelf
 
+-- what stands when a session answers: the shelf, if one is shown, and the session's subscriptions
+pub record StandData : Type 0 where
+  pub shelf : Option ShelfNow
+  pub follows : List SubscriptionData
+
 -- an ask is answered at a shelf: at the one that is shown, and what it leaves is then shown; or,
--- where none is shown, at some shelf to which leads what sessions did
-abbrev pub AnswersAt : Option ShelfNow → Ask → Option AtData → OutData → Option ShelfNow → Type 0
-AnswersAt (Some shelf) ask at out after =
-    (left : ShelfNow) × AnswersAsk ask at shelf out left × (after ≡ Some left)
-AnswersAt None ask at out after =
-    (shelf : ShelfNow) × (left : ShelfNow) × IsReached shelf × AnswersAsk ask at shelf out left × (after ≡ None)
+-- where none is shown, at some shelf to which leads what sessions did. The subscriptions of the
+-- session are these, and then those that are left
+abbrev pub AnswersShelf : Option ShelfNow → List SubscriptionData → Ask → Option AtData → OutData
+    → Option ShelfNow → List SubscriptionData → Type 0
+AnswersShelf (Some shelf) follows ask at out after left =
+    (next : ShelfNow) × AnswersAsk ask at shelf follows out next left × (after ≡ Some next)
+AnswersShelf None follows ask at out after left =
+    (shelf : ShelfNow) × (next : ShelfNow) × IsReached shelf
+    × AnswersAsk ask at shelf follows out next left × (after ≡ None)
+
+-- an ask is answered where this stands
+abbrev pub AnswersAt : StandData → Ask → Option AtData → OutData → StandData → Type 0
+AnswersAt stand ask at out after =
+    AnswersShelf stand.shelf stand.follows ask at out after.shelf after.follows

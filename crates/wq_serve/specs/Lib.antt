@@ -3,6 +3,7 @@ pub mod Reached
 pub mod Desk
 pub mod Run
 pub mod Ready
+pub mod Idling
 pub mod Serving
 pub mod Limit
 pub mod Answering

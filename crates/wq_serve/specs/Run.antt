@@ -1,10 +1,10 @@
 -- What is looked at of a root in a run of the server.
 -- No public document is behind it.
-use Rattle.std.specs.Prelude.{◌≡◌, ℕ, List, Option, Some, None}
+use Rattle.std.specs.Prelude.{◌≡◌, ℕ, true, false, List, Option, Some, None}
 use Rattle.wq_clock.specs.Run.{instance_of, run_data}
 use Rattle.wq_clock.specs.declared.run.Run.{Run}
 use Rattle.wq_view.specs.View.{IsViewOf, ViewData}
-use Rattle.wq_live.specs.Event.{IsLawfulList, Root, shown_root, passes_over}
+use Rattle.wq_live.specs.Event.{IsLawfulList, Root, is_shown, shown_root, passes_over}
 use Rattle.wq_live.specs.declared.event.RootEvent.{RootEvent}
 use Rattle.wq_session.specs.At.{AtData}
 
@@ -22,3 +22,16 @@ ShowsRoot run text events (Some at) =
 -- published, and this is what it shows
 abbrev pub ShowsAt : Run → List ℕ → List RootEvent → Option AtData → Type 0
 ShowsAt run text events at = IsLawfulList events × ShowsRoot run text events at
+
+-- what a list of events shows of the root of this number: the view of the passes over it, if it is
+-- shown there
+abbrev pub ShowsRootOf : Run → ℕ → List RootEvent → Option AtData → Type 0
+ShowsRootOf run number events None = is_shown events number ≡ false
+ShowsRootOf run number events (Some at) =
+    (is_shown events number ≡ true) × (at.instance ≡ instance_of (run_data run) number)
+    × (view : ViewData) × (at.view ≡ Some view) × IsViewOf (passes_over number events) view
+
+-- what is looked at of the root of this number: the list of the look is lawful, and this is what it
+-- shows
+abbrev pub ShowsNumber : Run → ℕ → List RootEvent → Option AtData → Type 0
+ShowsNumber run number events at = IsLawfulList events × ShowsRootOf run number events at

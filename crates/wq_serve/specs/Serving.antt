@@ -6,7 +6,9 @@ use Rattle.std.specs.Prelude.{codes}
 use Rattle.std.specs.Prelude.{Option, Some, None, Ok, Err}
 use Rattle.std.specs.Io.KnownBytes.{Appends}
 use Rattle.wq_base.specs.Writing.{WritesFront}
+use Rattle.wq_follow.specs.Subscription.{SubscriptionData}
 use Rattle.wq_stream.specs.declared.event.Event.{Event}
+use Rattle.wq_stream.specs.declared.event.Event.TheVariants.{Idle}
 use Rattle.wq_session.specs.Answer.{MayRefuse}
 use Rattle.wq_session.specs.Crawl.{crawl_refusal}
 use Rattle.wq_session.specs.Need.{need_of}
@@ -16,7 +18,8 @@ use Rattle.wq_session.specs.Reading.{Asks}
 use Rattle.wq_session.specs.declared.ask.Ask.{Ask}
 use Rattle.wq_live.specs.declared.event.RootEvent.{RootEvent}
 use Rattle.wq_serve.specs.Answering.{known}
-use Rattle.wq_serve.specs.Desk.{AnswersAt}
+use Rattle.wq_serve.specs.Desk.{AnswersAt, StandData}
+use Rattle.wq_serve.specs.Idling.{IsIdled}
 use Rattle.wq_serve.specs.Inbox.{Hands}
 use Rattle.wq_serve.specs.Limit.{max_events}
 use Rattle.wq_serve.specs.Ready.{KnownData, ReadyData, Readies}
@@ -24,48 +27,73 @@ use Rattle.wq_crawl.specs.Crawl.{CrawlerData}
 use Rattle.wq_clock.specs.declared.run.Run.{Run}
 
 -- what the ends of a session show: the events that are left, what is known of the roots, and the
--- shelf
+-- shelf; and the subscriptions of the session
 pub record PlaceData : Type 0 where
   pub left : Option (List Event)
   pub known : KnownData
   pub shelf : Option ShelfNow
+  pub follows : List SubscriptionData
+
+-- what stands there when the session answers
+abbrev pub stand_at : PlaceData → StandData
+stand_at place = record { shelf = place.shelf; follows = place.follows }
 
 -- an ask that is ready is answered at the shelf; or its line is refused since its root could not be
--- crawled, opened or retired, which leaves the shelf
-abbrev pub Replies : ReadyData → Ask → Option ShelfNow → OutData → Option ShelfNow → Type 0
-Replies (Ok at) ask shelf out after = AnswersAt shelf ask at out after
-Replies (Err fault) ask shelf out after = MayRefuse (crawl_refusal fault) out × (after ≡ shelf)
+-- crawled, opened or retired, which leaves the shelf and the subscriptions
+abbrev pub Replies : ReadyData → Ask → StandData → OutData → StandData → Type 0
+Replies (Ok at) ask stand out after = AnswersAt stand ask at out after
+Replies (Err fault) ask stand out after = MayRefuse (crawl_refusal fault) out × (after ≡ stand)
 
 -- an ask is answered, when what it needs was done
-abbrev pub IsAnswered : Run → Ask → KnownData → Option ShelfNow → OutData → KnownData
-    → Option ShelfNow → Type 0
-IsAnswered run ask before shelf out after left =
+abbrev pub IsAnswered : Run → Ask → KnownData → StandData → OutData → KnownData → StandData → Type 0
+IsAnswered run ask before stand out after left =
     (ready : ReadyData) × Readies run (need_of ask) before ready after
-    × Replies ready ask shelf out left
+    × Replies ready ask stand out left
+
+-- what an event comes to: at an idle moment the subscriptions of a root are told, and each other
+-- event asks something, which is answered
+abbrev pub Does : Run → Event → KnownData → StandData → OutData → KnownData → StandData → Type 0
+Does run (Idle root) before stand out after left = IsIdled run root before stand out after left
+Does run event before stand out after left =
+    (ask : Ask) × Asks event ask × IsAnswered run ask before stand out after left
 
 -- an event is taken: this is given out for it, and the ends are then so
 abbrev pub Serves : Run → PlaceData → Event → OutData → PlaceData → Type 0
 Serves run before event out after =
-    (ask : Ask) × Hands before.left event after.left × Asks event ask
-    × IsAnswered run ask before.known before.shelf out after.known after.shelf
+    Hands before.left event after.left
+    × Does run event before.known (stand_at before) out after.known (stand_at after)
 
 -- what is written of a reply, if there is one: its text and a newline
 abbrev pub line_for : Option (List ℕ) → List ℕ
 line_for None = []
 line_for (Some text) = text ++ codes "\n"
 
+-- what is written of lists: each one's text and a newline
+abbrev pub lines_for : List (List ℕ) → List ℕ
+lines_for [] = []
+lines_for (text ∷ later) = (text ++ codes "\n") ++ lines_for later
+
+-- what is written of what is given out: the reply, and then the lists
+abbrev pub written_for : OutData → List ℕ
+written_for out = line_for out.reply ++ lines_for out.lists
+
 -- these events are taken one after the other; after each the session goes on; this is written
 abbrev pub GoesOn : Run → PlaceData → List Event → List ℕ → PlaceData → Type 0
 GoesOn run before [] written after = (written ≡ []) × (after ≡ before)
 GoesOn run before (event ∷ later) written after =
     (out : OutData) × (next : PlaceData) × (rest : List ℕ) × Serves run before event out next
-    × (out.goes_on ≡ true) × (written ≡ line_for out.reply ++ rest)
+    × (out.goes_on ≡ true) × (written ≡ written_for out ++ rest)
     × GoesOn run next later rest after
 
 -- the ends, from their parts
 abbrev pub place : Option (List Event) → Option CrawlerData → List RootEvent → Option ShelfNow
-    → PlaceData
-place left roots seen shelf = record { left = left; known = known roots seen; shelf = shelf }
+    → List SubscriptionData → PlaceData
+place left roots seen shelf follows = record {
+  left = left;
+  known = known roots seen;
+  shelf = shelf;
+  follows = follows;
+}
 
 -- how a session came to its end
 pub record EndData : Type 0 where
@@ -75,13 +103,13 @@ pub record EndData : Type 0 where
   pub fault : Bool
 
 -- what the writer holds at the end of a session: all that was to be written, unless it failed
--- within the last reply
+-- within the lines of the last event
 abbrev pub Wrote : Bool → Option (List ℕ) → Option (List ℕ) → List ℕ → List ℕ → Type 0
 Wrote false before after lines last = Appends before after (lines ++ last)
 Wrote true before after lines last =
     (between : Option (List ℕ)) × Appends before between lines × WritesFront between after last
 
--- a session ends with an event, after which it does not go on, or the reply to which is not written
+-- a session ends with an event, after which it does not go on, or the lines for which are not written
 -- whole; after the events before it, it goes on
 pub record EndsBy (run : Run) (before : PlaceData) (old new : Option (List ℕ)) (after : PlaceData)
     (how : EndData) : Type 0 where
@@ -95,7 +123,7 @@ pub record EndsBy (run : Run) (before : PlaceData) (old new : Option (List ℕ))
   pub serves : Serves run between last out after
   pub ends : how.fault ≡ false → out.goes_on ≡ false
   pub shuts : how.shut ≡ out.shuts
-  pub wrote : Wrote how.fault old new lines (line_for out.reply)
+  pub wrote : Wrote how.fault old new lines (written_for out)
 
 -- a session ends since it took as many events as may be
 pub record EndsFull (run : Run) (before : PlaceData) (old new : Option (List ℕ)) (after : PlaceData)

@@ -1,7 +1,8 @@
 //! The answer to an ask: what it needs is done, its root is looked at, and the shelf is held.
 ghost use Rattle.std.specs.Prelude.{◌≡◌, Ok, Some, option_map};
 ghost use Rattle.wq_clock.specs.Instance.{instance_data};
-ghost use Rattle.wq_serve.specs.Answering.{AnswersAfter, AnswersEnd, IfUnwatches, SeesFirst, known, shared_data};
+ghost use Rattle.wq_serve.specs.Answering.{AnswersAfter, AnswersEnd, IfUnwatches, SeesFirst};
+ghost use Rattle.wq_serve.specs.Answering.{known, shared_data, stand_of};
 ghost use Rattle.wq_serve.specs.Desk.{AnswersAt, HoldsShelf};
 ghost use Rattle.wq_serve.specs.Ready.{Learns};
 ghost use Rattle.wq_crawl.specs.Roots.{RootsGive, showing};
@@ -13,21 +14,14 @@ ghost use Rattle.wq_session.specs.At.{at_data};
 ghost use Rattle.wq_session.specs.Prepared.{IsPrepared, asked, asked_at};
 ghost use Rattle.wq_session.specs.Work.{work_data};
 
+use crate::client::Client;
 use crate::desk::Desk;
 use crate::looking::{SharedAt, look_for, number_for, share_for};
 use std::alloc::Global;
-use wq_clock::{Instance, Run};
+use wq_clock::Instance;
 use wq_crawl::{CrawlFault, Roots};
 use wq_live::{Named, Seat, Told};
-use wq_session::{Ask, At, Need, Out, Prepared, Refusal, Session, Work};
-
-/// What a server has for one client.
-#[derive(Drop)]
-pub(crate) struct Client {
-    pub(crate) alloc: Global,
-    pub(crate) run: Run,
-    pub(crate) session: Session,
-}
+use wq_session::{Ask, At, Need, Out, Prepared, Refusal, Work};
 
 /// Does what an ask needs, and answers it.
 pub(crate) fn answer<N: Named, R: Roots<N>, D: Desk>(
@@ -37,8 +31,9 @@ pub(crate) fn answer<N: Named, R: Roots<N>, D: Desk>(
     roots: &mut R,
     desk: &mut D,
 ) -> (Seat<N>, Out)
-    ensures gets { IsAnswered client.old.run ask (known (R.crawler roots.old) seat) (D.shelf desk.old)
-        result.1 (known (R.crawler roots.new) result.0) (D.shelf desk.new) }
+    ensures gets { IsAnswered client.old.run ask (known (R.crawler roots.old) seat)
+        (stand_of (D.shelf desk.old) client.old) result.1 (known (R.crawler roots.new) result.0)
+        (stand_of (D.shelf desk.new) client.new) }
     ensures run { client.new.run ≡ client.old.run }
 {
     match ask.need() {
@@ -69,12 +64,12 @@ fn watch<N: Named, R: Roots<N>>(roots: &mut R, root: &str) -> Result<Option<Told
 /// Answers an ask at a root, or at none: the shelf is held while it is taken, and not while it is finished.
 #[tactic(auto, using(crate::proofs::Held::held_finish))]
 fn hold<D: Desk>(client: &mut Client, ask: Ask, at: Option<At<'_>>, desk: &mut D) -> Out
-    ensures answers { AnswersAt (D.shelf desk.old) ask (option_map at_data at.entry) result
-        (D.shelf desk.new) }
+    ensures answers { AnswersAt (stand_of (D.shelf desk.old) client.old) ask
+        (option_map at_data at.entry) result (stand_of (D.shelf desk.new) client.new) }
     ensures run { client.new.run ≡ client.old.run }
 {
-    let work = take(client, ask, at, desk);
-    let mut out = work.finish(client.alloc, at);
+    let work = take(client.alloc, ask, at, desk);
+    let mut out = client.session.finish(client.alloc, work, at);
     if let Some(cursor) = client.session.settle(&mut out) {
         desk.unset(cursor);
     }
@@ -82,13 +77,12 @@ fn hold<D: Desk>(client: &mut Client, ask: Ask, at: Option<At<'_>>, desk: &mut D
 }
 
 /// Takes an ask at a root, or at none, at the shelf.
-fn take<D: Desk>(client: &mut Client, ask: Ask, at: Option<At<'_>>, desk: &mut D) -> Work
-    ensures held { HoldsShelf (D.shelf desk.old) ask (option_map at_data at.entry)
-        (work_data result) (D.shelf desk.new) }
-    ensures run { client.new.run ≡ client.old.run }
+fn take<D: Desk>(alloc: Global, ask: Ask, at: Option<At<'_>>, desk: &mut D) -> Work
+    ensures { HoldsShelf (D.shelf desk.old) ask (option_map at_data at.entry) (work_data result)
+        (D.shelf desk.new) }
 {
-    let prepared = prepare(client.alloc, ask, at, desk);
-    desk.hold(client.alloc, &mut client.session, prepared)
+    let prepared = prepare(alloc, ask, at, desk);
+    desk.hold(alloc, prepared)
 }
 
 /// An ask with its query read, and the program of that found at the desk, or compiled and kept there.
@@ -120,8 +114,8 @@ fn look_and_hold<N: Named, D: Desk>(
     seat: Seat<N>,
     desk: &mut D,
 ) -> (Seat<N>, Out)
-    ensures answers { SeesFirst client.old.run ask seat (D.shelf desk.old) result.1 result.0
-        (D.shelf desk.new) }
+    ensures answers { SeesFirst client.old.run ask seat (stand_of (D.shelf desk.old) client.old)
+        result.1 result.0 (stand_of (D.shelf desk.new) client.new) }
     ensures run { client.new.run ≡ client.old.run }
 {
     match seat.look() {
@@ -144,8 +138,8 @@ fn hold_shared<D: Desk>(
     shared: Option<SharedAt>,
     desk: &mut D,
 ) -> Out
-    ensures answers { AnswersAt (D.shelf desk.old) ask (option_map shared_data shared) result
-        (D.shelf desk.new) }
+    ensures answers { AnswersAt (stand_of (D.shelf desk.old) client.old) ask
+        (option_map shared_data shared) result (stand_of (D.shelf desk.new) client.new) }
     ensures run { client.new.run ≡ client.old.run }
 {
     match &shared {
@@ -162,8 +156,9 @@ fn learn_and_hold<N: Named, D: Desk>(
     told: Result<Option<Told<N>>, CrawlFault>,
     desk: &mut D,
 ) -> (Seat<N>, Out)
-    ensures answers { AnswersAfter client.old.run ask told seat (D.shelf desk.old) result.1 result.0
-        (D.shelf desk.new) }
+    ensures answers { AnswersAfter client.old.run ask told seat
+        (stand_of (D.shelf desk.old) client.old) result.1 result.0
+        (stand_of (D.shelf desk.new) client.new) }
     ensures run { client.new.run ≡ client.old.run }
 {
     match told {
@@ -181,8 +176,9 @@ fn unwatch_and_hold<N: Named, R: Roots<N>, D: Desk>(
     roots: &mut R,
     desk: &mut D,
 ) -> (Seat<N>, Out)
-    ensures gets { IfUnwatches (need_of ask) (IsAnswered client.old.run ask (known (R.crawler roots.old) seat)
-        (D.shelf desk.old) result.1 (known (R.crawler roots.new) result.0) (D.shelf desk.new)) }
+    ensures gets { IfUnwatches (need_of ask) (IsAnswered client.old.run ask
+        (known (R.crawler roots.old) seat) (stand_of (D.shelf desk.old) client.old) result.1
+        (known (R.crawler roots.new) result.0) (stand_of (D.shelf desk.new) client.new)) }
     ensures run { client.new.run ≡ client.old.run }
 {
     let (seat, instance) = number_for(client.run, &ask, seat);
@@ -204,8 +200,9 @@ fn hold_at_end<N: Named, D: Desk>(
     told: Result<Told<N>, CrawlFault>,
     desk: &mut D,
 ) -> (Seat<N>, Out)
-    ensures answers { AnswersEnd (instance_data instance) ask told seat (D.shelf desk.old) result.1
-        result.0 (D.shelf desk.new) }
+    ensures answers { AnswersEnd (instance_data instance) ask told seat
+        (stand_of (D.shelf desk.old) client.old) result.1 result.0
+        (stand_of (D.shelf desk.new) client.new) }
     ensures run { client.new.run ≡ client.old.run }
 {
     match told {

@@ -9,7 +9,7 @@ use crate::unset::Unset;
 use std::alloc::Global;
 use std::sync::Arc;
 use wq_registry::{CacheKey, Compiled, Shelf};
-use wq_session::{Cursor, Prepared, Session, Work};
+use wq_session::{Cursor, Prepared, Work};
 use wq_verify::Program;
 
 /// What holds the shelf for a session: for an ask, where a cursor is to be unset, and where a program is found in the cache or
@@ -33,8 +33,8 @@ pub trait Desk {
     fn keep(&mut self, compiled: Compiled)
         ensures { shelf self.new ≡ shelf self.old };
 
-    /// Takes an ask ([`Session::take`]) at the shelf as it stands.
-    fn hold(&mut self, alloc: Global, session: &mut Session, prepared: Prepared<'_>) -> Work
+    /// Takes an ask ([`Prepared::take`]) at the shelf as it stands.
+    fn hold(&mut self, alloc: Global, prepared: Prepared<'_>) -> Work
         requires { IsPrepared prepared }
         ensures { HoldsShelf (shelf self.old) (asked prepared.entry) (asked_at prepared.entry)
             (work_data result) (shelf self.new) };

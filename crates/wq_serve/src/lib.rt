@@ -6,7 +6,9 @@
 #![tactic(auto)]
 
 mod answering;
+mod client;
 mod desk;
+mod idling;
 mod inbox;
 mod lock_desk;
 mod looking;

@@ -7,7 +7,7 @@ use crate::unset::Unset;
 use std::alloc::Global;
 use std::sync::{Arc, Mutex, Wait};
 use wq_registry::{CacheKey, Compiled};
-use wq_session::{Cursor, Prepared, Session, Work};
+use wq_session::{Cursor, Prepared, Work};
 use wq_verify::Program;
 
 /// A desk over a shelf that threads share. It shows no shelf, and keeps none.
@@ -39,8 +39,8 @@ impl<R: Wait + Drop> Desk for LockDesk<R> {
         self.shelf.lock(&self.rt).keep(compiled);
     }
 
-    fn hold(&mut self, alloc: Global, session: &mut Session, prepared: Prepared<'_>) -> Work {
-        self.shelf.lock(&self.rt).take(alloc, session, prepared)
+    fn hold(&mut self, alloc: Global, prepared: Prepared<'_>) -> Work {
+        self.shelf.lock(&self.rt).take(alloc, prepared)
     }
 
     fn unset(&mut self, cursor: Cursor) -> Unset {

@@ -1,7 +1,7 @@
-//! What a session looks at for an ask.
+//! What a session looks at for an ask, and for an idle moment.
 ghost use Rattle.std.specs.Prelude.{◌≡◌, IfOk, Option, Some, option_map};
 ghost use Rattle.wq_serve.specs.Answering.{SeesNumber, ShowsNeeded, shared_data};
-ghost use Rattle.wq_serve.specs.Run.{ShowsAt};
+ghost use Rattle.wq_serve.specs.Run.{ShowsAt, ShowsNumber};
 ghost use Rattle.wq_clock.specs.Instance.{instance_data};
 ghost use Rattle.wq_session.specs.Need.{need_of};
 ghost use Rattle.wq_session.specs.At.{AtData};
@@ -84,6 +84,34 @@ pub(crate) fn root_at<'a, N: Named>(run: Run, root: &str, look: &'a Look<N>) -> 
     ensures { ShowsAt run root.now look.now (option_map at_data result) }
 {
     let (number, view) = look.root(root)?;
+    Some(At {
+        instance: run.instance(number),
+        view: Some(view),
+    })
+}
+
+/// The root of this number with a share of its view, as a look shows it, if it does. Refused where no share can be had.
+pub(crate) fn share_of_number<N: Named>(
+    run: Run,
+    number: u64,
+    look: &Look<N>,
+) -> Result<Option<SharedAt>, AllocError>
+    ensures { IfOk result (λ at. ShowsNumber run number look.now (option_map shared_data at)) }
+{
+    match look.share_of(number)? {
+        None => Ok(None),
+        Some(view) => Ok(Some(SharedAt {
+            instance: run.instance(number),
+            view,
+        })),
+    }
+}
+
+/// The root of this number, as a look shows it, if it does.
+pub(crate) fn number_at<'a, N: Named>(run: Run, number: u64, look: &'a Look<N>) -> Option<At<'a>>
+    ensures { ShowsNumber run number look.now (option_map at_data result) }
+{
+    let view = look.view(number)?;
     Some(At {
         instance: run.instance(number),
         view: Some(view),

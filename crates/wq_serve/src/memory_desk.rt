@@ -6,7 +6,7 @@ use crate::unset::Unset;
 use std::alloc::Global;
 use std::sync::Arc;
 use wq_registry::{CacheKey, Compiled, Shelf};
-use wq_session::{Cursor, Prepared, Session, Work};
+use wq_session::{Cursor, Prepared, Work};
 use wq_verify::Program;
 
 /// A desk over a shelf that nothing else has. It shows the shelf.
@@ -29,8 +29,8 @@ impl Desk for MemoryDesk {
         self.shelf.cache().keep(compiled);
     }
 
-    fn hold(&mut self, alloc: Global, session: &mut Session, prepared: Prepared<'_>) -> Work {
-        session.take(alloc, prepared, &mut self.shelf)
+    fn hold(&mut self, alloc: Global, prepared: Prepared<'_>) -> Work {
+        prepared.take(alloc, &mut self.shelf)
     }
 
     fn unset(&mut self, cursor: Cursor) -> Unset {

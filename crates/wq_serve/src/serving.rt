@@ -1,18 +1,23 @@
 //! A session from its first event to its end.
-ghost use Rattle.std.specs.Prelude.{◌≡◌};
+ghost use Rattle.std.specs.Prelude.{◌≡◌, [], List};
+ghost use Rattle.wq_follow.specs.Subscription.{SubscriptionData};
 ghost use Rattle.wq_serve.specs.Serving.{IsServed, Serves, place};
+ghost use Rattle.wq_session.specs.Followed.{follows_of};
 ghost use Rattle.wq_stream.specs.declared.event.Event.{Event};
 
-use crate::answering::{Client, answer};
+use crate::answering::answer;
+use crate::client::Client;
 use crate::desk::Desk;
+use crate::idling::idle;
 use crate::inbox::Inbox;
-use crate::writing::write_reply;
+use crate::writing::write_out;
 use std::alloc::Global;
 use std::io::Write;
 use wq_clock::Run;
 use wq_crawl::Roots;
 use wq_live::{Named, Seat};
 use wq_session::{Ask, Out, Session};
+use wq_stream::Event;
 
 /// How many events a session takes, 2^62.
 pub const MAX_EVENTS: u64 = 1 << 62;
@@ -28,12 +33,16 @@ pub struct Ended<N: Named> {
     pub fault: bool,
 }
 
-/// Serves one client: takes its events one after the other, and writes a line for each reply.
+/// Serves one client: takes its events one after the other, and writes a line for each reply, and for each list of a
+/// subscription.
 ///
 /// For each line it first does what that needs: the roots are asked, and what they told is learnt; then it looks at the
 /// root; then the shelf is held while the line is taken. No look is open while the roots are asked, nor while a reply is
 /// made and written, unless memory is wanted for a share of the root's view. Where a look is refused, the line is answered as
 /// at a root that is not watched.
+///
+/// At an idle moment of a root it looks at that, and tells the client what changed since the last lists of its
+/// subscriptions. Where the look is refused, it tells that at a later moment.
 ///
 /// It ends where the client has gone, by a line with which a session ends, where the writer fails, and after 2^62 events.
 pub fn serve<N: Named, I: Inbox, W: Write, R: Roots<N>, D: Desk>(
@@ -45,22 +54,23 @@ pub fn serve<N: Named, I: Inbox, W: Write, R: Roots<N>, D: Desk>(
     roots: &mut R,
     desk: &mut D,
 ) -> Ended<N>
-    ensures { IsServed run (place (I.left inbox.old) (R.crawler roots.old) seat (D.shelf desk.old))
+    ensures { (follows : List SubscriptionData) × IsServed run
+        (place (I.left inbox.old) (R.crawler roots.old) seat (D.shelf desk.old) [])
         (W.contents writer.old) (W.contents writer.new)
-        (place (I.left inbox.new) (R.crawler roots.new) result.seat (D.shelf desk.new))
+        (place (I.left inbox.new) (R.crawler roots.new) result.seat (D.shelf desk.new) follows)
         (record { shut = result.shut; fault = result.fault }) }
 {
     let mut client = Client {
         alloc,
         run,
-        session: Session::new(),
+        session: Session::new(alloc),
     };
     let mut seat = seat;
     for _ in 0..MAX_EVENTS {
         let (after, out) = take_event(&mut client, inbox, seat, roots, desk);
         seat = after;
         let shut = out.shuts();
-        if write_reply(writer, &out).is_err() {
+        if write_out(writer, &out).is_err() {
             return Ended {
                 seat,
                 shut,
@@ -91,11 +101,17 @@ fn take_event<N: Named, I: Inbox, R: Roots<N>, D: Desk>(
     desk: &mut D,
 ) -> (Seat<N>, Out)
     ensures serves { (event : Event) × Serves client.old.run
-        (place (I.left inbox.old) (R.crawler roots.old) seat (D.shelf desk.old)) event result.1
-        (place (I.left inbox.new) (R.crawler roots.new) result.0 (D.shelf desk.new)) }
+        (place (I.left inbox.old) (R.crawler roots.old) seat (D.shelf desk.old)
+        (follows_of client.old.session)) event result.1
+        (place (I.left inbox.new) (R.crawler roots.new) result.0 (D.shelf desk.new)
+        (follows_of client.new.session)) }
     ensures run { client.new.run ≡ client.old.run }
 {
-    let event = inbox.next();
-    let ask = Ask::read(client.alloc, event);
-    answer(client, ask, seat, roots, desk)
+    match inbox.next() {
+        Event::Idle(root) => idle(client, root, seat),
+        event => {
+            let ask = Ask::read(client.alloc, event);
+            answer(client, ask, seat, roots, desk)
+        }
+    }
 }

@@ -12,7 +12,7 @@ use std::alloc::Global;
 use std::marker::Model;
 use std::sync::Arc;
 use wq_registry::{Cache, CacheKey, Compiled, Root, Shelf};
-use wq_session::{Cursor, Prepared, Session, Work, answers_are_calls};
+use wq_session::{Cursor, Prepared, Work, answers_are_calls};
 use wq_verify::Program;
 
 /// A shelf that is changed by what sessions take and unset there, and by nothing else: so that leads to it, from one on which
@@ -57,19 +57,14 @@ impl SharedShelf {
         self.shelf.roots()
     }
 
-    /// Takes an ask of a session ([`Session::take`]).
-    pub(crate) fn take(
-        &mut self,
-        alloc: Global,
-        session: &mut Session,
-        prepared: Prepared<'_>,
-    ) -> Work
+    /// Takes an ask of a session ([`Prepared::take`]).
+    pub(crate) fn take(&mut self, alloc: Global, prepared: Prepared<'_>) -> Work
         requires { IsPrepared prepared }
         ensures reached { IsReached self.old }
         ensures taken { TakesAsk (asked prepared.entry) (asked_at prepared.entry) self.old
             (work_data result) self.new }
     {
-        session.take(alloc, prepared, &mut self.shelf)
+        prepared.take(alloc, &mut self.shelf)
     }
 
     /// The program that the cache keeps of an expression.

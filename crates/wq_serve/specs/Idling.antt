@@ -1,0 +1,30 @@
+-- An idle moment of a root in a session: the root is looked at, and the session's subscriptions are
+-- told of its changes.
+-- From Watchman's documentation of `subscribe`; that a refused look leaves the moment undone is this
+-- server's own.
+use Rattle.std.specs.Prelude.{◌≡◌, ◌⊎◌, ℕ, true, List, Option}
+use mathlib.Core.List.{IsPrefix}
+use Rattle.wq_clock.specs.declared.run.Run.{Run}
+use Rattle.wq_live.specs.declared.event.RootEvent.{RootEvent}
+use Rattle.wq_follow.specs.Subscription.{SubscriptionData}
+use Rattle.wq_session.specs.At.{AtData}
+use Rattle.wq_session.specs.Moment.{Idles}
+use Rattle.wq_session.specs.Out.{OutData, silence}
+use Rattle.wq_serve.specs.Desk.{StandData}
+use Rattle.wq_serve.specs.Ready.{KnownData}
+use Rattle.wq_serve.specs.Run.{ShowsNumber}
+
+-- the root of this number is looked at, in a list that begins with all that was known, and its
+-- subscriptions are told; or the look is refused, and nothing is given out
+abbrev pub SeesMoment : Run → ℕ → List RootEvent → List SubscriptionData → OutData
+    → List RootEvent → List SubscriptionData → Type 0
+SeesMoment run root before follows out after left =
+    ((at : Option AtData) × IsPrefix before after × ShowsNumber run root after at
+    × Idles root at follows out left)
+    ⊎ ((after ≡ before) × (out ≡ silence true) × (left ≡ follows))
+
+-- the same of all that stands: the roots are asked nothing, and the shelf stays
+abbrev pub IsIdled : Run → ℕ → KnownData → StandData → OutData → KnownData → StandData → Type 0
+IsIdled run root before stand out after left =
+    (after.roots ≡ before.roots) × (left.shelf ≡ stand.shelf)
+    × SeesMoment run root before.seen stand.follows out after.seen left.follows

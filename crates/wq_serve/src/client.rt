@@ -1,0 +1,13 @@
+//! A client, as a server has it.
+
+use std::alloc::Global;
+use wq_clock::Run;
+use wq_session::Session;
+
+/// What a server has for one client.
+#[derive(Drop)]
+pub(crate) struct Client {
+    pub(crate) alloc: Global,
+    pub(crate) run: Run,
+    pub(crate) session: Session,
+}
