@@ -17,6 +17,14 @@ from views import View
 ATOMS = ["literal", "one", "class", "star", "directories", "rest", "nothing"]
 BOUNDS = ["no since", "fresh clock id", "tick", "tick beyond the view", "second"]
 SCOPED_TERMS = ["name", "iname", "match", "imatch"]
+SUBSCRIPTION_CASES = [
+    "first list", "first list of a replacement", "later list", "end of a subscription", "first list without files",
+    "subscription deleted", "no subscription deleted", "idle moment that tells nothing",
+    "idle moment with several lists",
+    "later list after the end of another subscription", "later list of one field", "later list of several fields",
+    "later list of a program", "deleted file in a later list", "file in a later list that is new",
+    "file in a later list that is not new",
+]
 SCRIPT_FAULTS = [
     "not a line", "in a pass", "outside of a pass", "line too long", "second out of range", "name not valid",
     "number out of range", "name twice",
@@ -28,6 +36,9 @@ def expected_cases() -> List[str]:
     cases = ["clock answered", "query answered", "files listed", "no file listed", "deleted file listed"]
     cases += ["empty on fresh instance", "one field", "several fields", "a field twice", "default fields"]
     cases += ["cursor at its first use", "cursor that was used", "query by a program"]
+    cases += SUBSCRIPTION_CASES
+    cases += [f"{kind} since a {bound}" for kind in ("first list", "later list")
+              for bound in ("fresh", "tick", "second")]
     cases += ["root watched", "root watched no more", "root listed", "no root listed", "clock id of an earlier root"]
     cases += [f"error {error}" for error in errors.ALL]
     cases += ["script ends well"] + [f"script line: {fault}" for fault in SCRIPT_FAULTS]
@@ -61,16 +72,48 @@ def count_cases(script: bytes, counts: Counter) -> None:
 
 
 def count_turn(turn: Turn, counts: Counter) -> None:
+    count_told(turn, counts)
+    if turn.reply is None:
+        return
     reply = read(turn.reply)
     if "error" in reply:
         counts[f"error {reply['error']}"] += 1
         count_left_out_keys(turn.line, counts)
     elif "files" not in reply:
-        counts["clock answered"] += "clock" in reply
+        counts["clock answered"] += "clock" in reply and "subscribe" not in reply
+        if "unsubscribe" in reply:
+            counts["subscription deleted" if reply["deleted"] else "no subscription deleted"] += 1
         count_roots(reply, counts)
     else:
         counts["query answered"] += 1
         count_query(read(turn.line)[2], turn.query, turn.view, counts)
+
+
+def count_told(turn: Turn, counts: Counter) -> None:
+    kinds = [told.kind for told in turn.told]
+    if turn.line is None:
+        counts["idle moment that tells nothing"] += not kinds
+        counts["idle moment with several lists"] += kinds.count("later list") > 1
+        counts["later list after the end of another subscription"] += len(set(kinds)) > 1
+    for told in turn.told:
+        counts[told.kind] += 1
+        query = told.subscription.query
+        if told.kind != "end of a subscription":
+            counts[f"{told.kind} since a {query.bound.kind}"] += 1
+        if told.kind == "later list":
+            count_later_list(told.line["files"], query, counts)
+        else:
+            counts["first list without files"] += told.line.get("files") == []
+
+
+def count_later_list(files: List[Any], query: Query, counts: Counter) -> None:
+    is_one = len(query.fields) == 1
+    counts["later list of one field" if is_one else "later list of several fields"] += 1
+    counts["later list of a program"] += query.program is not None
+    told = [{query.fields[0]: file} if is_one else file for file in files]
+    counts["deleted file in a later list"] += any(file.get("exists") is False for file in told)
+    counts["file in a later list that is new"] += any(file.get("new") is True for file in told)
+    counts["file in a later list that is not new"] += any(file.get("new") is False for file in told)
 
 
 def count_roots(reply: Dict[str, Any], counts: Counter) -> None:

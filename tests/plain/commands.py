@@ -1,38 +1,46 @@
 """What a client's line is answered."""
 
-from typing import Any, Dict, List, NamedTuple, Optional
+from typing import Any, Callable, Dict, List, NamedTuple, Optional
 
 from clocks import clock_id
 from errors import (BAD_NAME, BINARY, LINE_TOO_LONG, NOT_A_COMMAND, NOT_JSON, ROOT_NOT_ABSOLUTE, UNKNOWN_COMMAND,
                     WRONG_ARGUMENTS, Refused)
+from followers import Session, Told
 from json_values import NotJson, compact_text, is_whole_number, read
-from limits import MAX_LINE, MAX_PROGRAM_NAME, MAX_ROOT
+from limits import MAX_LINE, MAX_PROGRAM_NAME, MAX_ROOT, MAX_SUBSCRIPTION_NAME
 from programs import program_of
 from queries import Query, read_query, reply_to, settled
 from servers import Server
 
 
 class Answer(NamedTuple):
-    """A reply without a newline, whether the server ends with it, and the query that it answers, if it does."""
+    """A reply without a newline, whether the server ends with it, whether the session does, the query that it answers,
+    if it does, and the list that follows it, if one does."""
 
     reply: bytes
     shuts: bool = False
+    ends: bool = False
     query: Optional[Query] = None
+    told: Optional[Told] = None
 
 
-def answer(line: bytes, server: Server) -> Answer:
+def answer(line: bytes, session: Session, server: Server) -> Answer:
     """What a line is answered. The root is crawled first, if the line asks for that."""
     try:
-        return answer_line(line, server)
+        return answer_line(line, session, server)
     except Refused as refused:
-        return said({"error": refused.error})
+        return said({"error": refused.error})._replace(ends=refused.error in (BINARY, LINE_TOO_LONG))
 
 
-def said(reply: Dict[str, Any], shuts: bool = False, query: Optional[Query] = None) -> Answer:
-    return Answer(compact_text({**reply, "version": "wq-1"}).encode(), shuts, query)
+def said(reply: Dict[str, Any], shuts: bool = False) -> Answer:
+    return Answer(text_of(reply), shuts, ends=shuts)
 
 
-def answer_line(line: bytes, server: Server) -> Answer:
+def text_of(line: Dict[str, Any]) -> bytes:
+    return compact_text({**line, "version": "wq-1"}).encode()
+
+
+def answer_line(line: bytes, session: Session, server: Server) -> Answer:
     if line.startswith(b"\0"):
         raise Refused(BINARY)
     if len(line) > MAX_LINE:
@@ -44,6 +52,8 @@ def answer_line(line: bytes, server: Server) -> Answer:
     if not isinstance(value, list) or not value or not isinstance(value[0], str):
         raise Refused(NOT_A_COMMAND)
     name, arguments = value[0], value[1:]
+    if name in SESSION_COMMANDS:
+        return SESSION_COMMANDS[name](arguments, session, server)
     if name not in COMMANDS:
         raise Refused(UNKNOWN_COMMAND)
     return COMMANDS[name](arguments, server)
@@ -55,7 +65,26 @@ def query(arguments: List[Any], server: Server) -> Answer:
     timeout = asked.get("sync_timeout", 1)
     number = look_at(root, is_whole_number(timeout) and timeout != 0, server)
     settled_query = settled(read_query(asked, number), server)
-    return said(reply_to(settled_query, server.view), query=settled_query)
+    return said(reply_to(settled_query, server.view))._replace(query=settled_query)
+
+
+def subscribe(arguments: List[Any], session: Session, server: Server) -> Answer:
+    require(len(arguments) == 3 and isinstance(arguments[0], str) and isinstance(arguments[1], str))
+    require(isinstance(arguments[2], dict))
+    root, name, asked = arguments
+    number = server.watched(root_named(root))
+    require_name(name, MAX_SUBSCRIPTION_NAME)
+    query = settled(read_query(asked, number, is_subscription=True), server)
+    told = session.subscribe(name, root_named(root), query, server)
+    return said({"clock": clock_id(number, server.view.tick), "subscribe": name})._replace(told=told)
+
+
+def unsubscribe(arguments: List[Any], session: Session, server: Server) -> Answer:
+    require(len(arguments) == 2 and all(isinstance(argument, str) for argument in arguments))
+    root, name = arguments
+    number = server.watched(root_named(root))
+    require_name(name, MAX_SUBSCRIPTION_NAME)
+    return said({"deleted": session.unsubscribe(name, number), "unsubscribe": name})
 
 
 def clock(arguments: List[Any], server: Server) -> Answer:
@@ -103,7 +132,7 @@ def shutdown_server(arguments: List[Any], server: Server) -> Answer:
 def program_add(arguments: List[Any], server: Server) -> Answer:
     require(len(arguments) == 2 and all(isinstance(argument, str) for argument in arguments))
     name, text = arguments
-    require_name(name)
+    require_name(name, MAX_PROGRAM_NAME)
     program = program_of(text)
     replaced = server.add_program(name, program)
     return said({"instructions": program.instructions, "program-add": name, "replaced": replaced})
@@ -116,7 +145,7 @@ def program_list(arguments: List[Any], server: Server) -> Answer:
 
 def program_del(arguments: List[Any], server: Server) -> Answer:
     name = one_text(arguments)
-    require_name(name)
+    require_name(name, MAX_PROGRAM_NAME)
     deleted = server.programs.pop(name, None) is not None
     return said({"deleted": deleted, "program-del": name})
 
@@ -131,8 +160,8 @@ def require(are_right: bool) -> None:
         raise Refused(WRONG_ARGUMENTS)
 
 
-def require_name(name: str) -> None:
-    if not 1 <= len(name.encode()) <= MAX_PROGRAM_NAME:
+def require_name(name: str, limit: int) -> None:
+    if not 1 <= len(name.encode()) <= limit:
         raise Refused(BAD_NAME)
 
 
@@ -149,9 +178,14 @@ def root_named(text: str) -> str:
     return "/" if text and not text.strip("/") else text.rstrip("/")
 
 
-COMMANDS = {
+COMMANDS: Dict[str, Callable[[List[Any], Server], Answer]] = {
     "watch": watch, "watch-project": watch, "watch-list": watch_list, "watch-del": watch_del,
     "query": query, "clock": clock, "version": version, "get-sockname": get_sockname,
     "shutdown-server": shutdown_server, "program-add": program_add, "program-list": program_list,
     "program-del": program_del,
+}
+
+# Those that change what is kept of the client.
+SESSION_COMMANDS: Dict[str, Callable[[List[Any], Session, Server], Answer]] = {
+    "subscribe": subscribe, "unsubscribe": unsubscribe,
 }

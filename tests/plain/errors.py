@@ -27,9 +27,10 @@ NO_SUCH_PROGRAM = "E34: no such program"
 SHELF_FULL = "E35: shelf is full"
 BAD_NAME = "E36: bad name"
 WRONG_QUERY_VALUE = "E37: wrong query value"
+TOO_MANY_SUBSCRIPTIONS = "E41: too many subscriptions"
 
-# All but those for expressions that are too long to be drawn, which tests/size has, and for a shelf that is full,
-# which tests/scripts has.
+# All but those for expressions that are too long to be drawn, which tests/size has, and for a shelf that is full or a
+# client with as many subscriptions as may be, which tests/scripts has.
 ALL = [
     LINE_TOO_LONG, NOT_JSON, NOT_A_COMMAND, UNKNOWN_COMMAND, WRONG_ARGUMENTS, BINARY, ROOT_NOT_ABSOLUTE,
     UNREADABLE_ROOT, NOT_WATCHED, LEFT_OUT_KEY, UNKNOWN_FIELD, BAD_GENERATOR, BAD_CLOCK_SPEC, UNKNOWN_TERM,

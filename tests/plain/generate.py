@@ -30,6 +30,7 @@ WRONG_FIELDS = [
     '"name"', "[]", '["name",7]', '["mode"]', '["Name"]', "null", "{}", '[["name"]]', '[""]', '["name",null]',
 ]
 LEFT_OUT_KEYS = ["glob", "glob_includedotfiles", "relative_root", "settle_period", "settle_timeout"]
+SUBSCRIPTION_NAMES = ['"s"', '"s"', '"s"', '"t"', '"ü"', '""', '"' + "s" * 256 + '"', "7"]
 PROGRAM_NAMES = ['"p"', '"p"', '"p"', '"q"', '"ü"', '""', '"' + "p" * 256 + '"', "7"]
 IGNORED_KEYS = ["dedup_results", "defer", "drop", "frob", "", "Fields", "case_sensitive "]
 ANY_VALUES = ["true", "null", "[]", '{"a":[1,2]}', '"x"', "1.5", "-0", '"\\ud83d\\ude00"']
@@ -77,12 +78,13 @@ BAD_SCRIPT_LINES = [
     b"Pass 1", b"pass  1",
     b"pass 9223372036854775808", b"ask", b"ask 1", b"ask 0 []", b"ask 33 []", b"ask x []", b"ask  1 []",
     b"ask 01 []",
-    b"ask -1 []", b"end ", b"f 1 1 a", b"tick 1", b"\x00", b"\xff", b"ask 1\t[]", b"pass 1\r", b"idle 1",
+    b"ask -1 []", b"end ", b"f 1 1 a", b"tick 1", b"\x00", b"\xff", b"ask 1\t[]", b"pass 1\r", b"idle", b"idle 0",
+    b"idle 33", b"idle 1 ", b"idle 01", b"idle x", b"leave 0", b"leave",
 ]
 BAD_ROWS = [
     b"f", b"f 1", b"f 1 1", b"F 1 1 a", b"ff 1 1 a", b"f 01 1 a", b"f 1 -0 a", b"f +1 1 a", b"f 1.5 1 a",
     b"f  1 1 a", b"",
-    b"ask 1 []", b"pass 5", b"f 9223372036854775808 1 a", b"f 1 -9223372036854775809 a", b"x 1 1 a",
+    b"ask 1 []", b"idle 1", b"pass 5", b"f 9223372036854775808 1 a", b"f 1 -9223372036854775809 a", b"x 1 1 a",
     b"f 1 x a", b"end ",
 ]
 FAULTY_ROWS = [
@@ -103,7 +105,8 @@ Tree = Dict[str, Tuple[str, int, int]]
 
 
 def script(counter: int) -> bytes:
-    """The script of a counter: passes with questions between them, and now and then a malformed line."""
+    """The script of a counter: passes with questions and idle moments between them, and now and then a malformed
+    line."""
     draws = Draws(counter)
     if counter % CLASS_SCRIPT_EACH == 1:
         return class_script(draws)
@@ -121,10 +124,14 @@ def script(counter: int) -> bytes:
         tree = next_tree(draws, names, tree)
         seconds.append(next_second(draws, seconds[-1]))
         lines += pass_lines(draws, tree, seconds[-1], b"tree" if draws.one_in(4) else b"pass")
+        lines += following(draws, World(names, number + 1, seconds, root))
     lines += questions(draws, World(names, passes, seconds, root), draws.between(6, 30))
     if draws.one_in(6):
         lines += watching_again(draws, World(names, passes, seconds, root), tree)
+        lines += following(draws, World(names, passes, seconds, root + 1))
+        lines += pass_lines(draws, next_tree(draws, names, tree), next_second(draws, seconds[-1]))
         lines += questions(draws, World(names, passes, seconds, root + 1), draws.between(2, 8))
+        lines += [b"idle 1", b"idle 2"]
     if draws.one_in(40):
         lines += [b'ask 3 ["shutdown-server"]', b"pass"]
     if draws.one_in(8):
@@ -203,14 +210,58 @@ def watching_again(draws: Draws, world: World, tree: Tree) -> List[bytes]:
     return [end, *between] + ([] if draws.one_in(10) else [begin])
 
 
+def following(draws: Draws, world: World) -> List[bytes]:
+    """What the first two clients do to be told of changes, and idle moments of them."""
+    lines = []
+    if draws.one_in(6):
+        lines.append(b'ask 3 ["program-add","p","%s"]' % draws.pick(list(PROGRAMS)).encode())
+    for client in (1, 2):
+        if draws.one_in(3):
+            lines += [b"ask %d " % client + subscribing(draws, world).encode() for _ in range(draws.between(1, 2))]
+        if draws.one_in(12):
+            lines.append(draws.pick([b"leave %d", b"ask %d \x00"]) % client)
+        if draws.one_in(2):
+            lines.append(b"idle %d" % client)
+    return lines
+
+
+def subscribing(draws: Draws, world: World) -> str:
+    root = draws.pick(OTHER_ROOTS) if draws.one_in(20) else draws.pick(ROOTS)
+    name = draws.pick(SUBSCRIPTION_NAMES)
+    if draws.one_in(6):
+        wrong = [['"unsubscribe"', root], ['"unsubscribe"', root, name, "{}"]]
+        return array(draws, draws.pick([['"unsubscribe"', root, name]] * 6 + wrong))
+    asked = query(draws, world) if draws.one_in(4) else plain_query(draws, world)
+    wrong = [['"subscribe"', root, name], ['"subscribe"', root, name, "[]"]]
+    return array(draws, draws.pick([['"subscribe"', root, name, asked]] * 12 + wrong))
+
+
+def plain_query(draws: Draws, world: World) -> str:
+    """The object of a subscription that is rarely refused."""
+    members = [("fields", array(draws, [f'"{draws.pick(FIELDS)}"' for _ in range(draws.between(1, 4))]))]
+    if draws.one_in(4):
+        members.append(("program", '"p"'))
+    elif draws.one_in(2):
+        members.append(("expression", expression(draws, world)))
+    if draws.one_in(3):
+        members.append(("since", clock_spec(draws, world)))
+    if draws.one_in(4):
+        members.append(("empty_on_fresh_instance", draws.pick(["true", "false"])))
+    return json_object(draws, members)
+
+
 def questions(draws: Draws, world: World, count: int) -> List[bytes]:
     return [question(draws, world) for _ in range(count)]
 
 
 def question(draws: Draws, world: World) -> bytes:
-    client = draws.between(1, 32)
+    client = draws.between(1, 2) if draws.one_in(4) else draws.between(1, 32)
     if draws.one_in(60):
         return b"leave %d" % client
+    if draws.one_in(12):
+        return b"idle %d" % draws.between(1, 2)
+    if draws.one_in(20):
+        return b"ask %d " % client + subscribing(draws, world).encode()
     return b"ask %d " % client + line(draws, world)
 
 

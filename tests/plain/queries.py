@@ -4,7 +4,8 @@ from typing import Any, Callable, Dict, List, NamedTuple, Optional
 
 import clocks
 from clocks import FIRST_ROOT, FRESH, Bound, clock_id
-from errors import BAD_CLOCK_SPEC, EXPRESSION_AND_PROGRAM, LEFT_OUT_KEY, UNKNOWN_FIELD, WRONG_QUERY_VALUE, Refused
+from errors import (BAD_CLOCK_SPEC, BAD_GENERATOR, EXPRESSION_AND_PROGRAM, LEFT_OUT_KEY, UNKNOWN_FIELD,
+                    WRONG_QUERY_VALUE, Refused)
 from generators import Generators, candidate_test, read_generators
 from json_values import is_whole_number
 from servers import Server
@@ -39,20 +40,27 @@ class Query(NamedTuple):
     root: int = FIRST_ROOT
 
 
-def read_query(asked: Dict[str, Any], root: int = FIRST_ROOT) -> Query:
-    """What the object of a query asks at the root of this number, or the refusal of its first fault."""
+def read_query(asked: Dict[str, Any], root: int = FIRST_ROOT, is_subscription: bool = False) -> Query:
+    """What the object of a query asks at the root of this number, or the refusal of its first fault.
+
+    A subscription has no generators and no cursor.
+    """
     if any(key in asked for key in LEFT_OUT_KEYS) or asked.get("case_sensitive", True) is not True:
         raise Refused(LEFT_OUT_KEY)
     if "expression" in asked and "program" in asked:
         raise Refused(EXPRESSION_AND_PROGRAM)
     matches = read_term(asked.get("expression", "true"), root)
     fields = read_fields(asked.get("fields", DEFAULT_FIELDS))
+    if is_subscription and ("suffix" in asked or "path" in asked):
+        raise Refused(BAD_GENERATOR)
     generators = read_generators(asked)
     cursor, bound = None, FRESH
     if "since" in asked:
         try:
             bound = clocks.bound_of(asked["since"], root)
         except clocks.NamedCursor as named:
+            if is_subscription:
+                raise Refused(BAD_CLOCK_SPEC) from None
             cursor = named.name
         except clocks.BadClockSpec:
             raise Refused(BAD_CLOCK_SPEC) from None

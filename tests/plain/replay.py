@@ -7,9 +7,10 @@ It follows docs/PROTOCOL.md, docs/SCRIPTS.md and docs/DEFINITIONS.md in words, a
 
 import re
 import sys
-from typing import Iterator, List, NamedTuple, Optional, Tuple, Union
+from typing import Dict, Iterator, List, NamedTuple, Optional, Tuple, Union
 
-from commands import answer
+from commands import answer, text_of
+from followers import Session, Told
 from limits import MAX_SCRIPT, MAX_SCRIPT_LINE
 from queries import Query
 from servers import Server
@@ -38,14 +39,27 @@ class Leave(NamedTuple):
     client: int
 
 
+class Idle(NamedTuple):
+    client: int
+
+
 class Turn(NamedTuple):
-    """A client's line, the view that it met, the reply, and the query that this answers, if it does."""
+    """A client's line, or an idle moment without one, and the view that it met; the reply, if there is one, the query
+    that this answers, if it does, and the lists that are sent then."""
 
     client: int
-    line: bytes
+    line: Optional[bytes]
     view: View
-    reply: bytes
+    reply: Optional[bytes]
     query: Optional[Query]
+    told: List[Told]
+
+    def lines(self) -> List[bytes]:
+        replies = [] if self.reply is None else [self.reply]
+        return replies + [text_of(told.line) for told in self.told]
+
+
+Said = Union[ListingBegins, Row, ListingEnds, Ask, Leave, Idle]
 
 
 class Malformed(Exception):
@@ -70,7 +84,7 @@ def replay(script: bytes) -> Tuple[bytes, bytes, int]:
     written: List[bytes] = []
     try:
         for turn in turns(script):
-            written.append(b"%d %s\n" % (turn.client, turn.reply))
+            written += [b"%d %s\n" % (turn.client, line) for line in turn.lines()]
     except Malformed as malformed:
         return b"".join(written), b"script line %d\n" % malformed.number, 1
     except TooLong:
@@ -79,8 +93,9 @@ def replay(script: bytes) -> Tuple[bytes, bytes, int]:
 
 
 def turns(script: bytes) -> Iterator[Turn]:
-    """Plays the script, and gives each client's line with its reply."""
+    """Plays the script, and gives each client's line with its reply, and each idle moment with its lists."""
     server = Server()
+    sessions: Dict[int, Session] = {}
     begun = ListingBegins(0, False)
     rows: Optional[List[Row]] = None
     for number, line in lines_of(script):
@@ -101,10 +116,18 @@ def turns(script: bytes) -> Iterator[Turn]:
             if begun.crawls:
                 server.crawl()
         elif isinstance(said, Ask):
-            answered = answer(said.line, server)
-            yield Turn(said.client, said.line, server.view, answered.reply, answered.query)
+            answered = answer(said.line, sessions.setdefault(said.client, Session()), server)
+            told = [] if answered.told is None else [answered.told]
+            yield Turn(said.client, said.line, server.view, answered.reply, answered.query, told)
             if answered.shuts:
                 return
+            if answered.ends:
+                del sessions[said.client]
+        elif isinstance(said, Leave):
+            sessions.pop(said.client, None)
+        elif isinstance(said, Idle):
+            told = sessions.setdefault(said.client, Session()).idle(server)
+            yield Turn(said.client, None, server.view, None, None, told)
 
 
 def lines_of(script: bytes) -> Iterator[Tuple[int, bytes]]:
@@ -121,7 +144,7 @@ def lines_of(script: bytes) -> Iterator[Tuple[int, bytes]]:
         number += 1
 
 
-def line_said(number: int, line: bytes) -> Union[ListingBegins, Row, ListingEnds, Ask, Leave]:
+def line_said(number: int, line: bytes) -> Said:
     if len(line) > MAX_SCRIPT_LINE:
         raise Malformed(number, "line too long")
     try:
@@ -130,7 +153,7 @@ def line_said(number: int, line: bytes) -> Union[ListingBegins, Row, ListingEnds
         raise Malformed(number, "not a line") from None
 
 
-def read_line(line: bytes) -> Union[ListingBegins, Row, ListingEnds, Ask, Leave]:
+def read_line(line: bytes) -> Said:
     """What a line says. One space separates two words, and the last word of a row and of an ask is the rest."""
     if line == b"end":
         return ListingEnds()
@@ -139,6 +162,8 @@ def read_line(line: bytes) -> Union[ListingBegins, Row, ListingEnds, Ask, Leave]
         return ListingBegins(number_of(rest), crawls=word == b"pass")
     if word == b"leave":
         return Leave(client_of(rest))
+    if word == b"idle":
+        return Idle(client_of(rest))
     if word == b"ask":
         client, asked = split_word(rest)
         return Ask(client_of(client), asked)

@@ -1,4 +1,5 @@
 mod Tables
+mod Follows
 mod Worlds
 mod Words
 mod NewLines

@@ -1,22 +1,15 @@
 -- What the lines of a script do is one run of its world.
 use Rattle.std.proofs.Common.{◌≡◌, ℕ, List, [], ◌∷◌, ◌++◌, refl, sym, ap, subst, ◌∙◌}
-use Rattle.std.proofs.lemmas.List.{append_assoc}
-use Rattle.wq_replay.specs.Replay.{DoesLine, Plays, crawled, sent_line, sent_lines}
-use Rattle.wq_replay.specs.Stage.{StageData, Turn, drafts, lists, hears, malformed, turn_of}
+use Rattle.wq_replay.specs.Replay.{DoesLine, Plays, crawled, sent_lines}
+use Rattle.wq_replay.specs.Stage.{StageData, Turn, drafts, lists, hears, rests, malformed, turn_of}
 use Rattle.wq_replay.specs.World.{HappeningData, Runs, SentData}
+use Rattle.wq_replay.proofs.Sendings.{lines_then}
 use Rattle.wq_replay.proofs.Worlds.{runs_go_on}
 
 -- from one stage to another the world runs, and this is written of it
 abbrev pub RunsTo : StageData → List ℕ → StageData → Type 0
 RunsTo stage written after = (happenings : List HappeningData) × (sent : List SentData)
     × Runs stage.world happenings sent after.world × (written ≡ sent_lines sent)
-
--- the lines of what is sent first and then
-sent_then : (first later : List SentData) → sent_lines (first ++ later) ≡ sent_lines first ++ sent_lines later
-sent_then [] later = refl
-sent_then (one ∷ first) later =
-    ap (λ lines. sent_line one.client one.text ++ lines) (sent_then first later)
-    ∙ sym (append_assoc (sent_line one.client one.text) (sent_lines first) (sent_lines later))
 
 -- what a line does is a run
 turn_runs : (stage after : StageData) (turn : Turn) (written : List ℕ) → DoesLine stage turn written after → RunsTo stage written after
@@ -25,6 +18,8 @@ turn_runs stage after (lists crawls tree) written (world, runs, none, is) =
     (crawled crawls tree, [], subst (Runs stage.world (crawled crawls tree) []) (sym (ap (λ s. s.world) is)) runs, none)
 turn_runs stage after (hears client event) written (sent, world, heard, goes_on, lines, is) =
     (_, sent, subst (Runs stage.world _ sent) (sym (ap (λ s. s.world) is)) heard.runs, lines)
+turn_runs stage after (rests client) written (sent, world, runs, lines, is) =
+    (_, sent, subst (Runs stage.world _ sent) (sym (ap (λ s. s.world) is)) runs, lines)
 turn_runs stage after malformed written does = absurd does
 
 -- so are all lines, one after the other
@@ -37,5 +32,5 @@ scripts_are_runs stage after (line ∷ lines) written (next, first, later, does,
       now.0 ++ behind.0,
       now.1 ++ behind.1,
       runs_go_on stage.world next.world after.world now.0 behind.0 now.1 behind.1 now.2 behind.2,
-      is ∙ ap (λ xs. xs ++ later) now.3 ∙ ap (λ xs. sent_lines now.1 ++ xs) behind.3 ∙ sym (sent_then now.1 behind.1),
+      is ∙ ap (λ xs. xs ++ later) now.3 ∙ ap (λ xs. sent_lines now.1 ++ xs) behind.3 ∙ sym (lines_then now.1 behind.1),
     )

@@ -1,5 +1,5 @@
 -- The shelf of a world, as the calls that were accepted.
-use Rattle.std.proofs.Common.{◌≡◌, ℕ, List, [], ◌∷◌, ◌++◌, Option, Some, None, Result, Ok, Err, inl, inr, refl, sym, ap, ◌∙◌}
+use Rattle.std.proofs.Common.{◌≡◌, ℕ, ℤ, List, [], ◌∷◌, ◌++◌, Option, Some, None, Result, Ok, Err, inl, inr, refl, sym, ap, ◌∙◌}
 use Rattle.wq_live.specs.Event.{number_of}
 use Rattle.wq_live.specs.Table.{TableData}
 use Rattle.wq_crawl.specs.declared.place.Place.{Place}
@@ -13,7 +13,7 @@ use Rattle.wq_session.specs.declared.ask.Ask.{Ask}
 use Rattle.wq_crawl.specs.declared.fault.CrawlFault.{CrawlFault}
 use Rattle.wq_view.specs.Listing.{PassData}
 use Rattle.wq_replay.specs.Accepted.{AcceptsAt, AcceptsOf, AcceptsUnless, RunsWith, ShelvesAreCalls}
-use Rattle.wq_replay.specs.World.{Crawls, CrawlsAt, Does, GetsAt, GetsFor, HappeningData, crawl, watching, asked, WatchesAt, Runs, SentData, Starts, WorldData, ending, fault_for, new_world}
+use Rattle.wq_replay.specs.World.{Crawls, CrawlsAt, Does, GetsAt, GetsFor, HappeningData, crawl, watching, asked, idle, WatchesAt, Runs, SentData, Starts, WorldData, ending, fault_for, new_world}
 
 -- a crawl leaves the shelf
 at_number : (number : Option ℕ) (world : WorldData) (root : List ℕ) (pass : PassData) (after : WorldData)
@@ -41,22 +41,22 @@ watches Free world root seen after goes = starts world root seen after goes
 
 module _ (answers_are_calls : AnswersAreCalls) where
   -- what an ask gets
-  ends : (number : Option ℕ) (table : TableData) (world : WorldData) (ask : Ask) (out : OutData) (after : WorldData)
-      → GetsAt number table world ask out after
-      → (calls : List CallNow) × AcceptsAt number table world ask out calls × (after.shelf ≡ after_all calls world.shelf)
-  ends None table world ask out after (shelf, gets, is) =
-      let it = answers_are_calls ask _ world.shelf out shelf gets in
+  ends : (number : Option ℕ) (table : TableData) (client : ℤ) (world : WorldData) (ask : Ask) (out : OutData) (after : WorldData)
+      → GetsAt number table client world ask out after
+      → (calls : List CallNow) × AcceptsAt number table client world ask out calls × (after.shelf ≡ after_all calls world.shelf)
+  ends None table client world ask out after (shelf, left, gets, is) =
+      let it = answers_are_calls ask _ world.shelf (world.follows client) out shelf left gets in
       (it.0, it.1, ap (λ w. w.shelf) is ∙ it.2)
-  ends (Some number) table world ask out after (inl (shelf, gets, is)) =
-      let it = answers_are_calls ask _ world.shelf out shelf gets in
+  ends (Some number) table client world ask out after (inl (shelf, left, gets, is)) =
+      let it = answers_are_calls ask _ world.shelf (world.follows client) out shelf left gets in
       (it.0, inl it.1, ap (λ w. w.shelf) is ∙ it.2)
-  ends (Some number) table world ask out after (inr (may, is)) = ([], inr (may, refl), ap (λ w. w.shelf) is)
+  ends (Some number) table client world ask out after (inr (may, is)) = ([], inr (may, refl), ap (λ w. w.shelf) is)
 
-  gets_for : (fault : Option CrawlFault) (table : TableData) (world : WorldData) (ask : Ask) (out : OutData) (after : WorldData)
-      → GetsFor fault table world ask out after
-      → (calls : List CallNow) × AcceptsUnless fault table world ask out calls × (after.shelf ≡ after_all calls world.shelf)
-  gets_for None table world ask out after gets = ends (ending (need_of ask) table) table world ask out after gets
-  gets_for (Some fault) table world ask out after (may, is) = ([], (may, refl), ap (λ w. w.shelf) is)
+  gets_for : (fault : Option CrawlFault) (table : TableData) (client : ℤ) (world : WorldData) (ask : Ask) (out : OutData)
+      (after : WorldData) → GetsFor fault table client world ask out after
+      → (calls : List CallNow) × AcceptsUnless fault table client world ask out calls × (after.shelf ≡ after_all calls world.shelf)
+  gets_for None table client world ask out after gets = ends (ending (need_of ask) table) table client world ask out after gets
+  gets_for (Some fault) table client world ask out after (may, is) = ([], (may, refl), ap (λ w. w.shelf) is)
 
   -- what happens
   does : (world : WorldData) (happening : HappeningData) (sent : List SentData) (after : WorldData) → Does world happening sent after
@@ -64,8 +64,9 @@ module _ (answers_are_calls : AnswersAreCalls) where
   does world (crawl root seen) sent after (none, goes) = ([], refl, crawls world root seen after goes)
   does world (watching root seen) sent after (none, (place, is, goes)) = ([], refl, watches place world root seen after goes)
   does world (asked client ask) sent after (out, (table, is, gets), same) =
-      let it = gets_for (fault_for (need_of ask) table world.refused) table world ask out after gets in
+      let it = gets_for (fault_for (need_of ask) table world.refused) table client world ask out after gets in
       (it.0, (out, (table, is, it.1), same), it.2)
+  does world (idle client root) sent after (out, (table, left, is, idles, same), lines) = ([], refl, ap (λ w. w.shelf) same)
 
   after_both : (first later : List CallNow) (shelf : ShelfNow) → after_all (first ++ later) shelf ≡ after_all later (after_all first shelf)
   after_both [] later shelf = refl

@@ -9,9 +9,9 @@ use Rattle.wq_crawl.specs.declared.fault.CrawlFault.{CrawlFault}
 use Rattle.wq_view.specs.Seen.{SeenData}
 use Rattle.wq_view.specs.Listing.{PassData, listing_fault, listing_of}
 use Rattle.wq_view.specs.declared.listing.PassFault.{PassFault}
-use Rattle.wq_replay.specs.Replay.{IsHeard, crawled, needed, sent_lines, shuts}
+use Rattle.wq_replay.specs.Replay.{IsHeard, crawled, moments, needed, sent_lines, shuts}
 use Rattle.wq_replay.specs.Sending.{Sends}
-use Rattle.wq_replay.specs.Stage.{DraftData, StageData, drafts, lists, hears, malformed, turn_at_end}
+use Rattle.wq_replay.specs.Stage.{DraftData, StageData, drafts, lists, hears, rests, malformed, turn_at_end}
 use Rattle.wq_replay.specs.Stands.{Stands}
 use Rattle.wq_replay.specs.Step.{IsAt, TakesTurn, draft_data}
 use Rattle.wq_replay.specs.World.{WorldData, HappeningData, SentData, Runs, asked, crawl, root_text}
@@ -127,3 +127,35 @@ heard at client event sent world before after (Ok goes_on) code heard_so is (sai
 heard at client event sent world before after (Err Malformed) code heard_so is sends = absurd sends
 heard at client event sent world before after (Err Write) code heard_so is sends = (sent, world, heard_so, sends)
 heard at client event sent world before after (Err NoMemory) code heard_so is sends = absurd sends
+
+-- memory ran out before a client had idle moments
+pub unrested : (at : StageData) (client : ℤ) (known : Option (List ℕ)) (result : Result Bool StepFault) (code : Stage)
+    → IsErr result × IsErrAnd result (λ fault. fault ≡ NoMemory) → TakesTurn at (rests client) known known result code
+unrested at client known (Ok goes_on) code hands = absurd hands.1
+unrested at client known (Err fault) code hands =
+    subst (λ f. TakesTurn at (rests client) known known (Err f) code) (sym hands.1) ((λ h. cc), appends_none known)
+
+-- a client had idle moments
+pub rested : (at : StageData) (client : ℤ) (happenings : List HappeningData) (sent : List SentData) (world : WorldData)
+    (before after : Option (List ℕ)) (went : Bool) (code : Stage) → happenings ≡ moments client at.world
+    → Runs at.world happenings sent world → IsAt code (record at { world = world }) → Sends sent before after (Ok went)
+    → TakesTurn at (rests client) before after (Ok true) code
+rested at client happenings sent world before after went code is runs stands (said, appends) = (
+  sent_lines sent,
+  record at { world = world },
+  appends,
+  (sent, world, subst (λ all. Runs at.world all sent world) is runs, refl, refl),
+  stands,
+)
+
+-- a client had idle moments, and the writer failed
+pub rested_front : (at : StageData) (client : ℤ) (happenings : List HappeningData) (sent : List SentData) (world : WorldData)
+    (before after : Option (List ℕ)) (fault : StepFault) (result : Result Bool StepFault) (code : Stage)
+    → happenings ≡ moments client at.world → Runs at.world happenings sent world → Sends sent before after (Err fault)
+    → IsErr result × IsErrAnd result (λ handed. handed ≡ fault) → TakesTurn at (rests client) before after result code
+rested_front at client happenings sent world before after fault (Ok goes_on) code is runs sends hands = absurd hands.1
+rested_front at client happenings sent world before after Write (Err handed) code is runs sends hands =
+    subst (λ f. TakesTurn at (rests client) before after (Err f) code) (sym hands.1)
+    (sent, world, subst (λ all. Runs at.world all sent world) is runs, sends)
+rested_front at client happenings sent world before after Malformed (Err handed) code is runs sends hands = absurd sends
+rested_front at client happenings sent world before after NoMemory (Err handed) code is runs sends hands = absurd sends

@@ -1,11 +1,14 @@
 -- How worlds go on.
-use Rattle.std.proofs.Common.{◌≡◌, ℕ, List, [], ◌∷◌, ◌++◌, length, arith, Option, Some, None, Result, Ok, Err, IfOk, IfSome, OnOk, MatchOption, Vec, map, option_map, refl, sym, ap, subst, ◌∙◌}
+use Rattle.std.proofs.Common.{◌≡◌, ℕ, ℤ, Bool, true, false, if◌then◌else◌, List, [], ◌∷◌, ◌++◌, length, arith, Option, Some, None, Result, Ok, Err, IfOk, IfSome, OnOk, MatchOption, Vec, map, option_map, refl, sym, ap, subst, ◌∙◌}
 use Rattle.std.proofs.lemmas.List.{append-nil, append_assoc}
+use Rattle.std.specs.Ordering.{int_eq}
 use Rattle.wq_clock.specs.Instance.{InstanceData}
+use Rattle.wq_follow.specs.Subscription.{SubscriptionData}
 use Rattle.wq_live.specs.Event.{number_of}
 use Rattle.wq_live.specs.Table.{TableData, IsTableOf}
 use Rattle.wq_session.specs.Answer.{AnswersAsk, MayRefuse}
 use Rattle.wq_session.specs.Crawl.{crawl_refusal}
+use Rattle.wq_session.specs.Moment.{Idles}
 use Rattle.wq_session.specs.Need.{NeedData, need_of}
 use Rattle.wq_session.specs.Out.{OutData}
 use Rattle.wq_session.specs.At.{AtData, ShelfNow}
@@ -18,13 +21,16 @@ use Rattle.wq_session.specs.declared.refusal.Refusal.{Refusal}
 use Rattle.wq_view.specs.Listing.{PassData}
 use Rattle.std.specs.declared.alloc.Global.{Global}
 use Rattle.std.specs.declared.alloc.AllocError.{AllocError}
-use Rattle.wq_replay.specs.Stands.{Leads, Stands, happening_data, sent_data, sent_list}
+use Rattle.wq_replay.specs.Client.{follows_in}
+use Rattle.wq_replay.specs.Clients.{FollowsNow}
+use Rattle.wq_replay.specs.Stands.{Leads, Stands, all_sent, happening_data, refused_data, sent_if, sent_of}
 use Rattle.wq_replay.proofs.Tables.{at_data_of}
+use Rattle.wq_replay.specs.declared.client.Client.{Client}
 use Rattle.wq_replay.specs.declared.happening.Happening.{Happening}
 use Rattle.wq_replay.specs.declared.sent.Sent.{Sent}
 use Rattle.wq_replay.specs.declared.world.World.{World}
-use Rattle.wq_clock.specs.Run.{RunData, instance_of}
-use Rattle.wq_replay.specs.World.{AnswersInWorld, Crawls, CrawlsAt, Does, EndsAt, Gets, GetsAt, GetsFor, HappeningData, RefusedData, Runs, SentData, Starts, Watches, WatchesAt, WorldData, at_end, ending, fault_for, looked, unrefused}
+use Rattle.wq_clock.specs.Run.{RunData, instance_of, run_data}
+use Rattle.wq_replay.specs.World.{AnswersInWorld, Crawls, CrawlsAt, Does, EndsAt, Gets, GetsAt, GetsFor, HappeningData, RefusedData, Runs, Rests, SentData, Starts, Watches, WatchesAt, WorldData, answered, at_end, ending, fault_for, kept, looked, numbered, unrefused, with_follows}
 
 some_same : {X : Type 0} {x y : X} → Some x ≡ Some y → x ≡ y
 some_same h = cc h
@@ -71,40 +77,125 @@ fault_is said need table taken worlds got is same stands =
     ap (fault_for need table) stands ∙ ap (λ n. fault_for n table taken) (sym same) ∙ sym is
 
 -- an ask whose crawl or watching was refused
-pub gets_refused : (before : WorldData) (ask : Ask) (out : OutData) (table : TableData) (fault : CrawlFault) (refusal : Refusal)
+pub gets_refused : (before : WorldData) (client : ℤ) (ask : Ask) (out : OutData) (table : TableData) (fault : CrawlFault) (refusal : Refusal)
     → IsTableOf before.events table → fault_for (need_of ask) table before.refused ≡ Some fault → refusal ≡ crawl_refusal fault
-    → MayRefuse refusal out → Gets before ask out (unrefused before)
-gets_refused before ask out table fault refusal is some named may = (
+    → MayRefuse refusal out → Gets client before ask out (unrefused before)
+gets_refused before client ask out table fault refusal is some named may = (
   table,
   is,
-  subst (λ f. GetsFor f table before ask out (unrefused before)) (sym some) (subst (λ r. MayRefuse r out) named may, refl),
+  subst (λ f. GetsFor f table client before ask out (unrefused before)) (sym some) (subst (λ r. MayRefuse r out) named may, refl),
 )
 
 -- an ask that ends a root
-pub gets_ended : (before after : WorldData) (ask : Ask) (out : OutData) (table : TableData) (number : ℕ) → IsTableOf before.events table
+pub gets_ended : (before after : WorldData) (client : ℤ) (ask : Ask) (out : OutData) (table : TableData) (number : ℕ) → IsTableOf before.events table
     → fault_for (need_of ask) table before.refused ≡ None → ending (need_of ask) table ≡ Some number
-    → EndsAt number before ask out after → Gets before ask out after
-gets_ended before after ask out table number is none ends gets = (
+    → EndsAt client number before ask out after → Gets client before ask out after
+gets_ended before after client ask out table number is none ends gets = (
   table,
   is,
-  subst (λ f. GetsFor f table before ask out after) (sym none) (subst (λ n. GetsAt n table before ask out after) (sym ends) gets),
+  subst (λ f. GetsFor f table client before ask out after) (sym none)
+      (subst (λ n. GetsAt n table client before ask out after) (sym ends) gets),
 )
 
 -- any other ask
-pub gets_looked : (before after : WorldData) (ask : Ask) (out : OutData) (table : TableData) → IsTableOf before.events table
+pub gets_looked : (before after : WorldData) (client : ℤ) (ask : Ask) (out : OutData) (table : TableData) → IsTableOf before.events table
     → fault_for (need_of ask) table before.refused ≡ None → ending (need_of ask) table ≡ None
-    → AnswersInWorld (looked (need_of ask) before.run table) before ask out after → Gets before ask out after
-gets_looked before after ask out table is none ends gets = (
+    → AnswersInWorld client (looked (need_of ask) before.run table) before ask out after → Gets client before ask out after
+gets_looked before after client ask out table is none ends gets = (
   table,
   is,
-  subst (λ f. GetsFor f table before ask out after) (sym none) (subst (λ n. GetsAt n table before ask out after) (sym ends) gets),
+  subst (λ f. GetsFor f table client before ask out after) (sym none)
+      (subst (λ n. GetsAt n table client before ask out after) (sym ends) gets),
 )
 
+-- what an ask got that ends a root, in what it got
+pub ended_gets : (before : WorldData) (client : ℤ) (ask : Ask) (table : TableData) (number : ℕ) (code : World) (result : Result OutData AllocError)
+    → IsTableOf before.events table → fault_for (need_of ask) table before.refused ≡ None → ending (need_of ask) table ≡ Some number
+    → IfOk result (λ out. (after : WorldData) × EndsAt client number before ask out after × Stands after code)
+    → IfOk result (λ out. (after : WorldData) × Gets client before ask out after × Stands after code)
+ended_gets before client ask table number code (Err error) is none ends gets = tt
+ended_gets before client ask table number code (Ok out) is none ends (after, gets, stands) =
+    (after, gets_ended before after client ask out table number is none ends gets, stands)
+
+-- and of any other ask
+pub looked_gets : (before : WorldData) (client : ℤ) (ask : Ask) (table : TableData) (code : World) (result : Result OutData AllocError)
+    → IsTableOf before.events table → fault_for (need_of ask) table before.refused ≡ None → ending (need_of ask) table ≡ None
+    → IfOk result (λ out. (after : WorldData) × AnswersInWorld client (looked (need_of ask) before.run table) before ask out after × Stands after code)
+    → IfOk result (λ out. (after : WorldData) × Gets client before ask out after × Stands after code)
+looked_gets before client ask table code (Err error) is none ends gets = tt
+looked_gets before client ask table code (Ok out) is none ends (after, gets, stands) =
+    (after, gets_looked before after client ask out table is none ends gets, stands)
+
 -- an answer that is found in the code's values
-pub answers_at : (ask : Ask) (out : OutData) (at said : Option AtData) (from mine shelf : ShelfNow) → at ≡ said → mine ≡ from
-    → AnswersAsk ask at from out shelf → AnswersAsk ask said mine out shelf
-answers_at ask out at said from mine shelf same stands answers =
-    subst (λ s. AnswersAsk ask said s out shelf) (sym stands) (subst (λ a. AnswersAsk ask a from out shelf) same answers)
+pub answers_at : (ask : Ask) (out : OutData) (at said : Option AtData) (from mine shelf : ShelfNow)
+    (had has left : List SubscriptionData) → at ≡ said → mine ≡ from → has ≡ had
+    → AnswersAsk ask at from had out shelf left → AnswersAsk ask said mine has out shelf left
+answers_at ask out at said from mine shelf had has left same stands follows answers =
+    subst (λ f. AnswersAsk ask said mine f out shelf left) (sym follows)
+    (subst (λ s. AnswersAsk ask said s had out shelf left) (sym stands)
+    (subst (λ a. AnswersAsk ask a from had out shelf left) same answers))
+
+-- the subscriptions of clients in the code, where those of one are others now
+pub follows_still : (client : ℤ) (left : List SubscriptionData) (world code next : ℤ → List SubscriptionData)
+    → ((other : ℤ) → world other ≡ code other) → ((other : ℤ) → next other ≡ with_follows client left code other)
+    → (other : ℤ) → with_follows client left world other ≡ next other
+follows_still client left world code next stands now other =
+    by (int_eq client other) ∙ sym (now other)
+  where
+    by : (b : Bool) → (if b then left else world other) ≡ (if b then left else code other)
+    by true = refl
+    by false = stands other
+
+-- an answer to a client, and the world then
+pub answers_well : (before : WorldData) (client : ℤ) (ask : Ask) (at said : Option AtData) (from shelf : ShelfNow) (had : List Client)
+    (code : World) (result : Result OutData AllocError) → at ≡ said → before.shelf ≡ from
+    → ((other : ℤ) → before.follows other ≡ follows_in other had) → before.run ≡ run_data code.run
+    → IsTableOf before.events code.table → shelf ≡ code.shelf → None ≡ option_map refused_data code.refused → code.spent ≡ false
+    → IfOk result (λ out. (left : List SubscriptionData) × AnswersAsk ask at from (follows_in client had) out shelf left
+    × FollowsNow client (kept out.goes_on left) had code.clients.items)
+    → IfOk result (λ out. (after : WorldData) × AnswersInWorld client said before ask out after × Stands after code)
+answers_well before client ask at said from shelf had code (Err error) same stands follows run roots held refused whole answers = tt
+answers_well before client ask at said from shelf had code (Ok out) same stands follows run roots held refused whole (left, answers, now) = (
+  answered client shelf (kept out.goes_on left) before,
+  (shelf, left, answers_at ask out at said from before.shelf shelf (follows_in client had) (before.follows client) left same stands (follows client) answers, refl),
+  record {
+    run = run;
+    roots = roots;
+    shelf = held;
+    follows = follows_still client (kept out.goes_on left) before.follows (λ other. follows_in other had) (λ other. follows_in other code.clients.items) follows now;
+    refused = refused;
+    whole = whole;
+  },
+)
+
+-- an idle moment of a client, and the world then
+pub rests_well : (before : WorldData) (client : ℤ) (root : ℕ) (at : Option AtData) (had : List Client) (code : World)
+    (result : Result OutData AllocError) → at ≡ numbered root before.run code.table
+    → ((other : ℤ) → before.follows other ≡ follows_in other had) → before.run ≡ run_data code.run
+    → IsTableOf before.events code.table → before.shelf ≡ code.shelf → None ≡ option_map refused_data code.refused → code.spent ≡ false
+    → IfOk result (λ out. (left : List SubscriptionData) × Idles root at (follows_in client had) out left
+    × FollowsNow client left had code.clients.items)
+    → IfOk result (λ out. (after : WorldData) × Rests client root before out after × Stands after code)
+rests_well before client root at had code (Err error) same follows run roots held refused whole idles = tt
+rests_well before client root at had code (Ok out) same follows run roots held refused whole (left, idles, now) = (
+  answered client before.shelf left before,
+  (
+    code.table,
+    left,
+    roots,
+    subst (λ f. Idles root (numbered root before.run code.table) f out left) (sym (follows client))
+        (subst (λ a. Idles root a (follows_in client had) out left) same idles),
+    refl,
+  ),
+  record {
+    run = run;
+    roots = roots;
+    shelf = held;
+    follows = follows_still client left before.follows (λ other. follows_in other had) (λ other. follows_in other code.clients.items) follows now;
+    refused = refused;
+    whole = whole;
+  },
+)
 
 -- the root that an ask ends, which is found in the code's values
 pub ends_none : (mine : RunData) (said need : NeedData) (table : TableData) → None ≡ option_map (instance_of mine) (ending said table)
@@ -169,28 +260,29 @@ plays_one before now next all left happening sent said plays does = λ rest afte
 
 -- the same of the code's happenings and replies
 pub plays_next : (before now next : WorldData) (all : List HappeningData) (left behind : List Happening) (happening : Happening)
-    (sent after : List Sent) (reply : Option Sent) → left ≡ happening ∷ behind → map sent_data after ≡ map sent_data sent ++ sent_list reply
-    → PlaysOn before all (map sent_data sent) now (map happening_data left) → Does now (happening_data happening) (sent_list reply) next
-    → PlaysOn before all (map sent_data after) next (map happening_data behind)
-plays_next before now next all left behind happening sent after reply is said plays does =
-    subst (λ s. PlaysOn before all s next (map happening_data behind)) (sym said)
-    (plays_one before now next all (map happening_data behind) (happening_data happening) (map sent_data sent) (sent_list reply)
-    (subst (λ l. PlaysOn before all (map sent_data sent) now (map happening_data l)) is plays) does)
+    (sent after : List Sent) (said : Option Sent) → left ≡ happening ∷ behind → all_sent after ≡ all_sent sent ++ sent_if said
+    → PlaysOn before all (all_sent sent) now (map happening_data left) → Does now (happening_data happening) (sent_if said) next
+    → PlaysOn before all (all_sent after) next (map happening_data behind)
+plays_next before now next all left behind happening sent after said is more plays does =
+    subst (λ s. PlaysOn before all s next (map happening_data behind)) (sym more)
+    (plays_one before now next all (map happening_data behind) (happening_data happening) (all_sent sent) (sent_if said)
+    (subst (λ l. PlaysOn before all (all_sent sent) now (map happening_data l)) is plays) does)
 
--- one reply more
-map_then : (sent : List Sent) (one : Sent) → map sent_data (sent ++ one ∷ []) ≡ map sent_data sent ++ sent_data one ∷ []
-map_then [] one = refl
-map_then (first ∷ sent) one = ap (λ rest. sent_data first ∷ rest) (map_then sent one)
+-- what is sent of one thing more
+sent_then : (sent : List Sent) (one : Sent) → all_sent (sent ++ one ∷ []) ≡ all_sent sent ++ sent_of one
+sent_then [] one = append-nil (sent_of one)
+sent_then (first ∷ sent) one =
+    ap (λ rest. sent_of first ++ rest) (sent_then sent one) ∙ sym (append_assoc (sent_of first) (all_sent sent) (sent_of one))
 
-pub said_some : (sent after : List Sent) (one : Sent) (reply : Option Sent) → after ≡ sent ++ one ∷ [] → reply ≡ Some one
-    → map sent_data after ≡ map sent_data sent ++ sent_list reply
-said_some sent after one reply is some =
-    ap (map sent_data) is ∙ map_then sent one ∙ ap (λ r. map sent_data sent ++ sent_list r) (sym some)
+pub said_some : (sent after : List Sent) (one : Sent) (said : Option Sent) → after ≡ sent ++ one ∷ [] → said ≡ Some one
+    → all_sent after ≡ all_sent sent ++ sent_if said
+said_some sent after one said is some =
+    ap all_sent is ∙ sent_then sent one ∙ ap (λ s. all_sent sent ++ sent_if s) (sym some)
 
--- and none
-pub said_none : (sent : List Sent) (reply : Option Sent) → reply ≡ None → map sent_data sent ≡ map sent_data sent ++ sent_list reply
-said_none sent reply none =
-    sym (append-nil (map sent_data sent)) ∙ ap (λ r. map sent_data sent ++ sent_list r) (sym none)
+-- and of nothing
+pub said_none : (sent : List Sent) (said : Option Sent) → said ≡ None → all_sent sent ≡ all_sent sent ++ sent_if said
+said_none sent said none =
+    sym (append-nil (all_sent sent)) ∙ ap (λ s. all_sent sent ++ sent_if s) (sym none)
 
 -- nothing is left
 pub plays_all : (before now : WorldData) (all : List HappeningData) (sent : List SentData) → PlaysOn before all sent now []
@@ -202,11 +294,11 @@ plays_all before now all sent plays =
 pub leads_on : (first : WorldData) (events happenings : List HappeningData) (said : List SentData) (code next : World)
     (result : Result (Vec Sent Global) AllocError) → Leads first events said code
     → ((before : WorldData) → Stands before code → IfOk result (λ sent. (after : WorldData)
-    × Runs before happenings (map sent_data sent.items) after × Stands after next))
-    → IfOk result (λ sent. Leads first (events ++ happenings) (said ++ map sent_data sent.items) next)
+    × Runs before happenings (all_sent sent.items) after × Stands after next))
+    → IfOk result (λ sent. Leads first (events ++ happenings) (said ++ all_sent sent.items) next)
 leads_on first events happenings said code next (Ok sent) (world, runs, stands) plays =
     let goes = plays world stands in
-    (goes.0, runs_go_on first world goes.0 events happenings said (map sent_data sent.items) runs goes.1, goes.2)
+    (goes.0, runs_go_on first world goes.0 events happenings said (all_sent sent.items) runs goes.1, goes.2)
 leads_on first events happenings said code next (Err error) leads plays = tt
 
 -- a list without length is empty

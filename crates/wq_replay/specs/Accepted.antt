@@ -1,7 +1,7 @@
 -- The calls of the shelf that were accepted of what happened in a world, and that its shelf is what
 -- they come to.
 -- No public document is behind it.
-use Rattle.std.specs.Prelude.{◌≡◌, ◌⊎◌, List, [], ◌∷◌, ◌++◌, Option, Some, None, ℕ}
+use Rattle.std.specs.Prelude.{◌≡◌, ◌⊎◌, List, [], ◌∷◌, ◌++◌, Option, Some, None, ℕ, ℤ}
 use Rattle.wq_clock.specs.Run.{RunData}
 use Rattle.wq_live.specs.Table.{TableData, IsTableOf}
 use Rattle.wq_registry.specs.History.{adds_root, after_all}
@@ -14,39 +14,40 @@ use Rattle.wq_session.specs.Out.{OutData}
 use Rattle.wq_session.specs.declared.ask.Ask.{Ask}
 use Rattle.wq_crawl.specs.declared.fault.CrawlFault.{CrawlFault}
 use Rattle.wq_session.specs.declared.refusal.Refusal.TheVariants.{NoMemory}
-use Rattle.wq_replay.specs.World.{WorldData, HappeningData, crawl, watching, asked, SentData}
+use Rattle.wq_replay.specs.World.{WorldData, HappeningData, crawl, watching, asked, idle, SentData}
 use Rattle.wq_replay.specs.World.{Does, Runs, at_end, ending, fault_for, looked, new_world, root_text}
 use Rattle.wq_replay.specs.World.{sent_to}
 
--- these calls were accepted of an ask that ends the root of this number, or none: those of its
--- answer, at the root that it names, or at the end of the one that it ends; or none, where memory ran
--- out over that end
-abbrev pub AcceptsAt : Option ℕ → TableData → WorldData → Ask → OutData → List CallNow → Type 0
-AcceptsAt None table world ask out calls =
-    Accepts ask (looked (need_of ask) world.run table) world.shelf out calls
-AcceptsAt (Some number) table world ask out calls =
-    Accepts ask (Some (at_end world.run number)) world.shelf out calls
+-- these calls were accepted of a client's ask that ends the root of this number, or none: those of
+-- its answer, at the root that it names, or at the end of the one that it ends; or none, if memory
+-- ran out over that end
+abbrev pub AcceptsAt : Option ℕ → TableData → ℤ → WorldData → Ask → OutData → List CallNow → Type 0
+AcceptsAt None table client world ask out calls =
+    Accepts ask (looked (need_of ask) world.run table) world.shelf (world.follows client) out calls
+AcceptsAt (Some number) table client world ask out calls =
+    Accepts ask (Some (at_end world.run number)) world.shelf (world.follows client) out calls
     ⊎ (MayRefuse NoMemory out × (calls ≡ []))
 
 -- these calls were accepted of an ask: none, where its crawl or watching was refused
-abbrev pub AcceptsUnless : Option CrawlFault → TableData → WorldData → Ask → OutData → List CallNow
-    → Type 0
-AcceptsUnless (Some fault) table world ask out calls =
+abbrev pub AcceptsUnless : Option CrawlFault → TableData → ℤ → WorldData → Ask → OutData
+    → List CallNow → Type 0
+AcceptsUnless (Some fault) table client world ask out calls =
     MayRefuse (crawl_refusal fault) out × (calls ≡ [])
-AcceptsUnless None table world ask out calls =
-    AcceptsAt (ending (need_of ask) table) table world ask out calls
+AcceptsUnless None table client world ask out calls =
+    AcceptsAt (ending (need_of ask) table) table client world ask out calls
 
--- these calls were accepted of an ask that got this in a world
-abbrev pub AcceptsFor : WorldData → Ask → OutData → List CallNow → Type 0
-AcceptsFor world ask out calls = (table : TableData) × IsTableOf world.events table
-    × AcceptsUnless (fault_for (need_of ask) table world.refused) table world ask out calls
+-- these calls were accepted of a client's ask that got this in a world
+abbrev pub AcceptsFor : ℤ → WorldData → Ask → OutData → List CallNow → Type 0
+AcceptsFor client world ask out calls = (table : TableData) × IsTableOf world.events table
+    × AcceptsUnless (fault_for (need_of ask) table world.refused) table client world ask out calls
 
 -- these calls were accepted of what happened
 abbrev pub AcceptsOf : WorldData → HappeningData → List SentData → List CallNow → Type 0
 AcceptsOf world (crawl root seen) sent calls = calls ≡ []
 AcceptsOf world (watching root seen) sent calls = calls ≡ []
 AcceptsOf world (asked client ask) sent calls =
-    (out : OutData) × AcceptsFor world ask out calls × (sent ≡ sent_to client out)
+    (out : OutData) × AcceptsFor client world ask out calls × (sent ≡ sent_to client out)
+AcceptsOf world (idle client root) sent calls = calls ≡ []
 
 -- one after the other happens, and of all together these calls were accepted: those of each lead from
 -- the shelf before it to the one after it

@@ -1,5 +1,7 @@
 pub mod Limit
 pub mod World
+pub mod Client
+pub mod Clients
 pub mod Accepted
 pub mod Stands
 pub mod Fault

@@ -1,10 +1,10 @@
 -- What a `Line` of the code stands for.
 -- No public document is behind it.
-use Rattle.wq_replay.specs.Script.{LineData, pass, tree, row, end, ask, leave}
+use Rattle.wq_replay.specs.Script.{LineData, pass, tree, row, end, ask, leave, idle}
 use Rattle.wq_view.specs.Seen.{SeenData}
 use Rattle.wq_replay.specs.declared.script.Line.{Line}
 use Rattle.wq_replay.specs.declared.script.RowLine.{RowLine}
-use Rattle.wq_replay.specs.declared.script.Line.TheVariants.{Pass, Tree, Row, End, Ask, Leave}
+use Rattle.wq_replay.specs.declared.script.Line.TheVariants.{Pass, Tree, Row, End, Ask, Leave, Idle}
 
 -- what a row says was seen
 abbrev pub seen_data : RowLine → SeenData
@@ -18,3 +18,4 @@ line_data (Row r) = row (seen_data r)
 line_data End = end
 line_data (Ask client line) = ask client line.now
 line_data (Leave client) = leave client
+line_data (Idle client) = idle client

@@ -1,7 +1,7 @@
 -- What the replay of a script writes, and how it ends.
 -- It is this server's own.
 use Rattle.std.specs.Prelude.{◌≡◌, ◌≢◌, ◌≤◌, ◌<◌, ◌⊎◌, ℕ, suc, ◌+◌, ℤ, Bool, true, false, List, [], ◌∷◌, ◌++◌}
-use Rattle.std.specs.Prelude.{length, codes, bytes_eq, All, if◌then◌else◌, Option, Some, None, Result, Ok, Err}
+use Rattle.std.specs.Prelude.{length, map, codes, bytes_eq, All, if◌then◌else◌, Option, Some, None, Result, Ok, Err}
 use Rattle.std.specs.Fmt.{signed_decimal}
 use Rattle.std.specs.List.{list_any}
 use Rattle.std.specs.Io.KnownBytes.{Appends}
@@ -17,13 +17,15 @@ use Rattle.wq_crawl.specs.declared.fault.CrawlFault.TheVariants.{Unreadable}
 use Rattle.wq_view.specs.Listing.{PassData}
 use Rattle.wq_replay.specs.Limit.{max_script}
 use Rattle.wq_replay.specs.Line.{lines_of}
-use Rattle.wq_replay.specs.Stage.{StageData, Turn, drafts, lists, hears, malformed, start, turn_of}
-use Rattle.wq_replay.specs.World.{WorldData, HappeningData, crawl, watching, asked, SentData, Runs}
-use Rattle.wq_replay.specs.World.{root_text}
+use Rattle.wq_replay.specs.Client.{numbers_of}
+use Rattle.wq_replay.specs.Stage.{StageData, Turn, drafts, lists, hears, rests, malformed, start}
+use Rattle.wq_replay.specs.Stage.{turn_of}
+use Rattle.wq_replay.specs.World.{WorldData, HappeningData, crawl, watching, asked, idle, SentData}
+use Rattle.wq_replay.specs.World.{Runs, root_text}
 use Rattle.wq_replay.specs.declared.fault.ReplayFault.{ReplayFault}
 use Rattle.wq_replay.specs.declared.fault.ReplayFault.TheVariants.{Line, TooLong, Read, Write, Memory}
 
--- the line that is written for a reply: the client's number, a space and the reply
+-- the line that is written for what is sent: the client's number, a space and the text
 abbrev pub sent_line : ℤ → List ℕ → List ℕ
 sent_line client text = signed_decimal client ++ (codes " " ++ (text ++ codes "\n"))
 
@@ -57,6 +59,10 @@ pub record IsHeard (stage : StageData) (client : ℤ) (event : Event) (sent : Li
   pub asks : Asks event ask
   pub runs : Runs stage.world (needed stage.tree (need_of ask) ++ asked client ask ∷ []) sent after
 
+-- what happens if a client has an idle moment of each root that it is subscribed to
+abbrev pub moments : ℤ → WorldData → List HappeningData
+moments client world = map (idle client) (numbers_of (world.follows client))
+
 -- what a line does takes the script from a stage to the next, with this written, and the server
 -- goes on; a malformed line leads nowhere
 abbrev pub DoesLine : StageData → Turn → List ℕ → StageData → Type 0
@@ -68,6 +74,10 @@ DoesLine stage (lists crawls tree) written after =
 DoesLine stage (hears client event) written after =
     (sent : List SentData) × (world : WorldData) × IsHeard stage client event sent world
     × (shuts sent ≡ false) × (written ≡ sent_lines sent) × (after ≡ record stage { world = world })
+DoesLine stage (rests client) written after =
+    (sent : List SentData) × (world : WorldData)
+    × Runs stage.world (moments client stage.world) sent world
+    × (written ≡ sent_lines sent) × (after ≡ record stage { world = world })
 DoesLine stage malformed written after = ⊥
 
 -- these lines take the script in turn from a stage to another, with this written
@@ -107,10 +117,14 @@ Shuts stage (hears client event) before after =
     × (shuts sent ≡ true) × Appends before after (sent_lines sent)
 Shuts _ _ _ _ = ⊥
 
--- a client was heard, and of what was sent a front was written, but not all
+-- a client was heard or had idle moments, and of what was sent a front was written, but not all
 abbrev pub StopsWriting : StageData → Turn → Option (List ℕ) → Option (List ℕ) → Type 0
 StopsWriting stage (hears client event) before after =
     (sent : List SentData) × (world : WorldData) × IsHeard stage client event sent world
+    × WritesFront before after (sent_lines sent)
+StopsWriting stage (rests client) before after =
+    (sent : List SentData) × (world : WorldData)
+    × Runs stage.world (moments client stage.world) sent world
     × WritesFront before after (sent_lines sent)
 StopsWriting _ _ _ _ = ⊥
 

@@ -21,6 +21,8 @@ pub data LineData : Type 0 where
   ask : ℤ → List ℕ → LineData
   -- a client leaves
   leave : ℤ → LineData
+  -- nothing else happens for a while, and a client is told of what changed
+  idle : ℤ → LineData
 
 -- the byte between words
 abbrev pub is_space : ℕ → Bool
@@ -78,6 +80,10 @@ ask_of text = option_and_then ask_from (number_then text)
 abbrev pub leave_from : ℤ → Option LineData
 leave_from client = if is_client client then Some (leave client) else None
 
+-- that nothing else happens for a while
+abbrev pub idle_from : ℤ → Option LineData
+idle_from client = if is_client client then Some (idle client) else None
+
 -- a line by its first word and what follows
 abbrev pub line_worded : List ℕ × List ℕ → Option LineData
 line_worded (word, rest) =
@@ -85,6 +91,7 @@ line_worded (word, rest) =
     else if bytes_eq word (codes "tree") then option_map tree (signed_of rest)
     else if bytes_eq word (codes "ask") then ask_of rest
     else if bytes_eq word (codes "leave") then option_and_then leave_from (signed_of rest)
+    else if bytes_eq word (codes "idle") then option_and_then idle_from (signed_of rest)
     else option_and_then (λ kind. row_of kind rest) (kind_of_word word)
 
 -- what a line says, unless it is malformed

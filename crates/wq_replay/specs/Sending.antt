@@ -10,9 +10,18 @@ use Rattle.wq_replay.specs.declared.fault.StepFault.TheVariants.{Malformed, Writ
 
 -- the lines were written whole, and it is said whether the server goes on; or the writer failed
 -- within them
-abbrev pub Sends : List SentData → Option (List ℕ) → Option (List ℕ) → Result Bool StepFault → Type 0
+abbrev pub Sends : List SentData → Option (List ℕ) → Option (List ℕ) → Result Bool StepFault
+    → Type 0
 Sends sent before after (Ok goes_on) =
     (goes_on ≡ not (shuts sent)) × Appends before after (sent_lines sent)
 Sends sent before after (Err Write) = WritesFront before after (sent_lines sent)
 Sends sent before after (Err Malformed) = ⊥
 Sends sent before after (Err NoMemory) = ⊥
+
+-- the lines were written whole, or the writer failed within them
+abbrev pub SendsAll : List SentData → Option (List ℕ) → Option (List ℕ)
+    → Result (Unit {0}) StepFault → Type 0
+SendsAll sent before after (Ok _) = Appends before after (sent_lines sent)
+SendsAll sent before after (Err Write) = WritesFront before after (sent_lines sent)
+SendsAll sent before after (Err Malformed) = ⊥
+SendsAll sent before after (Err NoMemory) = ⊥

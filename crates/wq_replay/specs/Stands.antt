@@ -1,15 +1,17 @@
 -- Where the world of the code stands.
 -- No public document is behind it.
-use Rattle.std.specs.Prelude.{◌≡◌, ℕ, false, List, [], ◌∷◌, Option, Some, None, option_map, Result, Ok, Err}
+use Rattle.std.specs.Prelude.{◌≡◌, ℤ, false, List, [], ◌∷◌, ◌++◌, Option, Some, None, option_map}
+use Rattle.std.specs.Prelude.{Result, Ok, Err}
 use Rattle.std.specs.Borrow.{Bor}
 use Rattle.wq_live.specs.Table.{IsTableOf}
 use Rattle.wq_crawl.specs.declared.fault.CrawlFault.{CrawlFault}
 use Rattle.wq_view.specs.Listing.{PassData}
 use Rattle.wq_clock.specs.Run.{run_data}
 use Rattle.wq_replay.specs.World.{RefusedData, WorldData, Runs}
-use Rattle.wq_replay.specs.World.{HappeningData, crawl, watching, asked, SentData}
+use Rattle.wq_replay.specs.Client.{follows_in}
+use Rattle.wq_replay.specs.World.{HappeningData, crawl, watching, asked, idle, SentData, sent_to}
 use Rattle.wq_replay.specs.declared.happening.Happening.{Happening}
-use Rattle.wq_replay.specs.declared.happening.Happening.TheVariants.{Crawl, Watch, Asked}
+use Rattle.wq_replay.specs.declared.happening.Happening.TheVariants.{Crawl, Watch, Asked, Idle}
 use Rattle.wq_replay.specs.declared.refused.Refused.{Refused}
 use Rattle.wq_replay.specs.declared.sent.Sent.{Sent}
 use Rattle.wq_replay.specs.declared.world.World.{World}
@@ -23,6 +25,7 @@ pub record Stands (world : WorldData) (code : World) : Type 0 where
   pub run : world.run ≡ run_data code.run
   pub roots : IsTableOf world.events code.table
   pub shelf : world.shelf ≡ code.shelf
+  pub follows : (client : ℤ) → world.follows client ≡ follows_in client code.clients.items
   pub refused : world.refused ≡ option_map refused_data code.refused
   pub whole : code.spent ≡ false
 
@@ -36,24 +39,21 @@ abbrev pub happening_data : Happening → HappeningData
 happening_data (Crawl root seen) = crawl root (crawl_data seen)
 happening_data (Watch root seen) = watching root (crawl_data seen)
 happening_data (Asked client ask) = asked client ask
+happening_data (Idle client root) = idle client root
 
--- the text of a reply, and nothing where there is none
-abbrev pub text_or_none : Option (List ℕ) → List ℕ
-text_or_none None = []
-text_or_none (Some text) = text
+-- what is sent of one thing that happened
+abbrev pub sent_of : Sent → List SentData
+sent_of sent = sent_to sent.client sent.out
 
--- what is sent
-abbrev pub sent_data : Sent → SentData
-sent_data sent = record {
-  client = sent.client;
-  text = text_or_none sent.out.reply;
-  shuts = sent.out.shuts;
-}
+-- what is sent of these, one after the other
+abbrev pub all_sent : List Sent → List SentData
+all_sent [] = []
+all_sent (sent ∷ later) = sent_of sent ++ all_sent later
 
 -- what is sent, if anything is
-abbrev pub sent_list : Option Sent → List SentData
-sent_list None = []
-sent_list (Some sent) = sent_data sent ∷ []
+abbrev pub sent_if : Option Sent → List SentData
+sent_if None = []
+sent_if (Some sent) = sent_of sent
 
 -- a world was led by what happened to where the code stands, and this was sent
 abbrev pub Leads : WorldData → List HappeningData → List SentData → World → Type 0

@@ -1,18 +1,22 @@
--- The world that sessions play in: what happened to its roots, and what all clients share; what may
--- happen there, and what is sent then.
+-- The world that sessions play in: what happened to its roots, what all clients share, and the
+-- subscriptions of each client; what may happen there, and what is sent then.
 -- Crawls and watches before answers are from Watchman's documentation of synchronisation
 -- (`sync_timeout`), of `watch` and of `watch-del`; the rest is this server's own.
-use Rattle.std.specs.Prelude.{◌≡◌, ◌⊎◌, ℕ, ℤ, Bool, List, [], ◌∷◌, ◌++◌}
+use Rattle.std.specs.Prelude.{◌≡◌, ◌⊎◌, ℕ, ℤ, Bool, true, false, List, [], ◌∷◌, ◌++◌, map, find}
 use Rattle.std.specs.Prelude.{codes, bytes_eq, is_some, if◌then◌else◌}
 use Rattle.std.specs.Prelude.{Option, Some, None, option_map, Result, Ok, Err}
+use Rattle.std.specs.Ordering.{int_eq}
 use Rattle.wq_clock.specs.Run.{RunData, instance_of}
 use Rattle.wq_live.specs.Event.{number_of}
-use Rattle.wq_live.specs.Table.{RootView, TableData, IsTableOf, number_by_text, root_by_text}
+use Rattle.wq_follow.specs.Subscription.{SubscriptionData}
+use Rattle.wq_live.specs.Table.{RootView, TableData, IsTableOf, has_number, number_by_text}
+use Rattle.wq_live.specs.Table.{root_by_text}
 use Rattle.wq_live.specs.declared.event.RootEvent.{RootEvent}
 use Rattle.wq_live.specs.declared.event.RootEvent.TheVariants.{Started, Ended}
 use Rattle.wq_registry.specs.Shelf.{blank, root_added}
 use Rattle.wq_session.specs.Answer.{AnswersAsk, MayRefuse}
 use Rattle.wq_session.specs.Crawl.{crawl_refusal}
+use Rattle.wq_session.specs.Moment.{Idles}
 use Rattle.wq_session.specs.Need.{NeedData, look, crawl as crawl_of, watch as watch_of, unwatch, need_of}
 use Rattle.wq_session.specs.Out.{OutData}
 use Rattle.wq_session.specs.At.{AtData, ShelfNow}
@@ -30,12 +34,13 @@ pub record RefusedData : Type 0 where
   pub root : List ℕ
   pub fault : CrawlFault
 
--- a world: the run of the server, what happened to roots, what all clients share, and the crawl or
--- opening that came last, if it was refused and nothing followed it
+-- a world: the run of the server, what happened to roots, what all clients share, the subscriptions
+-- of each client, and the crawl or opening that came last, if it was refused and nothing followed it
 pub record WorldData : Type 0 where
   pub run : RunData
   pub events : List RootEvent
   pub shelf : ShelfNow
+  pub follows : ℤ → List SubscriptionData
   pub refused : Option RefusedData
 
 -- what may happen
@@ -46,8 +51,10 @@ pub data HappeningData : Type 0 where
   watching : (root : List ℕ) → Result PassData CrawlFault → HappeningData
   -- a client asks, or leaves
   asked : (client : ℤ) → Ask → HappeningData
+  -- an idle moment of the root of this number: a client is told of its changes
+  idle : (client : ℤ) → (root : ℕ) → HappeningData
 
--- a reply that is sent
+-- a line that is sent: a reply, or a list of a subscription
 pub record SentData : Type 0 where
   pub client : ℤ
   -- without a newline
@@ -66,6 +73,7 @@ new_world run sockname = record {
   run = run;
   events = Started 1 root_text ∷ [];
   shelf = root_added root_text 1 (blank sockname);
+  follows = λ client. [];
   refused = None;
 }
 
@@ -149,52 +157,89 @@ looked (crawl_of root) run table = option_map (at_root run) (root_by_text root t
 looked (watch_of root) run table = option_map (at_root run) (root_by_text root table)
 looked _ run table = None
 
--- an answer at what is looked at, and at what all clients share
-abbrev pub AnswersInWorld : Option AtData → WorldData → Ask → OutData → WorldData → Type 0
-AnswersInWorld at world ask out after = (shelf : ShelfNow) × AnswersAsk ask at world.shelf out shelf
-    × (after ≡ record world { shelf = shelf; refused = None })
+-- the root of a number as it is looked at, if it is shown
+abbrev pub numbered : ℕ → RunData → TableData → Option AtData
+numbered number run table = option_map (at_root run) (find (has_number number) table.roots)
+
+-- the subscriptions of a session from now on: none, if it does not go on
+abbrev pub kept : Bool → List SubscriptionData → List SubscriptionData
+kept true left = left
+kept false left = []
+
+-- the subscriptions of each client, with these as those of one
+abbrev pub with_follows : ℤ → List SubscriptionData → (ℤ → List SubscriptionData) → ℤ
+    → List SubscriptionData
+with_follows client left follows other = if int_eq client other then left else follows other
+
+-- the world with this shelf, and with these subscriptions of a client
+abbrev pub answered : ℤ → ShelfNow → List SubscriptionData → WorldData → WorldData
+answered client shelf left world = record world {
+  shelf = shelf;
+  follows = with_follows client left world.follows;
+  refused = None;
+}
+
+-- an answer to a client at what is looked at, at what all clients share, and at its subscriptions
+abbrev pub AnswersInWorld : ℤ → Option AtData → WorldData → Ask → OutData → WorldData → Type 0
+AnswersInWorld client at world ask out after = (shelf : ShelfNow) × (left : List SubscriptionData)
+    × AnswersAsk ask at world.shelf (world.follows client) out shelf left
+    × (after ≡ answered client shelf (kept out.goes_on left) world)
 
 -- the answer to an ask that ends the root of this number: that ends first, unless memory runs out
 -- over it
-abbrev pub EndsAt : ℕ → WorldData → Ask → OutData → WorldData → Type 0
-EndsAt number world ask out after =
-    AnswersInWorld (Some (at_end world.run number))
+abbrev pub EndsAt : ℤ → ℕ → WorldData → Ask → OutData → WorldData → Type 0
+EndsAt client number world ask out after =
+    AnswersInWorld client (Some (at_end world.run number))
     (at_events (world.events ++ Ended number ∷ []) world) ask out after
     ⊎ (MayRefuse NoMemory out × (after ≡ unrefused world))
 
 -- the answer to an ask that ends this root, or none
-abbrev pub GetsAt : Option ℕ → TableData → WorldData → Ask → OutData → WorldData → Type 0
-GetsAt None table world ask out after =
-    AnswersInWorld (looked (need_of ask) world.run table) world ask out after
-GetsAt (Some number) table world ask out after = EndsAt number world ask out after
+abbrev pub GetsAt : Option ℕ → TableData → ℤ → WorldData → Ask → OutData → WorldData → Type 0
+GetsAt None table client world ask out after =
+    AnswersInWorld client (looked (need_of ask) world.run table) world ask out after
+GetsAt (Some number) table client world ask out after = EndsAt client number world ask out after
 
 -- what an ask gets: that its crawl or watching was refused, or its answer
-abbrev pub GetsFor : Option CrawlFault → TableData → WorldData → Ask → OutData → WorldData → Type 0
-GetsFor (Some fault) table world ask out after =
+abbrev pub GetsFor : Option CrawlFault → TableData → ℤ → WorldData → Ask → OutData → WorldData
+    → Type 0
+GetsFor (Some fault) table client world ask out after =
     MayRefuse (crawl_refusal fault) out × (after ≡ unrefused world)
-GetsFor None table world ask out after =
-    GetsAt (ending (need_of ask) table) table world ask out after
+GetsFor None table client world ask out after =
+    GetsAt (ending (need_of ask) table) table client world ask out after
 
--- what an ask gets, and the world then
-abbrev pub Gets : WorldData → Ask → OutData → WorldData → Type 0
-Gets world ask out after = (table : TableData) × IsTableOf world.events table
-    × GetsFor (fault_for (need_of ask) table world.refused) table world ask out after
+-- what the ask of a client gets, and the world then
+abbrev pub Gets : ℤ → WorldData → Ask → OutData → WorldData → Type 0
+Gets client world ask out after = (table : TableData) × IsTableOf world.events table
+    × GetsFor (fault_for (need_of ask) table world.refused) table client world ask out after
+
+-- what an idle moment of the root of this number gives out to a client, and the world then
+abbrev pub Rests : ℤ → ℕ → WorldData → OutData → WorldData → Type 0
+Rests client root world out after = (table : TableData) × (left : List SubscriptionData)
+    × IsTableOf world.events table
+    × Idles root (numbered root world.run table) (world.follows client) out left
+    × (after ≡ answered client world.shelf left world)
 
 -- what is sent of a reply, if there is one
 abbrev pub sent_for : ℤ → Bool → Option (List ℕ) → List SentData
 sent_for client shuts None = []
 sent_for client shuts (Some text) = record { client = client; text = text; shuts = shuts } ∷ []
 
--- what is sent to a client
+-- a list that is sent, by which the server never ends
+abbrev pub sent_list : ℤ → List ℕ → SentData
+sent_list client text = record { client = client; text = text; shuts = false }
+
+-- what is sent to a client: the reply, if there is one, and then each list
 abbrev pub sent_to : ℤ → OutData → List SentData
-sent_to client out = sent_for client out.shuts out.reply
+sent_to client out = sent_for client out.shuts out.reply ++ map (sent_list client) out.lists
 
 -- something happens: this is sent, and the world is another then
 abbrev pub Does : WorldData → HappeningData → List SentData → WorldData → Type 0
 Does world (crawl root seen) sent after = (sent ≡ []) × Crawls world root seen after
 Does world (watching root seen) sent after = (sent ≡ []) × Watches world root seen after
 Does world (asked client ask) sent after =
-    (out : OutData) × Gets world ask out after × (sent ≡ sent_to client out)
+    (out : OutData) × Gets client world ask out after × (sent ≡ sent_to client out)
+Does world (idle client root) sent after =
+    (out : OutData) × Rests client root world out after × (sent ≡ sent_to client out)
 
 -- one after the other happens
 abbrev pub Runs : WorldData → List HappeningData → List SentData → WorldData → Type 0

@@ -23,4 +23,9 @@ pub enum Happening<'a> {
         client: i64,
         ask: Ask,
     },
+    /// Nothing else happens for a while: a client is told of the changes of the root of this number.
+    Idle {
+        client: i64,
+        root: u64,
+    },
 }

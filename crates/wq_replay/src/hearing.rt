@@ -1,11 +1,11 @@
-//! What happens where a client of a script asks: what its ask needs first, and the ask. What comes of it is left to
-//! `playing`.
+//! What happens if a client of a script asks, or has idle moments: what its ask needs first, and the ask; or a moment
+//! of each root. `playing` says what comes of it.
 ghost use Rattle.std.specs.Prelude.{◌≡◌, ◌++◌, ◌∷◌, [], IfOk, map, option_to_list};
 ghost use Rattle.wq_session.specs.Need.{need_of};
 ghost use Rattle.wq_session.specs.Needed.{need_data};
 ghost use Rattle.wq_replay.specs.Replay.{listed_root, needed};
 ghost use Rattle.wq_replay.specs.Stands.{crawl_data, happening_data};
-ghost use Rattle.wq_replay.specs.World.{asked};
+ghost use Rattle.wq_replay.specs.World.{asked, idle};
 
 use crate::happening::Happening;
 use crate::playing::ROOT;
@@ -31,6 +31,21 @@ pub(crate) fn happenings(
     }
     happenings.push(Happening::Asked { client, ask })?;
     Ok(happenings)
+}
+
+/// An idle moment of each root of these numbers for a client.
+pub(crate) fn moments<'a>(
+    alloc: Global,
+    client: i64,
+    numbers: &[u64],
+) -> Result<Vec<Happening<'a>>, AllocError>
+    ensures { IfOk result (λ all. map happening_data all.items ≡ map (idle client) numbers.now) }
+{
+    let mut moments = Vec::with_capacity(alloc, numbers.len())?;
+    for &root in numbers {
+        moments.push(Happening::Idle { client, root })?;
+    }
+    Ok(moments)
 }
 
 /// The crawl or the watching that an ask needs, if it needs one.

@@ -3,6 +3,8 @@
 //! above.
 #![tactic(auto)]
 
+mod client;
+mod clients;
 mod fault;
 mod happening;
 mod hearing;

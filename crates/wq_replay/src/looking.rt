@@ -1,12 +1,13 @@
-//! What an ask finds of the roots of a world.
-ghost use Rattle.std.specs.Prelude.{◌≡◌, option_map};
+//! What an ask, or an idle moment, finds of the roots of a world.
+ghost use Rattle.std.specs.Prelude.{◌≡◌, List, option_map};
 ghost use Rattle.wq_clock.specs.Instance.{instance_data};
-ghost use Rattle.wq_live.specs.Table.{number_by_text, root_by_text};
+ghost use Rattle.wq_live.specs.Table.{IsTableOf, number_by_text, root_by_text};
+ghost use Rattle.wq_live.specs.declared.event.RootEvent.{RootEvent};
 ghost use Rattle.wq_session.specs.Needed.{need_data};
 ghost use Rattle.wq_session.specs.At.{at_data};
 ghost use Rattle.wq_clock.specs.Run.{instance_of, run_data};
 ghost use Rattle.wq_replay.specs.Stands.{refused_data};
-ghost use Rattle.wq_replay.specs.World.{at_root, ending, fault_for, looked, refused_fault, shows};
+ghost use Rattle.wq_replay.specs.World.{at_root, ending, fault_for, looked, numbered, refused_fault, shows};
 
 use crate::refused::Refused;
 use wq_clock::{Instance, Run};
@@ -76,6 +77,22 @@ pub(crate) fn looked<'a>(need: Need<'_>, run: Run, table: &'a RootTable) -> Opti
         Need::None | Need::Unwatch(_) => None,
         Need::Look(root) | Need::Crawl(root) | Need::Watch(root) => at_root(run, table, root),
     }
+}
+
+/// The root of a number as it is looked at, if it is shown.
+pub(crate) fn numbered<'a>(number: u64, run: Run, table: &'a RootTable) -> Option<At<'a>>
+    ensures { (events : List RootEvent) → IsTableOf events table.now
+        → option_map at_data result ≡ numbered number (run_data run) table.now }
+{
+    let given = table.given();
+    if number > given {
+        return None;
+    }
+    let view = table.view(number)?;
+    Some(At {
+        instance: run.instance(number),
+        view: Some(view),
+    })
 }
 
 /// A root as it is looked at, if it is shown.

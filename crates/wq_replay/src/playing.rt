@@ -1,5 +1,5 @@
-//! What happens in a world: crawls and openings of roots, and the answers to what clients ask. What a session answers is
-//! not said here.
+//! What happens in a world: crawls and openings of roots, the answers to what clients ask, and idle moments. What a
+//! session gives out is not said here.
 ghost use Rattle.std.specs.Prelude.{◌≡◌, ◌+◌, ◌++◌, ◌∷◌, List, Ok, [], false, map, string_bytes, true};
 ghost use Rattle.std.specs.Prelude.{IfOk, IsErr, OnErr, OnOk};
 ghost use Rattle.std.specs.Prelude.{None, pos};
@@ -9,12 +9,14 @@ ghost use Rattle.wq_live.specs.declared.event.RootEvent.TheVariants.{Started};
 ghost use Rattle.wq_session.specs.Need.{need_of};
 ghost use Rattle.wq_view.specs.Listing.{listing_of};
 ghost use Rattle.wq_clock.specs.Run.{instance_of, run_data};
-ghost use Rattle.wq_replay.specs.Stands.{Leads, Stands, crawl_data, happening_data, sent_data, sent_list};
-ghost use Rattle.wq_replay.specs.World.{AnswersInWorld, Crawls, Does, EndsAt, Gets, HappeningData, Watches, Runs, SentData, Starts};
-ghost use Rattle.wq_replay.specs.World.{WorldData, looked, new_world, root_text, sent_to};
+ghost use Rattle.wq_replay.specs.Client.{numbers_of};
+ghost use Rattle.wq_replay.specs.Stands.{Leads, Stands, all_sent, crawl_data, happening_data, sent_if};
+ghost use Rattle.wq_replay.specs.World.{AnswersInWorld, Crawls, Does, EndsAt, Gets, HappeningData, Rests, Runs, SentData};
+ghost use Rattle.wq_replay.specs.World.{Starts, Watches, WorldData, looked, new_world, root_text};
 
+use crate::clients;
 use crate::happening::Happening;
-use crate::looking::{ending, fault_for, looked};
+use crate::looking::{ending, fault_for, looked, numbered};
 use crate::refused::Refused;
 use crate::sent::Sent;
 use crate::world::World;
@@ -24,7 +26,7 @@ use wq_clock::{Instance, Run};
 use wq_crawl::{CrawlFault, Place, place_for};
 use wq_live::RootTable;
 use wq_registry::{Cache, Shelf};
-use wq_session::{Ask, At, Out, Refusal, Session};
+use wq_session::{Ask, At, Out, Refusal};
 use wq_view::{Pass, ViewFault};
 
 /// The root of a new world.
@@ -44,6 +46,7 @@ impl World {
                 run,
                 table,
                 shelf,
+                clients: Vec::new(alloc),
                 refused: None,
                 spent: false,
             }),
@@ -57,7 +60,8 @@ impl World {
     /// so is the ask.
     ///
     /// # Errors
-    /// Where a growth is refused for a view, or for the list of what is sent. From then on every call is refused.
+    /// Where a growth is refused for a view, for the place of a client, or for the list of what is sent. From then on
+    /// every call is refused.
     pub fn play(
         &mut self,
         alloc: Global,
@@ -66,12 +70,12 @@ impl World {
         // For every world that this one stands for:
         ensures runs { (before : WorldData) → Stands before self.old → IfOk result (λ sent.
             (after : WorldData) × Runs before (map happening_data happenings.entry.items)
-            (map sent_data sent.items) after × Stands after self.new) }
+            (all_sent sent.items) after × Stands after self.new) }
         // For everything that led to it from a first one:
         ensures leads { (first : WorldData) (events : List HappeningData) (said : List SentData)
             → Leads first events said self.old → IfOk result (λ sent.
             Leads first (events ++ map happening_data happenings.entry.items)
-            (said ++ map sent_data sent.items) self.new) }
+            (said ++ all_sent sent.items) self.new) }
         ensures spent { self.old.spent ≡ true → IsErr result }
         ensures spends { OnErr result (self.new.spent ≡ true) }
     {
@@ -93,12 +97,12 @@ impl World {
     ) -> Result<Vec<Sent>, AllocError>
         ensures { (before : WorldData) → Stands before self.old → IfOk result (λ sent.
             (after : WorldData) × Runs before (map happening_data happenings.entry.items)
-            (map sent_data sent.items) after × Stands after self.new) }
+            (all_sent sent.items) after × Stands after self.new) }
     {
         let mut sent = Vec::new(alloc);
         for happening in happenings {
-            if let Some(reply) = self.happen(alloc, happening)? {
-                sent.push(reply)?;
+            if let Some(said) = self.happen(alloc, happening)? {
+                sent.push(said)?;
             }
         }
         Ok(sent)
@@ -111,7 +115,7 @@ impl World {
         happening: Happening<'_>,
     ) -> Result<Option<Sent>, AllocError>
         ensures { (before : WorldData) → Stands before self.old → IfOk result (λ sent.
-            (after : WorldData) × Does before (happening_data happening.entry) (sent_list sent) after
+            (after : WorldData) × Does before (happening_data happening.entry) (sent_if sent) after
             × Stands after self.new) }
     {
         match happening {
@@ -124,8 +128,12 @@ impl World {
                 Ok(None)
             }
             Happening::Asked { client, ask } => {
-                let out = self.answer(alloc, ask);
-                Ok(sent(client, out))
+                let out = self.answer(alloc, client, ask)?;
+                Ok(Some(Sent { client, out }))
+            }
+            Happening::Idle { client, root } => {
+                let out = self.rest(alloc, client, root)?;
+                Ok(Some(Sent { client, out }))
             }
         }
     }
@@ -224,51 +232,84 @@ impl World {
         }
     }
 
-    /// What an ask gets. One that needs a crawl of a root, or has to watch it, is to come directly behind that.
-    fn answer(&mut self, alloc: Global, ask: Ask) -> Out
-        ensures { (before : WorldData) → Stands before self.old
-            → (after : WorldData) × Gets before ask result after × Stands after self.new }
+    /// What the ask of a client gets. One that needs a crawl of a root, or has to watch it, is to come directly behind
+    /// that.
+    fn answer(&mut self, alloc: Global, client: i64, ask: Ask) -> Result<Out, AllocError>
+        ensures { (before : WorldData) → Stands before self.old → IfOk result (λ out.
+            (after : WorldData) × Gets client before ask out after × Stands after self.new) }
     {
         let refused = self.refused.take();
         if let Some(fault) = fault_for(ask.need(), &self.table, refused) {
-            return Out::refused(alloc, Refusal::from(fault));
+            return Ok(Out::refused(alloc, Refusal::from(fault)));
         }
         match ending(ask.need(), self.run, &self.table) {
-            Some(instance) => self.answer_ended(alloc, ask, instance),
-            None => self.answer_at(alloc, ask),
+            Some(instance) => self.answer_ended(alloc, client, ask, instance),
+            None => self.answer_at(alloc, client, ask),
         }
     }
 
     /// What an ask gets that ends this root.
-    fn answer_ended(&mut self, alloc: Global, ask: Ask, instance: Instance) -> Out
+    fn answer_ended(
+        &mut self,
+        alloc: Global,
+        client: i64,
+        ask: Ask,
+        instance: Instance,
+    ) -> Result<Out, AllocError>
         requires followed { self.old.refused ≡ None }
         ensures { (before : WorldData) → Stands before self.old
-            → instance_data instance ≡ instance_of before.run instance.root
-            → (after : WorldData) × EndsAt instance.root before ask result after × Stands after self.new }
+            → instance_data instance ≡ instance_of before.run instance.root → IfOk result (λ out.
+            (after : WorldData) × EndsAt client instance.root before ask out after
+            × Stands after self.new) }
     {
         // The root is shown, so that only memory can be lacking.
         let Ok(Some(table)) = self.table.with_end(instance.root) else {
-            return Out::refused(alloc, Refusal::NoMemory);
+            return Ok(Out::refused(alloc, Refusal::NoMemory));
         };
-        self.table = table;
         let at = At {
             instance,
             view: None,
         };
-        Session::new().on(alloc, ask, Some(at), &mut self.shelf)
+        let out = clients::answer(
+            &mut self.clients,
+            alloc,
+            client,
+            ask,
+            Some(at),
+            &mut self.shelf,
+        )?;
+        self.table = table;
+        Ok(out)
     }
 
-    /// What any other ask gets, at the root that it names. Nothing is kept of a client yet, so that each ask has a
-    /// session of its own.
-    fn answer_at(&mut self, alloc: Global, ask: Ask) -> Out
+    /// What any other ask gets, at the root that it names.
+    fn answer_at(&mut self, alloc: Global, client: i64, ask: Ask) -> Result<Out, AllocError>
         requires followed { self.old.refused ≡ None }
-        ensures { (before : WorldData) → Stands before self.old
-            → (after : WorldData)
-            × AnswersInWorld (looked (need_of ask) before.run self.old.table) before ask result after
-            × Stands after self.new }
+        ensures { (before : WorldData) → Stands before self.old → IfOk result (λ out.
+            (after : WorldData)
+            × AnswersInWorld client (looked (need_of ask) before.run self.old.table) before ask
+            out after × Stands after self.new) }
     {
         let at = looked(ask.need(), self.run, &self.table);
-        Session::new().on(alloc, ask, at, &mut self.shelf)
+        clients::answer(&mut self.clients, alloc, client, ask, at, &mut self.shelf)
+    }
+
+    /// What an idle moment of the root of this number gives out to a client.
+    fn rest(&mut self, alloc: Global, client: i64, root: u64) -> Result<Out, AllocError>
+        ensures { (before : WorldData) → Stands before self.old → IfOk result (λ out.
+            (after : WorldData) × Rests client root before out after × Stands after self.new) }
+    {
+        self.refused = None;
+        let at = numbered(root, self.run, &self.table);
+        clients::idle(&mut self.clients, alloc, client, root, at)
+    }
+
+    /// The numbers of the roots of a client's subscriptions, each once, ascending.
+    pub fn numbers(&self, alloc: Global, client: i64) -> Result<Vec<u64>, AllocError>
+        ensures { (before : WorldData) → Stands before self.now → IfOk result (λ numbers.
+            numbers.items ≡ numbers_of (before.follows client)) }
+    {
+        clients::numbers(&self.clients, alloc, client)
     }
 }
 
@@ -292,14 +333,4 @@ pub(crate) fn no_files(alloc: Global) -> Result<Pass, AllocError>
         Ok(pass) => Ok(pass),
         Err(_) => Err(AllocError),
     }
-}
-
-/// What is sent to a client, if there is a reply.
-fn sent(client: i64, out: Out) -> Option<Sent>
-    ensures { sent_list result ≡ sent_to client out }
-{
-    if out.reply().is_none() {
-        return None;
-    }
-    Some(Sent { client, out })
 }

@@ -1,6 +1,7 @@
 //! The lines of a script, each as what it says. What they do is left to `step`.
 ghost use Rattle.std.specs.Prelude.{◌≡◌, option_map};
-ghost use Rattle.wq_replay.specs.Script.{ask_of, first_word, is_client, kind_of_word, leave_from, line_of, number_then, row_of};
+ghost use Rattle.wq_replay.specs.Script.{ask_of, first_word, idle_from, is_client, kind_of_word, leave_from, line_of};
+ghost use Rattle.wq_replay.specs.Script.{number_then, row_of};
 ghost use Rattle.wq_replay.specs.LineData.{line_data};
 
 use memchr::memchr;
@@ -22,6 +23,8 @@ pub(crate) enum Line<'a> {
     Ask(i64, &'a [u8]),
     /// A client leaves.
     Leave(i64),
+    /// Nothing else happens for a while, and a client is told of what changed.
+    Idle(i64),
 }
 
 /// A row of a listing: nothing of it is tested yet.
@@ -44,6 +47,8 @@ const ASK: &[u8] = b"ask";
 
 const LEAVE: &[u8] = b"leave";
 
+const IDLE: &[u8] = b"idle";
+
 const END: &[u8] = b"end";
 
 /// The greatest number of a client.
@@ -65,6 +70,8 @@ pub(crate) fn read_line(text: &[u8]) -> Option<Line<'_>>
         ask(rest)
     } else if word == LEAVE {
         leave(signed_number(rest)?)
+    } else if word == IDLE {
+        idle(signed_number(rest)?)
     } else {
         row(kind(word)?, rest)
     }
@@ -88,6 +95,17 @@ fn leave<'a>(client: i64) -> Option<Line<'a>>
 {
     if is_client(client) {
         Some(Line::Leave(client))
+    } else {
+        None
+    }
+}
+
+/// That nothing else happens for a while.
+fn idle<'a>(client: i64) -> Option<Line<'a>>
+    ensures { option_map line_data result ≡ idle_from client }
+{
+    if is_client(client) {
+        Some(Line::Idle(client))
     } else {
         None
     }

@@ -1,10 +1,11 @@
 //! The lines that are sent to clients. Where a writer fails, what was written of a line is a front of it.
-ghost use Rattle.std.specs.Prelude.{map, OnErr, OnOk};
+ghost use Rattle.std.specs.Prelude.{◌≡◌, ◌++◌, ◌&&◌, codes, map, List, OnErr, OnOk, ℕ};
 ghost use Rattle.std.specs.Io.KnownBytes.{Appends};
 ghost use Rattle.wq_base.specs.Writing.{WritesFront};
 ghost use Rattle.wq_replay.specs.Replay.{sent_line};
-ghost use Rattle.wq_replay.specs.Sending.{Sends};
-ghost use Rattle.wq_replay.specs.Stands.{sent_data};
+ghost use Rattle.wq_replay.specs.Sending.{Sends, SendsAll};
+ghost use Rattle.wq_replay.specs.Stands.{all_sent, sent_of};
+ghost use Rattle.wq_replay.specs.World.{sent_for, sent_list};
 
 use crate::fault::StepFault;
 use crate::sent::Sent;
@@ -12,28 +13,67 @@ use itoa::Buffer;
 use std::io;
 use std::io::Write;
 use wq_base::write_all;
+use wq_session::Line;
 
-/// Sends replies to their clients, and tells whether the server goes on.
-pub(crate) fn send<W: Write>(writer: &mut W, replies: &[Sent]) -> Result<bool, StepFault>
-    ensures { Sends (map sent_data replies.now) (W.contents writer.old) (W.contents writer.new) result }
+/// Sends what is sent to clients, and tells whether the server goes on.
+pub(crate) fn send<W: Write>(writer: &mut W, sent: &[Sent]) -> Result<bool, StepFault>
+    ensures { Sends (all_sent sent.now) (W.contents writer.old) (W.contents writer.new) result }
 {
     let mut goes_on = true;
-    for reply in replies {
-        send_line(writer, reply.client(), reply.text())?;
-        goes_on = goes_on && !reply.shuts();
+    for one in sent {
+        let goes = send_one(writer, one)?;
+        goes_on = both(goes_on, goes);
     }
     Ok(goes_on)
 }
 
-/// Writes a line to a client: its number, a space, a text and a newline.
-fn send_line<W: Write>(writer: &mut W, client: i64, text: &[u8]) -> io::Result<()>
-    ensures done { OnOk result
-        (Appends (W.contents writer.old) (W.contents writer.new) (sent_line client text.now)) }
-    ensures front { OnErr result
-        (WritesFront (W.contents writer.old) (W.contents writer.new) (sent_line client text.now)) }
+/// Whether both hold.
+fn both(first: bool, second: bool) -> bool
+    ensures { result ≡ (first && second) }
+{
+    first && second
+}
+
+/// Sends a reply, if there is one, and the lists that follow it, and tells whether the server goes on.
+fn send_one<W: Write>(writer: &mut W, sent: &Sent) -> Result<bool, StepFault>
+    ensures { Sends (sent_of sent.now) (W.contents writer.old) (W.contents writer.new) result }
+{
+    let goes_on = send_reply(writer, sent)?;
+    send_lists(writer, sent, sent.out.lists())?;
+    Ok(goes_on)
+}
+
+/// Sends a reply, if there is one, and tells whether the server goes on.
+fn send_reply<W: Write>(writer: &mut W, sent: &Sent) -> Result<bool, StepFault>
+    ensures { Sends (sent_for sent.now.client sent.now.out.shuts sent.now.out.reply)
+        (W.contents writer.old) (W.contents writer.new) result }
+{
+    let Some(line) = sent.out.line() else {
+        return Ok(true);
+    };
+    send_line(writer, sent.client, line)?;
+    Ok(!sent.out.shuts())
+}
+
+/// Sends these lists to the client of what is sent.
+fn send_lists<W: Write>(writer: &mut W, sent: &Sent, lists: &[Line]) -> Result<(), StepFault>
+    ensures { SendsAll (map (sent_list sent.now.client) lists.now)
+        (W.contents writer.old) (W.contents writer.new) result }
+{
+    for list in lists {
+        send_line(writer, sent.client, list.as_bytes())?;
+    }
+    Ok(())
+}
+
+/// Writes a line to a client: its number, a space, and a text with its newline.
+fn send_line<W: Write>(writer: &mut W, client: i64, line: &[u8]) -> io::Result<()>
+    ensures done { (text : List ℕ) → line.now ≡ text ++ codes "\n" → OnOk result
+        (Appends (W.contents writer.old) (W.contents writer.new) (sent_line client text)) }
+    ensures front { (text : List ℕ) → line.now ≡ text ++ codes "\n" → OnErr result
+        (WritesFront (W.contents writer.old) (W.contents writer.new) (sent_line client text)) }
 {
     write_all(writer, Buffer::new().format(client).as_bytes())?;
     write_all(writer, b" ")?;
-    write_all(writer, text)?;
-    write_all(writer, b"\n")
+    write_all(writer, line)
 }

@@ -1,10 +1,10 @@
 //! What is sent to clients.
 ghost use Rattle.std.specs.Prelude.{◌≡◌};
-ghost use Rattle.wq_replay.specs.Stands.{text_or_none};
 
 use wq_session::Out;
 
-/// A reply that is sent.
+/// What is sent to a client of one thing that happened: a reply, or none, and the lists of subscriptions that follow
+/// it.
 #[derive(Drop)]
 pub struct Sent {
     pub(crate) client: i64,
@@ -19,20 +19,10 @@ impl Sent {
         self.client
     }
 
-    /// The text of the reply, without a newline.
-    pub fn text(&self) -> &[u8]
-        ensures { result.now ≡ text_or_none self.now.out.reply }
+    /// What is given out: the lines, and whether the server is to end.
+    pub fn out(&self) -> &Out
+        ensures { result.now ≡ self.now.out }
     {
-        match self.out.reply() {
-            Some(text) => text,
-            None => &[],
-        }
-    }
-
-    /// Whether the server is to end.
-    pub fn shuts(&self) -> bool
-        ensures { result ≡ self.now.out.shuts }
-    {
-        self.out.shuts()
+        &self.out
     }
 }

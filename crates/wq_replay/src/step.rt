@@ -5,14 +5,15 @@ ghost use Rattle.wq_stream.specs.declared.event.Event.{Event};
 ghost use Rattle.wq_session.specs.Reading.{Asks};
 ghost use Rattle.wq_replay.specs.LineData.{line_data, seen_data};
 ghost use Rattle.wq_replay.specs.Replay.{crawled};
-ghost use Rattle.wq_replay.specs.Stage.{StageData, drafts, empty_draft, hears, turn_at_end, turn_inside, turn_of, turn_outside};
+ghost use Rattle.wq_replay.specs.Stage.{StageData, drafts, empty_draft, hears, rests, turn_at_end, turn_inside, turn_of};
+ghost use Rattle.wq_replay.specs.Stage.{turn_outside};
 ghost use Rattle.wq_replay.specs.Stands.{Stands};
 ghost use Rattle.wq_replay.specs.Step.{IsAt, TakesTurn, draft_data};
 ghost use Rattle.wq_replay.specs.World.{Runs, WorldData};
 
 use crate::fault::StepFault;
 use crate::happening::Happening;
-use crate::hearing::{happenings, text};
+use crate::hearing::{happenings, moments, text};
 use crate::playing::ROOT;
 use crate::script::{Line, RowLine, read_line};
 use crate::sending::send;
@@ -70,6 +71,7 @@ fn step_outside<W: Write>(
             hear(alloc, stage, writer, client, ask)
         }
         Line::Leave(client) => hear(alloc, stage, writer, client, Ask::Leave),
+        Line::Idle(client) => rest(alloc, stage, writer, client),
         Line::Row(_) | Line::End => Err(StepFault::Malformed),
     }
 }
@@ -195,4 +197,22 @@ fn hear<W: Write>(
     let happenings = happenings(alloc, &stage.tree, client, ask)?;
     let sent = stage.world.play(alloc, happenings)?;
     send(writer, &sent)
+}
+
+/// Lets a client have an idle moment of each root that it is subscribed to; the server goes on.
+fn rest<W: Write>(
+    alloc: Global,
+    stage: &mut Stage,
+    writer: &mut W,
+    client: i64,
+) -> Result<bool, StepFault>
+    ensures { (at : StageData) → IsAt stage.old at
+        → TakesTurn at (rests client)
+        (W.contents writer.old) (W.contents writer.new) result stage.new }
+{
+    let numbers = stage.world.numbers(alloc, client)?;
+    let moments = moments(alloc, client, &numbers)?;
+    let sent = stage.world.play(alloc, moments)?;
+    send(writer, &sent)?;
+    Ok(true)
 }

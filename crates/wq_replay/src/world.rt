@@ -1,6 +1,7 @@
-//! The world that sessions play in, without files, sockets and threads: its roots, and what all clients share. What
-//! happens there is left to `playing`.
+//! The world that sessions play in, without files, sockets and threads: its roots, what all clients share, and the
+//! sessions of clients. What happens there is left to `playing`.
 
+use crate::client::Client;
 use crate::refused::Refused;
 use wq_clock::Run;
 use wq_live::RootTable;
@@ -13,6 +14,8 @@ pub struct World {
     /// The roots that are shown, with their views.
     pub(crate) table: RootTable,
     pub(crate) shelf: Shelf<()>,
+    /// The clients that have subscriptions.
+    pub(crate) clients: Vec<Client>,
     /// The crawl or the watching that came last, if it was refused and nothing followed it.
     pub(crate) refused: Option<Refused>,
     /// Whether memory ran out over a list of what was sent.

@@ -1,4 +1,4 @@
-//! Worlds that are played: crawls and openings of roots, and lines of clients, one after the other.
+//! Worlds that are played: crawls and openings of roots, lines of clients and idle moments, one after the other.
 
 use crate::tree::pass;
 use itoa::Buffer;
@@ -24,6 +24,8 @@ enum Step {
     Long(i64),
     /// The client has gone.
     End(i64),
+    /// The client has an idle moment of the root of this number.
+    Idle(i64, u64),
 }
 
 /// The trees that are listed: none of the files, and one.
@@ -87,6 +89,7 @@ fn happening<'a>(
         Step::Line(client, line) => Ok(asked(alloc, client, line_event(alloc, line)?)),
         Step::Long(client) => Ok(asked(alloc, client, Event::Long)),
         Step::End(client) => Ok(asked(alloc, client, Event::End)),
+        Step::Idle(client, root) => Ok(Happening::Idle { client, root }),
     }
 }
 
@@ -125,25 +128,29 @@ fn seen(trees: &[Pass], tree: Result<usize, CrawlFault>) -> Result<&Pass, CrawlF
     }
 }
 
-/// Of each reply the client's number, a space, the text and a newline, with `!` before a reply by
-/// which the server ends.
+/// Of each reply and each list the client's number, a space, the text and a newline, with `!` before a
+/// reply by which the server ends.
 fn shown(alloc: Global, sent: &[Sent]) -> Result<Vec<u8>, AllocError> {
     let mut written = Vec::new(alloc);
-    for reply in sent {
-        if reply.shuts() {
+    for one in sent {
+        if one.out().shuts() {
             written.push(b'!')?;
         }
-        show(reply.client(), reply.text(), &mut written)?;
+        if let Some(line) = one.out().line() {
+            show(one.client(), line, &mut written)?;
+        }
+        for list in one.out().lists() {
+            show(one.client(), list.as_bytes(), &mut written)?;
+        }
     }
     Ok(written)
 }
 
-fn show(client: i64, text: &[u8], written: &mut Vec<u8>) -> Result<(), AllocError> {
+fn show(client: i64, line: &[u8], written: &mut Vec<u8>) -> Result<(), AllocError> {
     let mut number = Buffer::new();
     written.extend_from_slice(number.format(client).as_bytes())?;
     written.push(b' ')?;
-    written.extend_from_slice(text)?;
-    written.push(b'\n')?;
+    written.extend_from_slice(line)?;
     Ok(())
 }
 
@@ -351,6 +358,77 @@ fn sixteen_roots_are_shown(rt: HostRuntime) -> Result<(), Fail> {
             "1 {\"root\":\"/r\",\"version\":\"wq-1\",\"watch-del\":true}\n",
             "1 {\"version\":\"wq-1\",\"watch\":\"/q\",\"watcher\":\"poll\"}\n",
             "1 {\"clock\":\"c:7:9:17:0\",\"version\":\"wq-1\"}\n",
+        ),
+    )
+}
+
+const SUBSCRIBES: &str = r#"["subscribe","/r","s",{"fields":["name"]}]"#;
+
+/// An idle moment is one of a root: the subscriptions of another are not told. It sends nothing to a
+/// client without subscriptions, nor of a root that was never there.
+#[test]
+fn an_idle_moment_is_one_of_a_root(rt: HostRuntime) -> Result<(), Fail> {
+    check(
+        &rt,
+        rt.alloc(),
+        &[
+            Step::Watch("/q", Ok(NONE)),
+            Step::Line(-7, r#"["watch","/q"]"#),
+            Step::Line(-7, r#"["subscribe","/q","q",{"fields":["name"]}]"#),
+            Step::Line(-7, SUBSCRIBES),
+            Step::Crawl("/r", Ok(A)),
+            Step::Crawl("/q", Ok(B)),
+            Step::Idle(1, 1),
+            Step::Idle(-7, 3),
+            Step::Idle(-7, 1),
+            Step::Idle(-7, 2),
+            Step::Idle(-7, 1),
+        ],
+        concat!(
+            "-7 {\"version\":\"wq-1\",\"watch\":\"/q\",\"watcher\":\"poll\"}\n",
+            "-7 {\"clock\":\"c:7:9:2:0\",\"subscribe\":\"q\",\"version\":\"wq-1\"}\n",
+            "-7 {\"clock\":\"c:7:9:2:0\",\"files\":[],\"is_fresh_instance\":true,\"root\":\"/q\",\"subscription\":\"q\",\"unilateral\":true,\"version\":\"wq-1\"}\n",
+            "-7 {\"clock\":\"c:7:9:1:0\",\"subscribe\":\"s\",\"version\":\"wq-1\"}\n",
+            "-7 {\"clock\":\"c:7:9:1:0\",\"files\":[],\"is_fresh_instance\":true,\"root\":\"/r\",\"subscription\":\"s\",\"unilateral\":true,\"version\":\"wq-1\"}\n",
+            "-7 {\"clock\":\"c:7:9:1:1\",\"files\":[\"a\"],\"is_fresh_instance\":false,\"root\":\"/r\",\"subscription\":\"s\",\"unilateral\":true,\"version\":\"wq-1\"}\n",
+            "-7 {\"clock\":\"c:7:9:2:1\",\"files\":[\"b\"],\"is_fresh_instance\":false,\"root\":\"/q\",\"subscription\":\"q\",\"unilateral\":true,\"version\":\"wq-1\"}\n",
+        ),
+    )
+}
+
+/// A crawl that was refused is that of the line directly behind it: an idle moment stands between.
+#[test]
+fn an_idle_moment_follows_a_refused_crawl(rt: HostRuntime) -> Result<(), Fail> {
+    check(
+        &rt,
+        rt.alloc(),
+        &[
+            Step::Crawl("/r", Err(CrawlFault::Unreadable)),
+            Step::Idle(1, 1),
+            Step::Line(1, NAMES),
+        ],
+        "1 {\"clock\":\"c:7:9:1:0\",\"files\":[],\"is_fresh_instance\":true,\"version\":\"wq-1\"}\n",
+    )
+}
+
+/// A session that ended has no subscriptions, and neither has the next one of its number.
+#[test]
+fn a_session_ends_with_its_subscriptions(rt: HostRuntime) -> Result<(), Fail> {
+    check(
+        &rt,
+        rt.alloc(),
+        &[
+            Step::Line(1, SUBSCRIBES),
+            Step::Long(1),
+            Step::Crawl("/r", Ok(A)),
+            Step::Idle(1, 1),
+            Step::Line(1, r#"["unsubscribe","/r","s"]"#),
+        ],
+        concat!(
+            "1 {\"clock\":\"c:7:9:1:0\",\"subscribe\":\"s\",\"version\":\"wq-1\"}\n",
+            "1 {\"clock\":\"c:7:9:1:0\",\"files\":[],\"is_fresh_instance\":true,\"root\":\"/r\",\"subscription\":\"s\",\"unilateral\":true,\"version\":\"wq-1\"}\n",
+            "1 {\"error\":\"E1: line too long\",\"version\":\"wq-1\"}\n",
+            "1 {\"deleted\":false,\"unsubscribe\":\"s\",\"version\":\"wq-1\"}\n",
         ),
     )
 }

@@ -4,7 +4,7 @@ use mir.Facts.{to_z-of_z}
 use Rattle.wq_stream.specs.Stream.{event_of}
 use Rattle.wq_stream.specs.declared.event.Event.TheVariants.{End}
 use Rattle.wq_replay.specs.LineData.{line_data}
-use Rattle.wq_replay.specs.Stage.{drafts, empty_draft, hears, turn_outside}
+use Rattle.wq_replay.specs.Stage.{drafts, empty_draft, hears, rests, turn_outside}
 use Rattle.wq_replay.specs.Step.{TakesTurn}
 use Rattle.wq_replay.proofs.step.step_outside.Goals as goal
 
@@ -39,3 +39,11 @@ returns-in-Leave g c = λ at is.
     subst (λ line. TakesTurn at (turn_outside (line_data line)) known (g.W.Write.contents c.hear-in-Leave.new.writer) c.hear-in-Leave.result c.hear-in-Leave.new.stage) (sym c.in-Leave.is)
     (subst (λ z. TakesTurn at (hears z End) known (g.W.Write.contents c.hear-in-Leave.new.writer) c.hear-in-Leave.result c.hear-in-Leave.new.stage) (to_z-of_z fits)
     (c.hear-in-Leave.ensures at is End refl))
+
+pub returns-in-Idle : goal.returns-in-Idle
+returns-in-Idle g c = λ at is.
+    let known = g.W.Write.contents c.args.writer.now in
+    let fits : FitsSigned w64 c.in-Idle.client = search rules in
+    subst (λ line. TakesTurn at (turn_outside (line_data line)) known (g.W.Write.contents c.rest.new.writer) c.rest.result c.rest.new.stage) (sym c.in-Idle.is)
+    (subst (λ z. TakesTurn at (rests z) known (g.W.Write.contents c.rest.new.writer) c.rest.result c.rest.new.stage) (to_z-of_z fits)
+    (c.rest.ensures at is))

@@ -1,8 +1,8 @@
 -- What happens is what the arm says.
-use Rattle.std.proofs.Common.{◌≡◌, FitsSigned, w64, rules, [], refl, sym, subst}
+use Rattle.std.proofs.Common.{ℤ, FitsSigned, w64, rules, [], refl, sym, subst}
 use mir.Facts.{to_z-of_z}
-use Rattle.wq_replay.specs.Stands.{happening_data, sent_list}
-use Rattle.wq_replay.specs.World.{Does, sent_to}
+use Rattle.wq_replay.specs.Stands.{Stands, happening_data}
+use Rattle.wq_replay.specs.World.{Does, Gets, Rests, WorldData, sent_to}
 use Rattle.wq_replay.proofs.world.World.happen.Goals as goal
 
 pub returns-in_ok-crawl-in-Crawl : goal.returns-in_ok-crawl-in-Crawl
@@ -10,9 +10,26 @@ returns-in_ok-crawl-in-Crawl c = λ before stands.
     let got = c.in_ok-crawl-in-Crawl.ensures before stands in
     (got.0, subst (λ happening. Does before (happening_data happening) [] got.0) (sym c.in-Crawl.is) (refl, got.1), got.2)
 
-pub returns-in-Asked : goal.returns-in-Asked
-returns-in-Asked c = λ before stands.
+pub returns-in_ok-out-in-Asked : goal.returns-in_ok-out-in-Asked
+returns-in_ok-out-in-Asked c = λ before stands.
     let fits : FitsSigned w64 c.in-Asked.client = search rules in
-    let got = c.answer-out.ensures before stands in
-    let sent = subst (λ client. sent_list c.sent.result ≡ sent_to client c.answer-out.result) (to_z-of_z fits) c.sent.ensures in
-    (got.0, subst (λ happening. Does before (happening_data happening) (sent_list c.sent.result) got.0) (sym c.in-Asked.is) (c.answer-out.result, got.1, sent), got.2)
+    let out = c.in_ok-out-in-Asked.out in
+    let got = subst (λ (client : ℤ). (after : WorldData) × Gets client before c.in-Asked.ask out after × Stands after c.answer.new.self) (to_z-of_z fits)
+    (c.in_ok-out-in-Asked.ensures before stands) in (
+      got.0,
+      subst (λ (client : ℤ). Does before (happening_data c.args.happening) (sent_to client out) got.0) (sym (to_z-of_z fits))
+          (subst (λ happening. Does before (happening_data happening) (sent_to c.in-Asked.client out) got.0) (sym c.in-Asked.is) (out, got.1, refl)),
+      got.2,
+    )
+
+pub returns-in_ok-out-in-Idle : goal.returns-in_ok-out-in-Idle
+returns-in_ok-out-in-Idle c = λ before stands.
+    let fits : FitsSigned w64 c.in-Idle.client = search rules in
+    let out = c.in_ok-out-in-Idle.out in
+    let got = subst (λ (client : ℤ). (after : WorldData) × Rests client c.in-Idle.root before out after × Stands after c.rest.new.self) (to_z-of_z fits)
+    (c.in_ok-out-in-Idle.ensures before stands) in (
+      got.0,
+      subst (λ (client : ℤ). Does before (happening_data c.args.happening) (sent_to client out) got.0) (sym (to_z-of_z fits))
+          (subst (λ happening. Does before (happening_data happening) (sent_to c.in-Idle.client out) got.0) (sym c.in-Idle.is) (out, got.1, refl)),
+      got.2,
+    )

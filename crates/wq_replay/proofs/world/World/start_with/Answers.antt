@@ -15,6 +15,7 @@ returns-in-Ok c = λ before stands.
         run = stands.run;
         roots = subst (λ given. IsTableOf (before.events ++ start_events (given + 1) c.args.root c.args.pass.now) c.in-Ok.table) (stands.roots).given text;
         shelf = stands.shelf;
+        follows = stands.follows;
         refused = refl;
         whole = stands.whole;
       },
