@@ -32,8 +32,7 @@ pub struct Parts<T: Tree + Drop, S: Seconds + Drop, O: Notices + Drop> {
     pub notices: O,
     /// The name of the socket, as clients are told it.
     pub sockname: String,
-    /// How long the server waits between two rounds of crawls, and a session between two idle
-    /// moments of a root.
+    /// How long the server waits between two rounds of crawls. Sessions get idle moments after each.
     pub interval: Duration,
 }
 

@@ -65,7 +65,7 @@ where
     match begin_reading(rt, alloc, link) {
         Some(reader) => Some(Bringers { reader, idler }),
         None => {
-            link.queue.close(&rt);
+            link.close(&rt);
             idler.join(&rt);
             None
         }
@@ -84,7 +84,7 @@ where
     .ok()
 }
 
-/// Starts the thread that brings a client's idle moments. Their first interval begins now.
+/// Starts the thread that brings a client's idle moments. They follow the rounds of crawls from now on.
 fn begin_idling<R, H>(rt: R, link: &Arc<Link>, server: &Arc<Server<H>>) -> Option<JoinHandle<()>>
 where
     R: Threads + Wait + Clock + Copy + Drop + Send + Sync + 'static,
@@ -93,7 +93,7 @@ where
     let (theirs, server) = (link.clone().ok()?, server.clone().ok()?);
     let numbers = server.host.numbers()?;
     thread::spawn(&rt, move || {
-        bring_moments(&rt, &*server, numbers, &theirs.queue)
+        bring_moments(&rt, &*server, numbers, &theirs)
     })
     .ok()
 }

@@ -128,7 +128,7 @@ where
     R: Threads + Wait + Clock + Copy + Drop + Send + Sync + 'static,
     H: Host + Drop + Send + Sync + 'static,
 {
-    let link = Arc::new(alloc, Link::new(alloc, stream)?)?;
+    let link = Arc::new(alloc, Link::new(alloc, stream, server.pulse.clone()?)?)?;
     let (theirs, server) = (link.clone()?, server.clone()?);
     let session = thread::spawn(&rt, move || run_client(rt, alloc, theirs, &server))?;
     Ok(Client { link, session })

@@ -11,6 +11,7 @@ mod link;
 mod link_inbox;
 mod lock_host;
 mod moments;
+mod pulse;
 mod queue;
 mod refusal;
 mod running;

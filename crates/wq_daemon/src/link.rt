@@ -1,34 +1,48 @@
 //! What the threads of one client share.
 
+use crate::pulse::Pulse;
 use crate::queue::Queue;
 use std::alloc::{AllocError, Global};
 use std::net::Shutdown;
 use std::os::unix::net::UnixStream;
-use std::sync::Wait;
 use std::sync::atomic::{AtomicBool, Ordering};
+use std::sync::{Arc, Wait};
 
 /// A client's stream, the events that came of it, and whether its session is over.
 #[derive(Drop)]
 pub(crate) struct Link {
     pub(crate) stream: UnixStream,
     pub(crate) queue: Queue,
+    /// That of the server.
+    pub(crate) pulse: Arc<Pulse>,
     is_over: AtomicBool,
 }
 
 impl Link {
     /// The link to a client of which nothing has come.
-    pub(crate) fn new(alloc: Global, stream: UnixStream) -> Result<Link, AllocError> {
+    pub(crate) fn new(
+        alloc: Global,
+        stream: UnixStream,
+        pulse: Arc<Pulse>,
+    ) -> Result<Link, AllocError> {
         Ok(Link {
             stream,
             queue: Queue::new(alloc)?,
+            pulse,
             is_over: AtomicBool::new(false),
         })
+    }
+
+    /// Has the session take no more events, and has who brings them hear of it.
+    pub(crate) fn close<R: Wait>(&self, rt: &R) {
+        self.queue.close(rt);
+        self.pulse.wake(rt);
     }
 
     /// Ends the session and what reads and writes for it. What was written before still reaches the
     /// client.
     pub(crate) fn end<R: Wait>(&self, rt: &R) {
-        self.queue.close(rt);
+        self.close(rt);
         // A client that has gone already leaves a stream that cannot be shut down.
         let _ = self.stream.shutdown(Shutdown::Both);
     }

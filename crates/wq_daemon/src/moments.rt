@@ -3,6 +3,7 @@ ghost use Rattle.std.specs.Prelude.{◌≡◌, ◌+◌, ◌-◌, ◌++◌, IfOk}
 ghost use Rattle.std.specs.List.{range_with_len};
 
 use crate::host::Host;
+use crate::link::Link;
 use crate::queue::Queue;
 use crate::server::Server;
 use std::alloc::AllocError;
@@ -35,22 +36,26 @@ impl RootNumbers {
     }
 }
 
-/// Puts an idle moment for each root that is due into a session's queue, once in each interval, as
-/// long as the queue is open. The first interval begins where the roots were these.
+/// Puts an idle moment for each root that is due into a session's queue after each round of crawls,
+/// as long as the queue is open. The roots were these when the first of these rounds began. If a
+/// round takes longer than an interval, there is a moment before it ends.
 ///
-/// Where memory is refused for them, they are due an interval later.
-pub(crate) fn bring_moments<R, H>(rt: &R, server: &Server<H>, numbers: RootNumbers, queue: &Queue)
+/// Where memory is refused for them, they are due a round later.
+pub(crate) fn bring_moments<R, H>(rt: &R, server: &Server<H>, numbers: RootNumbers, link: &Link)
 where
     R: Wait + Clock,
     H: Host + Drop,
 {
+    let patience = server.interval.saturating_mul(2);
     let mut then = numbers;
+    let mut beats = server.pulse.count(rt);
     for _ in rt.forever() {
-        if queue.pause(rt, server.interval) {
+        beats = server.pulse.wait(rt, &link.queue, beats, patience);
+        if link.queue.is_closed(rt) {
             return;
         }
         if let Some((now, due)) = due_by_now(&server.host, &then) {
-            if !put_moments(rt, &due, queue) {
+            if !put_moments(rt, &due, &link.queue) {
                 return;
             }
             then = now;

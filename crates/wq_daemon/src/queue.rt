@@ -53,6 +53,11 @@ impl Queue {
         self.closed.notify_all();
     }
 
+    /// Whether no more events are taken in.
+    pub(crate) fn is_closed<R: Wait>(&self, rt: &R) -> bool {
+        self.waiting.lock(rt).is_closed()
+    }
+
     /// Waits so long, but no longer than the queue is open. Says whether it is closed.
     pub(crate) fn pause<R: Wait + Clock>(&self, rt: &R, time: Duration) -> bool {
         let lock = self.waiting.lock(rt);

@@ -2,6 +2,7 @@
 
 use crate::clients::Clients;
 use crate::host::Host;
+use crate::pulse::Pulse;
 use crate::server::Server;
 use crate::socket::Listening;
 use crate::stop::Stop;
@@ -15,7 +16,7 @@ use std::time::{Clock, Duration};
 const PAUSE: u64 = 100;
 
 /// Serves clients, and crawls the roots that are watched with a pause of the interval between two
-/// rounds. A session gets idle moments at such intervals. It returns when a client asked that the
+/// rounds. A session gets idle moments after each round. It returns when a client asked that the
 /// server ends: all sessions have ended then, and all threads.
 ///
 /// # Errors
@@ -38,6 +39,7 @@ where
             host,
             stop,
             interval,
+            pulse: Arc::new(alloc, Pulse::new())?,
         },
     )?;
     let mut clients = Clients::new(alloc)?;
@@ -78,6 +80,7 @@ where
 {
     for _ in rt.forever() {
         server.host.crawl();
+        server.pulse.beat(&rt);
         if server.stop.wait(&rt, server.interval) {
             return;
         }

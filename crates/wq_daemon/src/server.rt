@@ -1,8 +1,9 @@
 //! What the threads of a server share.
 
 use crate::host::Host;
+use crate::pulse::Pulse;
 use crate::stop::Stop;
-use std::sync::Wait;
+use std::sync::{Arc, Wait};
 use std::time::Duration;
 
 /// A server that runs.
@@ -10,9 +11,10 @@ use std::time::Duration;
 pub(crate) struct Server<H: Host + Drop> {
     pub(crate) host: H,
     pub(crate) stop: Stop,
-    /// How long it waits between two rounds of crawls, and a client's session between two idle
-    /// moments of a root.
+    /// How long it waits between two rounds of crawls.
     pub(crate) interval: Duration,
+    /// It beats after each round. Sessions get their idle moments then.
+    pub(crate) pulse: Arc<Pulse>,
 }
 
 impl<H: Host + Drop> Server<H> {

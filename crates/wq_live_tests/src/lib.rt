@@ -8,6 +8,8 @@ mod at_once;
 #[cfg(test)]
 mod fixture;
 #[cfg(test)]
+mod following;
+#[cfg(test)]
 mod idle;
 #[cfg(test)]
 mod publishing;

@@ -14,16 +14,16 @@ use wq_crawl::{CrawlFault, Crawler, LockRoots, Roots, SharedCrawler, Tree, TreeF
 use wq_live::{Blank, Named, Told};
 use wq_registry::{CacheKey, Compiled};
 use wq_serve::{Desk, LockDesk, MemoryInbox, Unset, serve};
-use wq_session::{Cursor, Prepared, Session, Work};
+use wq_session::{Cursor, Prepared, Work};
 use wq_stream::Splitter;
 use wq_verify::Program;
 use wq_view::Seen;
 
 /// A tree that has two files, and one at every other listing.
 #[derive(Drop)]
-struct Blinking {
-    alloc: Global,
-    has_both: bool,
+pub(crate) struct Blinking {
+    pub(crate) alloc: Global,
+    pub(crate) has_both: bool,
 }
 
 impl Tree for Blinking {
@@ -100,9 +100,9 @@ impl<N: Named, R: Wait + Drop> Desk for Holding<N, R> {
         self.desk.keep(compiled);
     }
 
-    fn hold(&mut self, alloc: Global, session: &mut Session, prepared: Prepared<'_>) -> Work {
+    fn hold(&mut self, alloc: Global, prepared: Prepared<'_>) -> Work {
         publish_twice(&mut self.roots);
-        self.desk.hold(alloc, session, prepared)
+        self.desk.hold(alloc, prepared)
     }
 
     fn unset(&mut self, cursor: Cursor) -> Unset {

@@ -14,7 +14,7 @@ use wq_crawl::{Crawler, MemoryRoots, Roots, Seconds, Tree, TreeFault};
 use wq_live::{Blank, Named, Seat};
 use wq_registry::{Cache, Shelf};
 use wq_serve::{Desk, LockDesk, MemoryDesk, MemoryInbox, SharedShelf, serve};
-use wq_stream::Splitter;
+use wq_stream::{Event, Splitter};
 use wq_view::{Seen, is_valid_name};
 
 /// A tree each root of which has the same files.
@@ -91,7 +91,7 @@ impl Seconds for Still {
 }
 
 /// The shelf of a server at its start; none where memory ran out.
-fn new_shelf(alloc: Global) -> Option<Shelf<()>> {
+pub(crate) fn new_shelf(alloc: Global) -> Option<Shelf<()>> {
     let sockname = String::from_str(alloc, "s").ok()?;
     Some(Shelf::new(alloc, Cache::new(alloc, 7, 9).ok()?, sockname))
 }
@@ -112,7 +112,18 @@ fn write_session<N: Named, R: Roots<N>, D: Desk>(
     desk: &mut D,
 ) -> Option<(Seat<N>, Vec<u8>)> {
     let events = Splitter::new(alloc).feed(stream).ok()?;
-    let mut inbox = MemoryInbox::new(VecDeque::from(events));
+    write_events(alloc, VecDeque::from(events), seat, roots, desk)
+}
+
+/// What a session writes to which these events come, and its seat; none where the writer failed.
+pub(crate) fn write_events<N: Named, R: Roots<N>, D: Desk>(
+    alloc: Global,
+    events: VecDeque<Event>,
+    seat: Seat<N>,
+    roots: &mut R,
+    desk: &mut D,
+) -> Option<(Seat<N>, Vec<u8>)> {
+    let mut inbox = MemoryInbox::new(events);
     let mut writer = Vec::new(alloc);
     let run = Run::new(7, 9);
     let ended = serve(alloc, run, &mut inbox, &mut writer, seat, roots, desk);

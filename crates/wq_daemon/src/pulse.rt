@@ -1,0 +1,57 @@
+//! The pulse of a server: it beats after each round of crawls, and wakes those who wait for that.
+
+use crate::queue::Queue;
+use std::sync::{Condvar, Mutex, Wait};
+use std::time::{Clock, Duration};
+
+/// How many rounds of crawls there were. Threads share it.
+#[derive(Drop)]
+pub(crate) struct Pulse {
+    beats: Mutex<u64>,
+    changed: Condvar,
+}
+
+impl Pulse {
+    /// The pulse of a server that crawled nothing yet.
+    pub(crate) fn new() -> Pulse {
+        Pulse {
+            beats: Mutex::new(0),
+            changed: Condvar::new(),
+        }
+    }
+
+    /// How many beats there were.
+    pub(crate) fn count<R: Wait>(&self, rt: &R) -> u64 {
+        *self.beats.lock(rt)
+    }
+
+    /// Beats once: a round of crawls has ended.
+    pub(crate) fn beat<R: Wait>(&self, rt: &R) {
+        let mut beats = self.beats.lock(rt);
+        *beats = beats.wrapping_add(1);
+        drop(beats);
+        self.changed.notify_all();
+    }
+
+    /// Has those who wait look at their queues, one of which was closed.
+    pub(crate) fn wake<R: Wait>(&self, rt: &R) {
+        // Who waits either looks after this, or is waiting by now.
+        drop(self.beats.lock(rt));
+        self.changed.notify_all();
+    }
+
+    /// Waits for a beat after so many, but no longer than this, and no longer than the queue is open. Gives the beats.
+    pub(crate) fn wait<R: Wait + Clock>(
+        &self,
+        rt: &R,
+        queue: &Queue,
+        count: u64,
+        time: Duration,
+    ) -> u64 {
+        let lock = self.beats.lock(rt);
+        let (beats, _) = self.changed.wait_timeout_while(rt, lock, time, |beats| {
+            *beats == count && !queue.is_closed(rt)
+        });
+        *beats
+    }
+}
