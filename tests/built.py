@@ -4,8 +4,9 @@ import os
 import subprocess
 import sys
 import tempfile
+import traceback
 from pathlib import Path
-from typing import Iterable, List, NamedTuple, Optional, Sequence, Union
+from typing import Callable, Iterable, List, NamedTuple, Optional, Sequence, Union
 
 TOP = Path(__file__).resolve().parent.parent
 DEFAULT_PROGRAM = TOP / "crates" / "wqd" / "out" / "wqd"
@@ -71,6 +72,15 @@ class Tally:
         """Prints the last line, and ends the script with the status that it says."""
         print(f"{self.passed} passed, {self.failed} failed")
         sys.exit(1 if self.failed or not self.passed else 0)
+
+
+def attempt(tally: Tally, part: Callable[[Tally, Path], None]) -> None:
+    """Runs a part in a directory of its own. Whatever it raises counts as failed."""
+    try:
+        with tempfile.TemporaryDirectory() as room:
+            part(tally, Path(room).resolve())
+    except Exception as error:
+        tally.check(f"{part.__name__}: {error!r}", False, traceback.format_exc().splitlines())
 
 
 def excerpt(text: bytes, length: int = 2000) -> str:

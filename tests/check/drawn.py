@@ -1,14 +1,10 @@
 """Program files that a counter draws: most are near to ones that may run."""
 
-import sys
-from pathlib import Path
 from typing import List
 
-sys.path.insert(0, str(Path(__file__).resolve().parent.parent / "plain"))
-
 from draws import Draws
-from instructions import INSTRUCTIONS, Instruction
 from notation import short
+from wqprogram.instructions import INSTRUCTIONS, Instruction
 
 TEXTS = [b"", b"a", b"src", b"*.c", b"**/a", b"[a-z]?", b"a" * 300]
 

@@ -10,7 +10,7 @@ import json
 import re
 from typing import Any, List, Sequence
 
-from instructions import BY_NAME, RELATIONS
+from wqprogram.instructions import BY_NAME, RELATIONS
 
 REPEATED = re.compile(r"\{\{(.*?)\*([0-9]+)\}\}", re.DOTALL)
 

@@ -3,16 +3,15 @@
 from collections import Counter
 from typing import Any, Dict, Iterator, List
 
-import clocks
-import errors
 from generators import ANY_DEPTH
-from json_values import NotJson, read
-from limits import MAX_NUMBER
-from patterns import Flags, atoms_of
 from queries import FIELDS, LEFT_OUT_KEYS, Query, listed_records
 from replay import Malformed, Turn, turns
-from terms import COMBINATIONS, RELATIONS, SINCE_FIELDS, TERMS, TYPE_LETTERS, read_term
 from views import View
+from wqprogram import clocks, errors
+from wqprogram.json_values import NotJson, read
+from wqprogram.limits import MAX_NUMBER
+from wqprogram.patterns import Flags, atoms_of
+from wqprogram.terms import COMBINATIONS, RELATIONS, SINCE_FIELDS, TERMS, TYPE_LETTERS, read_term
 
 ATOMS = ["literal", "one", "class", "star", "directories", "rest", "nothing"]
 BOUNDS = ["no since", "fresh clock id", "tick", "tick beyond the view", "second"]
@@ -195,7 +194,7 @@ def terms_in(value: Any) -> Iterator[List[Any]]:
 
 def count_term(term: List[Any], root: int, view: View, counts: Counter) -> None:
     head = term[0]
-    test = read_term(term, root)
+    test = read_term(term, clocks.at_root(root))
     for answer in {test(record) for record in view.records}:
         counts[f"term {head} {'matches' if answer else 'does not match'}"] += 1
     if head == "type":
@@ -210,7 +209,7 @@ def count_term(term: List[Any], root: int, view: View, counts: Counter) -> None:
         count_match(term, counts)
     elif head == "since":
         field = term[2] if len(term) == 3 else "oclock"
-        counts[f"since {field} with a {clocks.bound_of(term[1], root).kind}"] += 1
+        counts[f"since {field} with a {clocks.bound_of(term[1], clocks.at_root(root)).kind}"] += 1
 
 
 def scope_of(term: List[Any]) -> str:

@@ -2,15 +2,15 @@
 
 from typing import Any, Callable, Dict, List, NamedTuple, Optional
 
-from clocks import clock_id
-from errors import (BAD_NAME, BINARY, LINE_TOO_LONG, NOT_A_COMMAND, NOT_JSON, ROOT_NOT_ABSOLUTE, UNKNOWN_COMMAND,
-                    WRONG_ARGUMENTS, Refused)
 from followers import Session, Told
-from json_values import NotJson, compact_text, is_whole_number, read
-from limits import MAX_LINE, MAX_PROGRAM_NAME, MAX_ROOT, MAX_SUBSCRIPTION_NAME
 from programs import program_of
 from queries import Query, read_query, reply_to, settled
 from servers import Server
+from wqprogram.clocks import clock_id
+from wqprogram.errors import (BAD_NAME, BINARY, LINE_TOO_LONG, NOT_A_COMMAND, NOT_JSON, ROOT_NOT_ABSOLUTE,
+                              UNKNOWN_COMMAND, WRONG_ARGUMENTS, Refused)
+from wqprogram.json_values import NotJson, compact_text, is_whole_number, read
+from wqprogram.limits import MAX_LINE, MAX_PROGRAM_NAME, MAX_ROOT, MAX_SUBSCRIPTION_NAME
 
 
 class Answer(NamedTuple):

@@ -2,7 +2,7 @@
 
 from typing import Any, List, Sequence, Tuple
 
-from json_values import compact_text
+from wqprogram.json_values import compact_text
 
 MASK = 2**64 - 1
 

@@ -6,7 +6,11 @@ writes the script of that counter.
 """
 
 import sys
+from pathlib import Path
 from typing import Dict, List, Tuple
+
+sys.path.insert(0, str(Path(__file__).resolve().parents[2] / "clients"))
+sys.dont_write_bytecode = True
 
 from draws import Draws, array, json_object
 from generate_terms import MAX, WRONG_NUMBERS, World, clock_spec, expression, paths, suffixes

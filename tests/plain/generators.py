@@ -2,11 +2,11 @@
 
 from typing import Any, List, NamedTuple, Optional
 
-from clocks import Bound
-from errors import BAD_GENERATOR, Refused
-from json_values import is_whole_number
-from terms import Test, is_short_text
-from views import Record
+from wqprogram.clocks import Bound
+from wqprogram.errors import BAD_GENERATOR, Refused
+from wqprogram.json_values import is_whole_number
+from wqprogram.records import Record
+from wqprogram.terms import Test, is_short_text
 
 ANY_DEPTH = -1
 

@@ -2,8 +2,8 @@
 
 from typing import Callable, Dict, NamedTuple
 
-from errors import NOT_BASE64, WRONG_FILE, WRONG_PROGRAM, Refused
-from views import Record
+from wqprogram.errors import NOT_BASE64, WRONG_FILE, WRONG_PROGRAM, Refused
+from wqprogram.records import Record
 
 
 class Program(NamedTuple):

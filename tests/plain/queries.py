@@ -2,15 +2,16 @@
 
 from typing import Any, Callable, Dict, List, NamedTuple, Optional
 
-import clocks
-from clocks import FIRST_ROOT, FRESH, Bound, clock_id
-from errors import (BAD_CLOCK_SPEC, BAD_GENERATOR, EXPRESSION_AND_PROGRAM, LEFT_OUT_KEY, UNKNOWN_FIELD,
-                    WRONG_QUERY_VALUE, Refused)
 from generators import Generators, candidate_test, read_generators
-from json_values import is_whole_number
 from servers import Server
-from terms import Test, read_term
-from views import Record, View
+from views import View
+from wqprogram import clocks
+from wqprogram.clocks import FIRST_ROOT, FRESH, Bound, at_root, clock_id
+from wqprogram.errors import (BAD_CLOCK_SPEC, BAD_GENERATOR, EXPRESSION_AND_PROGRAM, LEFT_OUT_KEY, UNKNOWN_FIELD,
+                              WRONG_QUERY_VALUE, Refused)
+from wqprogram.json_values import is_whole_number
+from wqprogram.records import Record
+from wqprogram.terms import Test, read_term
 
 LEFT_OUT_KEYS = ["glob", "glob_includedotfiles", "relative_root", "settle_period", "settle_timeout"]
 DEFAULT_FIELDS = ["name", "exists", "new", "size"]
@@ -49,7 +50,7 @@ def read_query(asked: Dict[str, Any], root: int = FIRST_ROOT, is_subscription: b
         raise Refused(LEFT_OUT_KEY)
     if "expression" in asked and "program" in asked:
         raise Refused(EXPRESSION_AND_PROGRAM)
-    matches = read_term(asked.get("expression", "true"), root)
+    matches = read_term(asked.get("expression", "true"), at_root(root))
     fields = read_fields(asked.get("fields", DEFAULT_FIELDS))
     if is_subscription and ("suffix" in asked or "path" in asked):
         raise Refused(BAD_GENERATOR)
@@ -57,7 +58,7 @@ def read_query(asked: Dict[str, Any], root: int = FIRST_ROOT, is_subscription: b
     cursor, bound = None, FRESH
     if "since" in asked:
         try:
-            bound = clocks.bound_of(asked["since"], root)
+            bound = clocks.bound_of(asked["since"], at_root(root))
         except clocks.NamedCursor as named:
             if is_subscription:
                 raise Refused(BAD_CLOCK_SPEC) from None

@@ -7,14 +7,18 @@ It follows docs/PROTOCOL.md, docs/SCRIPTS.md and docs/DEFINITIONS.md in words, a
 
 import re
 import sys
+from pathlib import Path
 from typing import Dict, Iterator, List, NamedTuple, Optional, Tuple, Union
+
+sys.path.insert(0, str(Path(__file__).resolve().parents[2] / "clients"))
+sys.dont_write_bytecode = True
 
 from commands import answer, text_of
 from followers import Session, Told
-from limits import MAX_SCRIPT, MAX_SCRIPT_LINE
 from queries import Query
 from servers import Server
 from views import ListingFault, Row, Sight, View, pass_of
+from wqprogram.limits import MAX_SCRIPT, MAX_SCRIPT_LINE
 
 LETTERS = [b"f", b"d", b"l", b"b", b"c", b"p", b"s", b"D", b"?"]
 NUMBER = re.compile(rb"0|-?[1-9][0-9]{0,18}")

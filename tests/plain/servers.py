@@ -2,11 +2,11 @@
 
 from typing import Dict, List, Optional
 
-from clocks import FIRST_ROOT, FRESH, Bound
-from errors import NO_SUCH_PROGRAM, NOT_WATCHED, SHELF_FULL, UNREADABLE_ROOT, Refused
-from limits import MAX_CURSORS, MAX_PROGRAMS
 from programs import Program
 from views import History, Pass, View
+from wqprogram.clocks import FIRST_ROOT, FRESH, Bound
+from wqprogram.errors import NO_SUCH_PROGRAM, NOT_WATCHED, SHELF_FULL, UNREADABLE_ROOT, Refused
+from wqprogram.limits import MAX_CURSORS, MAX_PROGRAMS
 
 READABLE = "/r"
 

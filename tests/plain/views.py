@@ -2,7 +2,8 @@
 
 from typing import Callable, Dict, List, NamedTuple, Optional
 
-from limits import MAX_NAME, MAX_NUMBER, MAX_ROWS
+from wqprogram.limits import MAX_NUMBER, MAX_ROWS
+from wqprogram.records import Record, is_in_range, is_valid_name
 
 
 class Sight(NamedTuple):
@@ -25,34 +26,6 @@ class Pass(NamedTuple):
     sights: Dict[bytes, Sight]
 
 
-class Record(NamedTuple):
-    """What is known of one name. `ctick` and `csec` are of its creation, `otick` and `osec` of its last change."""
-
-    name: bytes
-    kind: str
-    size: int
-    mtime_ms: int
-    exists: bool
-    ctick: int
-    csec: int
-    otick: int
-    osec: int
-
-    @property
-    def basename(self) -> bytes:
-        return self.name.rsplit(b"/", 1)[-1]
-
-    @property
-    def suffix(self) -> Optional[bytes]:
-        """What follows the last dot of the basename, if it has one."""
-        return self.basename.rsplit(b".", 1)[1] if b"." in self.basename else None
-
-    @property
-    def mtime(self) -> int:
-        """The modification time in whole seconds, rounded down."""
-        return self.mtime_ms // 1000
-
-
 class View(NamedTuple):
     tick: int
     records: List[Record]
@@ -72,26 +45,12 @@ def pass_of(second: int, rows: List[Row]) -> Pass:
     for row in rows:
         if not is_valid_name(row.name):
             raise ListingFault("name not valid")
-        if not is_in_range(row.sight):
+        if not is_in_range(row.sight.size, row.sight.mtime_ms):
             raise ListingFault("number out of range")
         if row.name in sights:
             raise ListingFault("name twice")
         sights[row.name] = row.sight
     return Pass(second, sights)
-
-
-def is_valid_name(name: bytes) -> bool:
-    try:
-        name.decode("utf-8")
-    except UnicodeDecodeError:
-        return False
-    if not 1 <= len(name) <= MAX_NAME or 0 in name:
-        return False
-    return not any(part in (b"", b".", b"..") for part in name.split(b"/"))
-
-
-def is_in_range(sight: Sight) -> bool:
-    return 0 <= sight.size <= MAX_NUMBER and -MAX_NUMBER <= sight.mtime_ms <= MAX_NUMBER
 
 
 class History:

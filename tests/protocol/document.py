@@ -19,6 +19,8 @@ import json
 import re
 from typing import Dict, Iterator, List, NamedTuple, Optional
 
+from sessions import Room
+
 COMMENT = re.compile(r"<!--(.*?)-->", re.DOTALL)
 CODE = re.compile(r"`([^`]+)`")
 ERROR = re.compile(r"`(E[0-9]+): ([^`]+)`")
@@ -35,11 +37,13 @@ class Element(NamedTuple):
 
 
 class Page(NamedTuple):
-    """The elements of a page, the scripts with names, and for the words of an error its text with the number."""
+    """The elements of a page, the scripts with names, for the words of an error its text with the number, and the directory
+    in which the commands that it shows are run."""
 
     elements: List[Element]
     scripts: Dict[str, List[str]]
     errors: Dict[str, str]
+    room: Room
 
 
 def expand(text: str) -> str:
@@ -48,7 +52,7 @@ def expand(text: str) -> str:
 
 def read_page(text: str) -> Page:
     """Reads a page from top to bottom. A mark holds for the element that follows it, and for no other."""
-    page = Page([], {}, errors_in(text))
+    page = Page([], {}, errors_in(text), Room())
     lines = text.split("\n")
     mark = ""
     place = 0

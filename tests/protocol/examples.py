@@ -2,19 +2,20 @@
 
 import json
 import re
-import subprocess
-import sys
 from typing import Any, Callable, Dict, Iterator, List, NamedTuple, Optional, Tuple
 
 import built
 from document import Cell, Element, Page, Table
-from instructions import BY_NAME
 from notation import file_of
+from sessions import commands_of
+from wqprogram.assembler import assembled
+from wqprogram.instructions import BY_NAME
+from wqprogram.source import TextFault
 
 
 class Example(NamedTuple):
     """A script, what it has to write in words, the test of what it wrote, and what it has to write on standard error. Or a
-    program file that is checked."""
+    program file that is checked, or what was written by something that was run already."""
 
     name: str
     script: str
@@ -22,6 +23,7 @@ class Example(NamedTuple):
     is_right: Callable[[str], bool]
     file: Optional[bytes] = None
     errors: str = ""
+    written: Optional[str] = None
 
 
 Examples = Iterator[Example]
@@ -301,6 +303,36 @@ def script_of_sizes(seen: str) -> str:
     return "".join(f"pass {second}\n{sight}end\n" for second, sight in zip((10, 20, 30), sights))
 
 
+# Sessions of a shell, and texts of programs.
+
+def keep_file(element: Element, page: Page) -> Examples:
+    """`file NAME`: the block is this file in the directory of the commands of the page."""
+    page.room.write(element.mark.rsplit(" ", 1)[1], element.lines)
+    return iter(())
+
+
+def session(element: Element, page: Page) -> Examples:
+    """`session`: commands, each followed by what it writes."""
+    for command in commands_of(element.lines):
+        yield writes(command.line, "", command.output)._replace(written=page.room.run(command.line))
+
+
+def errors_of_texts(element: Element, page: Page) -> Examples:
+    """`errors of texts`: the texts of programs, with `;` for the end of a line, that have these faults in their order."""
+    for row in Table(element.lines).examples():
+        names, texts = row["fault"].codes(), row["a text with it, `;` for the end of a line"].text_examples()
+        for name, text in zip(names * len(texts) if len(names) == 1 else names, texts):
+            yield writes(text, "", name)._replace(written=fault_of_text(text))
+
+
+def fault_of_text(text: str) -> str:
+    try:
+        assembled("".join(f"{line.strip()}\n" for line in text.split(";")).encode())
+    except TextFault as fault:
+        return fault.name
+    return "none"
+
+
 # Tables of program files.
 
 def says(name: str, file: bytes, line: str) -> Example:
@@ -321,15 +353,6 @@ def parts_of_file(element: Element, page: Page) -> Examples:
     file = bytes.fromhex("".join("".join(row["bytes"].codes()) for row in Table(element.lines).examples()))
     yield says("the whole file", file, line)
     yield says("the file without its last byte", file[:-1], "refused F3")
-
-
-def file_by_python(element: Element, page: Page) -> Examples:
-    """`python for PATH that says LINE`: the block writes the bytes of this file, of which `wqd check` says this line."""
-    path, line = re.fullmatch(r".*python for (\S+) that says (.*)", element.mark).groups()
-    code = "\n".join(element.lines)
-    ended = subprocess.run([sys.executable, "-c", code], stdout=subprocess.PIPE, check=True)
-    assert ended.stdout == (built.TOP / path).read_bytes(), f"the block does not write {path}"
-    yield says(path, ended.stdout, line)
 
 
 def refused_files(element: Element, page: Page) -> Examples:
@@ -397,9 +420,11 @@ RULES: List[Tuple[str, Callable[[Element, Page], Examples]]] = [
     ("terms on names", terms_on_names),
     ("clock specs", clock_specs),
     ("what passes saw", what_passes_saw),
+    ("file ", keep_file),
+    ("session", session),
+    ("errors of texts", errors_of_texts),
     ("checks of programs", checks_of_programs),
     ("parts of a file that says ", parts_of_file),
-    ("python for ", file_by_python),
     ("refused files", refused_files),
     ("refused programs", refused_programs),
     ("instructions", instructions),

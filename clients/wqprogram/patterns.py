@@ -72,7 +72,7 @@ def takes(atom: Atom, flags: Flags, text: bytes, start: int, end: int) -> bool:
     part = text[start:end]
     if atom.kind == "literal":
         return len(part) == 1 and part[0] in atom.members
-    if not flags.dotfiles and any(is_leading_dot(text, place) for place in range(start, end)):
+    if not flags.dotfiles and has_leading_dot(text, start, end):
         return False
     if atom.kind == "directories":
         return part == b"" or part.endswith(b"/")
@@ -85,6 +85,11 @@ def takes(atom: Atom, flags: Flags, text: bytes, start: int, end: int) -> bool:
     if atom.kind == "one":
         return len(part) == 1
     return atom.kind == "class" and len(part) == 1 and part[0] in atom.members
+
+
+def has_leading_dot(text: bytes, start: int, end: int) -> bool:
+    """Whether a dot of this part is the first byte of the text or comes after a slash."""
+    return start < end and is_leading_dot(text, start) or text.find(b"/.", start, end) >= 0
 
 
 def is_leading_dot(text: bytes, place: int) -> bool:

@@ -8,7 +8,7 @@ import math
 import re
 from typing import Any, Dict, List, Union
 
-from limits import MAX_JSON_DEPTH, MAX_NUMBER
+from .limits import MAX_JSON_DEPTH, MAX_NUMBER
 
 SPACES = re.compile(r"[ \t\n\r]*")
 NUMBER = re.compile(r"(-?)(0|[1-9][0-9]*)(\.[0-9]+)?([eE][+-]?[0-9]+)?")

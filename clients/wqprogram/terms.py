@@ -3,14 +3,14 @@
 import operator
 from typing import Any, Callable, List, Optional
 
-import clocks
-from clocks import FIRST_ROOT, Bound
-from errors import (BAD_CLOCK_SPEC, CURSOR_IN_TERM, PATTERN_TOO_LONG, TOO_DEEP, UNKNOWN_TERM, WRONG_TERM_ARGUMENTS,
-                    Refused)
-from json_values import is_whole_number
-from limits import MAX_PATTERN, MAX_TERM_DEPTH, MAX_TEXT
-from patterns import Flags, atoms_of, fits
-from views import Record
+from . import clocks
+from .clocks import FIRST, Bound, Instance
+from .errors import (BAD_CLOCK_SPEC, CURSOR_IN_TERM, PATTERN_TOO_LONG, TOO_DEEP, UNKNOWN_TERM, WRONG_TERM_ARGUMENTS,
+                     Refused)
+from .json_values import is_whole_number
+from .limits import MAX_PATTERN, MAX_TERM_DEPTH, MAX_TEXT
+from .patterns import Flags, atoms_of, fits
+from .records import Record
 
 Test = Callable[[Record], bool]
 
@@ -21,8 +21,8 @@ TYPE_LETTERS = ["b", "c", "d", "f", "l", "p", "s", "D"]
 SINCE_FIELDS = ["oclock", "cclock", "mtime"]
 
 
-def read_term(value: Any, root: int = FIRST_ROOT, depth: int = 1) -> Test:
-    """The test that a term makes at the root of this number, or the refusal of its first fault."""
+def read_term(value: Any, instance: Instance = FIRST, depth: int = 1) -> Test:
+    """The test that a term makes at this instance, or the refusal of its first fault."""
     if depth > MAX_TERM_DEPTH:
         raise Refused(TOO_DEEP)
     parts = [value] if isinstance(value, str) else value
@@ -30,10 +30,10 @@ def read_term(value: Any, root: int = FIRST_ROOT, depth: int = 1) -> Test:
         raise Refused(WRONG_TERM_ARGUMENTS)
     head, arguments = parts[0], parts[1:]
     if head in COMBINATIONS:
-        return COMBINATIONS[head](arguments, root, depth)
+        return COMBINATIONS[head](arguments, instance, depth)
     if head not in TERMS:
         raise Refused(UNKNOWN_TERM)
-    return read_since(arguments, root) if head == "since" else TERMS[head](arguments)
+    return read_since(arguments, instance) if head == "since" else TERMS[head](arguments)
 
 
 def require(is_right: bool) -> None:
@@ -43,19 +43,19 @@ def require(is_right: bool) -> None:
 
 # Terms with terms in them.
 
-def read_not(arguments: List[Any], root: int, depth: int) -> Test:
+def read_not(arguments: List[Any], instance: Instance, depth: int) -> Test:
     require(len(arguments) == 1)
-    inner = read_term(arguments[0], root, depth + 1)
+    inner = read_term(arguments[0], instance, depth + 1)
     return lambda record: not inner(record)
 
 
-def read_allof(arguments: List[Any], root: int, depth: int) -> Test:
-    inner = [read_term(argument, root, depth + 1) for argument in arguments]
+def read_allof(arguments: List[Any], instance: Instance, depth: int) -> Test:
+    inner = [read_term(argument, instance, depth + 1) for argument in arguments]
     return lambda record: all(test(record) for test in inner)
 
 
-def read_anyof(arguments: List[Any], root: int, depth: int) -> Test:
-    inner = [read_term(argument, root, depth + 1) for argument in arguments]
+def read_anyof(arguments: List[Any], instance: Instance, depth: int) -> Test:
+    inner = [read_term(argument, instance, depth + 1) for argument in arguments]
     return lambda record: any(test(record) for test in inner)
 
 
@@ -175,21 +175,21 @@ def are_match_options(value: Any) -> bool:
 
 # The term `since`.
 
-def read_since(arguments: List[Any], root: int = FIRST_ROOT) -> Test:
+def read_since(arguments: List[Any], instance: Instance = FIRST) -> Test:
     require(1 <= len(arguments) <= 2)
     field = arguments[1] if len(arguments) == 2 else "oclock"
     require(field in SINCE_FIELDS)
-    bound = bound_for(arguments[0], field, root)
+    bound = bound_for(arguments[0], field, instance)
     if bound.kind == "fresh":
         return lambda record: record.exists
     return lambda record: moment(record, field, bound) > bound.number
 
 
-def bound_for(spec: Any, field: str, root: int) -> Bound:
+def bound_for(spec: Any, field: str, instance: Instance) -> Bound:
     if field == "mtime" and isinstance(spec, str):
         raise Refused(BAD_CLOCK_SPEC)
     try:
-        return clocks.bound_of(spec, root)
+        return clocks.bound_of(spec, instance)
     except clocks.BadClockSpec:
         raise Refused(BAD_CLOCK_SPEC) from None
     except clocks.NamedCursor:

@@ -3,12 +3,13 @@ the user's reference, and not from the program."""
 
 from typing import Any, Callable, Dict, List, NamedTuple, Optional
 
-from clocks import bound_of
-from instructions import BY_NAME, RELATIONS
-from plain import Operation, Program
+from .clocks import FIRST, Instance, bound_of
+from .instructions import BY_NAME, RELATIONS
+from .program_file import Operation, Program
 
 LONGEST_CODE = 4_096
 LONGEST_LIST = 65_535
+CLOCK_ID_COLONS = 4
 
 # What reads the tick and the second of a field of `since`.
 CLOCKS = {"oclock": {"tick": "oclock", "second": "osec"}, "cclock": {"tick": "cclock", "second": "csec"}}
@@ -33,9 +34,9 @@ class TooLarge(Exception):
         self.length = length
 
 
-def compiled(value: Any) -> Program:
-    """The program of an expression in JSON."""
-    code = code_of(value)
+def compiled(value: Any, instance: Instance = FIRST) -> Program:
+    """The program of an expression in JSON, which has no fault. Clock ids of the instance are its ticks."""
+    code = code_of(value, instance)
     if len(code) >= LONGEST_CODE or any(step.name == "oneof" and len(step.operand) > LONGEST_LIST for step in code):
         raise TooLarge(len(code))
     program = Program([], [], [], [], [])
@@ -52,13 +53,23 @@ def compiled(value: Any) -> Program:
     return program
 
 
-def code_of(value: Any) -> Code:
+def names_tick(value: Any) -> bool:
+    """Whether the expression, which has no fault, has a clock id of some server: its program depends on whose it is."""
     head, *arguments = [value] if isinstance(value, str) else value
-    return TERMS[head](*arguments)
+    if head in COMBINATIONS:
+        return any(map(names_tick, arguments))
+    return head == "since" and isinstance(arguments[0], str) and arguments[0].count(":") == CLOCK_ID_COLONS
+
+
+def code_of(value: Any, instance: Instance) -> Code:
+    head, *arguments = [value] if isinstance(value, str) else value
+    if head in COMBINATIONS:
+        return COMBINATIONS[head]([code_of(term, instance) for term in arguments])
+    return since_code(instance, *arguments) if head == "since" else TERMS[head](*arguments)
 
 
 def joined(jump: str, parts: List[Code]) -> Code:
-    """Parts one behind the other. Behind each but the last a jump goes to the end, if the part decides, and a `drop`
+    """Parts one after the other. After each but the last a jump goes to the end, if the part decides, and a `drop`
     takes its flag away, if not."""
     length = sum(2 + len(part) for part in parts) - 2
     code: Code = []
@@ -73,10 +84,10 @@ def compared(read: Code, relation: str, number: int) -> Code:
     return [*read, Step("num", 0, number), Step("cmp", RELATIONS.index(relation))]
 
 
-def list_code(jump: str) -> Callable[..., Code]:
+def list_code(jump: str) -> Callable[[List[Code]], Code]:
     """`allof` and `anyof`. Of no term the flag is the one that does not decide."""
     nothing = [Step("flag", int(jump == "jf"))]
-    return lambda *terms: joined(jump, [code_of(term) for term in terms]) if terms else nothing
+    return lambda codes: joined(jump, codes) if codes else nothing
 
 
 def empty_code() -> Code:
@@ -112,8 +123,8 @@ def size_code(relation: str, number: int) -> Code:
     return joined("jf", [[Step("exists")], compared([Step("size")], relation, number)])
 
 
-def since_code(spec: Any, field: str = "oclock") -> Code:
-    bound = bound_of(spec)
+def since_code(instance: Instance, spec: Any, field: str = "oclock") -> Code:
+    bound = bound_of(spec, instance)
     if bound.kind == "fresh":
         return [Step("exists")]
     return compared([Step("mtime" if field == "mtime" else CLOCKS[field][bound.kind])], "gt", bound.number)
@@ -138,10 +149,11 @@ TERMS: Dict[str, Callable[..., Code]] = {
     "match": match_code(fold=0),
     "imatch": match_code(fold=1),
     "size": size_code,
-    "since": since_code,
     "dirname": dirname_code(fold=0),
     "idirname": dirname_code(fold=1),
-    "not": lambda term: [*code_of(term), Step("not")],
+}
+COMBINATIONS: Dict[str, Callable[[List[Code]], Code]] = {
+    "not": lambda codes: [*codes[0], Step("not")],
     "allof": list_code("jf"),
     "anyof": list_code("jt"),
 }

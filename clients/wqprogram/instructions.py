@@ -3,6 +3,8 @@
 from typing import Dict, List, NamedTuple
 
 RELATIONS = ["eq", "ne", "lt", "le", "gt", "ge"]
+# The instructions of which the operand a says whether A to Z count as a to z.
+FOLDS = ("eq", "depth", "oneof")
 
 
 class Instruction(NamedTuple):

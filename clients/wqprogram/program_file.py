@@ -1,0 +1,184 @@
+"""Program files: the bytes that spell a program, and the fault of bytes that spell none."""
+
+from typing import Any, Callable, Dict, List, NamedTuple, Optional, Tuple
+
+from .instructions import BY_BYTE, Instruction
+
+MAGIC = b"WQPF"
+MAX_TEXT = 4_096
+MAX_PATTERN = 255
+GREATEST_FLAGS = 15
+
+
+class Version(NamedTuple):
+    """What a version of program files has room for, and how many bytes its counts and places take. `tables` are the
+    tables of constants, in the order of the file."""
+
+    number: int
+    tables: Tuple[str, ...]
+    count_bytes: int
+    most_rows: int
+    most_entries: int
+    place_bytes: int
+
+    @property
+    def greatest_place(self) -> int:
+        return 256**self.place_bytes - 1
+
+
+VERSIONS: Dict[int, Version] = {
+    1: Version(1, ("numbers", "texts", "lists", "patterns"), 2, 4_096, 65_535, 2),
+}
+LATEST = VERSIONS[max(VERSIONS)]
+
+Pattern = Tuple[int, bytes]
+
+
+class Operation(NamedTuple):
+    """One instruction of a program, with its operands."""
+
+    instruction: Instruction
+    a: int
+    b: int
+
+
+class Program(NamedTuple):
+    numbers: List[int]
+    texts: List[bytes]
+    lists: List[List[bytes]]
+    patterns: List[Pattern]
+    code: List[Operation]
+
+    def table(self, name: str) -> List[Any]:
+        """The table of constants of this name."""
+        return getattr(self, name)
+
+
+class FileFault(Exception):
+    """The bytes are no program file, for the fault of this number in the part that begins at this place."""
+
+    def __init__(self, number: int, place: int) -> None:
+        super().__init__(f"F{number} at byte {place}")
+        self.number = number
+        self.place = place
+
+
+class Reader:
+    """Reads the parts of a file one by one."""
+
+    def __init__(self, data: bytes) -> None:
+        self.data = data
+        self.place = 0
+        self.version = LATEST
+
+    def bytes_of(self, length: int) -> bytes:
+        """A part of so many bytes. F3: they are not there."""
+        part = self.data[self.place:self.place + length]
+        if len(part) < length:
+            raise FileFault(3, self.place)
+        self.place += length
+        return part
+
+    def number(self, length: int, greatest: Optional[int] = None, fault: int = 0) -> int:
+        """A number of so many bytes. It has the fault if it is over the greatest."""
+        place = self.place
+        number = int.from_bytes(self.bytes_of(length), "big")
+        if greatest is not None and number > greatest:
+            raise FileFault(fault, place)
+        return number
+
+    def head(self) -> List[int]:
+        """The counts of the tables and of the instructions."""
+        for place, byte in enumerate(MAGIC):
+            if self.number(1) != byte:
+                raise FileFault(1, place)
+        version = VERSIONS.get(self.number(1))
+        if version is None:
+            raise FileFault(2, len(MAGIC))
+        self.version = version
+        return [self.number(version.count_bytes, version.most_rows, 7) for _ in [*version.tables, "code"]]
+
+    def signed(self) -> int:
+        return int.from_bytes(self.bytes_of(8), "big", signed=True)
+
+    def text(self) -> bytes:
+        return self.bytes_of(self.number(2, MAX_TEXT, 7))
+
+    def entries(self) -> List[bytes]:
+        return self.rows(self.number(self.version.count_bytes, self.version.most_entries, 7), self.text)
+
+    def pattern(self) -> Pattern:
+        flags = self.number(1, GREATEST_FLAGS, 6)
+        return flags, self.bytes_of(self.number(1))
+
+    def operation(self) -> Operation:
+        place = self.place
+        instruction = BY_BYTE.get(self.number(1))
+        if instruction is None:
+            raise FileFault(5, place)
+        a = self.number(1, instruction.greatest_a, 6)
+        b = self.number(self.version.place_bytes, None if instruction.b else 0, 6)
+        return Operation(instruction, a, b)
+
+    def rows(self, count: int, row: Callable[[], Any]) -> List[Any]:
+        return [row() for _ in range(count)]
+
+
+def read(data: bytes) -> Program:
+    """The program of a file."""
+    reader = Reader(data)
+    counts = reader.head()
+    kinds = {
+        "numbers": reader.signed, "texts": reader.text, "lists": reader.entries, "patterns": reader.pattern,
+        "code": reader.operation,
+    }
+    names = [*reader.version.tables, "code"]
+    program = Program(**{name: reader.rows(count, kinds[name]) for name, count in zip(names, counts)})
+    if reader.place < len(data):
+        raise FileFault(4, reader.place)
+    return program
+
+
+def version_of(data: bytes) -> Version:
+    """The version of a file that can be read."""
+    return VERSIONS[data[len(MAGIC)]]
+
+
+class Writer:
+    """Writes the parts of a file of a version. What is written has to fit into it."""
+
+    def __init__(self, version: Version) -> None:
+        self.version = version
+
+    def file(self, program: Program) -> bytes:
+        kinds = {"numbers": self.signed, "texts": self.text, "lists": self.entries, "patterns": self.pattern}
+        rows = [[kinds[name](row) for row in program.table(name)] for name in self.version.tables]
+        rows.append([self.operation(operation) for operation in program.code])
+        counts = [self.count(len(table)) for table in rows]
+        head = MAGIC + bytes([self.version.number])
+        return head + b"".join(counts) + b"".join(row for table in rows for row in table)
+
+    def count(self, number: int) -> bytes:
+        return number.to_bytes(self.version.count_bytes, "big")
+
+    def signed(self, number: int) -> bytes:
+        return number.to_bytes(8, "big", signed=True)
+
+    def text(self, text: bytes) -> bytes:
+        return len(text).to_bytes(2, "big") + text
+
+    def entries(self, entries: List[bytes]) -> bytes:
+        return self.count(len(entries)) + b"".join(map(self.text, entries))
+
+    def pattern(self, pattern: Pattern) -> bytes:
+        flags, text = pattern
+        return bytes([flags, len(text)]) + text
+
+    def operation(self, operation: Operation) -> bytes:
+        head = bytes([operation.instruction.byte, operation.a])
+        return head + operation.b.to_bytes(self.version.place_bytes, "big")
+
+
+def written(program: Program, version: Version = LATEST) -> bytes:
+    """The file of a program."""
+    return Writer(version).file(program)

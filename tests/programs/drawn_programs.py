@@ -1,0 +1,156 @@
+"""Drawn programs: there and back as texts, and what the proved program says of them and answers by them."""
+
+import base64
+import json
+import re
+from functools import lru_cache
+from pathlib import Path
+from typing import List, NamedTuple, Optional
+
+import built
+from drawn import mutated, program
+from draws import Draws
+from replay import turns
+from wqprogram.assembler import assembled
+from wqprogram.disassembler import disassembled
+from wqprogram.explainer import explained
+from wqprogram.faults import file_fault_sentence
+from wqprogram.machine import run
+from wqprogram.program_file import VERSIONS, FileFault, Program, read, written
+from wqprogram.records import Record
+from wqprogram.source import TextFault
+from wqprogram.tracer import traced
+
+DRAWN = 3_000
+DAMAGED = 1_000
+# So many of the drawn programs may run, and so many files are no program files.
+FEWEST_RUN, FEWEST_FILE_FAULTS = 700, 1_000
+TREE = Path(__file__).resolve().parent.parent / "compile" / "tree"
+QUERY = '["query","/r",{"program":"p","since":"c:7:9:1:0","sync_timeout":0,"fields":["name"]}]'
+LETTERS = ':[],"#\\- \n\t0ax_\u00fc\u202e'
+
+
+class Drawn(NamedTuple):
+    """The file of a drawn program, and the same or one with some change."""
+
+    file: bytes
+    mutated: bytes
+
+
+@lru_cache(maxsize=None)
+def drawn_files() -> List[Drawn]:
+    files = []
+    for counter in range(1, DRAWN + 1):
+        draws = Draws(counter)
+        file = program(draws)
+        files.append(Drawn(file, mutated(draws, file)))
+    return files
+
+
+def check_texts(tally: built.Tally, room: Path) -> None:
+    """Each drawn program is written as a text of each version, which gives the same bytes."""
+    for version in VERSIONS.values():
+        wrong: List[str] = []
+        for drawn in drawn_files():
+            known = read(drawn.file)
+            found = assembled(disassembled(known, version).encode("utf-8"))
+            if written(found.program, found.version) != written(known, version) or found.program != known:
+                wrong.append(drawn.file.hex())
+        tally.check(f"{DRAWN} drawn programs of version {version.number}, there and back", not wrong, wrong[:5])
+
+
+def check_damaged_texts(tally: built.Tally, room: Path) -> None:
+    """A text with a letter or a line more or less says a program, or has a named fault."""
+    faults = set()
+    for counter, drawn in enumerate(drawn_files()[:DAMAGED], 1):
+        text = disassembled(read(drawn.file), VERSIONS[1])
+        try:
+            assembled(damaged(Draws(counter), text).encode("utf-8"))
+        except TextFault as fault:
+            faults.add(fault.name)
+    tally.check("damaged texts have faults of many names", len(faults) >= 8, sorted(faults))
+
+
+def damaged(draws: Draws, text: str) -> str:
+    place = draws.below(len(text))
+    change = draws.below(4)
+    if change == 0:
+        return text[:place] + draws.pick(LETTERS) + text[place:]
+    if change == 1:
+        return text[:place] + text[place + 1:]
+    lines = text.split("\n")
+    place = draws.below(len(lines))
+    return "\n".join(lines[:place] + (lines[place:place + 1] * 2 if change == 2 else []) + lines[place + 1:])
+
+
+class Asked(NamedTuple):
+    """A file, its program, if it has one, what `explain` says of it in its last line, and the lines for the server: to add
+    it, and to query by it, if it may run."""
+
+    file: bytes
+    program: Optional[Program]
+    line: str
+    lines: List[str]
+
+    @property
+    def may_run(self) -> bool:
+        return self.line.startswith("ok ")
+
+
+def check_against_server(tally: built.Tally, room: Path) -> None:
+    """Of each drawn file the server says what `explain` says, and answers by it what `run` says of each file."""
+    asked = [asked_of(drawn.mutated) for drawn in drawn_files()]
+    records = records_of(TREE.read_bytes())
+    replies = iter(replies_to([line for one in asked for line in one.lines]))
+    for number, one in enumerate(asked):
+        added = next(replies)
+        name = f"drawn file {number + 1}: {one.file.hex()}"
+        tally.check(f"explain, {name}", one.line == line_of(added), [one.line, str(added)])
+        if one.may_run:
+            check_runs(tally, name, one.program, records, next(replies)["files"], records[number % len(records)])
+    ran, file_faults = sum(one.may_run for one in asked), sum(one.program is None for one in asked)
+    counts = f"{DRAWN} drawn files: {ran} may run, {file_faults} are no program files"
+    tally.check(counts, ran >= FEWEST_RUN and file_faults >= FEWEST_FILE_FAULTS)
+    print(counts)
+
+
+def asked_of(file: bytes) -> Asked:
+    add = json.dumps(["program-add", "p", base64.b64encode(file).decode()])
+    try:
+        found = read(file)
+    except FileFault as fault:
+        return Asked(file, None, "refused " + file_fault_sentence(fault).split(" at ")[0], [add])
+    # The server does not tell the budget.
+    line = re.sub(r"^(ok \d+) \d+$", r"\1", explained(found).splitlines()[-1])
+    return Asked(file, found, line, [add, QUERY] if line.startswith("ok ") else [add])
+
+
+def check_runs(
+    tally: built.Tally, name: str, found: Program, records: List[Record], listed: List[str], shown: Record
+) -> None:
+    """The files for which the plain machine says yes are those that the server lists, and `run` shows one of the runs."""
+    names = [record.name.decode() for record in records if run(found, record)[0]]
+    tally.check(f"run, {name}", names == listed, [str(names), str(listed)])
+    answer, cost = run(found, shown)
+    last = traced(found, shown).splitlines()[-1]
+    tally.check(f"the steps of {name}", last.startswith(f"{'yes' if answer else 'no'} at a cost of {cost},"), [last])
+
+
+def replies_to(lines: List[str]) -> List[dict]:
+    """What a server answers to each line, after the passes of the tree."""
+    script = TREE.read_bytes() + "".join(f"ask 1 {line}\n" for line in lines).encode()
+    ended = built.replay(script)
+    assert (ended.errors, ended.status) == (b"", 0), built.excerpt(ended.errors)
+    replies = [json.loads(line[2:]) for line in ended.output.splitlines()]
+    assert len(replies) == len(lines), f"{len(replies)} replies to {len(lines)} lines"
+    return replies
+
+
+def records_of(tree: bytes) -> List[Record]:
+    """The records of the plain program after the passes of a tree."""
+    return list(turns(tree + b'ask 1 ["clock","/r"]\n'))[-1].view.records
+
+
+def line_of(reply: dict) -> str:
+    """What `wqd check` says of a file, as the reply to `program-add` tells it."""
+    return "refused " + reply["error"].split(": ")[1] if "error" in reply else f"ok {reply['instructions']}"

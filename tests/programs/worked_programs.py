@@ -1,0 +1,224 @@
+"""Texts, explanations and runs that were worked out by hand."""
+
+from pathlib import Path
+from typing import List, NamedTuple, Tuple
+
+import built
+from bad_texts import BAD_TEXTS
+from client import same
+from notation import file_of
+from wqprogram.assembler import assembled
+from wqprogram.disassembler import disassembled
+from wqprogram.explainer import explained
+from wqprogram.faults import fault_sentence, file_fault_sentence
+from wqprogram.program_file import VERSIONS, FileFault, read, written
+from wqprogram.records import Clocks, record_of_row
+from wqprogram.source import TextFault
+from wqprogram.tracer import traced
+from wqprogram.verifier import looked_at, said
+
+
+class Worked(NamedTuple):
+    """A text, and the same program in the notation of tests/check."""
+
+    name: str
+    text: str
+    code: str
+    constants: Tuple[str, str, str, str] = ("", "", "", "")
+
+
+ONE_OF_EACH = 'nums\n1\ntexts\n"a"\nlists\n["a"]\npatterns\n"a"\ncode\n'
+EACH = (
+    "flag 0; flag 1; num 0; text 0; wholename; basename; suffix; size; mtime; oclock; cclock; osec; csec; kind; exists; "
+    "cmp eq; cmp ne; cmp lt; cmp le; cmp gt; cmp ge; eq; eq fold; depth; depth fold; oneof 0; oneof 0 fold; match 0; not; "
+    "and; or; drop; jump 40; jf 40; jt 40; ret"
+)
+
+WORKED = [
+    Worked("the smallest program", "code\nflag 1\nret\n", "flag 1; ret"),
+    Worked("no end of the last line, other ends of lines", "code\r\n\tflag 0\r\n\r\n  ret  # no", "flag 0; ret"),
+    Worked("no instruction", "version 1\ncode\n", ""),
+    Worked("code before tables", 'code\ntext a\nret\ntexts\na: "x"\n', "text 0; ret", ("", '"x"', "", "")),
+    Worked(
+        "labels: on a line of their own, two at a place, named as instructions and tables",
+        "code\nexists\njf not\njump code\nnot:\ncode: not\nret\n", "exists; jf 3; jump 3; not; ret",
+    ),
+    Worked(
+        "places and constants by their numbers",
+        "code\nexists\njf 0\njt 9\nnum 65535\nret\n", "exists; jf 0; jt 9; num 65535; ret",
+    ),
+    Worked(
+        "numbers",
+        "nums\n9223372036854775807\nleast: -9223372036854775808\n-0\n007\ncode\nnum least\nret\n", "num 1; ret",
+        ("9223372036854775807, -9223372036854775808, 0, 7", "", "", ""),
+    ),
+    Worked(
+        "escapes and letters",
+        'texts\n"\\"\\\\\\n\\t\\x00\\xfFü#"\ncode\n', "",
+        ("", r'"\"\\\n\t\u0000\u00ff\u00c3\u00bc#"', "", ""),
+    ),
+    Worked(
+        "lists on one line and on several",
+        'lists\n[]\nc: ["c", "h",]\n[  # two\n  "a",\n  ""\n]\ncode\nsuffix\noneof c fold\nret\n',
+        "suffix; oneof 1 fold; ret", ("", "", '[], ["c","h"], ["a",""]', ""),
+    ),
+    Worked(
+        "patterns",
+        'patterns\n"a"\n"b" fold wholename\n"c" wholename dotfiles noescape fold\ncode\n', "",
+        ("", "", "", '[0,"a"], [9,"b"], [15,"c"]'),
+    ),
+    Worked("each instruction", ONE_OF_EACH + EACH.replace("; ", "\n") + "\n", EACH, ("1", '"a"', '["a"]', '[0,"a"]')),
+]
+
+# A text as it is written of a program: labels for places ahead, numbers for others, comments for constants.
+WRITTEN = Worked(
+    "a text that is written",
+    r"""version 1
+
+nums
+    5
+
+texts
+    "a\n\xff\xe2\x80\xae"
+
+lists
+    ["c", ""]
+
+patterns
+    "*.c" wholename fold
+
+code
+    num 0               # 5
+    jf at3
+    jt 0
+at3:
+    jump 9
+    match 0             # "*.c" wholename fold
+    oneof 0 fold        # ["c", ""]
+    num 1
+    cmp ge
+""",
+    "num 0; jf 3; jt 0; jump 9; match 0; oneof 0 fold; num 1; cmp ge",
+    ("5", r'"a\n\u00ff\u00e2\u0080\u00ae"', '["c",""]', '[9,"*.c"]'),
+)
+
+LARGE = file_of("exists; jf 6; drop; size; num 0; cmp gt; ret", numbers="5")
+EXPLAINED = """\
+place  instruction  cost  goes on at  stack before it, top last
+    0  exists          1  1           empty
+    1  jf 6            1  2 or 6      flag
+    2  drop            1  3           flag
+    3  size            1  4           empty
+    4  num 0  # 5      1  5           number
+    5  cmp gt          1  6           number, number
+    6  ret             1  the end     flag
+the sum is 7: no run on a name of up to 4,096 bytes costs more
+ok 7 7
+"""
+TRACED = """\
+place  instruction  cost so far  stack after it, top last
+    0  exists                 1  yes
+    1  jf 6                   2  yes
+    2  drop                   3
+    3  size                   4  6
+    4  num 0                  5  6, 5
+    5  cmp gt                 6  yes
+    6  ret                    7
+yes at a cost of 7, of at most 7
+"""
+# What is said of a pattern, and of a program with a fault before its end.
+MATCHED = """\
+place  instruction        cost  goes on at  stack before it, top last
+    0  basename              1  1           empty
+    1  match 0  # "*.c"  16389  2           text
+"""
+REFUSED = """\
+place  instruction  cost  goes on at  stack before it, top last
+    0  exists          1  1           empty
+    1  num 3           ?  2           flag
+       ^ Y4: "num 3" names row 3 of "nums", which has 0; add a row
+    2  jf 4            1  3 or 4      ?
+    3  ret             1  the end     ?
+refused Y4 at 1
+"""
+
+# Programs that may not run, and what is said of each.
+SENTENCES: List[Tuple[str, str]] = [
+    ("", 'Y1: the program has no instruction; write at least one that puts a flag, and then "ret"'),
+    ("not; ret", 'Y2: "not" takes a flag, and the stack has no cell; put a flag on it before'),
+    ("size; cmp eq; ret", 'Y2: "cmp" takes a number and a number, and the stack has a number; put a number on it before'),
+    ("wholename; not; ret", 'Y3: "not" takes a flag, and the top of the stack is a text; put a flag there'),
+    ("num 0; ret", 'Y4: "num 0" names row 0 of "nums", which has 0; add a row'),
+    ("text 7; ret", 'Y4: "text 7" names row 7 of "texts", which has 2; take a number from 0 to 1, or add rows'),
+    ("flag 0; jf 0; ret",
+     "Y5: it goes to place 0, and jumps lead to later places of the code alone; take a place from 2 to 2"),
+    ("jump 5", "Y5: it goes to place 5, and jumps lead to later places of the code alone; put instructions after it"),
+    ("exists; jf 3; exists; ret", "Y6: place 3 was reached from place 1 with a flag on the stack, and from here it would be "
+     "with a flag and a flag; let both ways leave the same kinds of cells"),
+    ("{{exists; *17}}ret", "Y7: it leaves 17 cells, and at most 16 may be on the stack; take some away before"),
+    ("flag 1; ret; ret", "Y8: no earlier instruction leads here; take it out, or let a jump lead here"),
+    ("flag 1; not", 'Y9: the code ends here, and the next place can follow; put "ret" after it'),
+    ("ret", 'Y10: "ret" ends with one flag alone, and the stack has no cell; put a flag before'),
+    ("size; ret", 'Y10: "ret" ends with one flag alone, and the stack has a number; make a flag of it before'),
+    ("{{size; *4}}ret", 'Y10: "ret" ends with one flag alone, and the stack has 4 cells (number, number, number, number); make '
+     "one flag of them before"),
+    ("size; exists; ret", 'Y10: "ret" ends with one flag alone, and the stack has a number and a flag; take the others away '
+     'before by "and", "or" or "drop"'),
+]
+FILE_FAULTS: List[Tuple[str, str]] = [
+    ("", "F3 at byte 0"), ("575150", "F3 at byte 3"), ("57515047", "F1 at byte 3"), ("5751504603", "F2 at byte 4"),
+    ("5751504601 0000 1001", "F7 at byte 7"), ("5751504601 0000 0000 0000 0000 0001 1f", "F5 at byte 15"),
+    ("5751504601 0000 0000 0000 0000 0001 0102", "F6 at byte 16"),
+    ("5751504601 0000 0001 0000 0000 0000 1001", "F7 at byte 15"),
+    ("5751504601 0000 0000 0000 0001 0000 10", "F6 at byte 15"),
+    ("5751504601 0000 0001 0000 0000 0000 0002 61", "F3 at byte 17"),
+    ("5751504601 0000 0000 0000 0000 0001 23000000 00", "F4 at byte 19"),
+]
+
+
+def check_bad_texts(tally: built.Tally, room: Path) -> None:
+    for bad in BAD_TEXTS:
+        try:
+            assembled(bad.text.encode("utf-8", "surrogateescape"))
+            error = "none"
+        except TextFault as fault:
+            error = str(fault)
+        same(tally, f"bad text {bad.text[:80]!r}", error, bad.error)
+
+
+def check_worked(tally: built.Tally, room: Path) -> None:
+    for worked in [*WORKED, WRITTEN]:
+        found = assembled(worked.text.encode("utf-8"))
+        same(tally, worked.name, written(found.program, found.version), file_of(worked.code, *worked.constants))
+    same(tally, WRITTEN.name, disassembled(read(file_of(WRITTEN.code, *WRITTEN.constants)), VERSIONS[1]), WRITTEN.text)
+    same(tally, "explain", explained(read(LARGE)), EXPLAINED)
+    record = record_of_row(b"f 6 1000 a", Clocks(1, 1, 1, 1), exists=True)
+    same(tally, "run", traced(read(LARGE), record), TRACED)
+    matched = explained(read(file_of("basename; match 0; ret", patterns='[0,"*.c"]')))
+    same(tally, "explain with a pattern", matched.splitlines()[:3], MATCHED.splitlines())
+    same(tally, "explain with a fault", explained(read(file_of("exists; num 3; jf 4; ret"))), REFUSED)
+    odd = record_of_row("f 0 0 ü.\t".encode(), Clocks(1, 1, 2, 1), exists=False)
+    texts = traced(read(file_of("wholename; suffix; eq; ret")), odd)
+    same(tally, "texts on the stack", texts.splitlines()[2].split(None, 3)[3], '"ü.\\t", "\\t"')
+
+
+def check_sentences(tally: built.Tally, room: Path) -> None:
+    """Each fault of a program and of a file is named, with its place and what to change."""
+    seen = set()
+    for code, sentence in SENTENCES:
+        program = read(file_of(code, texts='"a", "b"'))
+        looked = looked_at(program)
+        same(tally, f"the sentence of {code!r}", fault_sentence(program, looked), sentence)
+        lines = explained(program).splitlines()
+        marked = [line for line in lines if sentence in line]
+        same(tally, f"the mark in {code!r}", [lines.index(line) for line in marked], [looked.place + 2 if code else 1])
+        same(tally, f"the line of {code!r}", lines[-1], said(file_of(code, texts='"a", "b"')))
+        seen.add(looked.fault)
+    same(tally, "the faults of programs", sorted(seen), list(range(1, 11)))
+    for digits, line in FILE_FAULTS:
+        try:
+            read(bytes.fromhex(digits))
+            found = "none"
+        except FileFault as fault:
+            found = file_fault_sentence(fault).split(":")[0]
+        same(tally, f"the file {digits}", found, line)
