@@ -1,0 +1,1 @@
+"""A bridge beside wqd: clients of Watchman connect to it as they are, and it asks the server in JSON lines."""

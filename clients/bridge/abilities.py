@@ -1,0 +1,42 @@
+"""Capabilities: what a client may rely on, by the names that Watchman has for it."""
+
+from typing import Dict, Iterable, List
+
+from bridge.expressions import TERMS
+from bridge.faults import Refused
+from bridge.fields import KEPT, READ
+
+OF_QUERIES = (
+    "relative_root", "glob_generator", "wildmatch", "wildmatch-multislash", "dedup_results", "clock-sync-timeout", "suffix-set",
+)
+BSER = "bser-v2"
+
+
+def abilities_of(commands: Iterable[str], has_bser: bool) -> List[str]:
+    """The capabilities, if the bridge answers these commands."""
+    found = [*OF_QUERIES, *(f"cmd-{name}" for name in commands), *(f"term-{name}" for name in TERMS)]
+    found += [f"field-{name}" for name in (*KEPT, *READ)]
+    return sorted([*found, BSER] if has_bser else found)
+
+
+def checked(wishes: object, abilities: List[str]) -> Dict[str, object]:
+    """What is answered beside the version to a client that asks for capabilities."""
+    if not isinstance(wishes, dict):
+        raise Refused("wrong arguments for 'version'")
+    optional, required = names_in(wishes, "optional"), names_in(wishes, "required")
+    if not optional and not required:
+        return {}
+    has = {name: name in abilities for name in (*optional, *required)}
+    found: Dict[str, object] = {"capabilities": has}
+    for name in required:
+        if not has[name]:
+            found["error"] = f"client required capability `{name}` is not supported by this server"
+            break
+    return found
+
+
+def names_in(wishes: Dict[str, object], key: str) -> List[str]:
+    names = wishes.get(key, [])
+    if not isinstance(names, list) or not all(isinstance(name, str) for name in names):
+        raise Refused(f"version: {key} must be an array of strings")
+    return names

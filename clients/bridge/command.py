@@ -1,0 +1,209 @@
+"""The words of the command `watchman`: what they ask of the bridge, and how its replies are printed."""
+
+import json
+import os
+import sys
+from typing import Dict, List, NamedTuple, Optional
+
+from bridge.asker import Asker
+from bridge.sockets import is_listened_on, server_of, sockname_by_default
+from bridge.version import VERSION
+
+USAGE = """usage: watchman [OPTION..] COMMAND [ARGUMENT..]
+       watchman [OPTION..] -j < COMMAND
+
+  -h, --help              prints this
+  -v, --version           prints the version
+  -U, --sockname=PATH     where the bridge listens
+  -j, --json-command      reads one command as JSON from standard input
+  -p, --persistent        stays, and prints what comes by itself
+      --no-pretty         prints each reply on one line
+      --output-encoding=json|bser|bser-v2
+      --no-spawn          starts nothing
+      --no-local          with --no-spawn: answers nothing without a bridge
+
+Watchman's options of its own server are taken and change nothing: --logfile, --pidfile, --statefile, --no-save-state,
+--log-level and --server-encoding. Two dashes end the options, as in: watchman -- find ROOT '*.c'
+"""
+# The options by their letters, and by their long names whether they take a value.
+LETTERS = {
+    "h": "--help", "v": "--version", "U": "--sockname", "o": "--logfile", "p": "--persistent", "n": "--no-save-state",
+    "j": "--json-command", "f": "--foreground",
+}
+OPTIONS = {
+    "--help": False, "--version": False, "--sockname": True, "--json-command": False, "--persistent": False,
+    "--no-pretty": False, "--output-encoding": True, "--no-spawn": False, "--no-local": False, "--logfile": True,
+    "--pidfile": True, "--statefile": True, "--no-save-state": False, "--log-level": True, "--server-encoding": True,
+    "--foreground": False, "--inetd": False,
+}
+NOT_BUILT = ("--foreground", "--inetd")
+ENCODINGS = {"json": 0, "bser": 1, "bser-v1": 1, "bser-v2": 2}
+# These are answered without a server, if none may be started.
+LOCAL = ("version", "get-sockname")
+
+
+class Unwritten(Exception):
+    """A reply could not be printed, as when whoever read it has gone."""
+
+
+class Words(NamedTuple):
+    """The options by their long names, and the words of the command."""
+
+    options: Dict[str, str]
+    command: List[str]
+
+
+def main(arguments: List[str], home: str) -> None:
+    if sys.stdout is None:
+        sys.exit("watchman: there is no standard output")
+    try:
+        words = words_of(arguments)
+        run(words, home)
+    except KeyboardInterrupt:
+        sys.exit(130)
+    except Unwritten as fault:
+        if not isinstance(fault.__cause__, BrokenPipeError):
+            print(f"watchman: standard output: {fault}", file=sys.stderr)
+        os._exit(1)  # nothing is to be written at the end either
+
+
+def words_of(arguments: List[str]) -> Words:
+    """The options may be anywhere before two dashes."""
+    left, words = list(arguments), Words({}, [])
+    while left:
+        word = left.pop(0)
+        if word == "--":
+            words.command.extend(left)
+            break
+        if word.startswith("--"):
+            name, is_joined, value = word.partition("=")
+            take_option(words, name, value if is_joined else None, left)
+        elif word.startswith("-") and len(word) > 1:
+            take_letters(words, word[1:], left)
+        else:
+            words.command.append(word)
+    if words.options.get("--output-encoding", "json") not in ENCODINGS:
+        sys.exit("watchman: the output encodings are json, bser and bser-v2")
+    return words
+
+
+def take_letters(words: Words, letters: str, left: List[str]) -> None:
+    """Options of one letter each. The rest after one that takes a value is that value."""
+    for place, letter in enumerate(letters, 1):
+        name = LETTERS.get(letter, f"-{letter}")
+        if OPTIONS.get(name) and letters[place:]:
+            take_option(words, name, letters[place:], left)
+            return
+        take_option(words, name, None, left)
+
+
+def take_option(words: Words, name: str, value: Optional[str], left: List[str]) -> None:
+    if name not in OPTIONS:
+        sys.exit(f"Unknown or invalid option! {name}\n{USAGE}")
+    if name in NOT_BUILT:
+        sys.exit(f"watchman: {name} is not supported; start wqd serve and clients/bridge by themselves")
+    if OPTIONS[name] and value is None:
+        if not left:
+            sys.exit(f"watchman: {name} needs a value\n{USAGE}")
+        value = left.pop(0)
+    if not OPTIONS[name] and value is not None:
+        sys.exit(f"watchman: {name} takes no value\n{USAGE}")
+    words.options[name] = value or ""
+
+
+def run(words: Words, home: str) -> None:
+    options = words.options
+    if "--help" in options:
+        print(USAGE, end="")
+        return
+    if "--version" in options:
+        print(VERSION)
+        return
+    command = command_of(words)
+    printer = Printer(options.get("--output-encoding", "json"), "--no-pretty" not in options)
+    sockname = os.path.abspath(options["--sockname"]) if "--sockname" in options else sockname_by_default()
+    if "--no-spawn" not in options:
+        start(sockname, home)
+    elif not is_listened_on(sockname):
+        without_server(command, sockname, printer, "--no-local" in options)
+        return
+    try:
+        ask(command, sockname, printer, "--persistent" in options)
+    except OSError as error:
+        fail(sockname, error.strerror or str(error))
+
+
+def start(sockname: str, home: str) -> None:
+    """Starts what does not run. Scripts call this command again and again, so it reads what it seldom needs only then."""
+    if not is_listened_on(sockname) or not is_listened_on(server_of(sockname)):
+        from bridge.starting import Start
+        Start(sockname, home).start()
+
+
+def command_of(words: Words) -> object:
+    if "--json-command" in words.options:
+        try:
+            return json.loads(sys.stdin.buffer.read().decode("utf-8"))
+        except (ValueError, RecursionError) as error:
+            sys.exit(f"failed to parse command from stdin: {error}")
+    if not words.command:
+        sys.exit(f"watchman: there is no command\n{USAGE}")
+    return list(words.command)
+
+
+def ask(command: object, sockname: str, printer: "Printer", stays: bool) -> None:
+    """Prints the reply to a command; and if it stays, what comes later too."""
+    with Asker(sockname) as asker:
+        asker.send(command)
+        reply = asker.receive()
+        while reply is not None:
+            printer.print(reply)
+            if not stays and "unilateral" not in reply:
+                return
+            reply = asker.receive()
+    sys.exit("watchman: the bridge has ended" if stays else "watchman: the command was not answered")
+
+
+def without_server(command: object, sockname: str, printer: "Printer", is_remote: bool) -> None:
+    name = command[0] if isinstance(command, list) and command else None
+    if is_remote:
+        fail(sockname, "nobody listens there")
+    if name == "version":
+        printer.print({"version": VERSION})
+    elif name == "get-sockname":
+        printer.print({"version": VERSION, "sockname": sockname})
+    else:
+        printer.print({"version": VERSION, "error": f"command {name} not available in this mode"})
+        sys.exit(1)
+
+
+def fail(sockname: str, reason: str) -> None:
+    sys.exit(f"unable to talk to your watchman on {sockname}! ({reason})")
+
+
+class Printer:
+    """Prints replies in an encoding."""
+
+    def __init__(self, encoding: str, is_pretty: bool) -> None:
+        self.version = ENCODINGS[encoding]
+        self.indent = 4 if is_pretty else None
+
+    def print(self, reply: Dict[str, object]) -> None:
+        data = self.in_bser(reply) if self.version else self.in_json(reply)
+        try:
+            sys.stdout.buffer.write(data)
+            sys.stdout.buffer.flush()
+        except OSError as error:
+            raise Unwritten(error.strerror) from error
+
+    def in_json(self, reply: Dict[str, object]) -> bytes:
+        separators = (",", ": ") if self.indent else (",", ":")
+        text = json.dumps(reply, indent=self.indent, separators=separators, ensure_ascii=False)
+        return text.encode("utf-8", "surrogateescape") + b"\n"
+
+    def in_bser(self, reply: Dict[str, object]) -> bytes:
+        from bridge.encodings import MISSING, Encoding, Writer, find_codec
+        codec = find_codec()
+        if codec is None:
+            sys.exit(f"watchman: {MISSING}")
+        return Writer(codec).bytes_of(reply, Encoding(self.version, 0))

@@ -1,0 +1,175 @@
+"""The encodings of clients: JSON on lines, and BSER 1 and 2 by the codec of the distribution's pywatchman."""
+
+import importlib
+import json
+import struct
+import sys
+from types import ModuleType
+from typing import NamedTuple, Optional
+
+from bridge.faults import Ended
+from bridge.shape import INTEGER_SIZES, NoValue, TooDeep, Walk
+
+# The distribution keeps its packages for Python here, and another Python than its own does not look there.
+DISTRIBUTION = "/usr/lib/python3/dist-packages"
+CODECS = ("pywatchman.bser", "pywatchman.pybser")
+MISSING = "BSER is not spoken here, since this Python has no pywatchman; Debian has it as python3-pywatchman"
+# A longer line is refused by the server, and no BSER message that says the same is longer.
+LONGEST = 1_048_576
+
+MAGIC = {b"\x00\x01": 1, b"\x00\x02": 2}
+# A message begins with the two bytes of MAGIC, in BSER 2 four bytes of capabilities, and its length as a BSER integer.
+LENGTH_AT = {1: 2, 2: 6}
+
+
+class Encoding(NamedTuple):
+    """How a client speaks: 0 is JSON, and 1 and 2 are versions of BSER."""
+
+    version: int
+    capabilities: int
+
+
+JSON = Encoding(0, 0)
+
+
+class Message(NamedTuple):
+    encoding: Encoding
+    value: object
+
+
+class Unreadable(Exception):
+    """A message of which the end is known, but not the meaning."""
+
+    def __init__(self, encoding: Encoding, words: str) -> None:
+        super().__init__(words)
+        self.encoding = encoding
+
+
+class Broken(Ended):
+    """A message of which the end is not known, so that no other can be read."""
+
+    def __init__(self, encoding: Encoding, words: str) -> None:
+        super().__init__(words)
+        self.encoding = encoding
+
+
+def find_codec() -> Optional[ModuleType]:
+    """The codec for BSER, if it is installed and works with this Python."""
+    if DISTRIBUTION not in sys.path:
+        sys.path.append(DISTRIBUTION)
+    for name in CODECS:
+        try:
+            codec = importlib.import_module(name)
+            if codec.loads(codec.dumps({"a": [1, True]}), value_encoding="utf-8") == {"a": [1, True]}:
+                return codec
+        except (ImportError, AttributeError, SystemError):
+            continue
+    return None
+
+
+class Writer:
+    """Encodes values for clients."""
+
+    def __init__(self, codec: Optional[ModuleType]) -> None:
+        self.codec = codec
+
+    def bytes_of(self, value: object, encoding: Encoding) -> bytes:
+        if encoding == JSON:
+            return json.dumps(value, separators=(",", ":"), ensure_ascii=False).encode("utf-8", "replace") + b"\n"
+        assert self.codec is not None
+        if encoding.version == 1:
+            return self.codec.dumps(value)
+        return self.codec.dumps(value, version=2, capabilities=encoding.capabilities)
+
+
+class Inbox:
+    """Cuts what a client sends into messages. Each may have another encoding."""
+
+    def __init__(self, codec: Optional[ModuleType]) -> None:
+        self.codec = codec
+        self.held = bytearray()
+        # So many bytes of `held` have no newline.
+        self.looked = 0
+
+    def add(self, data: bytes) -> None:
+        self.held += data
+
+    def take(self) -> Optional[Message]:
+        """The next message, if the whole of it is there."""
+        while self.held[:1] != b"\x00":
+            line = self.line()
+            if line is None:
+                return None
+            if line.strip():
+                return message_of_line(line)
+        return self.take_bser()
+
+    def line(self) -> Optional[bytes]:
+        """The next line, if the whole of it is there."""
+        end = self.held.find(b"\n", self.looked)
+        self.looked = len(self.held) if end < 0 else 0
+        if max(end, self.looked) > LONGEST:
+            raise Ended("line too long")
+        return None if end < 0 else self.cut(end + 1)
+
+    def take_bser(self) -> Optional[Message]:
+        if self.codec is None:
+            raise Ended(MISSING)
+        length = self.length()
+        if length is None or len(self.held) < length:
+            return None
+        data = self.cut(length)
+        encoding = encoding_of(data)
+        try:
+            Walk(data, head_length(data)).check()
+            return Message(encoding, self.codec.loads(data, value_encoding="utf-8", value_errors="strict"))
+        except UnicodeDecodeError:
+            raise Unreadable(encoding, "a text is not UTF-8, and wqd has no names that are not")
+        except TooDeep:
+            raise Unreadable(encoding, "the value is too deep")
+        except (NoValue, ValueError, TypeError, LookupError, ArithmeticError, SystemError, MemoryError, struct.error) as error:
+            raise Unreadable(encoding, f"this is no BSER: {error}")
+
+    def length(self) -> Optional[int]:
+        """How many bytes the BSER message has, if enough of it is there to say."""
+        if len(self.held) < 2:
+            return None
+        version = MAGIC.get(bytes(self.held[:2]))
+        if version is None:
+            raise Ended("this is neither JSON nor BSER")
+        start = LENGTH_AT[version]
+        if len(self.held) <= start:
+            return None
+        size = INTEGER_SIZES.get(self.held[start])
+        if size is None:
+            raise Broken(encoding_of(bytes(self.held[:start])), "this is no BSER: its length is no integer")
+        begin = start + 1
+        if len(self.held) < begin + size:
+            return None
+        length = begin + size + int.from_bytes(self.held[begin:begin + size], sys.byteorder, signed=True)
+        if not begin + size < length <= LONGEST:
+            raise Broken(encoding_of(bytes(self.held[:start])), "the message is empty or too long")
+        return length
+
+    def cut(self, length: int) -> bytes:
+        data = bytes(self.held[:length])
+        del self.held[:length]
+        return data
+
+
+def encoding_of(data: bytes) -> Encoding:
+    version = MAGIC[data[:2]]
+    return Encoding(version, 0 if version == 1 else int.from_bytes(data[2:6], sys.byteorder))
+
+
+def head_length(data: bytes) -> int:
+    """How many bytes of a BSER message are before its value."""
+    start = LENGTH_AT[MAGIC[data[:2]]]
+    return start + 1 + INTEGER_SIZES[data[start]]
+
+
+def message_of_line(line: bytes) -> Message:
+    try:
+        return Message(JSON, json.loads(line.decode("utf-8")))
+    except (ValueError, RecursionError) as error:
+        raise Unreadable(JSON, f"invalid json: {error}")

@@ -1,0 +1,1 @@
+"""Real clients of Watchman, each of which is run through the bridge as the distribution has it."""

@@ -1,0 +1,123 @@
+"""A directory for one client: a project, a PATH on which `watchman` is that of wqd, and a server of its own."""
+
+import json
+import os
+import subprocess
+import sys
+import time
+from pathlib import Path
+from typing import Callable, Dict, List, NamedTuple, Optional
+
+from tried.packages import PYTHON, Packages
+
+TOP = Path(__file__).resolve().parent.parent.parent
+COMMAND = TOP / "clients" / "watchman"
+HERE = Path(__file__).resolve().parent
+PATIENCE = 60.0
+PAUSE = 0.05
+# A place of a session that is over may still be taken.
+ATTEMPTS = 100
+
+
+class Outcome(NamedTuple):
+    """What a client was asked to do, and why it did not; nothing if it did."""
+
+    done: str
+    fault: Optional[str]
+
+
+class Running:
+    """A client that runs, and writes lines."""
+
+    def __init__(self, process: subprocess.Popen, log: Path) -> None:
+        self.process = process
+        self.log = log
+
+    def lines(self) -> List[str]:
+        return self.log.read_text(errors="replace").splitlines()
+
+    def waits_for(self, is_right: Callable[[List[str]], object], seconds: float = PATIENCE) -> bool:
+        """Whether its lines become right in time."""
+        end = time.monotonic() + seconds
+        while not is_right(self.lines()):
+            if time.monotonic() > end or self.process.poll() is not None and not is_right(self.lines()):
+                return False
+            time.sleep(PAUSE)
+        return True
+
+    def end(self) -> None:
+        self.process.terminate()
+        self.process.wait()
+
+
+class Room:
+    """The directory, in which clients run."""
+
+    def __init__(self, path: Path, packages: Packages, interval: int = 200) -> None:
+        self.path = path
+        self.packages = packages
+        self.project = path / "project"
+        self.project.mkdir()
+        bin_, state = path / "bin", path / "state"
+        bin_.mkdir()
+        state.mkdir(mode=0o700)
+        (bin_ / "watchman").symlink_to(COMMAND)
+        self.environment: Dict[str, str] = {
+            **os.environ, "PATH": f"{bin_}:/usr/bin:/bin:/usr/sbin:/sbin", "XDG_RUNTIME_DIR": str(state), "HOME": str(path),
+            "WQD_INTERVAL": str(interval), "PYTHONDONTWRITEBYTECODE": "1", "GIT_CONFIG_NOSYSTEM": "1",
+        }
+        for name in ("WATCHMAN_SOCK", "WQD_SOCK"):
+            self.environment.pop(name, None)
+
+    def __enter__(self) -> "Room":
+        return self
+
+    def __exit__(self, *_: object) -> None:
+        for _ in range(ATTEMPTS):
+            said = self.run(["watchman", "--no-pretty", "--no-spawn", "--no-local", "shutdown-server"])
+            if said.returncode != 0 or '"shutdown-server":true' in said.stdout:
+                return
+            time.sleep(PAUSE)
+        print(f"clients/run: the server of {self.path} does not end: {said.stdout}{said.stderr}", file=sys.stderr)
+
+    def run(self, command: List[str], text: str = "", at: Optional[Path] = None) -> "subprocess.CompletedProcess[str]":
+        return subprocess.run(
+            self.packages.words(command), input=text, stdout=subprocess.PIPE, stderr=subprocess.PIPE, env=self.environment,
+            cwd=at or self.project, timeout=PATIENCE * 5, encoding="utf-8", errors="replace",
+        )
+
+    def begin(self, command: List[str], name: str) -> Running:
+        log = self.path / f"{name}.log"
+        with open(log, "wb") as file:
+            process = subprocess.Popen(
+                self.packages.words(command), stdin=subprocess.DEVNULL, stdout=file, stderr=file, env=self.environment,
+                cwd=self.project,
+            )
+        return Running(process, log)
+
+    def watchman(self, *words: str, text: str = "") -> Dict[str, object]:
+        """What the command of wqd says."""
+        said = self.run(["watchman", "--no-pretty", *words], text)
+        if said.returncode != 0:
+            raise ValueError(f"watchman {' '.join(words)}: {said.stderr}")
+        reply: Dict[str, object] = json.loads(said.stdout)
+        return reply
+
+    def sockname(self) -> str:
+        return str(self.watchman("get-sockname")["sockname"])
+
+    def python(self, script: str, *words: str) -> "subprocess.CompletedProcess[str]":
+        return self.run([PYTHON, str(HERE / script), *words])
+
+    def put(self, name: str, text: str = "x\n") -> Path:
+        """Writes a file of the project at once, so that nobody sees a half of it."""
+        path = self.project / name
+        path.parent.mkdir(parents=True, exist_ok=True)
+        aside = self.path / "aside"
+        aside.write_text(text)
+        aside.rename(path)
+        return path
+
+
+def outcome(done: str, found: object, expected: object) -> Outcome:
+    return Outcome(done, None if found == expected else f"found {found} and not {expected}")

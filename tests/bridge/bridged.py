@@ -1,0 +1,127 @@
+"""A bridge beside a server that runs, and clients of it."""
+
+import socket
+import struct
+import subprocess
+import sys
+import time
+from pathlib import Path
+from types import ModuleType
+from typing import Dict, List, Optional
+
+import built
+from client import PATIENCE, Client, Server
+
+sys.path[:0] = [str(built.TOP / "clients")]
+
+from bridge.encodings import find_codec
+from bridge.sockets import is_listened_on
+
+PROGRAM = built.TOP / "clients" / "bridge"
+COMMAND = built.TOP / "clients" / "watchman"
+VERSION = "4.9.0"
+INTERVAL = 50
+# How long a list that should not come is waited for, in seconds: some intervals.
+SILENCE = 0.4
+
+
+class Bridge:
+    """A server and a bridge, whose sockets are in a directory."""
+
+    def __init__(self, room: Path, interval: int = INTERVAL, grace: float = 60, words: Optional[List[str]] = None) -> None:
+        self.sockname = str(room / "bridge")
+        self.server = Server(room, interval)
+        command = [sys.executable, str(PROGRAM), "--server", self.server.sockname, "--sockname", self.sockname,
+                   "--grace", str(grace), *(words or [])]
+        self.process = subprocess.Popen(command, stderr=subprocess.PIPE)
+        wait_for_socket(self.sockname, self.process)
+
+    def __enter__(self) -> "Bridge":
+        return self
+
+    def __exit__(self, *_: object) -> None:
+        self.process.kill()
+        self.process.wait()
+        if self.process.stderr is not None:
+            self.process.stderr.close()
+        self.server.kill()
+        self.server.said.close()
+
+    def client(self) -> Client:
+        return Client(self.sockname)
+
+
+def wait_for_socket(sockname: str, process: subprocess.Popen) -> None:
+    end = time.monotonic() + PATIENCE
+    while not is_listened_on(sockname):
+        if process.poll() is not None or time.monotonic() > end:
+            raise ValueError(f"nobody listens on {sockname}")
+        time.sleep(0.01)
+
+
+def codec() -> Optional[ModuleType]:
+    """The codec for BSER, if the distribution's pywatchman is installed."""
+    return find_codec()
+
+
+class BserClient:
+    """A client that speaks BSER, in messages that it reads by their lengths."""
+
+    def __init__(self, sockname: str, bser: ModuleType) -> None:
+        self.bser = bser
+        self.stream = socket.socket(socket.AF_UNIX, socket.SOCK_STREAM)
+        self.stream.settimeout(PATIENCE)
+        self.stream.connect(sockname)
+
+    def __enter__(self) -> "BserClient":
+        return self
+
+    def __exit__(self, *_: object) -> None:
+        self.stream.close()
+
+    def ask(self, version: int, *command: object) -> Dict[str, object]:
+        """The reply to a command in this version of BSER, which has to be in the same."""
+        self.stream.sendall(self.bser.dumps(list(command), version=version, capabilities=0))
+        return self.reply(version)
+
+    def reply(self, version: int) -> Dict[str, object]:
+        head = self.exactly(2 if version == 1 else 6)
+        if head[:2] != bytes([0, version]):
+            raise ValueError(f"the reply begins with {head!r}")
+        kind = self.exactly(1)
+        form = {3: "<b", 4: "<h", 5: "<i", 6: "<q"}[kind[0]]
+        size = self.exactly(struct.calcsize(form))
+        body = self.exactly(struct.unpack(form, size)[0])
+        reply: Dict[str, object] = self.bser.loads(head + kind + size + body, value_encoding="utf-8")
+        return reply
+
+    def exactly(self, length: int) -> bytes:
+        data = b""
+        while len(data) < length:
+            piece = self.stream.recv(length - len(data))
+            if not piece:
+                raise ValueError(f"the stream ended after {data!r}")
+            data += piece
+        return data
+
+
+def is_silent(client: Client, seconds: float = SILENCE) -> bool:
+    """Whether nothing comes for some time."""
+    client.socket.settimeout(seconds)
+    try:
+        return not client.read and not client.socket.recv(1, socket.MSG_PEEK)
+    except socket.timeout:
+        return True
+    finally:
+        client.socket.settimeout(PATIENCE)
+
+
+def make_files(root: Path, names: List[str]) -> None:
+    """Makes files with their names in them; a name that ends in a slash is a directory."""
+    for name in names:
+        path = root / name
+        path.parent.mkdir(parents=True, exist_ok=True)
+        if name.endswith("/"):
+            path.mkdir(exist_ok=True)
+        else:
+            path.write_text(name)

@@ -1,0 +1,88 @@
+"""The command with names of other directories, files that others made, and replies that nobody reads."""
+
+import json
+import os
+import subprocess
+import sys
+from pathlib import Path
+
+import built
+from bridged import COMMAND, PROGRAM, Bridge
+from client import PATIENCE, same
+
+
+def run(room: Path, *words: str, sockname: str = "sock", output: int = subprocess.PIPE) -> subprocess.CompletedProcess:
+    """Runs the command in a directory, with names that are relative to it."""
+    environment = {**os.environ, "WATCHMAN_SOCK": sockname, "WQD": os.path.relpath(str(built.program_path()), str(room))}
+    environment.pop("WQD_SOCK", None)
+    return subprocess.run([sys.executable, str(COMMAND), *words], env=environment, cwd=str(room), stdin=subprocess.DEVNULL,
+                          stdout=output, stderr=subprocess.PIPE, timeout=PATIENCE)
+
+
+def check_starts(tally: built.Tally, room: Path) -> None:
+    """Names of sockets and of the program count from the directory of the command, though what it starts has another."""
+    room = room.resolve()
+    try:
+        found = json.loads(run(room, "get-sockname").stdout)
+        same(tally, "a socket with a relative name", found.get("sockname"), str(room / "sock"))
+        reader, writer = os.pipe()
+        os.close(reader)
+        gone = run(room, "list-capabilities", output=writer)
+        os.close(writer)
+        same(tally, "a reply that nobody reads", (gone.returncode, gone.stderr), (1, b""))
+        with open("/dev/full", "wb") as full:
+            gone = run(room, "version", output=full.fileno())
+        same(tally, "no room for a reply", (gone.returncode, gone.stderr),
+             (1, b"watchman: standard output: No space left on device\n"))
+    finally:
+        same(tally, "it is ended by its relative name", run(room, "--no-spawn", "shutdown-server").returncode, 0)
+
+
+def check_names_by_default(tally: built.Tally, room: Path) -> None:
+    """The directory of sockets is below one of the user. Only the superuser can show one that is of another."""
+    own, other, below = room / "own", room / "other", f"wqd-watchman-{os.getuid()}/sock"
+    for directory in (own, other):
+        directory.mkdir()
+    same(tally, "a directory of the user", name_by_default(own, room), str(own / below))
+    same(tally, "no directory", name_by_default(room / "none", room), str(room / below))
+    if os.getuid() == 0:
+        os.chown(str(other), 1, 1)
+        same(tally, "a directory of another user", name_by_default(other, room), str(room / below))
+
+
+def name_by_default(runtime: Path, temporary: Path) -> str:
+    environment = {**os.environ, "XDG_RUNTIME_DIR": str(runtime), "TMPDIR": str(temporary)}
+    environment.pop("WATCHMAN_SOCK", None)
+    ended = subprocess.run([sys.executable, str(COMMAND), "--no-spawn", "--no-pretty", "get-sockname"], env=environment,
+                           stdout=subprocess.PIPE, timeout=PATIENCE)
+    return str(json.loads(ended.stdout)["sockname"])
+
+
+def check_a_command_that_stays(tally: built.Tally, room: Path) -> None:
+    """It says that the bridge has ended, and its status is not 0."""
+    with Bridge(room) as bridge:
+        staying = subprocess.Popen([sys.executable, str(COMMAND), "--sockname", bridge.sockname, "--no-spawn", "-p", "version"],
+                                   stdout=subprocess.PIPE, stderr=subprocess.PIPE)
+        same(tally, "a command that stays is answered", staying.stdout.readline(), b"{\n")
+        bridge.process.terminate()
+        _, errors = staying.communicate(timeout=PATIENCE)
+        same(tally, "its end", (staying.returncode, errors), (1, b"watchman: the bridge has ended\n"))
+
+
+def check_files_of_others(tally: built.Tally, room: Path) -> None:
+    """A lock or a log that is a link or no file is refused, and that to which it leads stays as it is."""
+    precious = room / "precious"
+    precious.write_text("words")
+    for ending in ("lock", "start", "log"):
+        (room / f"link.{ending}").symlink_to(precious)
+        os.mkfifo(str(room / f"pipe.{ending}"))
+    for name in ("link", "pipe"):
+        bridge = subprocess.run([sys.executable, str(PROGRAM), "--server", str(room / "none"), "--sockname", str(room / name)],
+                                stderr=subprocess.PIPE, timeout=PATIENCE)
+        same(tally, f"a {name} as the lock", (bridge.returncode, b"cannot listen" in bridge.stderr), (1, True))
+        for ending in ("start", "log"):
+            ended = run(room, "version", sockname=name)
+            said = f"watchman: {room.resolve() / name}.{ending}: "
+            same(tally, f"a {name} as the {ending}", (ended.returncode, ended.stderr.decode().startswith(said)), (1, True))
+            (room / f"{name}.{ending}").unlink()
+    same(tally, "the file of the links", precious.read_text(), "words")

@@ -1,0 +1,133 @@
+"""The words of the bridge: versions, capabilities, errors, projects, and its end."""
+
+import json
+import os
+from pathlib import Path
+from typing import Dict, List, Tuple
+
+import built
+from bridged import VERSION, Bridge, make_files
+from client import same
+
+HAS = ("cmd-watch-project", "relative_root", "wildmatch", "term-dirname", "suffix-set", "field-mode", "glob_generator")
+HAS_NOT = ("term-pcre", "scm-hg", "cmd-state-enter", "cmd-flush-subscriptions", "cmd-log-level", "nothing")
+
+
+def check_versions(tally: built.Tally, room: Path) -> None:
+    with Bridge(room) as bridge, bridge.client() as client:
+        same(tally, "version", client.ask("version"), {"version": VERSION, "wqd": "wq-1"})
+        reply = client.ask("version", {"optional": [*HAS, *HAS_NOT]})
+        expected = {**dict.fromkeys(HAS, True), **dict.fromkeys(HAS_NOT, False)}
+        same(tally, "capabilities that a client asks for", reply.get("capabilities"), expected)
+        same(tally, "capabilities that are no error", "error" in reply, False)
+        reply = client.ask("version", {"required": ["relative_root", "nothing"], "optional": ["wildmatch"]})
+        same(tally, "a required capability", reply.get("error"),
+             "client required capability `nothing` is not supported by this server")
+        same(tally, "what is there beside it", reply.get("capabilities"),
+             {"relative_root": True, "nothing": False, "wildmatch": True})
+        found = client.ask("list-capabilities")["capabilities"]
+        same(tally, "the list of capabilities", [name in found for name in (*HAS, *HAS_NOT)],
+             [True] * len(HAS) + [False] * len(HAS_NOT))
+        same(tally, "each is there once", len(found), len(set(found)))
+        same(tally, "get-sockname", client.ask("get-sockname"), {"sockname": bridge.sockname, "version": VERSION})
+        same(tally, "get-pid is that of the server", client.ask("get-pid")["pid"], bridge.server.process.pid)
+
+
+def check_errors(tally: built.Tally, room: Path) -> None:
+    root, other = room / "root", room / "other"
+    make_files(root, ["a"])
+    other.mkdir()
+    with Bridge(room) as bridge, bridge.client() as client:
+        client.ask("watch", str(root))
+        same(tally, "not JSON", client_line(client, b"[\n").startswith("invalid json: "), True)
+        for command, words in errors_of_commands(str(root), str(other)):
+            same(tally, f"{command}", client.ask(*command), {"error": words, "version": VERSION})
+        for query, words in ERRORS_OF_QUERIES:
+            same(tally, f"{query}", client.ask("query", str(root), query)["error"], f"failed to parse query: {words}")
+        same(tally, "since", client.ask("query", str(root), {"since": "x"})["error"], "invalid clockspec")
+        query = {"fields": ["name"], "expression": ["name", ["a", *["ü" * 7] * 40_000]]}
+        client.send_bytes(json.dumps(["query", str(root), query], ensure_ascii=False).encode() + b"\n")
+        same(tally, "a long line of letters that are not ASCII", client.reply().get("files"), ["a"])
+        query = {"fields": ["name"], "expression": ["name", "\ud800"]}
+        same(tally, "half a letter", client.ask("query", str(root), query).get("error"), "not JSON (E2)")
+        same(tally, "a client that was refused goes on", client.ask("watch-list")["roots"], [str(root)])
+
+
+def errors_of_commands(root: str, other: str) -> List[Tuple[List[object], str]]:
+    """Commands, and the words that refuse each."""
+    return [
+        (["frob"], "unknown command frob"),
+        ([], "invalid command (expected an array with some elements!)"),
+        (["query", root], "wrong number of arguments for 'query'"),
+        (["query", 7, {}], "invalid value for argument 1, expected a string naming the root dir"),
+        (["watch", "rel"], 'unable to resolve root rel: path "rel" must be absolute'),
+        (["watch", f"{root}/no"], f"unable to resolve root {root}/no: realpath({root}/no) -> No such file or directory"),
+        (["watch", f"{root}/a"], f"unable to resolve root {root}/a: opendir_nofollow: {root}/a: Not a directory"),
+        (["query", other, {}], f"unable to resolve root {other}: directory {other} is not watched"),
+        (["clock", other], f"unable to resolve root {other}: directory {other} is not watched"),
+        (["subscribe", root, "s", {"suffix": ["c"]}],
+         "failed to parse query: a subscription takes no generator suffix; say it in its expression"),
+        (["trigger", root, {"name": "t", "command": ["x"], "chdir": "y"}], "trigger: the key chdir is not supported"),
+        (["trigger", root, "t", "*.c"], "no command was specified"),
+        (["watch-project", f"{root}/no"], f"resolve_projpath: path `{root}/no`: open: {root}/no: No such file or directory"),
+    ]
+
+
+NO_PROGRAM = "a program is asked of names below the root alone, so it has no relative_root and no glob"
+# Queries, and the words after the first ones that refuse each.
+ERRORS_OF_QUERIES: List[Tuple[Dict[str, object], str]] = [
+    ({"fields": ["frob"]}, "unknown field name 'frob'"),
+    ({"expression": ["not", ["frob"]]}, "unknown expression term 'frob'"),
+    ({"expression": ["type"]}, "wrong term arguments (E25)"),
+    ({"sync_timeout": "x"}, "sync_timeout must be an integer value >= 0"),
+    ({"relative_root": "../x"}, "relative_root '../x' is no path below the root"),
+    ({"glob": ["*"], "since": "c:1:1"}, "glob and since together are not supported"),
+    ({"expression": ["match", "x" * 256]}, "pattern too long (E28)"),
+    ({"program": "p", "relative_root": "d"}, NO_PROGRAM),
+    ({"program": "p", "glob": ["*"]}, NO_PROGRAM),
+    ({"program": "p", "expression": "true"}, "expression and program (E29)"),
+    ({"program": "p"}, "no such program (E34)"),
+]
+
+
+def client_line(client, line: bytes) -> str:
+    client.send_bytes(line)
+    return client.reply()["error"]
+
+
+def check_projects(tally: built.Tally, room: Path) -> None:
+    """The order of the files of a project, directories below a watched root, and links."""
+    trees = room.resolve() / "trees"
+    make_files(trees, ["git/.git/", "git/a/b/", "far/.watchmanconfig", "far/near/.git/", "far/near/c/", "plain/d/"])
+    os.symlink(trees / "git" / "a", trees / "link")
+    with Bridge(room) as bridge, bridge.client() as client:
+        for path, root, below in (
+            ("git/a/b", "git", "a/b"), ("git", "git", None), ("git/a", "git", "a"), ("far/near/c", "far", "near/c"),
+            ("plain/d", "plain/d", None), ("link/b", "git", "a/b"),
+        ):
+            expected = {"version": VERSION, "watch": str(trees / root), "watcher": "poll"}
+            if below is not None:
+                expected["relative_path"] = below
+            same(tally, f"the project of {path}", client.ask("watch-project", str(trees / path)), expected)
+        client.ask("watch", str(trees))
+        same(tally, "the nearest watched root", client.ask("watch-project", str(trees / "plain" / "d"))["watch"],
+             str(trees / "plain" / "d"))
+        same(tally, "a watched root above", client.ask("watch-project", str(trees / "plain"))["relative_path"], "plain")
+        same(tally, "watched roots", client.ask("watch-list")["roots"],
+             [str(trees / "git"), str(trees / "far"), str(trees / "plain" / "d"), str(trees)])
+        same(tally, "a link is watched by its directory", client.ask("watch", str(trees / "link"))["watch"],
+             str(trees / "git" / "a"))
+        same(tally, "watch-del-all", len(client.ask("watch-del-all")["roots"]), 5)
+        same(tally, "no root is left", client.ask("watch-list")["roots"], [])
+
+
+def check_an_end(tally: built.Tally, room: Path) -> None:
+    """A client that ends the server ends the bridge."""
+    with Bridge(room) as bridge:
+        with bridge.client() as client, bridge.client() as other:
+            other.ask("version")
+            same(tally, "shutdown-server", client.ask("shutdown-server"), {"shutdown-server": True, "version": VERSION})
+            same(tally, "the stream of another client ends", other.rest(), b"")
+        same(tally, "the bridge ends", bridge.process.wait(10), 0)
+        same(tally, "the server ends", bridge.server.process.wait(10), 0)
+        same(tally, "its socket is gone", os.path.exists(bridge.sockname), False)
