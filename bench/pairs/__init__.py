@@ -1,0 +1,1 @@
+"""Measures wqd and Watchman in one run on one tree."""
