@@ -1,8 +1,10 @@
 """What is installed: each file with its path below the prefix and its mode. `./install` and `./package` take it from here."""
 
+import io
 import os
 import subprocess
 import sys
+import zipfile
 from pathlib import Path
 from typing import List, NamedTuple
 
@@ -25,9 +27,11 @@ TAIL = """
 answer_help "$@"
 run "$@"
 """
+# What Python runs of the archive.
+WQASM_MAIN = "import sys\n\nfrom wqprogram.command import main\n\nsys.exit(main(sys.argv[1:]))\n"
 # The manual pages of section 7: their pages in docs/, and what they are.
 REFERENCE = {
-    "wqd-programs": ("PROGRAMS.md", "program files that clients of wqd send"),
+    "wqd-programs": ("PROGRAMS.md", "programs with which clients of wqd filter files"),
     "wqd-protocol": ("PROTOCOL.md", "what a client of wqd may ask, and what it is answered"),
     "wqd-scripts": ("SCRIPTS.md", "scripts that wqd replays"),
 }
@@ -62,14 +66,26 @@ def files(prefix: str) -> List[File]:
     """The files for a prefix."""
     return [
         File("bin/wqd", 0o755, (HEAD.format(version=version()) + text("contrib/command.sh") + TAIL).encode()),
+        File("bin/wqasm", 0o755, wqasm()),
         File("lib/wqd/wqd", 0o755, built_program()),
         File("lib/wqd/git-fsmonitor-hook", 0o755, text("contrib/git-fsmonitor-hook").encode()),
         File("share/man/man1/wqd.1", 0o644, server_manual().encode()),
+        File("share/man/man1/wqasm.1", 0o644, wqasm_manual().encode()),
         *(File(f"share/man/man7/{name}.7", 0o644, reference_manual(name).encode()) for name in REFERENCE),
         File("share/systemd/user/wqd.service", 0o644, unit(prefix).encode()),
         File("share/bash-completion/completions/wqd", 0o644, text("contrib/wqd.bash").encode()),
+        File("share/bash-completion/completions/wqasm", 0o644, text("contrib/wqasm.bash").encode()),
         File("share/doc/wqd/CHANGELOG.md", 0o644, text("CHANGELOG.md").encode()),
         File("share/doc/wqd/copyright", 0o644, (LICENCES + text("LICENSE-MIT") + "\n" + text("LICENSE-APACHE")).encode()),
+    ]
+
+
+def files_as_watchman() -> List[File]:
+    """The command watchman, and the bridge that it starts."""
+    modules = sorted((TOP / "clients" / "bridge").glob("*.py"))
+    return [
+        File("bin/watchman", 0o755, text("clients/watchman").encode()),
+        *(File(f"lib/wqd/clients/bridge/{module.name}", 0o644, module.read_bytes()) for module in modules),
     ]
 
 
@@ -77,9 +93,26 @@ def text(path: str) -> str:
     return (TOP / path).read_text(encoding="utf-8")
 
 
+def wqasm() -> bytes:
+    """The tool as one file: an archive of its modules, which Python runs. It is the same on every machine."""
+    written = io.BytesIO(b"#!/usr/bin/env python3\n")
+    written.seek(0, io.SEEK_END)
+    with zipfile.ZipFile(written, "a") as archive:
+        for module in sorted((TOP / "clients" / "wqprogram").glob("*.py")):
+            archive.writestr(zipfile.ZipInfo(f"wqprogram/{module.name}"), module.read_bytes())
+        archive.writestr(zipfile.ZipInfo("__main__.py"), WQASM_MAIN)
+    return written.getvalue()
+
+
 def server_manual() -> str:
     summary = "a file watch server that speaks Watchman's JSON commands"
     return manual.page(text("docs/SERVER.md"), "wqd", 1, summary, version(), said("--help"))
+
+
+def wqasm_manual() -> str:
+    summary = "writes, reads, explains and tries programs for wqd"
+    usage = subprocess.run([sys.executable, str(TOP / "clients" / "wqasm"), "--help"], stdout=subprocess.PIPE, check=True)
+    return manual.page(text("docs/WQASM.md"), "wqasm", 1, summary, version(), usage.stdout.decode())
 
 
 def reference_manual(name: str) -> str:

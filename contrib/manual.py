@@ -15,6 +15,7 @@ INLINE = re.compile(r"`([^`]+)`|\*\*(.+?)\*\*|\*([^* ][^*]*)\*|" + LINK.pattern)
 # The pages of docs/ that are pages of man.
 PAGES = {
     "SERVER.md": "wqd(1)",
+    "WQASM.md": "wqasm(1)",
     "PROTOCOL.md": "wqd-protocol(7)",
     "PROGRAMS.md": "wqd-programs(7)",
     "SCRIPTS.md": "wqd-scripts(7)",

@@ -8,7 +8,7 @@ from typing import List
 import built
 from client import same
 
-SCRIPT = '. "$1"; shift; COMP_WORDS=("$@"); COMP_CWORD=$(($# - 1)); _wqd; printf "%s\\n" "${COMPREPLY[@]}"'
+SCRIPT = '. "$1"; shift; COMP_WORDS=("$@"); COMP_CWORD=$(($# - 1)); "_$1"; printf "%s\\n" "${COMPREPLY[@]}"'
 
 
 def check_completion(tally: built.Tally, room: Path) -> None:
@@ -25,10 +25,20 @@ def check_completion(tally: built.Tally, room: Path) -> None:
         (["check", str(room) + "/a"], [str(room / "a file")]),
         (["replay", ""], [""]),
     ):
-        same(tally, f"the completion of {words}", completed(words), expected)
+        same(tally, f"the completion of wqd {words}", completed("wqd", words), expected)
+    for words, expected in (
+        ([""], ["assemble", "disassemble", "explain", "run", "compile", "add", "--help"]),
+        (["d"], ["disassemble"]),
+        (["explain", str(room) + "/a"], [str(room / "a file")]),
+        (["assemble", "text", "-"], ["-o", "--version"]),
+        (["assemble", "text", "--version", ""], ["1"]),
+        (["run", "file", "--c"], ["--cclock", "--csec"]),
+        (["explain", "-"], [""]),
+    ):
+        same(tally, f"the completion of wqasm {words}", completed("wqasm", words), expected)
 
 
-def completed(words: List[str]) -> List[str]:
-    script = str(built.TOP / "contrib" / "wqd.bash")
-    ended = subprocess.run(["bash", "-c", SCRIPT, "bash", script, "wqd", *words], stdout=subprocess.PIPE)
+def completed(command: str, words: List[str]) -> List[str]:
+    script = str(built.TOP / "contrib" / f"{command}.bash")
+    ended = subprocess.run(["bash", "-c", SCRIPT, "bash", script, command, *words], stdout=subprocess.PIPE)
     return ended.stdout.decode().splitlines()

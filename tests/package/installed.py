@@ -1,5 +1,6 @@
 """What ./install and ./package put below a prefix: the files, a server that the unit starts, and nothing after removal."""
 
+import json
 import os
 import shlex
 import shutil
@@ -14,13 +15,16 @@ import built
 from client import MALLOC, PATIENCE, VERSION, Client, same
 
 FILES = {
+    "bin/wqasm": 0o755,
     "bin/wqd": 0o755,
     "lib/wqd/files": 0o644,
     "lib/wqd/git-fsmonitor-hook": 0o755,
     "lib/wqd/wqd": 0o755,
+    "share/bash-completion/completions/wqasm": 0o644,
     "share/bash-completion/completions/wqd": 0o644,
     "share/doc/wqd/CHANGELOG.md": 0o644,
     "share/doc/wqd/copyright": 0o644,
+    "share/man/man1/wqasm.1": 0o644,
     "share/man/man1/wqd.1": 0o644,
     "share/man/man7/wqd-programs.7": 0o644,
     "share/man/man7/wqd-protocol.7": 0o644,
@@ -45,6 +49,7 @@ def check_install(tally: built.Tally, room: Path) -> None:
         same(tally, f"the files of ./install{turn}", modes(prefix, FILES), FILES)
         same(tally, f"how many files are there{turn}", len(listing(prefix)) - len(before), len(added_by(prefix, before)))
     check_server(tally, "installed", room, (prefix / UNIT).read_text())
+    check_tool(tally, prefix)
     removed = call(room, "install", "--remove", str(prefix))
     same(tally, "how ./install --remove ends", (removed.status, removed.errors), (0, b""))
     same(tally, "what ./install --remove leaves", listing(prefix), before)
@@ -55,6 +60,15 @@ def check_install(tally: built.Tally, room: Path) -> None:
     bad = call(room, "install", str(room / "a$b"))
     found = (bad.status, bad.errors.count(b"\n"), (room / "a$b").exists())
     same(tally, "a prefix that no unit can name", found, (1, 1, False))
+
+
+def check_tool(tally: built.Tally, prefix: Path) -> None:
+    """The tool for programs is one file, which runs without the repository and from any directory."""
+    command = [str(prefix / "bin" / "wqasm"), "assemble", str(built.TOP / "examples" / "large.wqasm")]
+    ended = subprocess.run(command, cwd="/", stdout=subprocess.PIPE, stderr=subprocess.PIPE)
+    found = built.Ended(ended.stdout, ended.stderr, ended.returncode)
+    expected = (built.TOP / "examples" / "large.program").read_bytes()
+    same(tally, "the installed tool", found, built.Ended(expected, b"", 0))
 
 
 def check_default_prefix(tally: built.Tally, room: Path) -> None:
@@ -72,6 +86,29 @@ def check_default_prefix(tally: built.Tally, room: Path) -> None:
     same(tally, "the program by a link", script, b'1 {"version":"wq-1"}\n')
     call(room, "install", "--remove")
     same(tally, "a prefix that was made", prefix.exists(), False)
+
+
+def check_as_watchman(tally: built.Tally, room: Path) -> None:
+    """With --as-watchman there is a command watchman that starts the installed server. It replaces none of others."""
+    prefix = room / "prefix"
+    (prefix / "bin").mkdir(parents=True)
+    (prefix / "bin" / "watchman").write_text("of others")
+    refused = call(room, "install", "--as-watchman", str(prefix))
+    same(tally, "a watchman of others stays", (refused.status, (prefix / "bin" / "watchman").read_text()), (1, "of others"))
+    (prefix / "bin" / "watchman").unlink()
+    same(tally, "how ./install --as-watchman ends", call(room, "install", "--as-watchman", str(prefix)).status, 0)
+    environment = {**os.environ, "WATCHMAN_SOCK": str(room / "socket")}
+    for name in ("WQD", "WQD_SOCK"):
+        environment.pop(name, None)
+    found = [
+        subprocess.run([prefix / "bin" / "watchman", "--no-pretty", word], stdout=subprocess.PIPE, env=environment).stdout
+        for word in ("get-sockname", "shutdown-server")
+    ]
+    same(tally, "what the installed watchman says", [json.loads(line) for line in found], [
+        {"sockname": str(room / "socket"), "version": "4.9.0"}, {"shutdown-server": True, "version": "4.9.0"},
+    ])
+    same(tally, "how ./install --remove ends after it", call(room, "install", "--remove", str(prefix)).status, 0)
+    same(tally, "and leaves nothing of it", [name for name, _ in listing(prefix)], ["bin"])
 
 
 def check_package(tally: built.Tally, room: Path) -> None:
