@@ -27,7 +27,7 @@ TAIL = """
 answer_help "$@"
 run "$@"
 """
-# What Python runs of the archive.
+# The module of the archive that Python runs.
 WQASM_MAIN = "import sys\n\nfrom wqprogram.command import main\n\nsys.exit(main(sys.argv[1:]))\n"
 # The manual pages of section 7: their pages in docs/, and what they are.
 REFERENCE = {

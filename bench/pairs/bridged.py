@@ -1,4 +1,4 @@
-"""What the bridge costs: the same request to wqd itself, and through the bridge in JSON and in BSER."""
+"""The cost of the bridge: the same request to wqd itself, and through the bridge in JSON and in BSER."""
 
 import json
 import sys

@@ -1,4 +1,4 @@
-"""What is measured of both servers on one tree, in turn for each measure."""
+"""The measures of both servers on one tree, in turn for each measure."""
 
 import json
 import multiprocessing

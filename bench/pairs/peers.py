@@ -14,7 +14,7 @@ TOP = Path(__file__).resolve().parent.parent.parent
 PATIENCE = 300.0
 TICKS = os.sysconf("SC_CLK_TCK")
 AN_HOUR = 3_600_000
-# What ./wqd adds to the environment.
+# The variables that ./wqd adds to the environment.
 MALLOC = {"MALLOC_ARENA_MAX": "2", "MALLOC_MMAP_THRESHOLD_": "131072"}
 Value = Dict[str, object]
 

@@ -20,7 +20,7 @@ def abilities_of(commands: Iterable[str], has_bser: bool) -> List[str]:
 
 
 def checked(wishes: object, abilities: List[str]) -> Dict[str, object]:
-    """What is answered beside the version to a client that asks for capabilities."""
+    """The answer beside the version to a client that asks for capabilities."""
     if not isinstance(wishes, dict):
         raise Refused("wrong arguments for 'version'")
     optional, required = names_in(wishes, "optional"), names_in(wishes, "required")

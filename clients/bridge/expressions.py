@@ -19,7 +19,7 @@ SPECIAL = "*?[\\"
 
 
 class Place(NamedTuple):
-    """What names in an expression are relative to, and whether their case counts."""
+    """The directory to which names in an expression are relative, and whether their case counts."""
 
     # The directory below the root, without slashes at its ends; "" is the root itself.
     directory: str

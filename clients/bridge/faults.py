@@ -1,4 +1,4 @@
-"""What is refused, in the words that clients of Watchman look for."""
+"""Refusals, in the words that clients of Watchman look for."""
 
 import os
 import re
@@ -19,7 +19,7 @@ class Refused(Exception):
 
 
 class Ended(Exception):
-    """The client or the server has gone, or has sent what cannot be read. The client is told the words, if there are any."""
+    """The client or the server has gone, or has sent bytes that cannot be read. The client gets the words, if there are any."""
 
 
 def of_server(error: str, command: List[object]) -> str:

@@ -78,7 +78,7 @@ for kept in KEPT:
 
 
 class Fields(NamedTuple):
-    """What a client wants to be told of each file, and what the server is asked for that."""
+    """The fields that a client wants of each file, and those that the server is asked for."""
 
     wanted: List[str]
     asked: List[str]

@@ -93,7 +93,7 @@ class Link:
         return line
 
     def cut_long(self, kept: int) -> bytes:
-        """What is there of a long line that has not ended yet, but for some last bytes; nothing of another line."""
+        """The part that came of a long line without its end, but for some last bytes; nothing of another line."""
         end = len(self.held) - kept
         if end < SMALL:
             return b""

@@ -12,14 +12,14 @@ GENERATORS = ("suffix", "path", "glob")
 
 
 class Asking(NamedTuple):
-    """What the server is asked for a query, and how its list becomes the client's."""
+    """The query to the server for one of a client, and how its list becomes the client's."""
 
     query: Query
     lister: Lister
 
 
 def asking_of(root: str, query: object) -> Asking:
-    """What is asked for a query of a client. What cannot be said is refused."""
+    """The query to the server for one of a client. One for which the server has no words is refused."""
     if not isinstance(query, dict):
         raise Refused("failed to parse query: it must be an object")
     fields = fields_of(query.get("fields", BY_DEFAULT))

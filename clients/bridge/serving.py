@@ -52,7 +52,7 @@ def say(text: str) -> None:
 
 
 class Serving:
-    """What the sessions share, and the socket that clients connect to."""
+    """The things that sessions share, and the socket that clients connect to."""
 
     def __init__(self, sockname: str, server: str, grace: float) -> None:
         self.sockname = sockname

@@ -18,7 +18,7 @@ PIECE = 65_536
 # A client that takes nothing of a reply for so many seconds is cut off.
 PATIENCE = 120
 VERSION_TOLD = f'"version":"{VERSION}"}}\n'.encode()
-# What is around a list of names, and between two of them.
+# The texts around a list of names, and between two of them.
 FILES_BEGIN, FILES_END, BETWEEN_NAMES = b'"files":["', b'"],"is_fresh_instance":', b'","'
 # How a reply with files begins, and a list without them.
 LIST_BEGIN = b'{"clock":'
@@ -26,7 +26,7 @@ NO_FILES = re.compile(rb'\{"clock":"[^"]*","files":\[\],')
 
 
 class Keeps(Protocol):
-    """What gives back the place of a root whose directory has gone."""
+    """It gives back the place of a root whose directory has gone."""
 
     def add(self, root: str) -> None: ...
 
@@ -34,7 +34,7 @@ class Keeps(Protocol):
 
 
 class Bridge(Protocol):
-    """What the sessions of a bridge share."""
+    """The things that the sessions of a bridge share."""
 
     sockname: str
     server: str
@@ -188,7 +188,7 @@ class Session:
         return line
 
     def ask_for_line(self, command: List[object], passes: bool = False) -> bytes:
-        """The line of the server's reply. An error is told in Watchman's words."""
+        """The line of the server's reply. An error has Watchman's words."""
         server = self.server()
         server.send(command)
         while True:

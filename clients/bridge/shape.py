@@ -1,6 +1,6 @@
 """Looks whether a BSER message holds one value, before the codec reads it.
 
-The codec is written in C, has no limit of depth, and makes room for as many values as it is told of.
+The codec is written in C, has no limit of depth, and makes room for as many values as a message claims.
 """
 
 import sys

@@ -1,4 +1,4 @@
-"""Where the bridge listens, and whether somebody does."""
+"""The socket at which the bridge listens, and whether somebody does."""
 
 import errno
 import os

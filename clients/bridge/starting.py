@@ -17,7 +17,7 @@ BRIDGE = os.path.dirname(os.path.realpath(__file__))
 
 
 class Start:
-    """What is started for the socket of a bridge. The log is beside it."""
+    """The processes that are started for the socket of a bridge. The log is beside it."""
 
     def __init__(self, sockname: str, home: str) -> None:
         self.sockname = sockname

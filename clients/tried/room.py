@@ -20,7 +20,7 @@ ATTEMPTS = 100
 
 
 class Outcome(NamedTuple):
-    """What a client was asked to do, and why it did not; nothing if it did."""
+    """The task of a client, and the reason if it failed; none if it did not."""
 
     done: str
     fault: Optional[str]
@@ -96,7 +96,7 @@ class Room:
         return Running(process, log)
 
     def watchman(self, *words: str, text: str = "") -> Dict[str, object]:
-        """What the command of wqd says."""
+        """The output of the command of wqd."""
         said = self.run(["watchman", "--no-pretty", *words], text)
         if said.returncode != 0:
             raise ValueError(f"watchman {' '.join(words)}: {said.stderr}")

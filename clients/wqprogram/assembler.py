@@ -33,7 +33,7 @@ class Parsed(NamedTuple):
 
 
 def assembled(data: bytes, version: Optional[Version] = None) -> Assembled:
-    """What a text says. A version that is given counts more than the one in the text."""
+    """The program that a text says. A version that is given counts more than the one in the text."""
     return Assembler(data, version).assembled()
 
 

@@ -78,7 +78,7 @@ def main(words: List[str]) -> int:
     except KeyboardInterrupt:
         return INTERRUPTED
     except BrokenPipeError:
-        # Who read the output has gone. Nothing is to be written at the end either.
+        # The reader of the output has gone. Nothing is to be written at the end either.
         os.dup2(os.open(os.devnull, os.O_WRONLY), sys.stdout.fileno())
         return CANNOT
     except OSError as error:

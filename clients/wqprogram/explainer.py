@@ -28,7 +28,7 @@ def explained(program: Program) -> str:
 
 
 def row(program: Program, place: int, looked: Looked) -> List[str]:
-    """What is known of the instruction at this place."""
+    """The facts about the instruction at this place."""
     operation = program.code[place]
     constant = constant_words(program, operation, LONGEST_CONSTANT)
     words = operation_words(operation) + (f"  # {constant}" if constant else "")
@@ -36,7 +36,7 @@ def row(program: Program, place: int, looked: Looked) -> List[str]:
 
 
 def cost_words(program: Program, operation: Operation) -> str:
-    """What the instruction costs for a name of the greatest length, if its constant is there."""
+    """The cost of the instruction for a name of the greatest length, if its constant is there."""
     table = operation.instruction.b
     is_there = table in ("", "code") or operation.b < len(program.table(table))
     return str(cost(program, operation, LONGEST_NAME)) if is_there else "?"

@@ -43,7 +43,7 @@ class Met(NamedTuple):
 
 
 def fault_sentence(program: Program, looked: Looked) -> str:
-    """What is wrong with a program that may not run, and what to change."""
+    """The fault of a program that may not run, and the change that mends it."""
     assert looked.fault is not None
     return f"Y{looked.fault}: {SENTENCES[looked.fault](Met(program, looked.place, looked.reached))}"
 

@@ -11,7 +11,7 @@ GREATEST_FLAGS = 15
 
 
 class Version(NamedTuple):
-    """What a version of program files has room for, and how many bytes its counts and places take. `tables` are the
+    """The room of a version of program files, and how many bytes its counts and places take. `tables` are the
     tables of constants, in the order of the file."""
 
     number: int

@@ -1,4 +1,4 @@
-"""What a server knows of one name, and what a program reads of it."""
+"""A server's record of one name, and the parts of it that a program reads."""
 
 import re
 from typing import NamedTuple, Optional
@@ -7,7 +7,7 @@ from .limits import MAX_NAME, MAX_NUMBER
 
 
 class Record(NamedTuple):
-    """What is known of one name. `ctick` and `csec` are of its creation, `otick` and `osec` of its last change."""
+    """The record of one name. `ctick` and `csec` are of its creation, `otick` and `osec` of its last change."""
 
     name: bytes
     kind: str
@@ -25,7 +25,7 @@ class Record(NamedTuple):
 
     @property
     def suffix(self) -> Optional[bytes]:
-        """What follows the last dot of the basename, if it has one."""
+        """The rest of the basename after its last dot, if it has one."""
         return self.basename.rsplit(b".", 1)[1] if b"." in self.basename else None
 
     @property

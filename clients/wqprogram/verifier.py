@@ -114,7 +114,7 @@ def budget_of(program: Program, name_length: int) -> int:
 
 
 def cost(program: Program, operation: Operation, width: int) -> int:
-    """What an instruction costs on a text of so many bytes. Its constants have to be there."""
+    """The cost of an instruction on a text of so many bytes. Its constants have to be there."""
     if operation.instruction.name == "match":
         return 1 + (atom_count(program.patterns[operation.b]) + 1) * (width + 1)
     if operation.instruction.name == "oneof":

@@ -12,7 +12,7 @@ from wqprogram.records import Record
 
 
 class Subscription(NamedTuple):
-    """What a client is told of the root with this text and number, and the tick up to which it was told."""
+    """A subscription to the root with this text and number, and the tick up to which its lists went."""
 
     name: str
     root: str
@@ -33,7 +33,7 @@ class Told(NamedTuple):
 
 
 class Session:
-    """What is kept of one client: its subscriptions, in the order in which they began."""
+    """A client as the server keeps it: its subscriptions, in the order in which they began."""
 
     def __init__(self) -> None:
         self.subscriptions: List[Subscription] = []
@@ -63,7 +63,7 @@ class Session:
         return names.index((name, number)) if (name, number) in names else None
 
     def idle(self, server: Server) -> List[Told]:
-        """What an idle moment of each root tells, the lowest number first."""
+        """The lists of an idle moment of each root, the lowest number first."""
         told = []
         for number in sorted({subscription.number for subscription in self.subscriptions}):
             told += self.idle_of(number, server)

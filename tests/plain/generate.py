@@ -215,7 +215,7 @@ def watching_again(draws: Draws, world: World, tree: Tree) -> List[bytes]:
 
 
 def following(draws: Draws, world: World) -> List[bytes]:
-    """What the first two clients do to be told of changes, and idle moments of them."""
+    """Lines by which the first two clients subscribe to changes, and idle moments of them."""
     lines = []
     if draws.one_in(6):
         lines.append(b'ask 3 ["program-add","p","%s"]' % draws.pick(list(PROGRAMS)).encode())

@@ -62,7 +62,7 @@ def tool(room: Path, *words: str, entered: bytes = b"") -> built.Ended:
 
 
 def called(*words: str) -> built.Ended:
-    """What a call of the tool in this process comes to."""
+    """The outcome of a call of the tool in this process."""
     output, errors = io.TextIOWrapper(io.BytesIO()), io.StringIO()
     with contextlib.redirect_stdout(output), contextlib.redirect_stderr(errors):
         try:

@@ -137,7 +137,7 @@ def check_runs(
 
 
 def replies_to(lines: List[str]) -> List[dict]:
-    """What a server answers to each line, after the passes of the tree."""
+    """The answer of a server to each line, after the passes of the tree."""
     script = TREE.read_bytes() + "".join(f"ask 1 {line}\n" for line in lines).encode()
     ended = built.replay(script)
     assert (ended.errors, ended.status) == (b"", 0), built.excerpt(ended.errors)
@@ -152,5 +152,5 @@ def records_of(tree: bytes) -> List[Record]:
 
 
 def line_of(reply: dict) -> str:
-    """What `wqd check` says of a file, as the reply to `program-add` tells it."""
+    """The words of `wqd check` for a file, as the reply to `program-add` has them."""
     return "refused " + reply["error"].split(": ")[1] if "error" in reply else f"ok {reply['instructions']}"

@@ -126,7 +126,7 @@ place  instruction  cost so far  stack after it, top last
     6  ret                    7
 yes at a cost of 7, of at most 7
 """
-# What is said of a pattern, and of a program with a fault before its end.
+# The words for a pattern, and for a program with a fault before its end.
 MATCHED = """\
 place  instruction        cost  goes on at  stack before it, top last
     0  basename              1  1           empty

@@ -47,7 +47,7 @@ class Room:
 
     @property
     def path(self) -> Path:
-        """Where the files of the page are."""
+        """The directory of the page's files."""
         if self.top is None:
             self.top = Path(self.stack.enter_context(tempfile.TemporaryDirectory()))
             self.furnish(self.top)
@@ -75,7 +75,7 @@ class Room:
         (self.path / name).write_text("".join(f"{line}\n" for line in lines), encoding="utf-8")
 
     def run(self, line: str) -> str:
-        """What a command writes to standard output and to standard error."""
+        """The output of a command, standard output and standard error."""
         streams = {"stdin": subprocess.DEVNULL, "stdout": subprocess.PIPE, "stderr": subprocess.STDOUT}
         environment = self.environment(line)
         ended = subprocess.run(["sh", "-c", line], cwd=self.path, env=environment, timeout=PATIENCE, **streams)

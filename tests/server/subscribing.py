@@ -1,4 +1,4 @@
-"""Clients that subscribe to a root: each is told of what changes there, until it asks for no more, or the root is deleted."""
+"""Clients that subscribe to a root: each hears of the changes there, until it asks for no more, or the root is deleted."""
 
 import select
 import time
@@ -68,7 +68,7 @@ def check_a_file_that_is_written(tally: built.Tally, one: Client, two: Client, r
 
 
 def check_a_file_that_goes(tally: built.Tally, one: Client, two: Client, root: Path) -> None:
-    """One asks for no more, and the other is told of a file that went."""
+    """One asks for no more, and the other hears of a file that went."""
     reply = one.ask("unsubscribe", str(root), "one")
     same(tally, "one asks for no more", reply, {"deleted": True, "unsubscribe": "one", **VERSION})
     (root / "second").unlink()
@@ -80,7 +80,7 @@ def check_a_file_that_goes(tally: built.Tally, one: Client, two: Client, root: P
 
 
 def check_an_end(tally: built.Tally, asker: Client, one: Client, two: Client, root: Path) -> None:
-    """Another client deletes the root. That is told once, to the one that subscribes, and not when it is watched anew."""
+    """Another client deletes the root. The subscriber hears of that once, and not when the root is watched anew."""
     asker.ask("watch-del", str(root))
     canceled = {"canceled": True, "root": str(root), "subscription": "two", "unilateral": True, **VERSION}
     same(tally, "two hears that the root is deleted", two.reply(), canceled)
