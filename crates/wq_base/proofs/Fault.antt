@@ -1,17 +1,17 @@
--- A chain of faults that comes to its end: the facts about its parts.
+-- The end of a chain of faults, and the facts about its parts.
 use Rattle.std.proofs.Common.{◌≡◌, Bool, true, false, List, [], ◌∷◌, ◌++◌, Option, Some, None}
 use Rattle.std.proofs.Common.{Result, Ok, Err}
 use Rattle.std.proofs.Common.{refl, ap}
 use Rattle.std.proofs.lemmas.Option.{same_Some}
 use Rattle.wq_base.specs.Fault.{or_fault, unless_fault, or_its_fault, or_own_fault, with_first}
 
--- the value was there
+-- the chain had a value at this step
 pub or_fault-ok : {A B E P : Type 0} (fault : E) (o : Option A) (next : A → Result B E) (b : B)
     → or_fault fault o next ≡ Ok b → ((a : A) → o ≡ Some a → next a ≡ Ok b → P) → P
 or_fault-ok fault None next b e goal = cc
 or_fault-ok fault (Some a) next b e goal = goal a refl e
 
--- the test has held
+-- the test held
 pub unless_fault-ok : {B E P : Type 0} (fault : E) (test : Bool) (next : Result B E) (b : B)
     → unless_fault fault test next ≡ Ok b → (test ≡ true → next ≡ Ok b → P) → P
 unless_fault-ok fault false next b e goal = cc
@@ -23,13 +23,13 @@ pub or_its_fault-ok : {A B E F P : Type 0} (of : E → F) (r : Result A E) (next
 or_its_fault-ok of (Err fault) next b e goal = cc
 or_its_fault-ok of (Ok a) next b e goal = goal a refl e
 
--- the same of a result that keeps its fault
+-- the same for a result that keeps its fault
 pub or_own_fault-ok : {A B E P : Type 0} (r : Result A E) (next : A → Result B E) (b : B)
     → or_own_fault r next ≡ Ok b → ((a : A) → r ≡ Ok a → next a ≡ Ok b → P) → P
 or_own_fault-ok (Err fault) next b e goal = cc
 or_own_fault-ok (Ok a) next b e goal = goal a refl e
 
--- the answer of a list whose first values are read
+-- the result for a list whose first values are read
 abbrev pub before : {A : Type 0} → List A → Option (List A) → Option (List A)
 before [] rest = rest
 before (x ∷ xs) rest = with_first (Some x) (before xs rest)
@@ -40,7 +40,7 @@ pub before-push : {A : Type 0} (xs : List A) (x : A) (rest : Option (List A))
 before-push [] x rest = refl
 before-push (y ∷ xs) x rest = ap (with_first (Some y)) (before-push xs x rest)
 
--- at the end the values are those read
+-- at the end the list has the values that were read
 pub before-end : {A : Type 0} (xs : List A) → before xs (Some []) ≡ Some xs
 before-end [] = refl
 before-end (x ∷ xs) = ap (with_first (Some x)) (before-end xs)

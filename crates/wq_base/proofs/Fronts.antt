@@ -18,7 +18,7 @@ appends_then (Some old) (Some mid) None xs ys first second = absurd second
 appends_then (Some old) (Some mid) (Some new) xs ys first second =
     second ∙ ap (λ l. l ++ ys) first ∙ append_assoc old xs ys
 
--- bytes that were written, and kept with nothing written after them
+-- bytes that were written, after which nothing more was
 pub appends_kept : (a b c : Option (List ℕ)) (xs : List ℕ) → Appends a b xs → Keeps b c → Appends a c xs
 appends_kept None b c xs first kept = tt
 appends_kept (Some old) None c xs first kept = absurd first
@@ -66,7 +66,7 @@ front_kept a b c bytes done short first kept = (
   appends_kept a b c (take done bytes) first kept,
 )
 
--- what holds, holds where there is an error
+-- a fact holds if there is an error
 pub on_err : {T E P : Type 0} (result : Result T E) → P → OnErr result P
 on_err (Ok value) holds = tt
 on_err (Err fault) holds = holds

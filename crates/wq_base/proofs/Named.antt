@@ -5,7 +5,7 @@ use Rattle.std.proofs.lemmas.Slice.Eq.{bytes_eq-Decides}
 use Rattle.std.proofs.lemmas.Option.{same_Some}
 use Rattle.wq_base.specs.Table.{named}
 
--- the text is the name of what it names
+-- the text is the name of the row that is found
 pub named-name : {A : Type 0} (name_of : A → List ℕ) (all : List A) (text : List ℕ) (a : A)
     → named name_of all text ≡ Some a → text ≡ name_of a
 named-name name_of [] text a e = cc

@@ -1,4 +1,4 @@
--- Which texts are numbers of a script.
+-- The texts that are numbers of a script.
 use Rattle.std.proofs.Common.{◌≡◌, ℕ, ℤ, pos, negsuc, ◌^◌, Bool, true, false, ◌&&◌, List, Some, None, Ok, Err, FitsSigned, w64, refl, sym, subst}
 use Rattle.std.specs.Fmt.{signed_decimal}
 use Rattle.std.specs.Str.{IsUtf8, bytes_eq}
@@ -31,15 +31,15 @@ no_number text none = cond-false _ _ _ (false_from_ne_true _ (λ passes.
     let parts = and_parts _ _ passes in
     none (signed_digits_value 10 text) (to_fits _ parts.0) ((bytes_eq-Decides text _).0 parts.1)))
 
--- nor is one that is no text
+-- bytes that are no text are no number
 pub not_text : (text : List ℕ) → (IsUtf8 text → ⊥) → signed_of text ≡ None
 not_text text isnt = no_number text (λ z fits is. isnt (subst IsUtf8 (sym is) (IsUtf8-from_ascii _ (IsAscii-signed_decimal z fits))))
 
--- nor one that `parse` does not read
+-- a text that `parse` does not read is no number
 pub not_read : {E : Type 0} (text : List ℕ) (e : E) → ParsesSigned w64 10 text (Err e) → signed_of text ≡ None
 not_read text e parses = no_number text (λ z fits is. reads text z e fits is parses)
 
--- what it reads is the number, if it has this text
+-- the number that `parse` reads is that of the text, if the text is its decimal text
 pub is_number : (text : List ℕ) (z : ℤ) → FitsSigned w64 z → z ≡ signed_digits_value 10 text → text ≡ signed_decimal z → signed_of text ≡ Some z
 unfolding signed_of
 is_number text z fits is same = rw (← is) (cond-true _ _ _ (and_from _ _ (from_fits z fits) ((bytes_eq-Decides text (signed_decimal z)).1 same)))
@@ -48,7 +48,7 @@ and_false : (b : Bool) → (b && false) ≡ false
 and_false true = refl
 and_false false = refl
 
--- nor is a text of which it reads a number with another text
+-- a text is no number if `parse` reads a number with another text
 pub other_text : (text : List ℕ) (z : ℤ) → z ≡ signed_digits_value 10 text → (text ≡ signed_decimal z → ⊥) → signed_of text ≡ None
 unfolding signed_of
 other_text text z is isnt =

@@ -1,4 +1,4 @@
--- Which texts are numbers up to a limit, and how long the texts of numbers are.
+-- The texts that are numbers up to a limit, and the lengths of the texts of numbers.
 use Rattle.std.proofs.Common.{◌≡◌, ℕ, ◌<◌, ◌≤◌, ◌^◌, List, length, Some, None, Result, sym, ap, subst, ◌∙◌, arith}
 use Rattle.std.specs.Fmt.{decimal}
 use Rattle.std.specs.Result.{result_ok}
@@ -14,7 +14,7 @@ use Rattle.wq_base.specs.Limit.{max_number}
 pub small : (n : ℕ) → n ≤ max_number → n < 2 ^ 64
 small n h = omega arith
 
--- and it has 19 digits at most
+-- a number of the protocol has at most 19 digits
 pub decimal_is_short : (n : ℕ) → n ≤ max_number → length (decimal n) ≤ 19
 decimal_is_short n h = length-decimal-le 19 n (omega arith) (omega arith) (omega arith)
 
@@ -26,7 +26,7 @@ unsigned_of-decimal most text n fits h e =
     let value : digits_value 10 text ≡ n = ap (digits_value 10) (sym e) ∙ (decimal_is_IsNumeral n (omega arith)).1 in
     rw value (cond-true _ _ _ (and_from _ _ (le-leb n most h) ((bytes_eq-Decides text (decimal n)).1 (sym e))))
 
--- and a text that is none of theirs is no number
+-- a text that is the decimal text of no number is no number
 pub unsigned_of-other : (most : ℕ) (text : List ℕ) → ((n : ℕ) → n ≤ most → text ≡ decimal n → ⊥)
     → unsigned_of most text ≡ None
 unfolding unsigned_of
@@ -52,7 +52,7 @@ unsigned_of-unread most text r fits parses unread = unsigned_of-other most text 
     let low : n < 2 ^ 64 = omega arith in
     let read : result_ok r ≡ Some n = ap result_ok (parse-decimal 64 n text r low low e parses) in cc)
 
--- nor is one of which it reads a number that is too large or has another text
+-- a text is no number if `parse` reads a number that is too large or has another text
 pub unsigned_of-refused : {E : Type 0} (most : ℕ) (text : List ℕ) (r : Result ℕ E) (n : ℕ) → most < 2 ^ 64
     → ParsesUnsigned 64 10 text r → result_ok r ≡ Some n
     → (n ≤ most → decimal n ≡ text → ⊥) → unsigned_of most text ≡ None

@@ -1,17 +1,16 @@
--- The bytes that part names, lines and texts.
--- Names are paths as POSIX has them.
+-- The bytes that separate names, lines and texts. Names are paths as POSIX has them.
 use Rattle.std.specs.Prelude.{ℕ, Bool, ◌==◌}
 use Rattle.std.specs.Str.{byte}
 
--- the byte that parts the names of a path
+-- the byte that separates the names of a path
 abbrev pub is_slash : ℕ → Bool
 is_slash b = b == byte "/"
 
--- the byte that hides a file and parts off its suffix
+-- the byte that hides a file at the front of its name, and begins its suffix
 abbrev pub is_dot : ℕ → Bool
 is_dot b = b == byte "."
 
--- the byte that parts the numbers of a clock id
+-- the byte that separates the numbers of a clock id
 abbrev pub is_colon : ℕ → Bool
 is_colon b = b == byte ":"
 

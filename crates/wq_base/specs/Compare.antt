@@ -1,5 +1,5 @@
--- How numbers and texts are compared.
--- From Watchman's documentation of the terms `size`, `name` and `suffix`.
+-- Comparisons of numbers and texts. The source is Watchman's documentation of the terms `size`,
+-- `name` and `suffix`.
 use Rattle.std.specs.Prelude.{ℕ, ℤ, int_lt, int_le, Bool, not, ◌&&◌, ◌==◌, List, length, bytes_eq}
 use Rattle.std.specs.Ordering.{int_eq}
 use Rattle.std.specs.Str.{str_eq_ignore_ascii_case}
@@ -17,11 +17,11 @@ compares Le x y = int_le x y
 compares Gt x y = int_lt y x
 compares Ge x y = int_le y x
 
--- whether two texts are one: byte by byte, or with A to Z as a to z
+-- whether two texts are the same: byte by byte, or if A to Z count as a to z
 abbrev pub same_text : Case → List ℕ → List ℕ → Bool
 same_text Exact x y = bytes_eq x y
 same_text Folded x y = str_eq_ignore_ascii_case x y
 
--- whether a text is this suffix, with A to Z as a to z; an empty one is none
+-- whether a text is this suffix, if A to Z count as a to z; an empty text is no suffix
 abbrev pub is_suffix : List ℕ → List ℕ → Bool
 is_suffix text suffix = not (length text == 0) && same_text Folded text suffix

@@ -5,7 +5,7 @@ use Rattle.std.specs.Str.{bytes_eq}
 use Rattle.std.specs.Str.Parse.{digits_value, signed_digits_value}
 use Rattle.std.specs.Fmt.{decimal, signed_decimal}
 
--- the number of at most `most` whose decimal text this is
+-- the number whose decimal text this is, if it is at most `most`
 unfoldable pub unsigned_of : ℕ → List ℕ → Option ℕ
 unsigned_of most text = let number = digits_value 10 text in
     if nat_le number most && bytes_eq text (decimal number) then Some number else None

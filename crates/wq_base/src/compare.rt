@@ -1,31 +1,31 @@
-//! How numbers and texts are compared.
+//! Comparisons of numbers and texts.
 ghost use Rattle.std.specs.Prelude.{◌≡◌};
 ghost use Rattle.std.specs.Str.{str_eq_ignore_ascii_case};
 ghost use Rattle.wq_base.specs.Compare.{compares, is_suffix, same_text};
 
-/// The relation of the first of two numbers to the second.
+/// The relation of a first number to a second one.
 #[derive(Clone, Copy, Debug)]
 pub enum Relation {
-    /// It is equal to it.
+    /// The numbers are equal.
     Eq,
-    /// It is another number.
+    /// The numbers differ.
     Ne,
-    /// It is less.
+    /// The first number is less.
     Lt,
-    /// It is less, or equal.
+    /// The first number is less, or they are equal.
     Le,
-    /// It is greater.
+    /// The first number is greater.
     Gt,
-    /// It is greater, or equal.
+    /// The first number is greater, or they are equal.
     Ge,
 }
 
 /// How texts are compared.
 #[derive(Clone, Copy, Debug)]
 pub enum Case {
-    /// Byte by byte.
+    /// The bytes are compared as they are.
     Exact,
-    /// With A to Z as a to z, and each other byte as it is.
+    /// A to Z count as a to z, and each other byte as it is.
     Folded,
 }
 
@@ -46,7 +46,7 @@ impl Relation {
 }
 
 impl Case {
-    /// Whether two texts are one.
+    /// Whether two texts are the same.
     pub fn is_same(self, left: &[u8], right: &[u8]) -> bool
         ensures { result ≡ same_text self left.now right.now }
     {
@@ -57,14 +57,14 @@ impl Case {
     }
 }
 
-/// Whether a text is this suffix, with A to Z as a to z; an empty one is none.
+/// Whether a text is this suffix, if A to Z count as a to z. An empty text is no suffix.
 pub fn is_suffix(text: &[u8], suffix: &[u8]) -> bool
     ensures { result ≡ is_suffix text.now suffix.now }
 {
     !text.is_empty() && Case::Folded.is_same(text, suffix)
 }
 
-/// Whether two texts are one with A to Z as a to z.
+/// Whether two texts are the same, if A to Z count as a to z.
 fn is_same_folded(left: &[u8], right: &[u8]) -> bool
     ensures { result ≡ str_eq_ignore_ascii_case left.now right.now }
 {

@@ -5,11 +5,11 @@ ghost use Rattle.wq_base.specs.Directory.{after_slash, rest_below};
 
 use crate::compare::Case;
 
-/// The part of a name strictly below the directory that follows the directory and a slash. Below
-/// the empty directory lies every name, whole.
+/// The part of a name after the directory and a slash, if the name is strictly below the directory.
+/// All names are below the empty directory, and their part is the whole name.
 ///
-/// `rest_below(Case::Exact, b"src", b"src/a/b.c")` is `Some(b"a/b.c")`, and that of `b"src"` or
-/// `b"srcs/a"` is `None`.
+/// `rest_below(Case::Exact, b"src", b"src/a/b.c")` is `Some(b"a/b.c")`. For `b"src"` or `b"srcs/a"`
+/// it is `None`.
 pub fn rest_below<'a>(case: Case, dir: &[u8], name: &'a [u8]) -> Option<&'a [u8]>
     ensures value { option_map (λ rest. rest.now) result ≡ rest_below case dir.now name.now }
     ensures bound { IfSome result (λ rest. length rest.now ≤ length name.now) }
@@ -25,7 +25,7 @@ pub fn rest_below<'a>(case: Case, dir: &[u8], name: &'a [u8]) -> Option<&'a [u8]
     }
 }
 
-/// The text after a slash at its front.
+/// The text after its first byte, if that byte is a slash.
 fn after_slash(text: &[u8]) -> Option<&[u8]>
     ensures value { option_map (λ rest. rest.now) result ≡ after_slash text.now }
     ensures bound { IfSome result (λ rest. length rest.now ≤ length text.now) }
@@ -36,7 +36,7 @@ fn after_slash(text: &[u8]) -> Option<&[u8]>
     }
 }
 
-/// How many slashes a text has.
+/// The number of slashes in a text.
 pub fn slashes(text: &[u8]) -> usize
     ensures count { result ≡ count_by is_slash text.now }
     ensures bound { result ≤ length text.now }

@@ -1,7 +1,7 @@
 //! The parts that several crates of the server share: numbers in their one decimal text with their
-//! limit, comparisons of numbers and texts, names below a directory. It also has lists and texts
-//! that contracts see as plain lists, and writes bytes whole. `specs/` has the bytes and parts of
-//! paths and the forms of definitions that more than one crate uses.
+//! limit, comparisons of numbers and texts, names below a directory. The crate also has lists and
+//! texts that contracts see as plain lists, and writes bytes whole. `specs/` has the bytes and
+//! parts of paths, and the forms of definitions that more than one crate uses.
 #![tactic(auto)]
 
 mod compare;

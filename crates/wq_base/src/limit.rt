@@ -1,11 +1,11 @@
-//! Limits that several crates know: of the server's numbers, said once for both kinds of them, and
-//! of roots.
+//! Limits that several crates know: the limit of the server's numbers, for each of their two kinds,
+//! and the limit of roots.
 
 /// The greatest number of the protocol, 2^62: it fits signed and unsigned words and JSON's integers
 /// alike.
 pub const MAX_NUMBER: u64 = 1 << 62;
 
-/// The same as a signed number: the greatest one either side of 0.
+/// The same as a signed number: the greatest distance from 0.
 pub const MAX_SIGNED: i64 = 1 << 62;
 
 /// How many roots may be watched at once.

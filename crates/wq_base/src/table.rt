@@ -1,11 +1,11 @@
 //! A list in memory that contracts see as a plain list. So a definition can speak of a type that
-//! has lists in it.
+//! contains lists.
 ghost use Rattle.std.specs.Prelude.{◌≡◌, [], ◌∷◌, ◌++◌, length, OnErr, OnOk};
 
 use std::alloc::{AllocError, Global};
 use std::marker::Model;
 
-/// A list of rows. Contracts see the rows alone, and not where they lie in memory.
+/// A list of rows. Contracts see the rows alone, and not their places in memory.
 #[derive(Debug, Drop)]
 pub struct Table<T> {
     rows: Vec<T>,
@@ -54,7 +54,7 @@ impl<T> Table<T> {
         self.rows.as_slice()
     }
 
-    /// How many rows the table has.
+    /// The number of rows.
     pub fn len(&self) -> usize
         ensures { result ≡ length self.now }
     {

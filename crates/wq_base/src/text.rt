@@ -3,7 +3,7 @@ ghost use Rattle.std.specs.Prelude.{◌≡◌, string_bytes};
 
 use std::marker::Model;
 
-/// A text. Contracts see its bytes alone, and not where they lie in memory.
+/// A text. Contracts see its bytes alone, and not their places in memory.
 #[derive(Debug, Drop)]
 pub struct Text {
     text: String,

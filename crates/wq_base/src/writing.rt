@@ -1,4 +1,4 @@
-//! Writing bytes whole. When a writer fails, what was written is a front of them.
+//! Writing bytes whole. If a writer fails, it holds the bytes up to some place.
 ghost use Rattle.std.specs.Prelude.{◌≤◌, length, take, IfOk, OnErr, OnOk};
 ghost use Rattle.std.specs.Io.KnownBytes.{Appends, Keeps};
 ghost use Rattle.wq_base.specs.Writing.{WritesFront};
@@ -9,8 +9,9 @@ use std::io::{ErrorKind, Write};
 /// Writes all bytes.
 ///
 /// # Errors
-/// The writer's own, or that it takes no bytes more. The writer then holds a front of the bytes,
-/// and not all of them. The standard library's `write_all` says nothing of that.
+/// The writer's own error, or `WriteZero` if it takes no more bytes. The writer then holds a front
+/// of the bytes, but not all of them. The contract of the standard library's `write_all` does not
+/// promise that.
 pub fn write_all<W: Write>(writer: &mut W, bytes: &[u8]) -> io::Result<()>
     ensures done { OnOk result (Appends (W.contents writer.old) (W.contents writer.new) bytes.now) }
     ensures front { OnErr result
@@ -29,8 +30,8 @@ pub fn write_all<W: Write>(writer: &mut W, bytes: &[u8]) -> io::Result<()>
     Err(ErrorKind::WriteZero.into())
 }
 
-/// Writes some of the bytes, which are at least one, and says how many; none if the writer was
-/// interrupted.
+/// Writes some of the bytes, which are at least one, and returns their number. The number is 0 if
+/// the writer was interrupted.
 fn write_some<W: Write>(writer: &mut W, bytes: &[u8]) -> io::Result<usize>
     ensures within { IfOk result (λ count. count ≤ length bytes.now) }
     ensures done { IfOk result (λ count.

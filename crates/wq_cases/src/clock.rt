@@ -9,7 +9,7 @@ use std::alloc::{AllocError, Global};
 use wq_base::MAX_NUMBER;
 use wq_clock::{Bound, Instance, Spec, parse, print, resolve};
 
-/// `parse TEXT`: what a text is as a clock spec.
+/// `parse TEXT`: the clock spec that a text spells.
 pub(crate) fn parse_case(alloc: Global, words: &[Vec<u8>]) -> Result<String> {
     match parse(text(words, 1)?) {
         Ok(spec) => Ok(spec_text(alloc, &spec)?),
@@ -30,7 +30,7 @@ fn id_text(alloc: Global, instance: &Instance, tick: u64) -> Result<String, Allo
     format!(in alloc; "tick {tick} of {start} {pid} {root}")
 }
 
-/// A cursor's name, with what is no printable character of ASCII as it is written in a case.
+/// A cursor's name, as a case writes it: all bytes but printable characters of ASCII are escaped.
 fn cursor_text(alloc: Global, name: &str) -> Result<String, AllocError> {
     let mut text = String::from_str(alloc, "cursor ")?;
     percent_encode(name.as_bytes(), CONTROLS).append_to(&mut text)?;

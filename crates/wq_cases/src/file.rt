@@ -1,4 +1,4 @@
-//! Calls on names and kinds of files, and the words of faults that no case comes to.
+//! Calls on names and kinds of files, and the words of faults that no case reaches.
 
 use crate::history::{only, view_of_one};
 use crate::word::{bytes, text};
@@ -6,7 +6,7 @@ use anyhow::{Context, Result, bail};
 use std::alloc::Global;
 use wq_view::{Kind, Pass, PassFault, ViewFault, is_valid_name};
 
-/// `name BYTES`: whether the bytes are a name, and what a pass says that has one row of this name.
+/// `name BYTES`: whether the bytes are a name, and the result of a pass with one row of this name.
 pub(crate) fn name_case(alloc: Global, words: &[Vec<u8>]) -> Result<String> {
     let name = bytes(words, 1)?;
     let is_valid = if is_valid_name(name) { "yes" } else { "no" };

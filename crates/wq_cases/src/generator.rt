@@ -1,5 +1,5 @@
-//! Calls on the generators of a query. A list of suffixes is `list (c) (h)`, one of paths with
-//! their depths `list (-1 src) (0 )`; `list` alone is empty, and `none` is no generator.
+//! Calls on the generators of a query. A list of suffixes is `list (c) (h)`, and a list of paths
+//! with their depths is `list (-1 src) (0 )`. `list` alone is empty, and `none` is no generator.
 
 use crate::history::view_of;
 use crate::word::{cut, number, text};

@@ -1,6 +1,6 @@
 //! Calls on passes, and on views of small trees. A row is written `f 12 1000 src/a.c`: letter of
-//! the kind, size, time and name. Rows of one pass have a comma between them, and a history is
-//! `10: ROW, ROW; 20: ROW`, where 10 and 20 are the seconds of its passes.
+//! the kind, size, time and name. Rows of one pass have a comma between them. A history is `10:
+//! ROW, ROW; 20: ROW`, and 10 and 20 are the seconds of its passes.
 
 use crate::word::{bytes, cut, number, signed, text};
 use anyhow::{Context, Result};
@@ -18,7 +18,7 @@ fn empty_file(alloc: Global, name: &[u8]) -> Result<Seen, AllocError> {
     })
 }
 
-/// The rows of a tree that has such a file alone.
+/// The rows of a tree with only this empty file.
 pub(crate) fn only(alloc: Global, name: &[u8]) -> Result<Vec<Seen>, AllocError> {
     let mut rows = Vec::new(alloc);
     rows.push(empty_file(alloc, name)?)?;
@@ -63,7 +63,7 @@ pub(crate) fn pass_case(alloc: Global, words: &[Vec<u8>]) -> Result<String> {
     }
 }
 
-/// Takes a pass of a history into a view, and says whether the tick moved.
+/// Takes a pass of a history into a view, and returns whether the tick moved.
 fn absorb(alloc: Global, view: &mut View, text: &str) -> Result<bool> {
     let pass = pass_of(alloc, text)?;
     Ok(view.absorb(&pass)?)
@@ -95,8 +95,8 @@ pub(crate) fn view_of_one(alloc: Global, name: &[u8]) -> Result<View> {
     Ok(view)
 }
 
-/// `history HISTORY`: whether each pass moved the tick, the tick after them, how many records there
-/// are, and these.
+/// `history HISTORY`: whether each pass moved the tick, the tick after them, the number of records,
+/// and the records.
 pub(crate) fn history_case(alloc: Global, words: &[Vec<u8>]) -> Result<String> {
     let mut answer = String::new(alloc);
     let view = view_of(alloc, text(words, 1)?, &mut answer)?;
@@ -114,7 +114,7 @@ fn record_text(alloc: Global, record: &Record) -> Result<String, AllocError> {
     Ok(text)
 }
 
-/// The text of the last sight of a file.
+/// The text of the kind, size and time that were last seen of a file.
 fn sight_text(alloc: Global, record: &Record) -> Result<String, AllocError> {
     let letter = char::from(record.kind.letter());
     let name = record.name.as_str();

@@ -5,7 +5,7 @@ use anyhow::{Result, bail};
 use std::alloc::{AllocError, Global};
 use wq_glob::{Flags, Hit, MAX_MATCHED_TEXT, Pattern, PatternFault};
 
-/// The flags that a word names, with a comma between two; `plain` is none.
+/// The flags that a word names, with a comma between two. `plain` is no flag.
 fn flags(word: &str) -> Result<Flags> {
     let mut flags = Flags {
         wholename: false,
@@ -19,7 +19,7 @@ fn flags(word: &str) -> Result<Flags> {
     Ok(flags)
 }
 
-/// Flags with one more.
+/// Flags with one more flag.
 fn with_flag(mut flags: Flags, flag: &str) -> Result<Flags> {
     match flag {
         "plain" => {}
@@ -38,7 +38,7 @@ fn pattern(alloc: Global, words: &[Vec<u8>]) -> Result<Result<Pattern, PatternFa
     Ok(Pattern::parse(alloc, bytes(words, 2)?, flags))
 }
 
-/// How the case's pattern fits its text, the word after it.
+/// The match of the case's pattern with its text, which is the word after it.
 fn hit(alloc: Global, words: &[Vec<u8>]) -> Result<Hit> {
     let name = bytes(words, 3)?;
     if name.len() > MAX_MATCHED_TEXT {
@@ -51,24 +51,24 @@ fn word_of(is_so: bool) -> &'static str {
     if is_so { "yes" } else { "no" }
 }
 
-/// `pattern FLAGS PATTERN TEXT`: whether the pattern fits the text.
+/// `pattern FLAGS PATTERN TEXT`: whether the pattern matches the text.
 pub(crate) fn pattern_case(alloc: Global, words: &[Vec<u8>]) -> Result<String> {
     let is_fitting = hit(alloc, words)?.yes;
     Ok(String::from_str(alloc, word_of(is_fitting))?)
 }
 
-/// `cells FLAGS PATTERN TEXT`: how many cells were looked at.
+/// `cells FLAGS PATTERN TEXT`: the number of cells that the match looks at.
 pub(crate) fn cells_case(alloc: Global, words: &[Vec<u8>]) -> Result<String> {
     Ok(number_text(alloc, hit(alloc, words)?.cells)?)
 }
 
-/// `bounded FLAGS PATTERN TEXT CELLS`: whether at most so many cells were looked at.
+/// `bounded FLAGS PATTERN TEXT CELLS`: whether the match looks at at most so many cells.
 pub(crate) fn bounded_case(alloc: Global, words: &[Vec<u8>]) -> Result<String> {
     let is_bounded = hit(alloc, words)?.cells <= unsigned(words, 4)?;
     Ok(String::from_str(alloc, word_of(is_bounded))?)
 }
 
-/// `atoms FLAGS PATTERN`: how many atoms the pattern has.
+/// `atoms FLAGS PATTERN`: the number of atoms of the pattern.
 pub(crate) fn atoms_case(alloc: Global, words: &[Vec<u8>]) -> Result<String> {
     match pattern(alloc, words)? {
         Ok(pattern) => Ok(number_text(alloc, pattern.atoms() as u64)?),

@@ -1,4 +1,4 @@
-//! Calls on the splitter of a client's stream. A line is shown in quotes, and a long one by the
+//! Calls on the splitter of a client's stream. A line is shown in quotes, and a long line by the
 //! number of its bytes.
 
 use crate::word::{bytes, unsigned};
@@ -46,7 +46,7 @@ fn feed(alloc: Global, splitter: &mut Splitter, piece: &[u8], events: &mut Strin
     Ok(())
 }
 
-/// The events, or that there are none.
+/// The events, or a word for no events.
 fn or_nothing(mut events: String) -> Result<String> {
     if events.is_empty() {
         events.push_str("nothing")?;

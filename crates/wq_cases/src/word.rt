@@ -1,4 +1,4 @@
-//! The words of a case. Their meaning is for others.
+//! The words of a case. The modules of the calls read them.
 
 use anyhow::{Context, Result, bail};
 use percent_encoding::percent_decode;
@@ -10,7 +10,7 @@ struct Reading {
     words: Vec<Vec<u8>>,
     /// The place at which the last text begins in the last word.
     text_at: usize,
-    /// Whether a `+` follows the last word.
+    /// Whether a `+` is after the last word.
     is_joined: bool,
 }
 
@@ -32,7 +32,7 @@ pub(crate) fn words_of(alloc: Global, line: &str) -> Result<Vec<Vec<u8>>> {
 }
 
 impl Reading {
-    /// Takes a text in quotes: after a `+` as more of the last word, else as a new one.
+    /// Takes a text in quotes: after a `+` as a part of the last word, and else as a new word.
     fn take_text(&mut self, alloc: Global, piece: &str) -> Result<(), AllocError> {
         if !self.is_joined || self.words.is_empty() {
             self.words.push(Vec::new(alloc))?;
@@ -59,7 +59,7 @@ impl Reading {
         Ok(())
     }
 
-    /// Puts so many copies in the place of the last text.
+    /// Replaces the last text by so many copies of it.
     fn repeat(&mut self, alloc: Global, times: usize) -> Result<()> {
         let word = self.words.last_mut().context("nothing to repeat")?;
         let text = text_from(alloc, word, self.text_at)?;
@@ -80,7 +80,7 @@ fn text_from(alloc: Global, word: &[u8], at: usize) -> Result<Vec<u8>> {
     Ok(Vec::from_slice(alloc, text)?)
 }
 
-/// Puts copies of its last text after a word, until it has so many.
+/// Adds copies of its last text to a word, until it has so many.
 fn add_copies(word: &mut Vec<u8>, text: &[u8], times: usize) -> Result<(), AllocError> {
     for _ in 1..times {
         word.extend_from_slice(text)?;

@@ -16,7 +16,7 @@ use Rattle.wq_verify.specs.declared.fault.ProgramFault.TheVariants.{NoMemory as 
 use Rattle.wq_check.specs.declared.answer.Answer.{Answer}
 use Rattle.wq_check.specs.declared.answer.Answer.TheVariants.{Accepted, WrongFile, WrongProgram}
 
--- the longest name of a file, for which a budget is told
+-- the longest name of a file, for which `check` gives the budget
 abbrev pub longest_name : ℕ
 longest_name = 4096
 
@@ -29,7 +29,7 @@ IsAnswer bytes (WrongFile fault) = fault ≢ NoFileMemory → file_at bytes ≡ 
 IsAnswer bytes (WrongProgram fault at) = (raw : Raw) × IsSpelling raw bytes
     × (IsFirstFault raw fault at ⊎ ((fault ≡ NoProgramMemory) × (at ≡ 0)))
 
--- the line that says an answer
+-- the line of an answer
 abbrev pub answer_line : Answer → List ℕ
 answer_line (Accepted instructions budget) =
     codes "ok " ++ (decimal instructions ++ (codes " " ++ (decimal budget ++ codes "\n")))
@@ -44,14 +44,14 @@ status_of (Accepted _ _) = 0
 status_of (WrongFile _) = 3
 status_of (WrongProgram _ _) = 3
 
--- the bytes that were written of the line of an answer: all of it, and the status is the answer's
--- own. Or a front of it, but not all, and the status is 1
+-- the writer took the line of an answer: all of it, and the status is the answer's own; or a front
+-- of it, but not all, and the status is 1
 abbrev pub Writes : Answer → Option (List ℕ) → Option (List ℕ) → ℕ → Type 0
 Writes answer before after status =
     (Appends before after (answer_line answer) × (status ≡ status_of answer))
     ⊎ (WritesFront before after (answer_line answer) × (status ≡ 1))
 
--- the line of what the bytes are was written, or a front of it, with that status
+-- the line of the answer for the bytes was written, or a front of it, with that status
 abbrev pub Checks : List ℕ → Option (List ℕ) → Option (List ℕ) → ℕ → Type 0
 Checks bytes before after status =
     (answer : Answer) × IsAnswer bytes answer × Writes answer before after status

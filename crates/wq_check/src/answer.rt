@@ -6,17 +6,17 @@ use std::alloc::Global;
 use wq_code::{FileFault, decode};
 use wq_verify::{ProgramFault, Rejection, verify};
 
-/// How many bytes a file may have that `check` looks at.
+/// The greatest number of bytes of a file that `check` reads.
 pub const MAX_FILE: usize = 16_777_216;
 
-/// How many bytes the longest name of a file has: a budget is told for it.
+/// The number of bytes of the longest name of a file. `check` gives the budget for it.
 pub const LONGEST_NAME: u64 = 4096;
 
 /// The answer of `check` for a file.
 #[derive(Clone, Copy, Debug, Drop)]
 pub enum Answer {
-    /// The program may run: how many instructions it has, and the most that it can cost on a name
-    /// of [`LONGEST_NAME`] bytes.
+    /// The program may run. It has so many instructions, and costs at most this budget on a name of
+    /// [`LONGEST_NAME`] bytes.
     Accepted { instructions: usize, budget: u64 },
     /// The bytes are no program file.
     WrongFile(FileFault),

@@ -1,6 +1,6 @@
-//! The answer of the command `check` for the bytes of a program file. It is that the program may
-//! run, and its greatest cost; or the first fault of the file or the program. Opening files is left
-//! to the program above.
+//! The answer of the command `check` for the bytes of a program file. If the program may run, the
+//! answer is its greatest cost. Otherwise it is the first fault of the file or the program. Another
+//! crate opens the file.
 #![tactic(auto)]
 
 mod answer;

@@ -7,14 +7,15 @@ use std::alloc::{AllocError, Global};
 use std::io::Write;
 use wq_base::write_all;
 
-/// The exit status where the line could not be written.
+/// The exit status if the line could not be written.
 pub const FAULT: u8 = 1;
 
-/// Prints what the bytes of a file are, and gives the exit status.
+/// Prints the answer for the bytes of a file, and returns the exit status.
 ///
-/// The line is `ok <instructions> <budget>`, `refused F<n>` for a file that is none, or
-/// `refused Y<n> at <place>` for a program that may not run. The status is 0, 3 and 3; or [`FAULT`]
-/// if the line could not be written whole. The writer then holds a front of it.
+/// The line is `ok <instructions> <budget>` if the program may run. It is `refused F<n>` if the
+/// bytes are no program file, and `refused Y<n> at <place>` if the program may not run. The status
+/// is 0, 3 and 3. It is [`FAULT`] if the line could not be written whole. The writer then holds a
+/// front of the line.
 pub fn check<W: Write>(alloc: Global, bytes: &[u8], writer: &mut W) -> u8
     ensures { Checks bytes.now (W.contents writer.old) (W.contents writer.new) result }
 {
@@ -28,7 +29,7 @@ pub fn check<W: Write>(alloc: Global, bytes: &[u8], writer: &mut W) -> u8
     }
 }
 
-/// The line that says an answer.
+/// The line of an answer.
 fn line_of(alloc: Global, answer: Answer) -> Result<String, AllocError>
     ensures { IfOk result (λ line. line.bytes.items ≡ answer_line answer) }
 {

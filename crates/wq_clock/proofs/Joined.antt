@@ -39,7 +39,7 @@ pub numbers_of-map : (ns : List ℕ) → AllInRange ns → numbers_of (map decim
 numbers_of-map [] h = refl
 numbers_of-map (n ∷ ns) h = rw (unsigned_of-decimal max_number (decimal n) n (omega arith) h.0 refl, numbers_of-map ns h.1)
 
--- what is read of a first part and of the others
+-- the numbers of a first part and of the other parts
 parts_first : (o : Option ℕ) (os : Option (List ℕ)) (part : List ℕ) (parts : List (List ℕ)) (ns : List ℕ) → with_first o os ≡ Some ns
     → ((n : ℕ) → o ≡ Some n → (n ≤ max_number) × (part ≡ decimal n))
     → ((ms : List ℕ) → os ≡ Some ms → AllInRange ms × (parts ≡ map decimal ms))
@@ -52,14 +52,14 @@ parts_first (Some n) (Some ms) part parts ns e first others =
     subst (λ xs. AllInRange xs × ((part ∷ parts) ≡ map decimal xs)) (same_Some _ _ e)
     ((front.0, rest.0), ap (λ p. p ∷ parts) front.1 ∙ ap (λ ps. decimal n ∷ ps) rest.1)
 
--- parts that are numbers are the texts of these
+-- if all parts are numbers, the parts are the texts of these numbers
 pub parts_are_decimals : (parts : List (List ℕ)) (ns : List ℕ) → numbers_of parts ≡ Some ns
     → AllInRange ns × (parts ≡ map decimal ns)
 parts_are_decimals [] ns e = subst (λ xs. AllInRange xs × ([] ≡ map decimal xs)) (same_Some _ _ e) (tt, refl)
 parts_are_decimals (part ∷ parts) ns e =
     parts_first (unsigned_of max_number part) (numbers_of parts) part parts ns e (decimal_of max_number part) (parts_are_decimals parts)
 
--- so a text whose parts are numbers is these with colons between them
+-- a text whose parts are numbers has these numbers with colons between them
 pub text_from_numbers : (text ns : List ℕ) → numbers_of (slice_split is_colon text) ≡ Some ns
     → AllInRange ns × (text ≡ join_with_byte 58 (map decimal ns))
 text_from_numbers text ns e =

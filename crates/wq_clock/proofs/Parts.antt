@@ -7,7 +7,7 @@ use Rattle.wq_base.specs.Limit.{max_number}
 use Rattle.wq_base.specs.Decimal.{unsigned_of}
 use Rattle.wq_clock.specs.ClockSpec.{numbers_of, id_from_numbers}
 
--- one more number at the end, with a first number before
+-- one more number at the end, after a first number
 push_first : (o : Option ℕ) (os more : Option (List ℕ)) (ns : List ℕ) (n : ℕ) → with_first o os ≡ Some ns
     → ((ms : List ℕ) → os ≡ Some ms → more ≡ Some (ms ++ n ∷ [])) → with_first o more ≡ Some (ns ++ n ∷ [])
 push_first None os more ns n e then' = cc
@@ -24,7 +24,7 @@ numbers_of-push [] part ns n e is =
 numbers_of-push (first ∷ parts) part ns n e is =
     push_first (unsigned_of max_number first) (numbers_of parts) _ ns n e (λ ms e'. numbers_of-push parts part ms n e' is)
 
--- no numbers, whatever comes first
+-- no numbers, for any first part
 with_first-none : (o : Option ℕ) → with_first o None ≡ None
 with_first-none None = refl
 with_first-none (Some n) = refl
@@ -63,7 +63,7 @@ id_from_numbers-long (a ∷ b ∷ c ∷ []) long = refl
 id_from_numbers-long (a ∷ b ∷ c ∷ d ∷ []) long = absurd (omega arith)
 id_from_numbers-long (a ∷ b ∷ c ∷ d ∷ e ∷ ns) long = refl
 
--- whether or not they are all numbers
+-- five parts or more, if they are all numbers or not
 long_id : (os : Option (List ℕ)) (k : ℕ) → 4 < k → ((ns : List ℕ) → os ≡ Some ns → length ns ≡ k)
     → option_and_then id_from_numbers os ≡ None
 long_id None k long count = refl

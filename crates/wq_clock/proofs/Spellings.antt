@@ -1,4 +1,4 @@
--- A text says exactly the spec that the grammar has it spell.
+-- A text is read as exactly the spec that the grammar has it spell.
 use Rattle.std.proofs.Common.{◌≡◌, ◌⊎◌, ℕ, Bool, true, false, cond, List, [], ◌∷◌, length, drop, map, Some, None, Option, Result, Ok, Err, refl, sym, ap, subst, ◌∙◌, inl, inr}
 use Rattle.std.specs.Prelude.{codes, nat_eq}
 use Rattle.std.specs.Fmt.{decimal}
@@ -24,7 +24,7 @@ id_of-join : (first : ℕ) (ns : List ℕ) → AllInRange (first ∷ ns)
 id_of-join first ns h =
     ap (option_and_then id_from_numbers) (ap numbers_of (slice_split-join first ns h) ∙ numbers_of-map (first ∷ ns) h)
 
--- a spelling says what it spells
+-- a spelling is read as the spec that it spells
 says : (text : List ℕ) (spec : SpecData) → IsClockSpelling spec text → clock_spec_of text ≡ Some spec
 says text (clock_id instance tick) h =
     ap clock_spec_of h.2
@@ -58,14 +58,14 @@ spells_cursor name spec is =
     let parts = and_parts _ _ passes.0 in
     subst (λ s. IsClockSpelling s (110 ∷ 58 ∷ name)) passes.1 (leb-true _ _ parts.0, leb-true _ _ parts.1, refl)
 
--- of two tests in turn one has passed where there is an answer
+-- if two tests in turn have a result, one of them passed
 first_that_passes : {A : Type 0} (b d : Bool) (x y : Option A) (z : A) → cond b x (cond d y None) ≡ Some z
     → ((b ≡ true) × (x ≡ Some z)) ⊎ ((d ≡ true) × (y ≡ Some z))
 first_that_passes true d x y z e = inl (refl, e)
 first_that_passes false true x y z e = inr (refl, e)
 first_that_passes false false x y z e = cc
 
--- what a text says, it spells
+-- a text spells the spec as which it is read
 spells : (text : List ℕ) (spec : SpecData) → clock_spec_of text ≡ Some spec → IsClockSpelling spec text
 spells text spec e = elim (first_that_passes (starts_with nat_eq text (codes "c:")) (starts_with nat_eq text (codes "n:"))
     (id_of (drop 2 text)) (cursor_of (drop 2 text)) spec e) [
@@ -79,7 +79,7 @@ spells text spec e = elim (first_that_passes (starts_with nat_eq text (codes "c:
           subst (IsClockSpelling spec) (sym whole) (spells_cursor (drop 2 text) spec h.1)
     ]
 
--- so it is within the limits
+-- so the spec is within the limits
 pub is_within_limits : (text : List ℕ) (r : Result Spec ClockFault) → said_by r ≡ clock_spec_of text
     → IfOk r (λ spec. IsWithinLimits (spec_data spec))
 is_within_limits text (Err e) is = tt
@@ -90,7 +90,7 @@ is_within_limits text (Ok spec) is = of_spelling (spec_data spec) (spells text (
     of_spelling old_clock_id h = tt
     of_spelling (named_cursor name) h = (h.0, h.1)
 
--- both together
+-- both facts together
 pub says_what_it_spells : TextsSayWhatTheySpell
 says_what_it_spells text spec = (spells text spec, says text spec)
 
@@ -98,7 +98,7 @@ says_what_it_spells text spec = (spells text spec, says text spec)
 pub reads_back : PrintedIdsReadBack
 reads_back instance tick within h = says _ (clock_id instance tick) (within, h, refl)
 
--- so no two have one text
+-- two clock ids have different texts
 pub same_text : SameTextSameId
 same_text instance other tick other_tick within within' h h' e =
     let one : Some (clock_id instance tick) ≡ Some (clock_id other other_tick) =

@@ -1,13 +1,13 @@
--- The point after which an observation is new to a client, as its clock spec gives it.
--- From Watchman's documentation of clockspecs and of the query key `since`.
+-- The point after which an observation is new to a client, as its clock spec gives it. The source
+-- is Watchman's documentation of clockspecs and of the query key `since`.
 use Rattle.std.specs.Prelude.{Bool, true, false, ◌&&◌, ◌==◌, Option, Some, None, if◌then◌else◌}
 use Rattle.wq_clock.specs.Instance.{InstanceData}
 use Rattle.wq_clock.specs.ClockSpec.{SpecData, clock_id, old_clock_id, named_cursor}
 use Rattle.wq_clock.specs.declared.bound.Bound.{Bound}
 use Rattle.wq_clock.specs.declared.bound.Bound.TheVariants.{Fresh, Tick}
 
--- the bound of a clock spec at an instance. An id with the same three numbers gives its tick; all
--- other ids are fresh; a cursor has none
+-- the bound of a clock spec at an instance: an id with the same three numbers gives its tick, all
+-- other ids are fresh, and a cursor has no bound
 abbrev pub bound_of : SpecData → InstanceData → Option Bound
 bound_of (clock_id other tick) instance =
     if (other.start == instance.start) && (other.pid == instance.pid)

@@ -1,5 +1,5 @@
--- The clock spec that a text spells: a clock id, an old clock id or a named cursor, or nothing.
--- From Watchman's documentation of clockspecs; the limits are this server's own.
+-- The clock spec that a text spells: a clock id, an old clock id, a named cursor, or nothing. The
+-- source is Watchman's documentation of clockspecs. The limits are this server's own.
 use Rattle.std.specs.Prelude.{ℕ, ◌≤◌, List, [], ◌∷◌, Option, Some, None, ◌&&◌, nat_le, nat_eq, length, drop, codes, if◌then◌else◌}
 use Rattle.std.specs.Option.{option_and_then}
 use Rattle.std.specs.List.{slice_split, starts_with}
@@ -16,7 +16,7 @@ pub data SpecData : Type 0 where
   old_clock_id : SpecData
   named_cursor : (name : List ℕ) → SpecData
 
--- its numbers and its name are within the limits
+-- the numbers and the name of a clock spec are within the limits
 abbrev pub IsWithinLimits : SpecData → Type 0
 IsWithinLimits (clock_id instance tick) = IsInRange instance × (tick ≤ max_number)
 IsWithinLimits old_clock_id = Unit {0}
@@ -26,12 +26,12 @@ IsWithinLimits (named_cursor name) = (1 ≤ length name) × (length name ≤ max
 abbrev pub colon_parts : List ℕ → List (List ℕ)
 colon_parts text = slice_split is_colon text
 
--- the numbers of all parts in their order, unless some part is no number
+-- the numbers of all parts in their order, if each part is a number
 abbrev pub numbers_of : List (List ℕ) → Option (List ℕ)
 numbers_of [] = Some []
 numbers_of (part ∷ parts) = with_first (unsigned_of max_number part) (numbers_of parts)
 
--- four numbers are a clock id, two are an old one
+-- four numbers are a clock id, and two are an old one
 abbrev pub id_from_numbers : List ℕ → Option SpecData
 id_from_numbers (start ∷ pid ∷ root ∷ tick ∷ []) =
     Some (clock_id (record { start = start; pid = pid; root = root }) tick)
@@ -48,7 +48,7 @@ cursor_of name =
     if nat_le 1 (length name) && nat_le (length name) max_cursor_name
     then Some (named_cursor name) else None
 
--- what a text says as a clock spec
+-- the clock spec that a text spells, if it spells one
 abbrev pub clock_spec_of : List ℕ → Option SpecData
 clock_spec_of text =
     if starts_with nat_eq text (codes "c:") then id_of (drop 2 text)

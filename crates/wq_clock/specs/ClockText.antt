@@ -1,5 +1,5 @@
--- The texts of clock ids, of today's form and of the old one, `c:<pid>:<tick>`.
--- From Watchman's documentation of clockspecs (clock ids).
+-- The texts of clock ids, of today's form and of the old one, `c:<pid>:<tick>`. The source is
+-- Watchman's documentation of clockspecs (clock ids).
 use Rattle.std.specs.Prelude.{ℕ, List, ◌++◌, codes}
 use Rattle.std.specs.Fmt.{decimal}
 use Rattle.wq_clock.specs.Instance.{InstanceData}

@@ -1,5 +1,5 @@
--- An instance, as plain numbers: one run of the server that watches one root.
--- From Watchman's documentation of clockspecs (clock ids).
+-- An instance, as plain numbers: one run of the server that watches one root. The source is
+-- Watchman's documentation of clockspecs (clock ids).
 use Rattle.std.specs.Prelude.{ℕ, ◌≤◌}
 use Rattle.wq_base.specs.Limit.{max_number}
 use Rattle.wq_clock.specs.declared.instance.Instance.{Instance}

@@ -6,12 +6,12 @@ use Rattle.wq_clock.specs.ClockText.{clock_text}
 use Rattle.wq_clock.specs.ClockSpec.{SpecData, clock_id, clock_spec_of}
 use Rattle.wq_clock.specs.Spelling.{IsClockSpelling}
 
--- a text says a clock spec exactly if the grammar has it as a spelling of that clock spec
+-- a text is read as a clock spec exactly if the grammar has it as a spelling of that clock spec
 abbrev pub TextsSayWhatTheySpell : Type 0
 TextsSayWhatTheySpell = (text : List ℕ) (spec : SpecData)
     → (clock_spec_of text ≡ Some spec) ↔ IsClockSpelling spec text
 
--- the text of a clock id says that id
+-- the text of a clock id is read as that id
 abbrev pub PrintedIdsReadBack : Type 0
 PrintedIdsReadBack = (instance : InstanceData) (tick : ℕ) → IsInRange instance → tick ≤ max_number
     → clock_spec_of (clock_text instance tick) ≡ Some (clock_id instance tick)

@@ -1,5 +1,5 @@
--- The limits of clock specs, which are this server's own.
--- Watchman's documentation of clockspecs names none.
+-- The limits of clock specs, which are this server's own. Watchman's documentation of clockspecs
+-- names no limits.
 use Rattle.std.specs.Prelude.{ℕ}
 
 -- the most bytes of a cursor's name

@@ -1,5 +1,5 @@
--- One run of the server, as plain numbers, and the roots that it watches.
--- From Watchman's documentation of clockspecs (clock ids).
+-- One run of the server, as plain numbers, and the roots that it watches. The source is Watchman's
+-- documentation of clockspecs (clock ids).
 use Rattle.std.specs.Prelude.{ℕ}
 use Rattle.wq_clock.specs.Instance.{InstanceData}
 use Rattle.wq_clock.specs.declared.run.Run.{Run}

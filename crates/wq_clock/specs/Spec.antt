@@ -1,5 +1,5 @@
--- The plain clock spec that a `Spec` stands for: a cursor's name by its bytes. The forms are those
--- of Watchman's documentation of clockspecs.
+-- The plain clock spec of a `Spec`, in which a cursor's name is its bytes. The forms are those of
+-- Watchman's documentation of clockspecs.
 use Rattle.std.specs.Prelude.{Option, Some, None, Result, Ok, Err}
 use Rattle.wq_clock.specs.Instance.{instance_data}
 use Rattle.wq_clock.specs.ClockSpec.{SpecData, clock_id, old_clock_id, named_cursor}
@@ -7,7 +7,7 @@ use Rattle.wq_clock.specs.declared.reading.ClockFault.{ClockFault}
 use Rattle.wq_clock.specs.declared.reading.Spec.{Spec}
 use Rattle.wq_clock.specs.declared.reading.Spec.TheVariants.{Id, OldId, Cursor}
 
--- the clock spec that a `Spec` stands for
+-- the clock spec of a `Spec`
 abbrev pub spec_data : Spec → SpecData
 spec_data (Id instance tick) = clock_id (instance_data instance) tick
 spec_data OldId = old_clock_id

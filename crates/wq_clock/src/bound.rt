@@ -1,4 +1,4 @@
-//! Bounds: after which point an observation counts, as a clock spec says it.
+//! Bounds: the point after which an observation counts, as a clock spec gives it.
 ghost use Rattle.std.specs.Prelude.{◌≡◌, pos, ◌≤ℤ◌};
 ghost use Rattle.std.specs.Option.{SomeIff};
 ghost use Rattle.wq_clock.specs.Bound.{bound_of, is_fresh};
@@ -10,21 +10,22 @@ use crate::reading::Spec;
 use wq_base::MAX_NUMBER;
 
 /// The point after which observations are new to a client, as Watchman's documentation of
-/// clockspecs has it.
+/// clockspecs defines it.
 #[derive(Clone, Copy, Debug, PartialEq, Eq)]
 pub enum Bound {
     /// The client knows nothing: everything that exists is new.
     Fresh,
     /// Observations of later ticks of this instance are new.
     Tick(u64),
-    /// A second of the Unix epoch. Changes in it or later are told, since it may have passes that
-    /// the client has not seen. Files that came in a later one are new.
+    /// A second of the Unix epoch. A reply lists changes in this second or later, because the
+    /// second may have passes that the client has not seen. Files that came in a later second are
+    /// new.
     Second(i64),
 }
 
 impl Bound {
-    /// The bound of a clock spec that is a whole number: a second of the Unix epoch, from 0 to
-    /// 2^62.
+    /// The bound of a clock spec that is a whole number. It is a second of the Unix epoch, from 0
+    /// to 2^62.
     pub fn second(seconds: i64) -> Option<Bound>
         ensures { SomeIff result ((pos 0 ≤ℤ seconds) × (seconds ≤ℤ pos MAX_NUMBER))
             (Bound.Second seconds) }
@@ -48,11 +49,11 @@ impl Bound {
     }
 }
 
-/// The bound that a read clock spec sets at `instance`.
+/// The bound that a clock spec sets at `instance`.
 ///
-/// Of an id with the three numbers of `instance` it is the tick, which the view need not have
-/// reached. Every other id is fresh, an old one too. A cursor has no bound of its own, so it gives
-/// `None`: the server keeps a tick under its name.
+/// An id with the three numbers of `instance` gives its tick, which the view need not have reached.
+/// Every other id is fresh, an old one too. A cursor gives `None`, because the server keeps a tick
+/// under its name.
 ///
 /// At start 7, process 9 and root 1, `c:7:9:1:99` is `Bound::Tick(99)`, and `c:7:8:1:1` is
 /// `Bound::Fresh`.

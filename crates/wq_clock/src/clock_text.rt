@@ -1,4 +1,4 @@
-//! Printing clock ids, into a value of its own and without memory.
+//! Printing clock ids into a value that holds their bytes. Printing takes no memory.
 ghost use Rattle.std.specs.Prelude.{◌≡◌, ◌+◌, ◌≤◌, ◌++◌, length};
 ghost use Rattle.std.specs.Fmt.{decimal};
 ghost use Rattle.arrayvec.specs.ArrayString.{array_string_len};
@@ -17,7 +17,7 @@ const MAX_DIGITS: usize = 19;
 /// The most bytes of a clock id, 81: `c`, and four times a colon and a number.
 pub const MAX_CLOCK_TEXT: usize = 1 + 4 * (1 + MAX_DIGITS);
 
-/// The text of a clock id, of at most [`MAX_CLOCK_TEXT`] bytes, which lie in the value itself.
+/// The text of a clock id, of at most [`MAX_CLOCK_TEXT`] bytes. The value itself holds the bytes.
 #[derive(Debug, Drop)]
 pub struct ClockText {
     text: ArrayString<MAX_CLOCK_TEXT>,
@@ -43,7 +43,8 @@ impl ClockText {
 
 /// The clock id of `tick`, which is at most [`MAX_NUMBER`], at `instance`.
 ///
-/// It is `c:7:9:1:42` for start 7, process 9, root 1 and tick 42. Every clock id has this one text.
+/// For start 7, process 9, root 1 and tick 42 the id is `c:7:9:1:42`. Every clock id has this one
+/// text.
 pub fn print(instance: &Instance, tick: u64) -> ClockText
     requires { tick ≤ MAX_NUMBER }
     ensures { result ≡ clock_text (instance_data instance.now) tick }

@@ -1,11 +1,10 @@
-//! Instances: which run of the server, and which root, a clock id belongs to.
+//! Instances: the run of the server and the root to which a clock id belongs.
 ghost use Rattle.std.specs.Prelude.{◌≡◌, ◌≤◌};
 ghost use Rattle.wq_base.specs.Limit.{max_number};
 
 use wq_base::MAX_NUMBER;
 
-/// One run of the server that watches one root. Ticks of two instances have nothing to do with each
-/// other.
+/// One run of the server that watches one root. Ticks of different instances cannot be compared.
 ///
 /// Each number is at most [`MAX_NUMBER`].
 #[derive(Clone, Copy, Debug, PartialEq, Eq)]
@@ -14,7 +13,7 @@ pub struct Instance {
     pub start: u64,
     /// The server's process.
     pub pid: u64,
-    /// The number of the root in this run, which no later watch of the same path has again.
+    /// The number of the root in this run. No later watch of the same path gets the same number.
     pub root: u64,
     ghost start_in_range: { start ≤ max_number },
     ghost pid_in_range: { pid ≤ max_number },

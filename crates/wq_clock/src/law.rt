@@ -1,5 +1,5 @@
-//! Laws about clock specs, each a function without a body whose contract is the law.
-//! A proof of another crate gets a law by a call, which costs nothing.
+//! Laws about clock specs. Each law is the contract of a function without a body. A proof of
+//! another crate gets a law by a call, which costs nothing.
 ghost use Rattle.wq_clock.specs.Law.{TextsSayWhatTheySpell, PrintedIdsReadBack, SameTextSameId};
 
 /// [`parse`](crate::parse) reads exactly the texts of the grammar of clock specs.

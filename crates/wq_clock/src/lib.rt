@@ -1,8 +1,8 @@
 //! The texts by which clients name moments: Watchman's clock specs.
 //!
-//! A moment is named by a clock id of the server, by a named cursor or by a second. This crate
-//! prints and reads these texts and says what bound each sets. It keeps no cursors and knows no
-//! view.
+//! A client names a moment by a clock id of the server, a named cursor or a second. This crate
+//! prints and reads these texts, and gives the bound that each sets. It keeps no cursors and knows
+//! no view.
 #![tactic(auto)]
 
 mod bound;

@@ -1,4 +1,4 @@
-//! Reading clock specs from texts, without memory.
+//! Reading clock specs from texts. Reading takes no memory.
 ghost use Rattle.std.specs.Prelude.{◌≡◌, ◌≤◌, Some, None, IfSome, IfNone, IfOk, OnErr, All};
 ghost use Rattle.wq_clock.specs.ClockSpec.{IsWithinLimits, colon_parts, numbers_of, id_from_numbers, id_of, cursor_of, clock_spec_of};
 ghost use Rattle.wq_clock.specs.Spec.{said_by, spec_data};
@@ -11,7 +11,7 @@ use wq_base::{MAX_NUMBER, unsigned_number};
 /// The most bytes of a cursor's name.
 pub const MAX_CURSOR_NAME: usize = 255;
 
-/// How many numbers a clock id has.
+/// The number of numbers in a clock id.
 const ID_NUMBERS: usize = 4;
 
 /// A clock spec that was given as a text.
@@ -19,9 +19,9 @@ const ID_NUMBERS: usize = 4;
 pub enum Spec<'a> {
     /// A clock id, `c:<start>:<pid>:<root>:<tick>`: an instance and a tick of it, at most 2^62.
     Id(Instance, u64),
-    /// A clock id of Watchman's older form, `c:<pid>:<tick>`, which names no moment of this server.
+    /// A clock id of Watchman's older form, `c:<pid>:<tick>`. It names no moment of this server.
     OldId,
-    /// A named cursor, `n:<name>`: the name, of 1 to 255 bytes.
+    /// A named cursor, `n:<name>`. Its name has 1 to 255 bytes.
     Cursor(&'a str),
 }
 
@@ -33,8 +33,8 @@ pub struct ClockFault;
 /// Reads a clock spec, of the forms in Watchman's documentation of clockspecs.
 ///
 /// Numbers are decimal, without sign and leading zeros, and at most 2^62. A cursor's name has 1 to
-/// 255 bytes, of any kind. So `c:7:9:1:42` is a clock id, `c:9:42` an old one and `n:build` a
-/// cursor; `c:7:9:1:042` is refused.
+/// 255 bytes of any kind. So `c:7:9:1:42` is a clock id, `c:9:42` an old one and `n:build` a
+/// cursor. `c:7:9:1:042` is refused.
 pub fn parse(text: &str) -> Result<Spec<'_>, ClockFault>
     ensures read { IfOk result (λ spec. clock_spec_of text.now ≡ Some (spec_data spec)) }
     ensures refused { OnErr result (clock_spec_of text.now ≡ None) }

@@ -19,27 +19,27 @@ abbrev pub Filled : {A : Type 0} → Reader A → List ℕ → Type 0
 Filled {A} field bytes =
     (more : List ℕ) × AreBytes more × (x : A) × (field (bytes ++ more) ≡ Ok (x, []))
 
--- whatever byte follows these, one fault of a number is told
+-- any byte after these gives the same fault of a number
 abbrev pub Spoilt : {A : Type 0} → Reader A → List ℕ → Type 0
 Spoilt field bytes =
     (fault : FileFault) × ((fault ≡ OverLimit) ⊎ (fault ≡ BadOperand))
     × ((b : ℕ) → field (bytes ++ b ∷ []) ≡ Err fault)
 
--- what is so where this is told of bytes
+-- the claim about an outcome of reading bytes
 abbrev pub Judged : {A : Type 0} → Reader A → List ℕ → Result (A × List ℕ) FileFault → Type 0
 Judged field bytes (Ok x) = AreBytes x.1
 Judged field bytes (Err CutShort) = Filled field bytes ⊎ Spoilt field bytes
 Judged field bytes (Err BytesAfterEnd) = ⊥
 Judged field bytes (Err fault) = Unit {0}
 
--- a field that some bytes fill, and that tells no end too early without need
+-- a field that some bytes fill, and that finds no end too early without need
 pub record Ends {A : Type 0} (field : Reader A) : Type 0 where
   pub fills : Filled field []
   pub judged : (bytes : List ℕ) → AreBytes bytes → Judged field bytes (field bytes)
 
 -- ---- one field after the other
 
--- what is told of a later field, told of all
+-- the claim about a later field is the claim about the whole
 pub passed_on : {A : Type 0} (all : Reader A) (later : Reader A) (bytes rest : List ℕ)
     → ((more : List ℕ) → all (bytes ++ more) ≡ later (rest ++ more))
     → (told : Result (A × List ℕ) FileFault) → Judged later rest told → Judged all bytes told
@@ -58,7 +58,7 @@ passed_on all later bytes rest moved (Err NoMemory) j = tt
 abbrev pub both : {A B : Type 0} → Reader A → (A → Reader B) → Reader B
 both first next bytes = first bytes >>= λ x. next x.0 x.1
 
--- the first field was read, and so it is with more bytes after it
+-- the first field was read, and is read so with more bytes after it
 read_on : {A B : Type 0} (first : Reader A) (next : A → Reader B) → IsSteady first → (bytes : List ℕ) (x : A × List ℕ)
     → first bytes ≡ Ok x → (more : List ℕ) → both first next (bytes ++ more) ≡ next x.0 (x.1 ++ more)
 read_on first next steady bytes x e more =
@@ -98,7 +98,7 @@ then_ends first next steady ends nexts = record {
   judged = λ bytes fits. told_then first next steady nexts bytes (first bytes) refl (ends.judged bytes fits);
 }
 
--- what reads no bytes
+-- a reader that reads no bytes
 pub value_ends : {A : Type 0} (x : A) → Ends {A = A} (λ bytes. Ok (x, bytes))
 value_ends x = record {
   fills = ([], All-nil (λ b. b < 256), x, refl);

@@ -72,7 +72,7 @@ tables_end counts =
     (λ e bytes. Ok (record { nums = a; texts = b; lists = c; patterns = d; code = e }, bytes)) (many_steady op_at op_steady counts.code)
     (many_ends op_at op_steady op_ends counts.code) (λ e. value_ends _)))))
 
--- what is so where this is told of bytes that have to be exactly these
+-- the claim about an outcome of reading bytes that have to be exactly these
 abbrev Told : List ℕ → List ℕ → Result (List ℕ) FileFault → Type 0
 Told xs bytes (Err CutShort) = (more : List ℕ) × (bytes ++ more ≡ xs)
 Told xs bytes (Err BytesAfterEnd) = ⊥
@@ -103,7 +103,7 @@ exact_told fault plain (x ∷ xs) [] = (x ∷ xs, refl)
 exact_told fault plain (x ∷ xs) (b ∷ bytes) =
     byte_told fault plain x b xs bytes (exact_at fault xs bytes) (exact_told fault plain xs bytes) (eqb b x) refl
 
--- what is told of the version, told of the head
+-- the claim about the version is the claim about the head
 version_told : (bytes after : List ℕ) → bytes ≡ codes "WQPF" ++ after → (told : Result (List ℕ) FileFault)
     → Told (1 ∷ []) after told → Told head bytes told
 version_told bytes after is (Ok rest) t = tt
@@ -137,7 +137,7 @@ unfolding head_at
 head_told bytes =
     magic_told bytes (exact_at WrongMagic (codes "WQPF") bytes) refl (exact_told WrongMagic (λ ys zs. tt) (codes "WQPF") bytes)
 
--- what follows the head
+-- the part after the head
 body_at : Reader Raw
 body_at = both counts_at tables_at
 

@@ -40,7 +40,7 @@ joined bytes front after tail rest p q = p ∙ ap (λ (r : List ℕ). front ++ r
 abbrev pub head : List ℕ
 head = codes "WQPF" ++ 1 ∷ []
 
--- what is read as a head begins with it
+-- bytes that are read as a head begin with it
 pub head_at-takes : (bytes rest : List ℕ) → head_at bytes ≡ Ok rest → bytes ≡ head ++ rest
 unfolding head_at
 head_at-takes bytes rest e =
@@ -173,7 +173,7 @@ counts_in raw = record {
   code = length raw.code;
 }
 
--- what is good of a program
+-- the condition on a program
 abbrev pub IsFile : Raw → Type 0
 IsFile raw = (raw_fits raw ≡ true) × FitsFields raw
 

@@ -21,18 +21,18 @@ ended : (bytes rest : List ℕ) → end_at bytes ≡ Ok rest → bytes ≡ []
 ended [] rest e = refl
 ended (b ∷ bytes) rest e = absurd cc
 
--- a spelling and what follows it is read as its program
+-- a spelling with bytes after it is read as its program
 spelled : (raw : Raw) (bytes more : List ℕ) → IsSpelling raw bytes → raw_at (bytes ++ more) ≡ Ok (raw, more)
 spelled raw bytes more s =
     ap (λ (b : List ℕ). raw_at (b ++ more)) s.written ∙ raw-form.again raw more (s.within_limits, s.in_range)
 
--- what is spelled is read back
+-- a spelling is read back
 pub spellings_are_read_back : SpellingsAreReadBack
 unfolding file_at
 spellings_are_read_back bytes raw s =
     let read : raw_at bytes ≡ Ok (raw, []) = ap raw_at (sym (append-nil bytes)) ∙ spelled raw bytes [] s in rw read refl
 
--- what is read as a program is its spelling
+-- bytes that are read as a program are its spelling
 pub file_is_spelling : (bytes : List ℕ) (raw : Raw) → AreBytes bytes → file_at bytes ≡ Ok raw → IsSpelling raw bytes
 unfolding file_at
 file_is_spelling bytes raw fits e =
@@ -78,7 +78,7 @@ stays (Err BadOperand) second more fault other h e = rw h e
 stays (Err OverLimit) second more fault other h e = rw h e
 stays (Err NoMemory) second more fault other h e = rw h e
 
--- what was found wrong stays wrong, whatever bytes follow
+-- a fault stays, whatever bytes follow
 pub faults_stay : FaultsStay
 unfolding file_at
 faults_stay bytes more fault other e = stays (raw_at bytes) (raw_at (bytes ++ more)) more fault other (raw_steady bytes more) e
@@ -109,13 +109,13 @@ fronts_are_cut_short raw front more some s =
     let cut = cut_short (raw_at front) raw more some (subst (Steady (with_more more) (raw_at front)) read (raw_steady front more)) in
     rw cut refl
 
--- what the code read is spelled so
+-- the bytes that the code read are a spelling
 pub is_found : (bytes : List ℕ) (result : Result Raw FileFault) → AreBytes bytes → Gives (λ raw. raw) result (file_at bytes)
     → IfOk result (λ raw. IsSpelling raw bytes)
 is_found bytes (Ok raw) fits given = file_is_spelling bytes raw fits given
 is_found bytes (Err fault) fits given = tt
 
--- what fills a file that was cut short makes it a spelling
+-- the bytes that fill a file that was cut short make it a spelling
 filled_begins : (bytes : List ℕ) → AreBytes bytes → raw_at bytes ≡ Err CutShort → Filled raw_at bytes → BeginASpelling bytes
 filled_begins bytes fits e f =
     let both = All-append (λ b. b < 256) bytes f.0 fits f.1 in
@@ -128,7 +128,7 @@ filled_begins bytes fits e f =
         ap raw_at (sym (append-nil bytes)) ∙ ap (λ (r : List ℕ). raw_at (bytes ++ r)) (sym none) ∙ f.3 in
         absurd (let same : raw_at bytes ≡ raw_at bytes = refl in cc)
 
--- of a number that is wrong whatever follows one fault is told
+-- a number that is wrong whatever follows has one fault
 told_wrong : (fault : FileFault) → (fault ≡ OverLimit) ⊎ (fault ≡ BadOperand) → (fault ≢ BytesAfterEnd) × (fault ≢ CutShort)
 told_wrong fault (inl is) = (λ e. absurd cc, λ e. absurd cc)
 told_wrong fault (inr is) = (λ e. absurd cc, λ e. absurd cc)
@@ -181,7 +181,7 @@ stays_same bytes told fault other e unsaid more =
     let same : told ≡ fault = err_is told fault (sym (faults_stay bytes (0 ∷ []) told other e) ∙ more) in
     absurd (unsaid (e ∙ ap failed same))
 
--- bytes are cut short if a fault is not told of them, and is told of them with a byte after them
+-- bytes are cut short if they have no such fault, and have it with a byte after them
 wrong_case : (bytes : List ℕ) (fault : FileFault) → AreBytes bytes → fault ≢ BytesAfterEnd → (told : Result Raw FileFault)
     → file_at bytes ≡ told → file_at bytes ≢ Err fault → file_at (bytes ++ 0 ∷ []) ≡ Err fault → file_at bytes ≡ Err CutShort
 wrong_case bytes fault fits other (Ok raw) e unsaid more =
@@ -236,7 +236,7 @@ pub ends_are_spellings : EndsAreSpellings
 ends_are_spellings bytes fits =
     (after_to bytes fits, λ h. ap file_at h.5 ∙ followed h.0 h.1 h.2 h.3 h.4)
 
--- what is found wrong begins no spelling
+-- bytes with a fault begin no spelling
 pub faulty_begin_none : FaultyBeginNone
 faulty_begin_none bytes more fault raw other e s =
     let stays = faults_stay bytes more fault other e in

@@ -47,7 +47,7 @@ fits-within raw h =
     (and_from _ _ (le-leb _ _ h.texts) h.each_text)) (and_from _ _ (le-leb _ _ h.lists) h.each_list))
     (and_from _ _ (le-leb _ _ h.patterns) h.each_pattern)) (le-leb _ _ h.code)
 
--- what every row passes
+-- a test that every row passes
 pub list_all-always : {A : Type 0} (rows : List A) → list_all is_any rows ≡ true
 list_all-always [] = refl
 list_all-always (row ∷ rows) = list_all-always rows

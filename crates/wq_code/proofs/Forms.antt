@@ -28,7 +28,7 @@ use Rattle.wq_code.specs.Word.{code_of, a_of, b_of, blank_ops, flag_code, case_c
 use Rattle.wq_code.specs.Reading.{◌>>=◌, Reader, bytes_at, many_at, short_at, count_at, number_at, text_at, list_at, flags_in, pattern_at, or_file_fault, op_at}
 use Rattle.wq_code.specs.Spelling.{short, number, text, entries, flags_byte, pattern, instruction, AreBytes}
 
--- the value of a field that did not fail, and what was read of it
+-- the value of a field that did not fail, and the bytes that were read of it
 pub bind_ok : {A B : Type 0} (read : Result A FileFault) (next : A → Result B FileFault) (y : B)
     → (read >>= next) ≡ Ok y → (x : A) × (read ≡ Ok x) × (next x ≡ Ok y)
 bind_ok (Ok x) next y e = (x, refl, e)
@@ -57,7 +57,7 @@ done x = Ok x
 pub ok_is : {A : Type 0} (x y : A) → done x ≡ done y → x ≡ y
 ok_is x y e = cc
 
--- what follows a front of bytes are bytes
+-- the rest after a front of bytes are bytes
 behind : (front rest : List ℕ) → AreBytes (front ++ rest) → AreBytes rest
 behind [] rest h = h
 behind (b ∷ front) rest h = behind front rest (All-tail (λ b. b < 256) b (front ++ rest) h)
@@ -77,7 +77,7 @@ before (b ∷ front) rest h =
 pub front_are_bytes : (bytes front rest : List ℕ) → AreBytes bytes → bytes ≡ front ++ rest → AreBytes front
 front_are_bytes bytes front rest h e = before front rest (subst AreBytes e h)
 
--- a field is read as it is written, with what is good, and nothing else is read
+-- a field is read as it is written, with a good value, and nothing else is read
 pub record IsForm {A : Type 0} (field : Reader A) (written : A → List ℕ) (Good : A → Type 0) : Type 0 where
   pub takes : (bytes : List ℕ) (x : A × List ℕ) → AreBytes bytes → field bytes ≡ Ok x
       → (bytes ≡ written x.0 ++ x.1) × Good x.0
@@ -170,7 +170,7 @@ text-form = record {
       rw ((count-form max_constant_text (lit< tt)).again (length a) (a ++ rest) (leb-true _ _ h.0)) (bytes_at-again (length a) a rest refl);
 }
 
--- what follows the first field of several
+-- the rest after the first field of several
 many_takes : {A : Type 0} (field : Reader A) (written : A → List ℕ) (Good : A → Type 0) → IsForm field written Good
     → (n : ℕ) (bytes : List ℕ) (x : List A × List ℕ) → AreBytes bytes → many_at field n bytes ≡ Ok x
     → (bytes ≡ flat_map written x.0 ++ x.1) × ((length x.0 ≡ n) × All Good x.0)
@@ -324,7 +324,7 @@ pattern-form = record {
 
 -- ---- instructions
 
--- what was found passes the test
+-- the value that was found passes the test
 passes_at : {A : Type 0} (test : A → Bool) (y : A) (others : Option A) (x : A) (b : Bool) → test y ≡ b
     → (others ≡ Some x → test x ≡ true) → cond b (Some y) others ≡ Some x → test x ≡ true
 passes_at test y others x true is later e = ap test (sym (same_Some y x e)) ∙ is
@@ -359,7 +359,7 @@ mapped : {A : Type 0} (o : Option A) (f : A → Op) (other : Op) → option_map 
 mapped (Some x) f other e = (x, refl, same_Some (f x) other e)
 mapped None f other e = absurd cc
 
--- what an instruction is written as, after its operand `a` was read, and after `b` was
+-- the spelling of an instruction, after its operand `a` was read, and after `b` was
 abbrev HasA : ℕ → Op → Op → Type 0
 HasA a op other = (code_of other ≡ code_of op) × (a_of other ≡ a)
 

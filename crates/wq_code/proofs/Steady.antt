@@ -1,5 +1,4 @@
--- Bytes that follow change nothing of what was read before them, nor of what was found wrong, but where the bytes
--- were cut short.
+-- Bytes that follow change nothing of the reading before them, nor of its fault, unless the bytes were cut short.
 use Rattle.std.proofs.Common.{◌≡◌, ℕ, zero, suc, Bool, true, false, cond, ltb, leb, eqb, List, [], ◌∷◌, ◌++◌, length, Result, Ok, Err, refl, arith, inl, inr}
 use Rattle.std.specs.Prelude.{codes}
 use Rattle.std.proofs.lemmas.Bool.{cases_lt, lt-ltb, le-ltb}
@@ -12,8 +11,8 @@ use Rattle.wq_code.specs.declared.fault.FileFault.{FileFault}
 use Rattle.wq_code.specs.declared.fault.FileFault.TheVariants.{WrongMagic, OtherVersion, CutShort, BytesAfterEnd, UnknownOperation, BadOperand, OverLimit, NoMemory}
 use Rattle.wq_code.specs.declared.file.Counts.{Counts}
 
--- a second reading, of more bytes, gives what the first gave, `lists_after`; nothing is said if the
--- first was cut short
+-- a second reading, of more bytes, gives the result of the first, `lists_after`; nothing is claimed if the first was
+-- cut short
 abbrev pub Steady : {A : Type 0} → (A → A) → Result A FileFault → Result A FileFault → Type 0
 Steady grow (Ok x) second = second ≡ Ok (grow x)
 Steady grow (Err CutShort) second = Unit {0}
@@ -53,7 +52,7 @@ steady_fault grow BadOperand = refl
 steady_fault grow OverLimit = refl
 steady_fault grow NoMemory = refl
 
--- what reads no bytes
+-- a reader that reads no bytes
 steady_same : {A : Type 0} (read : Result A FileFault) → Steady (λ x. x) read read
 steady_same (Ok x) = refl
 steady_same (Err fault) = steady_fault (λ x. x) fault

@@ -1,5 +1,5 @@
--- The program file, version 1, field by field: what its bytes hold, or the first that is wrong.
--- This server's own format.
+-- The program file, version 1, field by field: the program in its bytes, or their first fault. This
+-- server's own format.
 use Rattle.std.specs.Prelude.{ℕ, List, [], ◌∷◌, codes, Result, Ok}
 use Rattle.wq_code.specs.Limit.{max_table_rows}
 use Rattle.wq_code.specs.Reading.{◌>>=◌, Reader, exact_at, end_at, count_at, many_at, number_at, text_at, list_at, pattern_at, op_at}
@@ -8,7 +8,7 @@ use Rattle.wq_code.specs.declared.fault.FileFault.TheVariants.{WrongMagic, Other
 use Rattle.wq_code.specs.declared.file.Counts.{Counts}
 use Rattle.wq_code.specs.declared.raw.Raw.{Raw}
 
--- what follows the magic and the version
+-- the bytes after the magic and the version
 unfoldable pub head_at : List ℕ → Result (List ℕ) FileFault
 head_at bytes = do
   bytes ← exact_at WrongMagic (codes "WQPF") bytes

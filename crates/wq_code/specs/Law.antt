@@ -11,7 +11,7 @@ abbrev pub FilesAreSpellings : Type 0
 FilesAreSpellings = (bytes : List ℕ) (raw : Raw) → AreBytes bytes
     → (file_at bytes ≡ Ok raw) ↔ IsSpelling raw bytes
 
--- what is spelled is read back
+-- a spelling is read back as its program
 abbrev pub SpellingsAreReadBack : Type 0
 SpellingsAreReadBack = (bytes : List ℕ) (raw : Raw) → IsSpelling raw bytes → file_at bytes ≡ Ok raw
 
@@ -20,12 +20,12 @@ abbrev pub OneSpelling : Type 0
 OneSpelling = (raw : Raw) (bytes other : List ℕ) → IsSpelling raw bytes → IsSpelling raw other
     → bytes ≡ other
 
--- no spelling begins another, of whatever program
+-- no spelling of any program begins another
 abbrev pub NoneBeginsAnother : Type 0
 NoneBeginsAnother = (raw other : Raw) (bytes more : List ℕ) → IsSpelling raw bytes
     → IsSpelling other (bytes ++ more) → (more ≡ []) × (raw ≡ other)
 
--- what was found wrong stays wrong whatever bytes follow, unless the bytes were cut short
+-- a fault stays whatever bytes follow, unless the bytes were cut short
 abbrev pub FaultsStay : Type 0
 FaultsStay = (bytes more : List ℕ) (fault : FileFault) → fault ≢ CutShort
     → file_at bytes ≡ Err fault → file_at (bytes ++ more) ≡ Err fault
@@ -39,15 +39,15 @@ FrontsAreCutShort = (raw : Raw) (front more : List ℕ) → more ≢ [] → IsSp
 abbrev pub BeginASpelling : List ℕ → Type 0
 BeginASpelling bytes = (raw : Raw) × (more : List ℕ) × (more ≢ []) × IsSpelling raw (bytes ++ more)
 
--- some bytes end within a number of two bytes that is wrong whatever its second byte is. Whichever
--- byte follows, the same fault is told, which is not told of the bytes themselves
+-- some bytes end within a number of two bytes that is wrong whatever its second byte is. Any byte
+-- after them gives the same fault, which the bytes alone do not give
 abbrev pub EndInAWrongNumber : List ℕ → Type 0
 EndInAWrongNumber bytes =
     (fault : FileFault) × (fault ≢ BytesAfterEnd) × (file_at bytes ≢ Err fault)
     × ((b : ℕ) → b < 256 → file_at (bytes ++ b ∷ []) ≡ Err fault)
 
--- bytes are cut short exactly if they are a front of a spelling and not all of it, or end within a
--- number that is wrong whatever follows
+-- bytes are cut short in two cases alone: they are a front of a spelling and not all of it, or end
+-- within a number that is wrong whatever follows
 abbrev pub CutShortAreFronts : Type 0
 CutShortAreFronts = (bytes : List ℕ) → AreBytes bytes
     → (file_at bytes ≡ Err CutShort) ↔ (BeginASpelling bytes ⊎ EndInAWrongNumber bytes)
@@ -59,7 +59,7 @@ EndsAreSpellings = (bytes : List ℕ) → AreBytes bytes
     ↔ ((raw : Raw) × (front : List ℕ) × (more : List ℕ) × (more ≢ []) × IsSpelling raw front
     × (bytes ≡ front ++ more))
 
--- bytes of which another fault is told begin no spelling
+-- bytes with another fault begin no spelling
 abbrev pub FaultyBeginNone : Type 0
 FaultyBeginNone = (bytes more : List ℕ) (fault : FileFault) (raw : Raw) → fault ≢ CutShort
     → file_at bytes ≡ Err fault → IsSpelling raw (bytes ++ more) → ⊥

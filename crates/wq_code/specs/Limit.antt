@@ -10,6 +10,6 @@ max_table_rows = 4096
 abbrev pub max_constant_text : ℕ
 max_constant_text = 4096
 
--- the most entries of a list: what two bytes can count
+-- the most entries of a list: as many as two bytes can count
 abbrev pub max_entries : ℕ
 max_entries = 65535

@@ -118,7 +118,7 @@ abbrev pub Fails : {Y : Type 0} → FileFault → Result Y FileFault → Type 0
 Fails NoMemory read = Unit {0}
 Fails fault read = read ≡ Err fault
 
--- what the code answered, seen by `view`, is what the reading gives, but if a growth was refused
+-- the answer of the code, seen by `view`, is the result of the reading, unless a growth was refused
 abbrev pub Gives : {X Y : Type 0} → (X → Y) → Result X FileFault → Result Y FileFault → Type 0
 Gives view (Ok x) read = read ≡ Ok (view x)
 Gives view (Err fault) read = Fails fault read

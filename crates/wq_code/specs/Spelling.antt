@@ -53,7 +53,7 @@ spelling raw =
 abbrev pub AreBytes : List ℕ → Type 0
 AreBytes bytes = All (λ b. b < 256) bytes
 
--- each number, byte and operand has room in its field: so it is of every `Raw` in memory
+-- each number, byte and operand has room in its field, as in every `Raw` in memory
 pub record FitsFields (raw : Raw) : Type 0 where
   pub nums : All (λ n. FitsSigned w64 n) raw.nums
   pub texts : All AreBytes raw.texts

@@ -23,7 +23,7 @@ pub(crate) trait Field: Drop + Sized {
     /// It keeps to the limits.
     ghost within: { Self → Bool };
 
-    /// Reads a value at the front of `bytes`, and gives what follows it.
+    /// Reads a value at the front of `bytes`, and gives the rest.
     fn read(alloc: Global, bytes: &[u8]) -> Result<(Self, &[u8]), FileFault>
         ensures { Gives (λ x. (x.0, x.1.now)) result (reading bytes.now) };
 
@@ -91,7 +91,7 @@ pub(crate) fn end_of(bytes: &[u8]) -> Result<(), FileFault>
     }
 }
 
-/// A number of two bytes, and what follows it.
+/// A number of two bytes, and the rest.
 #[tactic(auto, unfolding(crate::specs::Reading::short_at, crate::specs::Reading::bytes_at))]
 pub(crate) fn short_of(bytes: &[u8]) -> Result<(u16, &[u8]), FileFault>
     ensures { Gives (λ x. (x.0, x.1.now)) result (short_at bytes.now) }
@@ -103,7 +103,7 @@ pub(crate) fn short_of(bytes: &[u8]) -> Result<(u16, &[u8]), FileFault>
     Ok((u16::from_be_bytes([digits[0], digits[1]]), rest))
 }
 
-/// A count or a length of at most `limit`, and what follows it.
+/// A count or a length of at most `limit`, and the rest.
 #[tactic(auto, unfolding(crate::specs::Reading::count_at))]
 pub(crate) fn count_of(limit: usize, bytes: &[u8]) -> Result<(usize, &[u8]), FileFault>
     ensures { Gives (λ x. (x.0, x.1.now)) result (count_at limit bytes.now) }
@@ -116,7 +116,7 @@ pub(crate) fn count_of(limit: usize, bytes: &[u8]) -> Result<(usize, &[u8]), Fil
     Ok((count, rest))
 }
 
-/// So many fields of one form, and what follows them.
+/// So many fields of one form, and the rest.
 pub(crate) fn many_of<F: Field>(
     alloc: Global,
     count: usize,

@@ -31,7 +31,7 @@ fn head_of(bytes: &[u8]) -> Result<&[u8], FileFault>
     exact_of(FileFault::OtherVersion, &[1], rest)
 }
 
-/// The counts of the tables' rows, and what follows them.
+/// The counts of the tables' rows, and the rest.
 #[tactic(auto, unfolding(crate::specs::File::counts_at))]
 fn counts_of(bytes: &[u8]) -> Result<(Counts, &[u8]), FileFault>
     ensures { Gives (λ x. (x.0, x.1.now)) result (counts_at bytes.now) }
@@ -51,7 +51,7 @@ fn counts_of(bytes: &[u8]) -> Result<(Counts, &[u8]), FileFault>
     Ok((counts, rest))
 }
 
-/// The tables, with so many rows, and what follows them.
+/// The tables, with so many rows, and the rest.
 #[tactic(auto, unfolding(crate::specs::File::tables_at))]
 fn tables_of(alloc: Global, counts: Counts, bytes: &[u8]) -> Result<(Raw, &[u8]), FileFault>
     ensures { Gives (λ x. (x.0, x.1.now)) result (tables_at counts bytes.now) }
@@ -71,7 +71,7 @@ fn tables_of(alloc: Global, counts: Counts, bytes: &[u8]) -> Result<(Raw, &[u8])
     Ok((raw, rest))
 }
 
-/// The program at the front of `bytes`, and what follows it.
+/// The program at the front of `bytes`, and the rest.
 #[tactic(auto, unfolding(crate::specs::File::raw_at))]
 fn raw_of(alloc: Global, bytes: &[u8]) -> Result<(Raw, &[u8]), FileFault>
     ensures { Gives (λ x. (x.0, x.1.now)) result (raw_at bytes.now) }
@@ -99,8 +99,8 @@ fn file_of(alloc: Global, bytes: &[u8]) -> Result<Raw, FileFault>
 /// ```
 ///
 /// # Errors
-/// The first field that is cut short or unlawful, in the order of the file, or that bytes follow
-/// its end. [`FileFault::NoMemory`] if a growth was refused.
+/// The first field that is cut short or unlawful, in the order of the file; or the bytes
+/// after its end. [`FileFault::NoMemory`] if a growth was refused.
 pub fn decode(alloc: Global, bytes: &[u8]) -> Result<Raw, FileFault>
     // The raw that is read is spelled so.
     ensures found { IfOk result (λ raw. IsSpelling raw bytes.now) }

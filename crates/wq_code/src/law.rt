@@ -21,7 +21,7 @@ pub fn one_spelling()
     ensures { OneSpelling }
 {}
 
-/// No spelling begins another, of whatever program.
+/// No spelling of any program begins another.
 #[tactic(auto, using(crate::proofs::FileLaws::none_begins_another))]
 pub fn none_begins_another()
     ensures { NoneBeginsAnother }
@@ -52,7 +52,7 @@ pub fn ends_are_spellings()
     ensures { EndsAreSpellings }
 {}
 
-/// Bytes of which another fault is told than that they are cut short begin no spelling.
+/// Bytes with another fault than being cut short begin no spelling.
 #[tactic(auto, using(crate::proofs::FileLaws::faulty_begin_none))]
 pub fn faulty_begin_none()
     ensures { FaultyBeginNone }

@@ -1,10 +1,10 @@
-//! Programs of the matching machine: their instructions, what running them means, and the files
+//! Programs of the matching machine: their instructions, the meaning of a run, and the files
 //! that hold them.
 //!
-//! A [`Raw`] is a program that nobody has looked at: tables of constants and a list of
+//! A [`Raw`] is a program that nobody has verified: tables of constants and a list of
 //! instructions. [`decode`] makes one of the bytes of a file or names their first fault, and
-//! [`encode`] gives back the one file of a raw. `specs/Machine.antt` defines what a program does;
-//! whether it may run is for others to say.
+//! [`encode`] gives back the one file of a raw. `specs/Machine.antt` defines the steps of a
+//! program; `wq_verify` decides whether it may run.
 #![tactic(auto)]
 
 mod fault;

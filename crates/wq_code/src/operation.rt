@@ -27,9 +27,9 @@ pub enum Op {
     Text(u16),
     /// `wholename`: the file's name, relative to its root.
     WholeName,
-    /// `basename`: what follows the last slash of the name.
+    /// `basename`: the part after the last slash of the name.
     BaseName,
-    /// `suffix`: what follows the last dot of the basename, or the empty text.
+    /// `suffix`: the part after the last dot of the basename, or the empty text.
     Suffix,
     /// `size`: the file's size in bytes.
     Size,

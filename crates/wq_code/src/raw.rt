@@ -1,4 +1,4 @@
-//! A program that nobody has looked at.
+//! A program that nobody has verified.
 ghost use Rattle.std.specs.Prelude.{◌≡◌};
 ghost use Rattle.wq_code.specs.Fits.{raw_fits};
 

@@ -1,4 +1,4 @@
--- The code of each term leaves what the term means.
+-- The code of each term leaves the meaning of the term.
 use Rattle.std.proofs.Common.{◌≡◌, ℕ, ◌+◌, Bool, true, false, not, List, [], ◌∷◌, length, ℤ, pos, negsuc, Option, Some, None, refl, sym, ap, subst, ◌∙◌, arith}
 use Rattle.std.specs.Prelude.{◌&&◌, ◌||◌, ◌==◌, if◌then◌else◌, count_by, nat_le}
 use Rattle.std.specs.List.{list_any}
@@ -260,7 +260,7 @@ list-works stop ts test w same =
     (joined-works stop (parts_of ts) (tests_of ts) w)) same
 
 mutual
-  -- the code of a term leaves what the term means
+  -- the code of a term leaves the meaning of the term
   pub term-works : (t : ExprData) → Works (part_of t) (means t)
   term-works always = always-works
   term-works never = never-works

@@ -1,4 +1,4 @@
--- The program of an expression that fits and is not too large may run, and answers what it means.
+-- The program of an expression that fits and is not too large may run, and answers its meaning.
 use Rattle.std.proofs.Common.{◌≡◌, ◌⊎◌, ℕ, zero, suc, ◌+◌, ◌<◌, Bool, true, List, [], ◌∷◌, ◌++◌, length, Some, refl, ap, subst, ◌∙◌, inl, inr, arith, length-append}
 use Rattle.std.specs.Prelude.{slice_get}
 use Rattle.std.proofs.lemmas.Bool.{cases_lt}
@@ -56,7 +56,7 @@ answered whole item at x g got =
     last : step whole item at (flag x ∷ []) g.steps ≡ Answered x (g.steps + charge whole Return (flag x ∷ []))
     last = rw got refl
 
--- on each record the program answers what the expression means
+-- on each record the program answers the meaning of the expression
 pub program_answers : (t : ExprData) → AnswersMeaning (program_of t) t
 program_answers t r =
     let s = end-stands t in

@@ -1,4 +1,4 @@
--- A program into which instructions were put has them, with their constants, and keeps what it had.
+-- A program into which instructions were put has them, with their constants, and keeps its old ones.
 use Rattle.std.proofs.Common.{◌≡◌, ℕ, zero, suc, ◌+◌, List, [], ◌∷◌, ◌++◌, length, Some, refl, sym, subst, ◌∙◌, arith, add-one, length-append}
 use Rattle.std.specs.Prelude.{slice_get}
 use Rattle.wq_code.specs.declared.operation.Op.{Op}
@@ -47,7 +47,7 @@ extends-on raw mid whole a b = record {
   code = λ i x e. b.code i x (a.code i x e);
 }
 
--- an instruction that is put keeps what there was
+-- a program into which an instruction is put keeps its old ones
 pub put-extends : (i : Instruction) (raw : Raw) → Extends raw (put i raw)
 put-extends (plain op) raw =
     record { nums = λ i x e. e; texts = λ i x e. e; lists = λ i x e. e; patterns = λ i x e. e; code = front-append raw.code _ }
@@ -99,7 +99,7 @@ stands-stays : (raw whole : Raw) (at : ℕ) (i : Instruction) → Extends raw wh
 stands-stays raw whole at i more s =
     record { op = s.op; there = more.code at s.op s.there; is = op-stays raw whole s.op i more s.is }
 
--- an instruction is where it was put
+-- an instruction is at the place where it was put
 put-stands : (i : Instruction) (raw : Raw) → StandsAt (put i raw) (length raw.code) i
 put-stands (plain op) raw = record { op = op; there = behind raw.code op; is = refl }
 put-stands (number n) raw =
@@ -130,7 +130,7 @@ length-put_all (i ∷ is) raw =
     let one = length-put i raw in
     omega (arith, rest, one)
 
--- instructions are where they were put
+-- instructions are at the places where they were put
 pub put_all-has : (is : List Instruction) (raw : Raw) → HasCode (put_all is raw) (length raw.code) is
 put_all-has [] raw = tt
 put_all-has (i ∷ is) raw = (

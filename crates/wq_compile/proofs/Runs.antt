@@ -31,7 +31,7 @@ pub begins : (whole : Raw) (item : Item) → Gets whole item 0 []
 unfolding after
 begins whole item = record { k = 0; steps = 0; reached = refl }
 
--- the step from a place whose instruction is known
+-- the step from a place with a known instruction
 stepped : (whole : Raw) (item : Item) (place : ℕ) (cells : List Cell) (steps : ℕ) (op : Op) (left : List Cell)
     → slice_get whole.code place ≡ Some op → cells_after whole item op cells ≡ Some left
     → step whole item place cells steps ≡ go_on (flow op) place (Some left) (steps + charge whole op cells)
@@ -43,7 +43,7 @@ one_more : (whole : Raw) (item : Item) (k place : ℕ) (cells : List Cell) (step
 unfolding after
 one_more whole item k place cells steps e = ap (advance whole item) e
 
--- one step on, where the next place follows
+-- one step on, if the next place follows
 gets-next : (whole : Raw) (item : Item) (place : ℕ) (cells left : List Cell) (op : Op) → Gets whole item place cells
     → slice_get whole.code place ≡ Some op → flow op ≡ Next → cells_after whole item op cells ≡ Some left
     → Gets whole item (suc place) left
@@ -69,7 +69,7 @@ effect item (fitting pattern) cells = do
   (x, cells) ← top_text cells
   Some (flag (fits pattern x) ∷ cells)
 
--- what does not look at a constant does not depend on the tables
+-- an instruction that does not look at a constant does not depend on the tables
 no_tables : (whole : Raw) (item : Item) (op : Op) (cells left : List Cell)
     → cells_after blank item op cells ≡ Some left → cells_after whole item op cells ≡ Some left
 unfolding cells_after
@@ -129,7 +129,7 @@ abbrev pub all_next : List Instruction → Bool
 all_next [] = true
 all_next (i ∷ is) = goes_next i && all_next is
 
--- where the next place follows, the flow says so
+-- if the next place follows, the flow says so
 pub next-flow : (whole : Raw) (op : Op) (i : Instruction) → IsOp whole op i → goes_next i ≡ true → flow op ≡ Next
 next-flow whole op (plain (Flag x)) is e = rw is refl
 next-flow whole op (plain (Number place)) is e = rw is refl
@@ -190,13 +190,13 @@ gets-straight whole item (i ∷ is) at cells left g h n e =
 
 -- ---- parts
 
--- a part is as long as it says, and leaves a flag on an empty stack: what this test says
+-- a part has the length that it says, and leaves a flag on an empty stack: the result of this test
 pub record Works (part : Part) (test : RecordData → Bool) : Type 0 where
   pub long : (at : ℕ) → length (part.code at) ≡ part.len
   pub runs : (whole : Raw) (r : RecordData) (at : ℕ) → HasCode whole at (part.code at)
       → Gets whole (item_of r) at [] → Gets whole (item_of r) (at + part.len) (flag (test r) ∷ [])
 
--- a part without jumps works where its effects are those
+-- a part without jumps works if its effects are those
 pub straight-works : (is : List Instruction) (test : RecordData → Bool) → all_next is ≡ true
     → ((r : RecordData) → effects (item_of r) is [] ≡ Some (flag (test r) ∷ [])) → Works (straight is) test
 straight-works is test n e = record {
@@ -219,12 +219,12 @@ abbrev pub decided : Bool → Bool → Tests → RecordData → Bool
 decided stop now [] r = now
 decided stop now (test ∷ tests) r = if beq now stop then now else decided stop (test r) tests r
 
--- what several tests say together
+-- the joint result of several tests
 abbrev pub together : Bool → Tests → RecordData → Bool
 together stop [] r = not stop
 together stop (test ∷ tests) r = decided stop (test r) tests r
 
--- where a jump goes
+-- the place that a jump leads to
 pub jump-flow : (stop : Bool) (end : ℕ) → flow (jump_if stop end) ≡ Fork end stop
 jump-flow false end = refl
 jump-flow true end = refl

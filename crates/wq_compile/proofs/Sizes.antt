@@ -174,7 +174,7 @@ joined-fits stop (p ∷ ps) f at =
     list_all-append constant_fits (p.code at) (others stop (at + p.len + others_len ps) ps (at + p.len))
     ∙ and_from _ _ (f.0 at) (others-fit stop (at + p.len + others_len ps) ps f.1 (at + p.len))
 
--- what is kept of short texts is short
+-- a part of short texts is short
 filled-fit : (texts : List (List ℕ)) → list_all is_short_text texts ≡ true → list_all is_short_text (filled texts) ≡ true
 filled-fit [] e = refl
 filled-fit (bytes ∷ texts) e =
@@ -205,7 +205,7 @@ since-constants (Created (Tick tick)) = refl
 since-constants (Created (Second second)) = refl
 since-constants (Modified second) = refl
 
--- neither of two
+-- neither of two is true
 pub or_parts : (a b : Bool) → (a || b) ≡ false → (a ≡ false) × (b ≡ false)
 or_parts false false e = (refl, refl)
 or_parts false true e = cc

@@ -20,14 +20,14 @@ use Rattle.wq_compile.specs.Code.{Part, straight, jump_if, others_len, others, j
 use Rattle.wq_compile.proofs.Puts.{IsOp, StandsAt, HasCode, has-first, has-second}
 use Rattle.wq_compile.proofs.Runs.{goes_next, next-flow, joined_len}
 
--- ---- what is known at places
+-- ---- the kinds that are known at places
 
 -- from a place on these kinds are known
 abbrev pub Agrees : KnownKinds → ℕ → List Kinds → Type 0
 Agrees lists at [] = Unit {0}
 Agrees lists at (kinds ∷ more) = (lists at ≡ Some kinds) × Agrees lists (suc at) more
 
--- what is known, cut in two
+-- the known kinds, cut in two
 pub agrees-first : (lists : KnownKinds) (at : ℕ) (xs ys : List Kinds) → Agrees lists at (xs ++ ys) → Agrees lists at xs
 agrees-first lists at [] ys a = tt
 agrees-first lists at (x ∷ xs) ys a = (a.0, agrees-first lists (suc at) xs ys a.1)
@@ -116,7 +116,7 @@ named whole op (fitting pattern) is e =
 abbrev pub kinds_next : Instruction → Kinds → Kinds
 kinds_next i kinds = kinds_after (sample i) kinds
 
--- an instruction finds what it takes, leaves not too much, and is followed by the next place
+-- an instruction finds the cells that it takes, leaves not too many, and is followed by the next place
 abbrev pub is_fine : Instruction → Kinds → Bool
 is_fine i kinds =
     goes_next i && (brings i
@@ -138,7 +138,7 @@ abbrev pub kinds_behind : List Instruction → Kinds → Kinds
 kinds_behind [] kinds = kinds
 kinds_behind (i ∷ is) kinds = kinds_behind is (kinds_next i kinds)
 
--- what is known where they begin
+-- the kinds that are known at their beginning
 known-first : (lists : KnownKinds) (at : ℕ) (is : List Instruction) (kinds : Kinds) → Agrees lists at (kinds_before is kinds)
     → lists (at + length is) ≡ Some (kinds_behind is kinds) → lists at ≡ Some kinds
 known-first lists at [] kinds a e = let z : at + 0 ≡ at = omega arith in subst (λ n. lists n ≡ Some kinds) z e
@@ -268,7 +268,7 @@ others-long stop (p ∷ ps) (kinds ∷ more) end at t =
 others-long stop [] (kinds ∷ more) end at t = absurd t
 others-long stop (p ∷ ps) [] end at t = absurd t
 
--- there is one flag where the others begin, and at their end
+-- there is one flag at the beginning of the others, and at their end
 others-first : (lists : KnownKinds) (ps : List Part) (all : List (List Kinds)) (end at : ℕ) → AllTyped ps all
     → end ≡ at + others_len ps → Agrees lists at (others_kinds all) → lists end ≡ Some one_flag → lists at ≡ Some one_flag
 others-first lists [] [] end at t is a e = let z : end ≡ at = omega (arith, is) in subst (λ n. lists n ≡ Some one_flag) z e

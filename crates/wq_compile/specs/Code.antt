@@ -32,7 +32,7 @@ use Rattle.wq_term.specs.Expr.{ExprsData, no_terms, term}
 use Rattle.wq_compile.specs.Instruction.{Instruction, plain, number, text, one_of, fitting}
 use Rattle.wq_compile.specs.Instruction.{put_all, blank}
 
--- a part of some code: how long it is, and its instructions where it begins at a place
+-- a part of some code: its length, and its instructions when it begins at a place
 pub record Part : Type 0 where
   pub len : ℕ
   pub code : ℕ → List Instruction
@@ -41,7 +41,7 @@ pub record Part : Type 0 where
 abbrev pub straight : List Instruction → Part
 straight is = record { len = length is; code = λ at. is }
 
--- the jump that is taken where the flag on top is this one
+-- the jump that is taken if the flag on top is this one
 abbrev pub jump_if : Bool → ℕ → Op
 jump_if false end = JumpIfNot end
 jump_if true end = JumpIf end
@@ -58,8 +58,7 @@ others flag end (p ∷ ps) at =
     plain (jump_if flag end) ∷ plain Drop ∷ p.code (2 + at)
     ++ others flag end ps (2 + at + p.len)
 
--- several parts, of which the first that leaves this flag decides; the other flag where there is
--- none
+-- several parts, of which the first that leaves this flag decides; the other flag if there is none
 abbrev pub joined : Bool → List Part → ℕ → List Instruction
 joined flag [] at = plain (Flag (not flag)) ∷ []
 joined flag (p ∷ ps) at = p.code at ++ others flag (at + p.len + others_len ps) ps (at + p.len)
@@ -98,7 +97,7 @@ abbrev pub depth_code : Case → List ℕ → Relation → ℤ → List Instruct
 depth_code case dir relation n =
     plain WholeName ∷ text dir ∷ plain (Depth case) ∷ number n ∷ plain (Compare relation) ∷ []
 
--- `dirname`: at all, and then so deep
+-- `dirname`: at all, and then at this depth
 abbrev pub below_code : Case → List ℕ → DepthData → ℕ → List Instruction
 below_code case dir Any at = depth_code case dir Ge (pos 0)
 below_code case dir (Is relation n) at =

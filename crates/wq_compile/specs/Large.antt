@@ -1,5 +1,5 @@
--- Which expressions have no program.
--- The limits are those of program files, which are this server's own.
+-- The expressions that have no program. The limits are those of program files, which are this
+-- server's own.
 use Rattle.std.specs.Prelude.{ℕ, Bool, false, ◌||◌, ◌+◌, nat_lt, List, length}
 use Rattle.wq_code.specs.Limit.{max_table_rows, max_entries}
 use Rattle.wq_term.specs.CodeLength.{code_len}

@@ -1,9 +1,9 @@
-//! Why an expression has no program.
+//! The reasons for which an expression has no program.
 
 use std::alloc::AllocError;
 use thiserror::Error;
 
-/// Why an expression has no program.
+/// The reason for which an expression has no program.
 #[derive(Clone, Copy, Debug, PartialEq, Eq, Drop, Error)]
 pub enum CompileFault {
     /// Its code and the end have over 4,096 instructions, or a list of texts has over 65,535

@@ -1,4 +1,4 @@
-//! Which expressions have no program: those whose code or lists are too long.
+//! The expressions that have no program: those whose code or lists are too long.
 ghost use Rattle.std.specs.Prelude.{◌≡◌, length, map};
 ghost use Rattle.wq_term.specs.Expr.{term_of, terms_of, texts_in};
 ghost use Rattle.wq_compile.specs.Large.{has_long_list, have_long_list, is_long_list, is_too_large};

@@ -1,8 +1,8 @@
-//! The compiler: programs of expressions. On every record the program of an expression answers what
-//! the expression means. So a caller that runs programs needs no second evaluator.
+//! The compiler: programs of expressions. On every record the program of an expression answers the
+//! meaning of the expression. So a caller that runs programs needs no second evaluator.
 //!
-//! `specs/Code.antt` has the code of each term, and `specs/Meaning.antt` says what it means that a
-//! program stands for an expression. How programs run is not said here.
+//! `specs/Code.antt` has the code of each term, and `specs/Meaning.antt` defines when a program
+//! stands for an expression. `wq_machine` runs programs.
 #![tactic(auto)]
 
 mod code;

@@ -16,7 +16,7 @@ use wq_code::{Op, Raw};
 use wq_term::Expr;
 use wq_verify::{Program, ProgramFault, verify};
 
-/// The program of an expression. On every record its run answers what the expression means there.
+/// The program of an expression. On every record its run answers the expression's meaning there.
 ///
 /// ```text
 /// ["allof", ["type", "f"], ["suffix", "c"]]   kind; num 0; cmp eq; jf 7; drop; suffix; oneof 0 fold; ret

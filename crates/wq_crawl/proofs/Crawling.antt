@@ -8,7 +8,7 @@ use Rattle.wq_crawl.specs.declared.fault.CrawlFault.TheVariants.{NoMemory}
 use Rattle.wq_crawl.specs.Crawl.{Began, CrawledAt, CrawlerData, IsNoPassOver, IsOfRows, IsPassOver}
 use Rattle.wq_crawl.specs.Publish.{IsNotTakenIn, Passes, with_start}
 
--- a root that is shown, and of which there is no pass
+-- a root that is shown, and over which there is no pass
 pub not_crawled_at : (text : List ℕ) (before after : CrawlerData) (number : ℕ) (result : Result (List RootEvent) CrawlFault)
     (told fault : CrawlFault) → result ≡ Err told → told ≡ fault → after.events ≡ before.events
     → IsNoPassOver text before fault after → CrawledAt number text before result after
@@ -16,7 +16,7 @@ not_crawled_at text before after number result told fault is same kept none =
     subst (λ r. CrawledAt number text before r after) (sym (is ∙ ap Err same)) (kept, inl none)
 
 module _ (text : List ℕ) (before mid after : CrawlerData) (pass : PassData) where
-  -- a pass over a root stays one where nothing more is listed, and the clock is not asked again
+  -- a pass over a root remains one if nothing more is listed, and the clock is not asked again
   still : IsPassOver text before pass mid → after.listed ≡ mid.listed → after.clock ≡ mid.clock → IsPassOver text before pass after
   still (rows, second) listed clock =
       (subst (IsOfRows before.listed text pass) (sym listed) rows, subst (Gave before.clock pass.second) (sym clock) second)

@@ -1,4 +1,4 @@
--- A crawl that was told to all that asked for it.
+-- A crawl whose list was returned to all that asked for it.
 use Rattle.std.proofs.Common.{ℕ, pos, List, Option, None, Result, Ok, Err, inl, inr, refl}
 use Rattle.wq_live.specs.Event.{passes_over}
 use Rattle.wq_live.specs.declared.event.RootEvent.{RootEvent}
@@ -12,11 +12,11 @@ use Rattle.wq_crawl.specs.Roots.{RootsGive, passing}
 abbrev plain : List RootEvent → CrawlerData
 plain events = record { events = events; clock = None; listed = None; failed = 0 }
 
--- a pass that sees what the last one over the root of this number saw
+-- a pass that sees the same as the last one over the root of this number
 abbrev same_again : ℕ → List RootEvent → PassData
 same_again number events = record { stats = last_stats (passes_over number events); second = pos 0 }
 
--- to those that share a crawl it is as if each had crawled, and had found nothing changed
+-- for threads that share a crawl, it is as if each had crawled and found no change
 shared_at : (text : List ℕ) (number : ℕ) (before after : CrawlerData) (answer : Result (List RootEvent) CrawlFault) → Shared before answer after
     → CrawledAt number text (plain before.events) answer (plain before.events)
 shared_at text number before after (Ok told) (same, kept) = (same, same_again number before.events, (tt, tt), inl (inr refl, refl))

@@ -1,5 +1,5 @@
--- Crawling, watching and unwatching a root: what each makes of the list of events, and why it is
--- refused. No public document defines it.
+-- Crawling, watching and unwatching a root: the list of events after each of them, and the reasons
+-- for a refusal. No public document defines it.
 use Rattle.std.specs.Prelude.{◌≡◌, ◌≤◌, ◌⊎◌, ℕ, ℤ, refl, List}
 use Rattle.std.specs.Prelude.{Option, Some, None, IsSome, IsTrue, Result, Ok, Err}
 use Rattle.std.specs.List.{list_all}
@@ -24,9 +24,9 @@ use Rattle.wq_crawl.specs.declared.fault.CrawlFault.TheVariants.{TooManyRoots, N
 use Rattle.wq_crawl.specs.declared.place.Place.{Place}
 use Rattle.wq_crawl.specs.declared.place.Place.TheVariants.{Shown, Full, Free}
 
--- the state that a crawler shows. It has the list of events that is published; what its clock told
--- last and how often it told something, and the same of its tree's listings, if they are shown. It
--- also has how often its tree failed
+-- the state that a crawler shows: the list of events that is published, and how often its tree
+-- failed. If its clock shows them, also the last second of the clock and the number of its seconds.
+-- If its tree shows them, the same for listings
 pub record CrawlerData : Type 0 where
   pub events : List RootEvent
   pub clock : Option (ℕ × ℤ)
@@ -48,19 +48,19 @@ crawler_code =
       failed = failed;
     }) (λ _. refl)
 
--- why a root is not crawled that the tree does not list
+-- the crawl fault of a root that the tree does not list
 abbrev pub not_listed : TreeFault → CrawlFault
 not_listed UnreadableTree = Unreadable
 not_listed TooManyTreeRows = TooManyFiles
 not_listed NoTreeMemory = NoMemory
 
--- the fault of a root whose rows, each of them lawful, make no pass. They are too many; or a name is
--- there twice, or the second is out of range
+-- the fault of a root whose rows, each of them lawful, make no pass: they are too many, or a name
+-- comes twice, or the second is out of range
 abbrev pub no_pass : PassFault → CrawlFault
 no_pass TooManyRows = TooManyFiles
 no_pass _ = Unreadable
 
--- a pass is of the rows that the tree gave of a root, where it shows what it gives
+-- a pass has the rows that the tree gave for a root, if the tree shows its rows
 abbrev pub IsOfRows : Option (ℕ × ListedData) → List ℕ → PassData → Option (ℕ × ListedData)
     → Type 0
 IsOfRows before text pass None = Unit {0}
@@ -68,15 +68,14 @@ IsOfRows before text pass (Some after) =
     (rows : List SeenData) × Lists before text (Ok rows) (Some after)
     × (listing_fault rows pass.second ≡ None) × (pass ≡ listing_of rows pass.second)
 
--- a root was listed, and this is the pass over it: of the rows that the tree gave, and of the second
--- that the clock told
+-- a root was listed, and this is the pass over it, with the rows that the tree gave and the second
+-- that the clock gave
 abbrev pub IsPassOver : List ℕ → CrawlerData → PassData → CrawlerData → Type 0
 IsPassOver text before pass after =
     IsOfRows before.listed text pass after.listed × Gave before.clock pass.second after.clock
 
--- a root was to be listed, and this is why there is no pass over it. The tree did not list it, and
--- the clock was not asked. Or the rows that it listed, each of them lawful, make none together at
--- the second that the clock told
+-- a root had no pass, with this fault: the tree did not list it, and the clock was not asked; or
+-- the rows that it listed, each of them lawful, make no pass at the second that the clock gave
 abbrev pub IsNoPassOver : List ℕ → CrawlerData → CrawlFault → CrawlerData → Type 0
 IsNoPassOver text before fault after =
     ((why : TreeFault) × Lists before.listed text (Err why) after.listed
@@ -87,8 +86,8 @@ IsNoPassOver text before fault after =
     × IsTrue (list_all is_lawful_row rows) × IsTrue (is_of_whole why)
     × (listing_fault rows second ≡ Some why) × (fault ≡ no_pass why))
 
--- a root that is shown was crawled: it was listed, and a pass over it is added, unless that tells
--- nothing, and the list is told. If it is refused, nothing is added
+-- a root that is shown was crawled: it was listed, a pass over it is added if that is news, and the
+-- list is returned. If the crawl is refused, nothing is added
 abbrev pub CrawledAt : ℕ → List ℕ → CrawlerData → Result (List RootEvent) CrawlFault
     → CrawlerData → Type 0
 CrawledAt number text before (Ok told) after =
@@ -100,12 +99,12 @@ CrawledAt number text before (Err fault) after =
     ⊎ ((pass : PassData) × IsPassOver text before pass after
     × IsNotTakenIn before.events number pass fault))
 
--- what was told where a list is told unless that is refused
+-- the list that is returned, if it is not refused
 abbrev pub tells : Result (List RootEvent) CrawlFault → Result (Option (List RootEvent)) CrawlFault
 tells (Ok told) = Ok (Some told)
 tells (Err fault) = Err fault
 
--- a root was crawled; of one that is not shown there is no crawl, and nothing is told
+-- a root was crawled; a root that is not shown has no crawl, and nothing is returned
 abbrev pub Crawled : List ℕ → CrawlerData → Result (Option (List RootEvent)) CrawlFault
     → CrawlerData → Type 0
 Crawled text before result after =
@@ -114,13 +113,13 @@ Crawled text before result after =
     × (number_of text before.events ≡ Some number) × (result ≡ tells answer)
     × CrawledAt number text before answer after)
 
--- the list is told as it is, unless memory is wanted for that
+-- the present list is returned, unless memory ran out for that
 abbrev pub Shared : CrawlerData → Result (List RootEvent) CrawlFault → CrawlerData → Type 0
 Shared before (Ok told) after = (told ≡ before.events) × (after ≡ before)
 Shared before (Err fault) after = (fault ≡ NoMemory) × (after ≡ before)
 
--- a root that is not shown was listed and started with a pass over it, and the list is told. If it
--- is refused, nothing is added
+-- a root that is not shown was listed and started with a pass over it, and the list is returned. If
+-- it is refused, nothing is added
 abbrev pub Began : List ℕ → CrawlerData → Result (List RootEvent) CrawlFault → CrawlerData → Type 0
 Began text before (Ok told) after =
     (told ≡ after.events) × (pass : PassData) × IsPassOver text before pass after
@@ -128,8 +127,8 @@ Began text before (Ok told) after =
 Began text before (Err fault) after =
     (after.events ≡ before.events) × (IsNoPassOver text before fault after ⊎ (fault ≡ NoMemory))
 
--- a root that was found so was watched. Of one that is shown the list is told. If no more can be
--- started, it is refused before it is listed. Any other was started
+-- a root in this state was watched. If it is shown, the list is returned. If no more can be
+-- started, the root is refused before it is listed. Any other root was started
 abbrev pub WatchedAt : Place → List ℕ → CrawlerData → Result (List RootEvent) CrawlFault
     → CrawlerData → Type 0
 WatchedAt (Shown number) text before result after = Shared before result after
@@ -142,16 +141,16 @@ abbrev pub Watched : List ℕ → CrawlerData → Result (List RootEvent) CrawlF
 Watched text before result after =
     (place : Place) × IsPlace text before.events place × WatchedAt place text before result after
 
--- a root was unwatched by its number: its end is added if it is shown, and the list is told. If it
--- is refused, nothing is added
+-- a root was unwatched by its number: its end is added if it is shown, and the list is returned. If
+-- the call is refused, nothing is added
 abbrev pub Unwatched : ℕ → CrawlerData → Result (List RootEvent) CrawlFault → CrawlerData → Type 0
 Unwatched number before (Ok told) after =
     (told ≡ after.events) × EndsRoot before.events number after.events
     × (after ≡ record before { events = after.events })
 Unwatched number before (Err fault) after = (fault ≡ NoMemory) × (after ≡ before)
 
--- a root was crawled for a thread that had read this count of crawls: by a crawl. Or by none, if
--- its last crawl began at this count or a later one. Then the list is told as it is
+-- a thread that had read this count of crawls asked for a root: the root was crawled; or its last
+-- crawl began at this count or a later one, and the present list is returned
 abbrev pub CrawledOnce : List ℕ → ℕ → (ℕ → Option ℕ) → CrawlerData
     → Result (Option (List RootEvent)) CrawlFault → CrawlerData → Type 0
 CrawledOnce text asked last before result after =

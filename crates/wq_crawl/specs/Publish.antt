@@ -1,6 +1,6 @@
--- The events that may be added to the one list of events of all roots, and when a pass or a start
--- is refused there. A crawler publishes by these words, and a script plays by them. No public
--- document defines it.
+-- The events that may be added to the one list of events of all roots, and the refusals of a pass
+-- or a start. A crawler publishes by these definitions, and a replay of a script uses them. No
+-- public document defines it.
 use Rattle.std.specs.Prelude.{◌≡◌, ◌<◌, ◌⊎◌, ◌+◌, true, false, ℕ, List, [], ◌∷◌, ◌++◌, length}
 use Rattle.std.specs.Prelude.{None, Some}
 use Rattle.wq_view.specs.Limit.{max_tick}
@@ -14,27 +14,29 @@ use Rattle.wq_crawl.specs.declared.fault.CrawlFault.TheVariants.{NoMemory, Ticks
 use Rattle.wq_crawl.specs.declared.place.Place.{Place}
 use Rattle.wq_crawl.specs.declared.place.Place.TheVariants.{Shown, Full, Free}
 
--- how a root of this text that is to be shown is found. It is shown, under this number; or it is
--- not, and no more root can be started, or one can
+-- the state in which a root of this text is found: it is shown under this number; or it is not, and
+-- no more root can be started, or one can
 abbrev pub IsPlace : List ℕ → List RootEvent → Place → Type 0
 IsPlace text events (Shown number) = number_of text events ≡ Some number
 IsPlace text events Full = (number_of text events ≡ None) × IsFull events
 IsPlace text events Free = (number_of text events ≡ None) × (IsFull events → ⊥)
 
--- a pass over the root of this number is added, which has a tick left for it, unless it tells nothing
+-- a pass over the root of this number is added if it is news, and the root then has a tick left for
+-- it
 abbrev pub Passes : List RootEvent → ℕ → PassData → List RootEvent → Type 0
 Passes before number pass after =
     (IsNoNews before number pass × (after ≡ before))
     ⊎ (IsNews before number pass × (length (passes_over number before) < max_tick)
     × (after ≡ before ++ Passed number pass ∷ []))
 
--- why a pass over a root is not added: it wants for ticks; or it does not, and memory ran out
+-- the reason for which a pass over a root is not added: the pass is news, and the root has no tick
+-- left for it; or that is not so, and memory ran out
 abbrev pub IsNotTakenIn : List RootEvent → ℕ → PassData → CrawlFault → Type 0
 IsNotTakenIn events number pass fault =
     ((fault ≡ TicksSpent) × WantsForTicks events number pass)
     ⊎ ((fault ≡ NoMemory) × (WantsForTicks events number pass → ⊥))
 
--- the list with the start of a root, by this pass
+-- the list after the start of a root with this pass
 abbrev pub with_start : List ℕ → PassData → List RootEvent → List RootEvent
 with_start text pass events = events ++ start_events (length (started events) + 1) text pass
 

@@ -1,20 +1,20 @@
--- The work of the roots for a session, and their answers. No public document defines it.
+-- The requests of a session to the roots, and their answers. No public document defines it.
 use Rattle.std.specs.Prelude.{◌≡◌, ℕ, List, Option, Some, None, Result}
 use Rattle.wq_live.specs.declared.event.RootEvent.{RootEvent}
 use Rattle.wq_crawl.specs.declared.fault.CrawlFault.{CrawlFault}
 use Rattle.wq_crawl.specs.Crawl.{CrawlerData, Crawled, Watched, Unwatched, tells}
 
--- what a session asks of the roots
+-- a request of a session to the roots
 pub data RootRequestData : Type 0 where
   -- a pass over the root of this text, if it is shown
   passing : (root : List ℕ) → RootRequestData
-  -- that the root of this text is shown
+  -- the start of the root of this text, unless it is shown
   showing : (root : List ℕ) → RootRequestData
   -- the end of the root of this number
   ending : (number : ℕ) → RootRequestData
 
--- a request was done by a crawler, and this was answered: the list of events, if one is told; or
--- why the request was refused
+-- a crawler did a request, with this answer: the list of events, if one is returned; or the reason
+-- for which the request was refused
 abbrev pub Fulfils : RootRequestData → CrawlerData → Result (Option (List RootEvent)) CrawlFault
     → CrawlerData → Type 0
 Fulfils (passing root) before told after = Crawled root before told after
@@ -25,8 +25,8 @@ Fulfils (ending number) before told after =
     (answer : Result (List RootEvent) CrawlFault) × (told ≡ tells answer)
     × Unwatched number before answer after
 
--- the roots do what a session asks, and give this answer. They do it by the crawler that is shown,
--- and what it is then is shown; or by some crawler, if none is shown
+-- the roots do a request of a session, and give this answer. If they show a crawler, they do it by
+-- that crawler, and show its state afterwards. If they show none, they do it by some crawler
 abbrev pub RootsGive : Option CrawlerData → RootRequestData
     → Result (Option (List RootEvent)) CrawlFault → Option CrawlerData → Type 0
 RootsGive (Some before) request told after =

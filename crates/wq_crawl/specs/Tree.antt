@@ -1,4 +1,4 @@
--- When a tree may say that a root cannot be read, and what it shows of what it listed. No public
+-- The listings of a tree, as it shows them, and when it may call a root unreadable. No public
 -- document defines it.
 use Rattle.std.specs.Prelude.{◌≡◌, ◌<◌, ◌⊎◌, ◌^◌, ◌-◌, ℕ, List, Option, Result, Ok, Err}
 use Rattle.std.specs.Prelude.{Vec, refl}
@@ -10,7 +10,7 @@ use Rattle.wq_crawl.specs.contracts.tree.TreeFault.{the_row}
 use Rattle.wq_crawl.specs.declared.tree.TreeFault.{TreeFault}
 use Rattle.wq_crawl.specs.declared.tree.TreeFault.TheVariants.{Unreadable}
 
--- the greatest count of failures that can be told
+-- the greatest count of failures
 abbrev pub max_count : ℕ
 max_count = 2 ^ 64 - 1
 
@@ -18,12 +18,13 @@ max_count = 2 ^ 64 - 1
 abbrev pub IsCounted : ℕ → ℕ → TreeFault → Type 0
 IsCounted before after fault = fault ≡ Unreadable → (before < after) ⊎ (after ≡ max_count)
 
--- what a tree listed: of which root, and the rows that it gave, or why it gave none
+-- a listing of a tree: its root, and the rows that the tree gave, or the fault for which it gave
+-- none
 pub record ListedData : Type 0 where
   pub root : List ℕ
   pub rows : Result (List SeenData) TreeFault
 
--- a row as the pair of its name and what was seen of it
+-- a row as the pair of its name and its stat
 abbrev pub row_code : Coded SeenData
 row_code =
     code_by (List ℕ × Stat) (coded× (coded_list coded_ℕ) stat_code) entry_of

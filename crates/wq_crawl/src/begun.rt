@@ -1,4 +1,4 @@
-//! How many crawls have begun.
+//! The count of crawls that have begun.
 
 use crate::crawler::Crawler;
 use crate::seconds::Seconds;
@@ -7,8 +7,8 @@ use std::sync::Wait;
 use std::sync::atomic::{AtomicU64, Ordering};
 use wq_live::Named;
 
-/// Counts the crawls that begin. The meaning of a count is known only of counts that are read and raised here: a number
-/// of another origin is none.
+/// Counts the crawls that begin. Only a count that was read or raised here has a meaning. A number of another origin is
+/// no count.
 pub(crate) trait Counts {
     ghost use Rattle.std.specs.Prelude.{ℕ};
     ghost use Rattle.wq_crawl.specs.Crawl.{CrawlerData};
@@ -16,14 +16,14 @@ pub(crate) trait Counts {
     // A count that was read.
     ghost read: { ℕ → Type 0 };
 
-    // A count that was raised while the crawler was so.
+    // A count that was raised while the crawler was in this state.
     ghost raised: { CrawlerData → ℕ → Type 0 };
 
-    /// How many crawls have begun.
+    /// The number of crawls that have begun.
     fn read(&self) -> u64
         ensures { read result };
 
-    /// Counts a crawl that begins, by a crawler that is so, and gives how many had begun before.
+    /// Counts a crawl that begins, by a crawler in this state. It returns the number of crawls that had begun before.
     fn raise<N, R, T, S>(&self, crawler: &Crawler<N, R, T, S>) -> u64
     where
         N: Named,

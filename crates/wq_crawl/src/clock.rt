@@ -1,4 +1,4 @@
-//! The machine's clock, which tells the second of a pass.
+//! The machine's clock, which gives the second of a pass.
 ghost use Rattle.std.specs.Prelude.{◌≡◌, ℤ, Option, int_le, pos, true};
 ghost use Rattle.wq_crawl.specs.Second.{next_second};
 
@@ -7,9 +7,9 @@ use std::marker::Model;
 use std::time::{Clock, SystemTime, UNIX_EPOCH};
 use wq_base::MAX_NUMBER;
 
-/// The seconds of the Unix epoch by the machine's clock, which never fall. If the clock was set back, cannot be read or
-/// is before the epoch, the last second that it told is told again. So a client that asks what changed since a second
-/// may be told too much, and misses nothing. Contracts see the last second that it told, 0 before the first.
+/// The seconds of the Unix epoch, as the machine's clock shows them. They never fall: the last second comes again if
+/// that clock was set back, cannot be read or is before the epoch. So a client that asks for changes since a second may
+/// get too many, and misses none. Contracts see the last second that was given. It is 0 before the first.
 #[derive(Drop)]
 pub struct MachineClock<R: Clock + Drop> {
     rt: R,
@@ -25,14 +25,14 @@ impl<R: Clock + Drop> Model for MachineClock<R> {
 }
 
 impl<R: Clock + Drop> MachineClock<R> {
-    /// A clock that told no second yet.
+    /// A clock that gave no second yet.
     pub fn new(rt: R) -> MachineClock<R>
         ensures { result ≡ pos 0 }
     {
         MachineClock { rt, last: 0 }
     }
 
-    /// The second as it is now.
+    /// The present second.
     fn now(&self) -> Option<i64> {
         let now = SystemTime::now(&self.rt).ok()?;
         let since = now.duration_since(UNIX_EPOCH).ok()?;
@@ -40,7 +40,8 @@ impl<R: Clock + Drop> MachineClock<R> {
     }
 }
 
-/// The second that is told after this one, when the clock shows that, or cannot be read.
+/// The second that the clock gives after the last one: the machine's second, if it is read and not earlier, or else the
+/// last one again.
 fn next_second(last: i64, now: Option<i64>) -> i64
     ensures next { result ≡ next_second last now }
     ensures rises { int_le last result ≡ true }

@@ -1,5 +1,5 @@
-//! The crawler, which lists roots and publishes what it sees: a tree, a clock and a publisher. One crawl after the
-//! other takes hold of them.
+//! The crawler, which lists roots and publishes their passes. It has a tree, a clock and a publisher. Crawls use them
+//! one after the other.
 ghost use Rattle.std.specs.Prelude.{◌≡◌, ◌≢◌, ◌⊎◌, ◌↔◌, Err, IfErr, IfOk, IsTrue, MatchResult, None};
 ghost use Rattle.wq_live.specs.Event.{IsFull, number_of};
 ghost use Rattle.std.specs.List.{list_all};
@@ -19,8 +19,8 @@ use std::sync::Wait;
 use wq_live::{Named, Publisher, Seat, StartFault, Told};
 use wq_view::{Pass, Seen, ViewFault};
 
-/// Lists roots, and publishes what it sees. Contracts see the list of events that is published, and
-/// what the tree and the clock show of themselves.
+/// Lists roots, and publishes their passes. Contracts see the list of events that is published, and the state that the
+/// tree and the clock show.
 #[derive(Drop)]
 pub struct Crawler<N: Named, R: Wait + Drop, T: Tree + Drop, S: Seconds + Drop> {
     publisher: Publisher<N, R>,
@@ -60,7 +60,8 @@ impl<N: Named, R: Wait + Drop, T: Tree + Drop, S: Seconds + Drop> Crawler<N, R, 
         }
     }
 
-    /// A new seat, which has seen what is published. Refused where each place is in use too.
+    /// A new seat, which has seen all that is published. The call is refused if memory runs out, or if every place is
+    /// in use.
     pub fn seat(&mut self) -> Result<Seat<N>, AllocError>
         ensures seat { IfOk result (λ seat. seat ≡ (self.new).events) }
         ensures kept { self.new ≡ self.old }
@@ -75,9 +76,10 @@ impl<N: Named, R: Wait + Drop, T: Tree + Drop, S: Seconds + Drop> Crawler<N, R, 
         self.publisher.find(root)
     }
 
-    /// Crawls the root of this text, publishes the pass, and tells the list; none if the root is not shown.
+    /// Crawls the root of this text, publishes the pass, and returns the list. There is none if the root is not shown.
     ///
-    /// A refused crawl leaves the list. It waits for those that still look at what was published before the last pass.
+    /// A refused crawl leaves the list as it is. The call waits for looks that still read the value before the last
+    /// pass.
     pub fn crawl(&mut self, root: &str) -> Result<Option<Told<N>>, CrawlFault>
         ensures { Crawled root.now self.old result self.new }
     {
@@ -90,10 +92,10 @@ impl<N: Named, R: Wait + Drop, T: Tree + Drop, S: Seconds + Drop> Crawler<N, R, 
         }
     }
 
-    /// Finds the root of this text, or lists it and starts it, and tells the list.
+    /// Finds the root of this text, or lists it and starts it, and returns the list.
     ///
-    /// A root that is not shown is refused before it is listed where no more can be started. One that is shown is
-    /// refused for want of memory alone. A refusal leaves the list.
+    /// If no more root can be started, a root that is not shown is refused before it is listed. A root that is shown is
+    /// refused only if memory runs out. A refusal leaves the list as it is.
     pub fn watch(&mut self, root: &str) -> Result<Told<N>, CrawlFault>
         ensures { Watched root.now self.old result self.new }
     {
@@ -104,9 +106,9 @@ impl<N: Named, R: Wait + Drop, T: Tree + Drop, S: Seconds + Drop> Crawler<N, R, 
         }
     }
 
-    /// Publishes the end of the root of this number, if it is shown, and tells the list.
+    /// Publishes the end of the root of this number, if it is shown, and returns the list.
     ///
-    /// A refusal leaves the list.
+    /// A refusal leaves the list as it is.
     pub fn unwatch(&mut self, number: u64) -> Result<Told<N>, CrawlFault>
         ensures { Unwatched number self.old result self.new }
     {
@@ -124,7 +126,7 @@ impl<N: Named, R: Wait + Drop, T: Tree + Drop, S: Seconds + Drop> Crawler<N, R, 
         self.publisher.let_go();
     }
 
-    /// The list as it is.
+    /// The present list.
     pub(crate) fn told(&self) -> Result<Told<N>, CrawlFault>
         ensures { Shared self.now result self.now }
     {
@@ -195,7 +197,8 @@ impl<N: Named, R: Wait + Drop, T: Tree + Drop, S: Seconds + Drop> Crawler<N, R, 
             (λ pass. IsPassOver root.now self.old pass self.new)
             (λ fault. IsNoPassOver root.now self.old fault self.new) }
     {
-        // Else the views before the last ones would be in memory beside the rows and the views that follow from them.
+        // Otherwise memory would hold the views before the last ones beside the rows and the views that follow from
+        // them.
         self.let_go();
         let rows = match self.rows(root) {
             Ok(rows) => rows,

@@ -1,4 +1,4 @@
-//! Why a root could not be crawled, watched or unwatched.
+//! The reasons for which a root could not be crawled, watched or unwatched.
 ghost use Rattle.std.specs.Prelude.{◌≡◌, IsTrue};
 ghost use Rattle.wq_view.specs.Listing.{is_of_whole};
 ghost use Rattle.wq_crawl.specs.Crawl.{no_pass, not_listed};
@@ -7,27 +7,28 @@ use crate::tree::TreeFault;
 use thiserror::Error;
 use wq_view::PassFault;
 
-/// Why a root could not be crawled, watched or unwatched. It is then shown as before, or not shown as before.
+/// The reason for which a root could not be crawled, watched or unwatched. The root is then shown exactly if it was
+/// shown before.
 #[derive(Clone, Copy, Debug, PartialEq, Eq, Drop, Error)]
 pub enum CrawlFault {
-    /// The root could not be read, a name of its listing is there twice, or the second is out of range.
+    /// The root could not be read, a name comes twice in its listing, or the second is out of range.
     #[error("the root cannot be read")]
     Unreadable,
     /// The root has more files than a view may have.
     #[error("too many files")]
     TooManyFiles,
-    /// As many roots are shown as may be, or as many were ever shown as there are numbers for.
+    /// The most roots are shown, or the last number of a root was given.
     #[error("too many roots")]
     TooManyRoots,
     /// The root was crawled 2^62 times with changes.
     #[error("the ticks are spent")]
     TicksSpent,
-    /// A growth was refused.
+    /// Memory ran out.
     #[error("no memory")]
     NoMemory,
 }
 
-/// Why a root is not crawled that the tree does not list.
+/// The crawl fault of a root that the tree does not list.
 pub(crate) fn not_listed(fault: TreeFault) -> CrawlFault
     ensures { result ≡ not_listed fault }
 {
@@ -38,7 +39,7 @@ pub(crate) fn not_listed(fault: TreeFault) -> CrawlFault
     }
 }
 
-/// Why a root is not crawled of which the rows, each of them lawful, make no pass.
+/// The crawl fault of a root whose rows, each of them lawful, make no pass.
 pub(crate) fn no_pass(fault: PassFault) -> CrawlFault
     requires { IsTrue (is_of_whole fault) }
     ensures { result ≡ no_pass fault }

@@ -1,5 +1,5 @@
-//! Crawling: what lists roots, publishes what is seen, and starts and ends roots; for one caller, or for threads that
-//! share it. How a tree is walked is not said here, nor what a session asks for.
+//! Crawling: the crawler lists roots, publishes their passes, and starts and ends roots. One caller has it, or threads
+//! share it. Other crates walk trees and serve sessions.
 #![tactic(auto)]
 
 mod begun;

@@ -17,7 +17,7 @@ pub struct LockRoots<N: Named, R: Wait + Drop, T: Tree + Drop, S: Seconds + Drop
 }
 
 impl<N: Named, R: Wait + Drop, T: Tree + Drop, S: Seconds + Drop> LockRoots<N, R, T, S> {
-    /// Roots over this crawler, for which they wait by this handle.
+    /// Roots over this crawler. They wait for it by this handle.
     pub fn new(crawler: Arc<SharedCrawler<N, R, T, S>>, rt: R) -> LockRoots<N, R, T, S>
         ensures { (result.crawler ≡ crawler) × (result.rt ≡ rt) }
     {

@@ -9,7 +9,7 @@ use crate::tree::Tree;
 use std::sync::Wait;
 use wq_live::{Named, Told};
 
-/// Roots over a crawler that nothing else has. They show it.
+/// Roots over a crawler of their own. They show it.
 #[derive(Drop)]
 pub struct MemoryRoots<N: Named, R: Wait + Drop, T: Tree + Drop, S: Seconds + Drop> {
     /// The crawler.

@@ -1,4 +1,4 @@
-//! How a root is found that is to be shown.
+//! The state in which a root is found that a session wants to be shown.
 ghost use Rattle.std.specs.Prelude.{◌≡◌, List, None};
 ghost use Rattle.wq_live.specs.Table.{IsFullTable, IsTableOf, root_by_text};
 ghost use Rattle.wq_live.specs.declared.event.RootEvent.{RootEvent};
@@ -6,7 +6,7 @@ ghost use Rattle.wq_crawl.specs.Publish.{IsPlace};
 
 use wq_live::RootTable;
 
-/// How a root is found that is to be shown.
+/// The state in which a root is found that a session wants to be shown.
 #[derive(Clone, Copy, Debug, PartialEq, Eq, Drop)]
 pub enum Place {
     /// It is shown under this number.
@@ -17,7 +17,7 @@ pub enum Place {
     Free,
 }
 
-/// How the root of this text is found in a table.
+/// The state in which a table has the root of this text.
 pub fn place_for(table: &RootTable, root: &str) -> Place
     ensures place { (events : List RootEvent) → IsTableOf events table.now
         → IsPlace root.now events result }

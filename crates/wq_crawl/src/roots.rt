@@ -5,22 +5,23 @@ ghost use Rattle.wq_crawl.specs.Roots.{RootsGive, ending, passing, showing};
 use crate::fault::CrawlFault;
 use wq_live::{Named, Told};
 
-/// Crawls, watches and unwatches roots, and publishes what comes of it.
+/// Crawls, watches and unwatches roots, and publishes the events that follow.
 ///
-/// It may show the crawler that it goes by. A refusal adds nothing to the list of events.
+/// The roots may show their crawler. A refusal adds nothing to the list of events.
 pub trait Roots<N: Named> {
     ghost use Rattle.std.specs.Prelude.{Option};
     ghost use Rattle.wq_crawl.specs.Crawl.{CrawlerData};
 
-    // The crawler, where it is shown.
+    // The crawler, if the roots show it.
     ghost crawler: { Self → Option CrawlerData };
 
-    /// Finds the root of this text, or lists it and starts it, and tells the list of events.
+    /// Finds the root of this text, or lists it and starts it, and returns the list of events.
     fn watch(&mut self, root: &str) -> Result<Told<N>, CrawlFault>
         ensures { RootsGive (crawler self.old) (showing root.now) (tells result)
             (crawler self.new) };
 
-    /// Crawls the root of this text and publishes the pass, and tells the list of events; none if it is not shown.
+    /// Crawls the root of this text, publishes the pass, and returns the list of events. There is none if the root is
+    /// not shown.
     fn crawl(&mut self, root: &str) -> Result<Option<Told<N>>, CrawlFault>
         ensures { RootsGive (crawler self.old) (passing root.now) result (crawler self.new) };
 

@@ -1,4 +1,5 @@
-//! A crawler that threads share: one crawls at a time, and those that asked before it began go by what it told.
+//! A crawler that threads share. One thread crawls at a time, and its list also serves those that asked before it
+//! began.
 ghost use Rattle.std.specs.Prelude.{◌≡◌, None, nat_eq, nat_le, false};
 ghost use Rattle.std.specs.Option.{option_map_or};
 ghost use Rattle.std.specs.Map.{lookup};
@@ -29,7 +30,7 @@ pub struct SharedCrawler<N: Named, R: Wait + Drop, T: Tree + Drop, S: Seconds + 
 #[derive(Drop)]
 struct LastCrawls<N: Named, R: Wait + Drop, T: Tree + Drop, S: Seconds + Drop> {
     crawler: Crawler<N, R, T, S>,
-    /// How many crawls had begun before the last one of a root that was published, by the number of the root.
+    /// For the number of a root, the number of crawls that had begun before the last crawl of it that was published.
     last: LruCache<u64, u64>,
 }
 
@@ -48,37 +49,37 @@ impl<N: Named, R: Wait + Drop, T: Tree + Drop, S: Seconds + Drop> SharedCrawler<
         })
     }
 
-    /// Crawls the root of this text and publishes the pass, and tells the list of events; none if it is not shown.
+    /// Crawls the root of this text, publishes the pass, and returns the list of events.
     ///
-    /// If another thread crawled the root meanwhile, and began after this was called, the list is told as it is.
+    /// If another thread crawled the root meanwhile, and began after this call did, the call returns the present list.
     pub fn crawl(&self, rt: &R, root: &str) -> Result<Option<Told<N>>, CrawlFault>
         ensures { RootsGive None (passing root.now) result None }
     {
         crawl_for(&self.begun, &self.crawls, rt, root)
     }
 
-    /// Finds the root of this text, or lists it and starts it, and tells the list of events.
+    /// Finds the root of this text, or lists it and starts it, and returns the list of events.
     pub fn watch(&self, rt: &R, root: &str) -> Result<Told<N>, CrawlFault>
         ensures { RootsGive None (showing root.now) (tells result) None }
     {
         self.crawls.lock(rt).watch(root)
     }
 
-    /// Publishes the end of the root of this number, if it is shown, and tells the list of events.
+    /// Publishes the end of the root of this number, if it is shown, and returns the list of events.
     pub fn unwatch(&self, rt: &R, number: u64) -> Result<Told<N>, CrawlFault>
         ensures { RootsGive None (ending number) (tells result) None }
     {
         self.crawls.lock(rt).unwatch(number)
     }
 
-    /// Lets go of the views that only what was published before the last time has ([`Crawler::let_go`]).
+    /// Frees the views that only the table before the last one still holds ([`Crawler::let_go`]).
     pub fn let_go(&self, rt: &R) {
         self.crawls.lock(rt).crawler.let_go();
     }
 }
 
 impl<N: Named, R: Wait + Drop, T: Tree + Drop, S: Seconds + Drop> LastCrawls<N, R, T, S> {
-    /// Crawls a root for those that read this count, unless the last crawl of it does for them.
+    /// Crawls a root for callers that read this count, unless its last crawl serves them too.
     fn crawl<C: Counts>(
         &mut self,
         begun: &C,
@@ -102,7 +103,7 @@ impl<N: Named, R: Wait + Drop, T: Tree + Drop, S: Seconds + Drop> LastCrawls<N, 
         Ok(Some(self.crawl_at(raised, number, root)?))
     }
 
-    /// Crawls the root of this number and text, which is shown, and keeps how many crawls had begun before.
+    /// Crawls the root of this number and text, which is shown, and keeps the number of crawls that had begun before.
     fn crawl_at(&mut self, raised: u64, number: u64, root: &str) -> Result<Told<N>, CrawlFault>
         ensures crawled { CrawledAt number root.now self.old.crawler result self.new.crawler }
         ensures kept { KeepsOf self.old.last number raised result self.new.last }
@@ -128,7 +129,7 @@ impl<N: Named, R: Wait + Drop, T: Tree + Drop, S: Seconds + Drop> LastCrawls<N, 
         self.crawler.unwatch(number)
     }
 
-    /// Whether the last crawl of the root of this number began when so many had begun, or later.
+    /// Whether the last crawl of the root of this number began at this count of crawls, or later.
     fn has_begun_since(&self, asked: u64, number: u64) -> bool
         ensures { result ≡ option_map_or (λ begun. nat_le asked begun)
             (lookup (nat_eq number) self.now.last.entries) false }
@@ -139,8 +140,8 @@ impl<N: Named, R: Wait + Drop, T: Tree + Drop, S: Seconds + Drop> LastCrawls<N, 
         }
     }
 
-    /// Keeps that so many crawls had begun before the last one of the root of this number. If memory runs out for that,
-    /// each thread crawls for itself.
+    /// Keeps the number of crawls that had begun before the last one of the root of this number. If memory runs out for
+    /// that, each thread crawls for itself.
     fn keep(&mut self, number: u64, before: u64)
         ensures crawler { self.new.crawler ≡ self.old.crawler }
         ensures last { Keeps self.old.last number before self.new.last }
@@ -152,7 +153,7 @@ impl<N: Named, R: Wait + Drop, T: Tree + Drop, S: Seconds + Drop> LastCrawls<N, 
     }
 }
 
-/// Crawls a root for the thread that asks now, by what is under the lock.
+/// Crawls a root for the thread that asks, by the crawler under the lock.
 fn crawl_for<C, N, R, T, S>(
     begun: &C,
     crawls: &Mutex<LastCrawls<N, R, T, S>>,
@@ -167,12 +168,12 @@ where
     S: Seconds + Drop,
     ensures { RootsGive None (passing root.now) result None }
 {
-    // The count is read before the lock is waited for.
+    // The thread reads the count before it waits for the lock.
     let asked = begun.read();
     crawls.lock(rt).crawl(begun, asked, root)
 }
 
-/// How many roots may be shown.
+/// The greatest number of roots that may be shown.
 fn most_roots() -> NonZeroUsize {
     NonZeroUsize::new(MAX_ROOTS).unwrap_or(NonZeroUsize::MIN)
 }

@@ -1,4 +1,4 @@
-//! The tree, which lists the files below a root. How a tree is walked is not said here.
+//! The tree, which lists the files below a root. Another crate walks it.
 ghost use Rattle.std.specs.Prelude.{◌≡◌, IfErr, IfOk, IsTrue};
 ghost use Rattle.std.specs.List.{list_all};
 ghost use Rattle.wq_view.specs.Seen.{is_lawful_row};
@@ -8,16 +8,16 @@ use std::alloc::AllocError;
 use thiserror::Error;
 use wq_view::{Seen, View};
 
-/// Why a tree gives no listing.
+/// The reason for which a tree gives no listing.
 #[derive(Clone, Copy, Debug, PartialEq, Eq, Drop, Error)]
 pub enum TreeFault {
-    /// The root cannot be read: a device failed.
+    /// The root cannot be read, because a device failed.
     #[error("the root cannot be read")]
     Unreadable,
     /// The listing has over 1,000,000 rows.
     #[error("too many files")]
     TooManyRows,
-    /// A growth was refused.
+    /// Memory ran out.
     #[error("no memory")]
     NoMemory,
 }
@@ -35,28 +35,27 @@ impl From<AllocError> for TreeFault {
 
 /// A source of listings of roots.
 ///
-/// It may show what it listed last, and how often it listed something.
+/// The source may show its last listing, and the number of its listings.
 pub trait Tree {
     ghost use Rattle.std.specs.Prelude.{ℕ, Option, None};
     ghost use Rattle.wq_crawl.specs.Tree.{ListedData};
 
-    // How often its device failed so far.
+    // The number of failures of its device so far.
     ghost failed: { Self → ℕ };
 
-    // How often it listed something so far, and what it listed last, where it shows that.
+    // The number of listings so far, and the last of them, if the source shows these.
     ghost listed: { Self → Option (ℕ × ListedData) } = { λ _. None };
 
-    /// The rows of the files below a root, in any order. Each has a valid name, and its numbers are in range.
+    /// The rows of the files below a root, in any order. Each row has a valid name, and its numbers are in range.
     ///
-    /// A root is unreadable only if the count of failures rose in this call, or is at the greatest number that it can
-    /// tell.
+    /// A root is unreadable only if the count of failures rose in this call, or is at its greatest value.
     fn list(&mut self, root: &str) -> Result<Vec<Seen>, TreeFault>
         ensures counted { IfErr result (IsCounted (failed self.old) (failed self.new)) }
         ensures lawful { IfOk result (λ rows. IsTrue (list_all is_lawful_row rows.items)) }
         ensures listed { Lists (listed self.old) root.now (rows_given result) (listed self.new) };
 
-    /// The rows of the files below a root, as [`Tree::list`] gives them. The last view of the root is handed in: rows
-    /// may share its names.
+    /// The rows of the files below a root, as [`Tree::list`] gives them. The rows may share the names of the root's
+    /// last view.
     fn list_again(&mut self, root: &str, _last: &View) -> Result<Vec<Seen>, TreeFault>
         ensures counted { IfErr result (IsCounted (failed self.old) (failed self.new)) }
         ensures lawful { IfOk result (λ rows. IsTrue (list_all is_lawful_row rows.items)) }
@@ -65,7 +64,7 @@ pub trait Tree {
         self.list(root)
     }
 
-    /// How often a device failed so far.
+    /// The number of failures of a device so far.
     fn failures(&self) -> u64
         ensures { result ≡ failed self.now };
 }

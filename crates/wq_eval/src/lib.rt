@@ -1,7 +1,7 @@
-//! Running a program over files of a view: which of them it answers yes for.
+//! Runs a program over files of a view, and gives the files for which it answers yes.
 //!
-//! Which files are asked, and in which order, is the caller's to say: positions come in, and
-//! positions go out.
+//! The caller says which files are asked, and in which order: positions come in, and positions go
+//! out.
 #![tactic(auto)]
 
 mod evaluation;

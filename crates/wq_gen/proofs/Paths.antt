@@ -44,12 +44,12 @@ itself_one p rs i r is_kept found low only here kept is =
     let at_i : passes_at (is_itself p) rs i ≡ is_itself p r = ap (λ o. option_map_or (is_itself p) o false) here in
     is ∙ ap (λ b. cond b (i ∷ []) []) (kept ∙ sym at_i) ∙ sym (one_alone (passes_at (is_itself p) rs) (length rs) i low (λ k apart. other_name p rs k (only k ∙ ne_eqb k i apart)))
 
--- before the range of those below the path there is none
+-- no record before the range of those below the path is below it
 pub under_begins : (p : PathGen) (rs : List RecordData) (start end : ℕ) → ((i : ℕ) → passes_at (is_below p.path) rs i ≡ (nat_le start i && nat_lt i end)) → [] ≡ filter (passes_at (is_under p) rs) (range_with_len 0 start)
 under_begins p rs start end exact =
     sym (none_before (passes_at (is_under p) rs) start (λ k low. not_below p rs k (exact k ∙ and_left (nat_le start k) (nat_lt k end) (lt-leb start k low))))
 
--- and after it neither
+-- no record after that range is below the path
 pub under_ends : (p : PathGen) (rs : List RecordData) (start end : ℕ) → end ≤ length rs → ((i : ℕ) → passes_at (is_below p.path) rs i ≡ (nat_le start i && nat_lt i end)) → filter (passes_at (is_under p) rs) (range_with_len 0 end) ≡ positions_of (is_under p) rs
 under_ends p rs start end fits exact =
     sym (none_behind (passes_at (is_under p) rs) end (length rs) fits (λ k high. not_below p rs k (exact k ∙ and_right (nat_le start k) (nat_lt k end) (le-ltb k end high))))
@@ -66,12 +66,12 @@ one_path p rs = positions_alike _ _ (λ r. at (is_itself p r || is_under p r)) r
 pub both_paths : (ps qs : List PathGen) (rs : List RecordData) → positions_of (λ r. is_on_path ps r || is_on_path qs r) rs ≡ positions_of (is_on_path (ps ++ qs)) rs
 both_paths ps qs rs = positions_alike _ _ (λ r. sym (list_any-append (λ p. is_itself p r || is_under p r) ps qs)) rs
 
--- no paths give nothing
+-- no paths give no positions
 pub no_paths : (ps : List PathGen) (rs : List RecordData) → length ps < 1 → [] ≡ positions_of (is_on_path ps) rs
 no_paths [] rs low = none_given _ rs (λ r. refl)
 no_paths (p ∷ ps) rs low = absurd (omega (arith, low))
 
--- and a list of one path those at it
+-- a list of one path gives the positions of the files at that path
 pub only_path : (ps : List PathGen) (p : PathGen) (rs : List RecordData) → 1 ≤ length ps → length ps < 2 → p ≡ get_or ps 0 p → positions_of (λ r. is_itself p r || is_under p r) rs ≡ positions_of (is_on_path ps) rs
 only_path [] p rs low high is = absurd (omega (arith, low))
 only_path (q ∷ []) p rs low high is = one_path p rs ∙ ap (λ x. positions_of (is_on_path (x ∷ [])) rs) is

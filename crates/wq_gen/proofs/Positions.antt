@@ -1,4 +1,4 @@
--- Which positions a test keeps of the first ones.
+-- The first positions that a test keeps.
 use Rattle.std.proofs.Common.{◌≡◌, ◌≢◌, ℕ, zero, suc, ◌+◌, ◌<◌, ◌≤◌, Bool, true, false, cond, IsTrue, List, [], ◌∷◌, ◌++◌, length, filter, slice_get, Option, Some, None, ◌⊎◌, inl, inr, refl, ap, sym, ◌∙◌, arith, add-one, append-nil, get_or}
 use Rattle.std.specs.List.{range_with_len}
 use Rattle.std.specs.Option.{option_map_or}
@@ -26,7 +26,7 @@ passes_alike p q alike rs i = at (slice_get rs i)
 pub positions_alike : (p q : RecordData → Bool) → ((r : RecordData) → p r ≡ q r) → (rs : List RecordData) → positions_of p rs ≡ positions_of q rs
 positions_alike p q alike rs = filter_alike (passes_at p rs) (passes_at q rs) (passes_alike p q alike rs) (all_positions rs)
 
--- one position more
+-- one more position
 pub more : (f : ℕ → Bool) (a n j : ℕ) → a + n ≡ j → filter f (range_with_len a (suc n)) ≡ filter f (range_with_len a n) ++ cond (f j) (j ∷ []) []
 more f a zero j is = let same : a ≡ j = omega (arith, is) in ap (λ k. cond (f k) (k ∷ []) []) same
 more f a (suc n) j is = at (f a) (more f (a + 1) n j (omega (arith, is)))
@@ -35,13 +35,13 @@ more f a (suc n) j is = at (f a) (more f (a + 1) n j (omega (arith, is)))
     at true h = ap (λ kept. a ∷ kept) h
     at false h = h
 
--- none of the first positions is kept where the test holds at none
+-- if the test holds at none of the first positions, it keeps none of them
 pub none_before : (f : ℕ → Bool) (n : ℕ) → ((k : ℕ) → k < n → f k ≡ false) → filter f (range_with_len 0 n) ≡ []
 none_before f zero none = refl
 none_before f (suc n) none =
     more f 0 n n (omega arith) ∙ ap (λ b. filter f (range_with_len 0 n) ++ cond b (n ∷ []) []) (none n (omega arith)) ∙ append-nil (filter f (range_with_len 0 n)) ∙ none_before f n (λ k low. none k (omega arith))
 
--- no position more is kept if the test holds at none after
+-- if the test holds at no later position, it keeps no more
 pub none_behind : (f : ℕ → Bool) (n m : ℕ) → n ≤ m → ((k : ℕ) → n ≤ k → f k ≡ false) → filter f (range_with_len 0 m) ≡ filter f (range_with_len 0 n)
 none_behind f n zero low none = let same : 0 ≡ n = omega (arith, low) in ap (λ k. filter f (range_with_len 0 k)) same
 none_behind f n (suc m) low none = at (cases_lt m n) (λ fits. none_behind f n m fits none)
@@ -50,7 +50,7 @@ none_behind f n (suc m) low none = at (cases_lt m n) (λ fits. none_behind f n m
     at (inl less) rest = let same : suc m ≡ n = omega (arith, low, less) in ap (λ k. filter f (range_with_len 0 k)) same
     at (inr fits) rest = more f 0 m m (omega arith) ∙ ap (λ b. filter f (range_with_len 0 m) ++ cond b (m ∷ []) []) (none m fits) ∙ append-nil (filter f (range_with_len 0 m)) ∙ rest fits
 
--- at most one position is kept where the test holds at no other
+-- if the test holds at no other position, it keeps at most one
 pub one_alone : (f : ℕ → Bool) (n i : ℕ) → i < n → ((k : ℕ) → k ≢ i → f k ≡ false) → filter f (range_with_len 0 n) ≡ cond (f i) (i ∷ []) []
 one_alone f n i low none =
     none_behind f (suc i) n (omega arith) (λ k behind. none k (λ same. omega (arith, same, behind))) ∙ more f 0 i i (omega arith) ∙ ap (λ kept. kept ++ cond (f i) (i ∷ []) []) (none_before f i (λ k before. none k (λ same. omega (arith, same, before))))
@@ -60,7 +60,7 @@ pub name_is_short : (name : List ℕ) → IsTrue (is_valid_name name) → length
 unfolding is_valid_name
 name_is_short name h = grind (arith, nat_tests, and_parts)
 
--- one record more was tried
+-- one more record was tried
 pub goes_on : (test : RecordData → Bool) (rs : List RecordData) (i : ℕ) (r : RecordData) (is_kept : Bool) (found more_found : List ℕ) → found ≡ filter (passes_at test rs) (range_with_len 0 i) → slice_get rs i ≡ Some r → is_kept ≡ test r → more_found ≡ found ++ cond is_kept (i ∷ []) [] → more_found ≡ filter (passes_at test rs) (range_with_len 0 (i + 1))
 goes_on test rs i r is_kept found more_found so_far here kept is =
     let at_i : passes_at test rs i ≡ test r = ap (λ o. option_map_or test o false) here in
@@ -78,7 +78,7 @@ range_more n found more_found so_far is = is ∙ ap (λ xs. xs ++ n ∷ []) so_f
 pub none_passes : (test : RecordData → Bool) (rs : List RecordData) → ((i : ℕ) → passes_at test rs i ≡ false) → [] ≡ positions_of test rs
 none_passes test rs none = sym (none_before (passes_at test rs) (length rs) (λ k low. none k))
 
--- and one that every record passes has all
+-- a test that every record passes has all positions
 pub all_pass : (test : RecordData → Bool) (rs : List RecordData) → ((r : RecordData) → test r ≡ true) → positions_of test rs ≡ all_positions rs
 all_pass test rs passes = at 0 (length rs) (λ i low. passes_there i (omega (arith, low)))
   where

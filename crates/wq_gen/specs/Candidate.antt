@@ -1,5 +1,6 @@
--- Which records the generators of a query give, asked of one record by itself; deleted ones too.
--- From Watchman's documentation of the generators `since`, `suffix` and `path` of file queries.
+-- The records that the generators of a query give, as a test of one record by itself. Records of
+-- deleted files are among them. The source is Watchman's documentation of the generators `since`,
+-- `suffix` and `path` of file queries.
 use Rattle.std.specs.Prelude.{ℕ, ℤ, pos, negsuc, Bool, true, false, not, ◌&&◌, ◌||◌, ◌==◌}
 use Rattle.std.specs.Prelude.{nat_lt, int_le, count_by, List, Option, Some, None, is_some}
 use Rattle.std.specs.List.{list_any}
@@ -27,15 +28,16 @@ changed_since Fresh r = false
 changed_since (Tick tick) r = nat_lt tick r.otick
 changed_since (Second second) r = int_le second r.osec
 
--- whether the suffix of the name is one of these texts, with A to Z as a to z; an empty one is none
+-- whether the suffix of the name is one of these texts, if A to Z count as a to z; an empty text is
+-- no suffix
 abbrev pub suffix_is_among : List (List ℕ) → RecordData → Bool
 suffix_is_among suffixes r = list_any (λ text. is_suffix text (suffix_of r.name)) suffixes
 
--- whether what follows a directory in a name has at most so many slashes; -1 is without limit
+-- whether the part of a name after a directory has at most so many slashes; -1 means no limit
 abbrev pub is_within : ℤ → List ℕ → Bool
 is_within depth rest = int_eq depth (negsuc 0) || int_le (pos (count_by is_slash rest)) depth
 
--- whether the file lies strictly below a path, and no deeper than it says
+-- whether the file is strictly below a path, and within its depth
 abbrev pub is_under : PathGen → RecordData → Bool
 is_under p r = option_map_or (is_within p.depth) (rest_below Exact p.path r.name) false
 
@@ -43,11 +45,11 @@ is_under p r = option_map_or (is_within p.depth) (rest_below Exact p.path r.name
 abbrev pub is_itself : PathGen → RecordData → Bool
 is_itself p r = has_name p.path r && not (letter_of r.kind == byte "d")
 
--- whether the file is one of these paths itself, or lies below one of them
+-- whether the file is one of these paths itself, or is below one of them
 abbrev pub is_on_path : List PathGen → RecordData → Bool
 is_on_path paths r = list_any (λ p. is_itself p r || is_under p r) paths
 
--- whether a generator is there and gives the record
+-- whether there is a generator that gives the record
 abbrev pub gives : {A : Type 0} → (A → RecordData → Bool) → Option A → RecordData → Bool
 gives test None r = false
 gives test (Some generator) r = test generator r
@@ -63,11 +65,11 @@ abbrev pub is_bounded : Option Bound → Bool
 is_bounded None = false
 is_bounded (Some bound) = not (is_fresh bound)
 
--- whether some generator is there
+-- whether there is a generator
 abbrev pub is_any_there : Generators → Bool
 is_any_there generators =
     is_bounded generators.since || is_some generators.suffix || is_some generators.path
 
--- whether the record is a candidate: no generator is there, or some generator gives it
+-- whether the record is a candidate: some generator gives it, or there is no generator
 abbrev pub is_candidate : Generators → RecordData → Bool
 is_candidate generators r = not (is_any_there generators) || is_given generators r

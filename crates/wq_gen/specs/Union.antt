@@ -1,8 +1,8 @@
--- Two lists of positions as one.
--- This server's own.
+-- Two lists of positions as one. The definition is this server's own.
 use Rattle.std.specs.Prelude.{ℕ, nat_lt, ◌==◌, if◌then◌else◌, List, [], ◌∷◌}
 
--- a position among those of a list, and what comes of the later ones of both
+-- the union of two lists, the first of which begins with this position, by the unions of the later
+-- positions
 abbrev pub put_position : ℕ → (List ℕ → List ℕ) → List ℕ → List ℕ
 put_position x later [] = x ∷ later []
 put_position x later (y ∷ ys) =

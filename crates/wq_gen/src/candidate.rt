@@ -11,10 +11,11 @@ use wq_base::{Table, Text};
 use wq_clock::Bound;
 use wq_view::View;
 
-/// The positions of the candidates, ascending, each once: of every record that some generator
-/// gives, and of every record where there is no generator.
+/// The positions of the candidates, ascending, each once. The candidates are the records that some
+/// generator gives, or all records if there is no generator.
 ///
-/// With paths alone the cost follows the files at them; else every record is looked at.
+/// If there are only paths, the cost grows with the number of files at them. Otherwise the call
+/// goes over all records.
 pub fn candidates(
     alloc: Global,
     view: &View,
@@ -43,7 +44,7 @@ fn all(alloc: Global, view: &View) -> Result<Vec<u32>, AllocError>
     Ok(found)
 }
 
-/// The positions of the files that changed after a bound, if it is there.
+/// The positions of the files that changed after a bound, if there is a bound.
 fn changed_since(alloc: Global, view: &View, since: Option<Bound>) -> Result<Vec<u32>, AllocError>
     ensures { IfOk result (λ found. found.items
         ≡ positions_of (gives changed_since since) view.now.records) }
@@ -61,7 +62,7 @@ fn changed_since(alloc: Global, view: &View, since: Option<Bound>) -> Result<Vec
     Ok(found)
 }
 
-/// The positions of the files with one of the suffixes, if they are there.
+/// The positions of the files with one of the suffixes, if there are suffixes.
 fn with_suffix(
     alloc: Global,
     view: &View,
@@ -81,7 +82,7 @@ fn with_suffix(
     Ok(found)
 }
 
-/// The positions of the files at the paths, if they are there.
+/// The positions of the files at the paths, if there are paths.
 fn with_path(
     alloc: Global,
     view: &View,

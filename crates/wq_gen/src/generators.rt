@@ -1,4 +1,4 @@
-//! The generators of a query, and what they say of one record.
+//! The generators of a query, and the test of one record by each.
 ghost use Rattle.std.specs.Prelude.{◌≡◌, ◌≤◌, length};
 ghost use Rattle.wq_gen.specs.Candidate.{suffix_is_among, is_any_there, is_bounded, is_itself, changed_since, is_under, is_within};
 
@@ -6,34 +6,35 @@ use wq_base::{Case, Table, Text, is_suffix, rest_below, slashes};
 use wq_clock::Bound;
 use wq_view::{Kind, MAX_NAME, Record};
 
-/// A depth that sets no limit.
+/// A depth without a limit.
 pub const ANY_DEPTH: i64 = -1;
 
-/// The sources of a query's candidates. Several generators give their union, and where none is
-/// there every file is a candidate.
+/// The sources of a query's candidates. Several generators give their union. If there is none,
+/// every file is a candidate.
 #[derive(Drop)]
 pub struct Generators {
     /// The files that changed after a tick, or at a second or later. A fresh bound is no generator.
     pub since: Option<Bound>,
-    /// The files with one of these suffixes, with A to Z as a to z. An empty text gives nothing.
+    /// The files with one of these suffixes, if A to Z count as a to z. An empty text gives
+    /// nothing.
     pub suffix: Option<Table<Text>>,
     /// The files at these paths.
     pub path: Option<Table<PathGen>>,
 }
 
-/// A path, which gives the file of that name unless it is a directory, and the files strictly below
-/// it.
+/// A path. It gives the files strictly below it, and the file of its name unless that is a
+/// directory.
 #[derive(Drop)]
 pub struct PathGen {
-    /// Without a slash at its end. Below the empty path lies every file.
+    /// The path, without a slash at its end. All files are below the empty path.
     pub path: Text,
-    /// How many slashes may come in a name after the path and its slash; in the whole name for the
-    /// empty path. -1 is without limit.
+    /// The greatest number of slashes in a name after the path and its slash; for the empty path,
+    /// in the whole name. -1 means no limit.
     pub depth: i64,
 }
 
 impl Generators {
-    /// Whether some generator is there.
+    /// Whether there is a generator.
     pub(crate) fn is_any_there(&self) -> bool
         ensures { result ≡ is_any_there self.now }
     {
@@ -51,7 +52,8 @@ fn is_bounded(since: Option<Bound>) -> bool
     }
 }
 
-/// Whether the file was seen to change after the bound: of a second, at it or after it.
+/// Whether the file was seen to change after the bound. If the bound is a second, at that second or
+/// after it.
 pub(crate) fn is_since(bound: Bound, file: &Record) -> bool
     ensures { result ≡ changed_since bound file.now }
 {
@@ -76,14 +78,15 @@ pub(crate) fn has_suffix(texts: &[Text], file: &Record) -> bool
 }
 
 impl PathGen {
-    /// Whether a file of this name is given: it was not last seen as a directory.
+    /// Whether the path gives a file of this name, because the file was not last seen as a
+    /// directory.
     pub(crate) fn is_itself(&self, file: &Record) -> bool
         ensures { result ≡ is_itself self.now file.now }
     {
         file.name.as_bytes() == self.path.as_bytes() && file.kind != Kind::Dir
     }
 
-    /// Whether the file lies strictly below the path, and no deeper than it says.
+    /// Whether the file is strictly below the path, and within its depth.
     #[tactic(auto, using(crate::proofs::Positions::name_is_short))]
     pub(crate) fn is_under(&self, file: &Record) -> bool
         ensures { result ≡ is_under self.now file.now }
@@ -95,7 +98,7 @@ impl PathGen {
     }
 }
 
-/// Whether what follows a path in a name is no deeper.
+/// Whether the part of a name after a path is within this depth.
 fn is_within(depth: i64, rest: &[u8]) -> bool
     requires { length rest.now ≤ MAX_NAME }
     ensures { result ≡ is_within depth rest.now }

@@ -1,8 +1,8 @@
-//! Generators: which files of a view a query starts from. Each file that a query lists is a
-//! candidate, and the query's expression is asked of the candidates alone.
+//! Generators: the files of a view from which a query starts. Each file that a query lists is a
+//! candidate, and the query tests its expression on the candidates alone.
 //!
-//! Whether a record is a candidate is defined in `specs/Candidate.antt`, of one record by itself.
-//! Reading what a client writes is for others.
+//! `specs/Candidate.antt` defines whether a record is a candidate, for each record by itself. Other
+//! crates read the client's texts.
 #![tactic(auto)]
 
 mod candidate;

@@ -1,5 +1,5 @@
-//! The files at paths. Those below a path lie together in a view, so the cost follows them and not
-//! the view.
+//! The files at paths. The files below a path are neighbours in a view. So the cost grows with
+//! their number, and not with the size of the view.
 ghost use Rattle.std.specs.Prelude.{◌≡◌, ◌||◌, IfOk};
 ghost use Rattle.wq_gen.specs.Candidate.{is_itself, is_on_path, is_under};
 ghost use Rattle.wq_view.specs.Position.{positions_of};
@@ -9,7 +9,7 @@ use crate::position::{keep_if, union};
 use std::alloc::{AllocError, Global};
 use wq_view::View;
 
-/// The positions of the files that are one of these paths or lie below one.
+/// The positions of the files that are one of these paths or are below one.
 pub(crate) fn on_paths(
     alloc: Global,
     view: &View,
@@ -30,7 +30,7 @@ pub(crate) fn on_paths(
     }
 }
 
-/// The positions of the file that is this path and of those below it.
+/// The positions of the file that is this path and of the files below it.
 fn on_path(alloc: Global, view: &View, path: &PathGen) -> Result<Vec<u32>, AllocError>
     ensures { IfOk result (λ found. found.items
         ≡ positions_of (λ r. is_itself path.now r || is_under path.now r) view.now.records) }

@@ -6,7 +6,7 @@ ghost use Rattle.wq_view.specs.Limit.{max_records};
 use std::alloc::{AllocError, Global};
 use std::cmp::Ordering;
 
-/// Adds a position where it is kept.
+/// Adds a position if it is kept.
 pub(crate) fn keep_if(
     is_kept: bool,
     found: &mut Vec<u32>,
@@ -35,7 +35,7 @@ pub(crate) fn union(alloc: Global, left: Vec<u32>, right: Vec<u32>) -> Result<Ve
     merge(alloc, &left, &right)
 }
 
-/// The positions of both lists in a new one.
+/// The positions of both lists, in a new list.
 fn merge(alloc: Global, left: &[u32], right: &[u32]) -> Result<Vec<u32>, AllocError>
     ensures { IfOk result (λ both. both.items ≡ union left.now right.now) }
 {

@@ -1,4 +1,4 @@
--- Atoms take bytes off the text, so its length is enough for their number; and steps complete what was read.
+-- Atoms take bytes off the text, so its length is enough for their number; and steps complete the atoms that were read.
 use Rattle.std.proofs.Common.{◌≡◌, ℕ, zero, suc, ◌+◌, ◌<◌, ◌≤◌, Bool, true, false, ◌&&◌, ◌==◌, nat_le, if◌then◌else◌, List, [], ◌∷◌, ◌++◌, length, drop, Option, Some, None, option_map, refl, sym, ◌∙◌, ap, subst, arith, append_assoc, append-nil, length-drop}
 use Rattle.std.specs.List.{prefix_len}
 use Rattle.std.specs.Option.{option_and_then}
@@ -13,7 +13,7 @@ use Rattle.wq_glob.specs.declared.flag.Flags.{Flags}
 use Rattle.wq_glob.specs.declared.step.Step.{Step}
 use Rattle.wq_glob.proofs.ItemLemmas.{Shorter, NotLonger, letter_shorter, first_shorter}
 
--- what is read of a class leaves no longer text
+-- reading a class leaves no longer text
 before_not_longer : (text after : List ℕ) (item : Item) (o : Option (List Item × List ℕ)) → length after < length text → NotLonger after o → NotLonger text (before_items item o)
 before_not_longer text after item None less h = tt
 before_not_longer text after item (Some r) less h = omega arith
@@ -111,7 +111,7 @@ atoms_enough f (suc n) (suc m) start (x ∷ xs) a b =
     let less = atom_shorter f start x xs in
     ap (λ (l : List Atom). r.0 ∷ l) (atoms_enough f n m (opens r.0) r.1 (omega arith) (omega arith))
 
--- the atoms of a text that is not empty: the first, and those of what follows it
+-- the atoms of a text that is not empty: the first, and those of the rest
 pub atoms_step : (f : Flags) (start : Bool) (text : List ℕ) → 0 < length text →
     atoms_from (length text) f start text ≡ (first_atom f start text).0 ∷ atoms_from (length (first_atom f start text).1) f (opens (first_atom f start text).0) (first_atom f start text).1
 unfolding atoms_from
@@ -149,7 +149,7 @@ atoms_more f step start text after steps tail opening all some stands after_is o
     subst (AllStand f (step ∷ tail)) (sym (atoms_step f start text some)) (stands, later) in
     subst (λ (l : List Step). AllStand f l all) (sym (append_assoc steps (step ∷ []) tail)) (was (step ∷ tail) here)
 
--- where nothing is left, all was read
+-- if nothing is left, all was read
 pub atoms_end : (f : Flags) (start : Bool) (text : List ℕ) (steps : List Step) (all : List Atom) → length text ≡ 0 →
     ((tail : List Step) → AllStand f tail (atoms_from (length text) f start text) → AllStand f (steps ++ tail) all) → AllStand f steps all
 unfolding atoms_from

@@ -24,7 +24,7 @@ last_mark f text at place =
     ∙ ap (λ (l : List Mark). mark_at f text at ∷ l) behind
 
 module _ (f : Flags) (steps : List Step) (n : ℕ) (d : Step) (b : ℕ) (ends : n + 1 ≡ length steps) (last : get_or steps n d ≡ Byte b) where
-  -- what is left at the last step is that byte
+  -- the tail at the last step is that byte
   last_tail : drop n steps ≡ Byte b ∷ []
   last_tail =
       drop_step steps n d (omega arith)
@@ -72,7 +72,7 @@ module _ (f : Flags) (steps : List Step) (n : ℕ) (d : Step) (b : ℕ) (ends : 
   last_is : last_alone steps ≡ Byte b ∷ []
   last_is = ap (λ (i : ℕ). drop i steps) (let e : length steps - 1 ≡ n = omega arith in e) ∙ last_tail
 
-  -- so whether the last of a text differs is what that byte says
+  -- so that byte decides whether the last of a text differs
   pub back_value : (text : List ℕ) (at : ℕ) → at + 1 ≡ length text →
       not (lower_if f.fold (get_or text at 0) == b) ≡ first_differs (step_form f) (last_alone steps) (last_alone (marks f.dotfiles text))
   back_value text at place =

@@ -26,7 +26,7 @@ module _ {A : Type 0} (form : Form A) (atoms : List A) (text : List Mark) where
   unfolding cost
   cost_front same end same_is first other = rw (← same_is, end, first, other) refl
 
-  -- and what is left is done by rows
+  -- and the rest is done by rows
   pub cost_rows : (same : ℕ) → first_differs form (last_alone atoms) (last_alone text) ≡ false → same ≡ front form atoms text →
       begins_literal form (drop same atoms) ≡ false → same + row_cells form (drop same atoms) (drop same text) ≡ cost form atoms text
   unfolding cost
@@ -132,7 +132,7 @@ module _ (f : Flags) where
       same : ℕ
       same = front (atom_form f) atoms xs
 
--- what the matcher says of the steps, said of the pattern
+-- the result of the matcher for the steps is that for the pattern
 pub cost_of : (g : PatternData) (text pattern : List ℕ) (f : Flags) (steps slice : List Step) (cells : ℕ) → record { text = pattern; flags = f } ≡ g → IsCompiled pattern f steps → slice ≡ steps →
     ((i : ℕ) → get_or text i 0 < 256) → cells ≡ cost (step_form f) slice (marks f.dotfiles text) → cells ≡ cells_of g text
 unfolding cells_of atoms_of

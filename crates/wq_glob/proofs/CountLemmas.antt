@@ -59,7 +59,7 @@ any_here test (suc n) a j from before is =
       | inr other ↦ or_right _ _ (any_here test n (a + 1) j (omega arith) (omega arith) is)
     ]
 
--- and where none passes none is
+-- and if none passes, there is none
 pub any_none : (test : ℕ → Bool) (n a : ℕ) → ((j : ℕ) → a ≤ j → j < a + n → test j ≡ false) → list_any test (range_with_len a n) ≡ false
 any_none test zero a none = refl
 any_none test (suc n) a none = or_from _ _ (none a (omega arith) (omega arith)) (any_none test n (a + 1) (λ j from before. none j (omega arith) (omega arith)))

@@ -16,7 +16,7 @@ or_nothing : (b : Bool) → (b || false) ≡ b
 or_nothing true = refl
 or_nothing false = refl
 
--- at the end of the text a step fits where it may take nothing and the next ones fit
+-- at the end of the text a step fits if it may take nothing and the next ones fit
 end_step : (f : Flags) (s : Step) (later : List Step) → cell_of f (s ∷ later) [] ≡ record { fits = may_be_empty (step_reach s) && step_fits f later []; begun = false }
 end_step f (Byte b) later = refl
 end_step f AnyByte later = refl
@@ -91,7 +91,7 @@ module _ (f : Flags) (steps : List Step) where
       end_cell f (drop j steps)
       ∙ ap (λ (b : Bool). record { fits = b; begun = false }) (none_below f steps (low - 1) (omega arith) not_here (low - 1 - j) j (omega arith))
 
-  -- where the sweep stops, the row holds every cell at the end of the text
+  -- when the sweep stops, the row holds every cell at the end of the text
   pub end_row : (row : List Cell) (low : ℕ) → IsEndRow f steps row low → (low ≡ 0) ⊎ (step_fits f (drop (low - 1) steps) [] ≡ false) → IsRow f steps [] row
   end_row row low was stop j within =
       elim (cases_lt j low) [

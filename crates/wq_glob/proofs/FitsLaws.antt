@@ -15,7 +15,7 @@ PartOf Single test part = IsOne test part
 PartOf Many test part = IsEach test part
 PartOf Directories test part = (part ≡ []) ⊎ (IsEach test part × EndsInSlash part)
 
--- some front of the text is such a part, and what follows it fits
+-- some front of the text is such a part, and the rest fits
 abbrev Splits : Reach → (Mark → Bool) → (List Mark → Bool) → List Mark → Type 0
 Splits r test fit text = (part : List Mark) × (after : List Mark) × (text ≡ part ++ after) × PartOf r test part × IsTrue (fit after)
 
@@ -57,7 +57,7 @@ directories_split test fit (x ∷ xs) h =
           (x ∷ [], xs, refl, (and_from _ _ parts.0 refl, ([], x, refl, at.0)), at.1)
     ]
 
--- what the test finds is a cut
+-- the test finds a cut
 splits : (r : Reach) (test : Mark → Bool) (fit : List Mark → Bool) (text : List Mark) → part_of r test fit text ≡ true → Splits r test fit text
 splits Single test fit [] h = absurd (false≢true h)
 splits Single test fit (x ∷ xs) h =
@@ -96,7 +96,7 @@ found Directories test fit part after (inr (each, (body, x, is, ends))) h =
     (subst (λ (p : List Mark). directories test fit (p ++ after) ≡ true) (sym is)
     (directories_from test fit body x after (subst (IsEach test) is each) ends h))
 
--- what an atom takes is a part of its reach, of the bytes that it admits
+-- the part that an atom takes is one of its reach, of the bytes that it admits
 taken : (f : Flags) (a : Atom) (part : List Mark) → Takes f a part → PartOf (reach a) (admits f a) part
 taken f (Literal b) part t = t
 taken f One part t = t
@@ -115,7 +115,7 @@ takes f Dirs part t = t
 takes f Rest part t = t
 takes f Nothing part (x, is, passes) = absurd (false≢true passes)
 
--- where the test says yes, the text can be cut
+-- if the test says yes, the text can be cut
 pub cuts_from_test : (f : Flags) (atoms : List Atom) (text : List Mark) → fits_by (atom_form f) atoms text ≡ true → Cuts f atoms text
 cuts_from_test f [] [] h = refl
 cuts_from_test f [] (x ∷ xs) h = absurd (false≢true h)
@@ -123,7 +123,7 @@ cuts_from_test f (a ∷ later) text h =
     let s = splits (reach a) (admits f a) (fits_by (atom_form f) later) text h in
     (s.0, s.1, s.2, takes f a s.0 s.3, cuts_from_test f later s.1 s.4)
 
--- where the text can be cut, the test says yes
+-- if the text can be cut, the test says yes
 pub test_from_cuts : (f : Flags) (atoms : List Atom) (text : List Mark) → Cuts f atoms text → fits_by (atom_form f) atoms text ≡ true
 test_from_cuts f [] text h = subst (λ (t : List Mark). fits_by (atom_form f) [] t ≡ true) (sym h) refl
 test_from_cuts f (a ∷ later) text (part, after, is, t, cut) =

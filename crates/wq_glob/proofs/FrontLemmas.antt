@@ -34,7 +34,7 @@ agrees_end f steps text at within past =
     let e : at ≡ length text = omega arith in
     sym (ap (agrees (step_form f) (drop at steps)) (ap (marks_at f text) e ∙ marks_end f text) ∙ agrees_nothing f (drop at steps))
 
--- a byte that agrees is one more of the front, and leaves the answer to what follows
+-- a byte that agrees is one more of the front, and leaves the answer to the rest
 front_cons : (f : Flags) (s : Step) (later : List Step) (x : Mark) (text : List Mark) → agrees (step_form f) (s ∷ later) (x ∷ text) ≡ true →
     front (step_form f) (s ∷ later) (x ∷ text) ≡ 1 + front (step_form f) later text
 front_cons f s later x text is = rw is refl
@@ -67,13 +67,13 @@ module _ (f : Flags) (steps : List Step) (text : List ℕ) (n : ℕ) (within : n
       ∙ ap (step_fits f (get_or steps n Never ∷ drop (n + 1) steps)) (marks_step f text n inside)
       ∙ fits_cons f (get_or steps n Never) (drop (n + 1) steps) (mark_at f text n) (marks_at f text (n + 1)) here
 
--- where no byte agrees the front ends
+-- if no byte agrees, the front ends
 pub front_stop : (f : Flags) (steps : List Step) (text : List Mark) → agrees (step_form f) steps text ≡ false → front (step_form f) steps text ≡ 0
 front_stop f [] text is = refl
 front_stop f (s ∷ later) [] is = refl
 front_stop f (s ∷ later) (x ∷ text) is = rw is refl
 
--- and where a byte was to agree the text does not fit
+-- and if a byte was to agree, the text does not fit
 pub differs_no : (f : Flags) (steps : List Step) (text : List Mark) → begins_literal (step_form f) steps ≡ true → agrees (step_form f) steps text ≡ false → step_fits f steps text ≡ false
 differs_no f [] text first is = absurd (false≢true first)
 differs_no f (Byte b ∷ later) [] first is = refl

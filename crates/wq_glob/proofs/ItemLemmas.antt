@@ -8,7 +8,7 @@ use Rattle.wq_glob.specs.Byte.{is_close, is_open, is_dash, is_escape}
 use Rattle.wq_glob.specs.Reading.{begins, next, letter, item_named, named_item, range_end, item_from, plain_item, first_item, before_items, items_from, class_items}
 use Rattle.wq_glob.specs.declared.class.Item.{Item}
 
--- what was read leaves a shorter text
+-- reading leaves a shorter text
 abbrev pub Shorter : {A : Type 0} → List ℕ → Option (A × List ℕ) → Type 0
 Shorter text None = Unit {0}
 Shorter text (Some r) = length r.1 < length text
@@ -49,7 +49,7 @@ plain_shorter noescape text = from (letter noescape text) (letter_shorter noesca
     from None s = tt
     from (Some x) s = ranged x.0 x.1 (range_end noescape x.1) s (range_shorter noescape x.1)
 
--- what was read leaves no longer text
+-- reading leaves no longer text
 abbrev pub NotLonger : {A : Type 0} → List ℕ → Option (A × List ℕ) → Type 0
 NotLonger text None = Unit {0}
 NotLonger text (Some r) = length r.1 ≤ length text
@@ -91,7 +91,7 @@ first_shorter noescape text = at (begins is_open text) (begins is_colon (drop 1 
     at true false o colon = plain_shorter noescape text
     at false y o colon = plain_shorter noescape text
 
--- where the rest of an item is shorter than the text, its length is enough
+-- if the rest of an item is shorter than the text, its length is enough
 shorter_at : {A : Type 0} (text : List ℕ) (o : Option (A × List ℕ)) (r : A × List ℕ) → o ≡ Some r → Shorter text o → length r.1 < length text
 shorter_at text o r is s = subst (Shorter text) is s
 
@@ -125,7 +125,7 @@ with_more : (done : List Item) (item : Item) (read : Option (List Item × List �
 with_more done item None = refl
 with_more done item (Some items) = ap (λ (l : List Item). Some (l, items.1)) (sym (append_assoc done (item ∷ []) items.0))
 
--- the first item, and what is left
+-- the first item, and the rest
 pub items_begin : (noescape : Bool) (text : List ℕ) (r : Item × List ℕ) → first_item noescape text ≡ Some r → class_items noescape text ≡ with_items (r.0 ∷ []) (items_from (length r.1) noescape r.1)
 unfolding class_items
 items_begin noescape text r is = rw is (one_before (items_from (length r.1) noescape r.1))
@@ -134,13 +134,13 @@ items_begin noescape text r is = rw is (one_before (items_from (length r.1) noes
     one_before None = refl
     one_before (Some items) = refl
 
--- without a `]` at the front, the next item and what is left
+-- without a `]` at the front, the next item and the rest
 items_next : (noescape : Bool) (text : List ℕ) → begins is_close text ≡ false → items_from (length text) noescape text ≡ option_and_then (λ item. before_items item.0 (items_from (length text - 1) noescape item.1)) (first_item noescape text)
 unfolding items_from
 items_next noescape [] goes_on = rw (nothing_first noescape (first_item noescape []) (first_shorter noescape [])) refl
 items_next noescape (b ∷ bs) goes_on = rw goes_on (same_then (first_item noescape (b ∷ bs)) _ _ (λ r is. ap (λ (n : ℕ). before_items r.0 (items_from n noescape r.1)) (let e : length bs ≡ length (b ∷ bs) - 1 = omega arith in e)))
 
--- one item more moves from what is left to what was read
+-- one more item moves from the rest to the items that were read
 pub items_more : (noescape : Bool) (text : List ℕ) (done : List Item) (r : Item × List ℕ) → begins is_close text ≡ false → first_item noescape text ≡ Some r →
     with_items done (items_from (length text) noescape text) ≡ with_items (done ++ r.0 ∷ []) (items_from (length r.1) noescape r.1)
 items_more noescape text done r goes_on is =

@@ -1,4 +1,4 @@
--- The steps of a pattern fit what its atoms fit.
+-- The steps of a pattern fit the texts that its atoms fit.
 use Rattle.std.proofs.Common.{◌≡◌, ℕ, suc, ◌<◌, ◌≤◌, Bool, true, List, [], ◌∷◌, length, get_or, refl, ◌∙◌, ap, subst, arith}
 use Rattle.wq_base.specs.Byte.{is_slash}
 use Rattle.wq_glob.specs.Atom.{Atom}
@@ -41,7 +41,7 @@ module _ (test other : Mark → Bool) (fit like : List Mark → Bool) (same_test
   same_part Many xs bytes = same_many xs bytes
   same_part Directories xs bytes = rw (same_fit xs bytes, same_folders xs bytes) refl
 
--- steps that stand for atoms fit what these fit
+-- steps that stand for atoms fit the texts that these fit
 pub same_fits : (f : Flags) (steps : List Step) (atoms : List Atom) → AllStand f steps atoms → (xs : List Mark) → AreBytes xs → step_fits f steps xs ≡ fits_by (atom_form f) atoms xs
 same_fits f [] [] all xs bytes = refl
 same_fits f [] (a ∷ atoms) all xs bytes = absurd all
@@ -58,7 +58,7 @@ same_length f (s ∷ steps) [] all = absurd all
 same_length f (s ∷ steps) (a ∷ atoms) all = ap suc (same_length f steps atoms all.1)
 
 module _ (g : PatternData) (steps : List Step) (compiled : IsCompiled g.text g.flags steps) where
-  -- the steps of a pattern fit what the pattern fits
+  -- the steps of a pattern fit the texts that the pattern fits
   pub steps_fit : (text : List ℕ) → ((i : ℕ) → get_or text i 0 < 256) → step_fits g.flags steps (marks (g.flags).dotfiles text) ≡ fits g text
   unfolding fits atoms_of
   steps_fit text small = same_fits g.flags steps _ compiled.stands _ (marks_are_bytes (g.flags).dotfiles true text small)
@@ -77,16 +77,16 @@ pub fits_cuts : (g : PatternData) (text : List ℕ) → fits g text ≡ true →
 unfolding fits Fits
 fits_cuts g text h = cuts_from_test g.flags (atoms_of g) (marks (g.flags).dotfiles text) h
 
--- and where it fits the test says yes
+-- and if it fits, the test says yes
 pub cuts_fits : (g : PatternData) (text : List ℕ) → Fits g text → fits g text ≡ true
 unfolding fits Fits
 cuts_fits g text h = test_from_cuts g.flags (atoms_of g) (marks (g.flags).dotfiles text) h
 
--- what the fields of a pattern say of its value
+-- the steps of a pattern's text and flags are those of the pattern
 pub compiled_as : (g : PatternData) (text : List ℕ) (f : Flags) (steps : List Step) → record { text = text; flags = f } ≡ g → IsCompiled text f steps → IsCompiled g.text g.flags steps
 compiled_as g text f steps is compiled = subst (λ (v : PatternData). IsCompiled v.text v.flags steps) is compiled
 
--- what the matcher says of the steps, said of the pattern
+-- the result of the matcher for the steps is that for the pattern
 pub matched : (g : PatternData) (text pattern : List ℕ) (f : Flags) (steps slice : List Step) (answer : Bool) → record { text = pattern; flags = f } ≡ g → IsCompiled pattern f steps → slice ≡ steps →
     ((i : ℕ) → get_or text i 0 < 256) → answer ≡ step_fits f slice (marks f.dotfiles text) → answer ≡ fits g text
 matched g text pattern f steps slice answer is compiled same small says =

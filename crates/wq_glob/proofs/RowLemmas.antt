@@ -22,7 +22,7 @@ cell_step f Below later x text = refl
 cell_step f Tail later x text = refl
 cell_step f Never later x text = refl
 
--- the first step of a tail, and what follows it
+-- the first step of a tail, and the rest
 pub drop_step : {A : Type 0} (steps : List A) (k : ℕ) (d : A) → k < length steps → drop k steps ≡ get_or steps k d ∷ drop (k + 1) steps
 drop_step steps k d within = drop-cons steps k d within ∙ ap (λ (n : ℕ). get_or steps k d ∷ drop n steps) (sym (add-one k))
 
@@ -65,7 +65,7 @@ dead_cons : (f : Flags) (s : Step) (later : List Step) (x : Mark) (text : List M
 dead_cons f s later x text was old_next new_next =
     cell_step f s later x text ∙ dead_from _ _ _ _ _ _ was old_next new_next
 
--- a cell is dead where the cells round it are
+-- a cell is dead if the cells around it are
 dead_at : (f : Flags) (steps : List Step) (x : Mark) (text : List Mark) (j : ℕ) → j < length steps → cell_of f (drop j steps) text ≡ dead_cell → step_fits f (drop (suc j) steps) text ≡ false → step_fits f (drop (suc j) steps) (x ∷ text) ≡ false → cell_of f (drop j steps) (x ∷ text) ≡ dead_cell
 dead_at f steps x text j within was old_next new_next =
     subst (λ (l : List Step). cell_of f l text ≡ dead_cell → cell_of f l (x ∷ text) ≡ dead_cell) (sym (drop-cons steps j Never within))

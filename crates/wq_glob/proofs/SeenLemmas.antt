@@ -52,7 +52,7 @@ module _ (f : Flags) (steps : List Step) (text : List Mark) where
             ∙ sym (le-leb w.low k inside)
       ]
 
-  -- where the row has no live cell, no cell of the next one is looked at
+  -- if the row has no live cell, no cell of the next one is looked at
   pub dead_cells : (x : Mark) → ((j : ℕ) → 0 ≤ j → j ≤ length steps → cell_of f (drop j steps) text ≡ dead_cell) →
       new_cells (length steps) (step_row f steps text) (step_row f steps (x ∷ text)) ≡ 0
   dead_cells x none =
@@ -111,7 +111,7 @@ module _ (f : Flags) (steps : List Step) (text : List Mark) where
               | inr old ↦ or_left _ _ (or_right _ _ (ap (λ (i : ℕ). step_fits f (drop i steps) text) e ∙ sym (old_is inside) ∙ old))
             ]
 
-    -- and where it stops none before it counts
+    -- and when it stops, none before it counts
     pub shut_before : (row : List Cell) (k : ℕ) (old_next new_next : Bool) → IsSwept f steps x text row k old_next new_next →
         (k ≡ 0) ⊎ ((k ≤ w.low) × (old_next ≡ false) × (new_next ≡ false)) → (j : ℕ) → j < k →
         (nat_le w.low j || next_fits (step_row f steps text) j || next_fits (step_row f steps (x ∷ text)) j) ≡ false
@@ -136,11 +136,11 @@ module _ (f : Flags) (steps : List Step) (text : List Mark) where
               (low_dead f steps x text row w k old_next new_next lives swept (inr (low, old_none, new_none)) (j + 1) (omega arith))
         ]
 
--- where a sweep goes on a cell is left
+-- when a sweep goes on, a cell is left
 pub goes_on : (k low : ℕ) (old_next new_next : Bool) → true ≡ (nat_lt 0 k && (nat_lt low k || old_next || new_next)) → 0 < k
 goes_on k low old_next new_next is = ltb-true 0 k (and_parts _ _ (sym is)).0
 
--- and where it stops none is, or none that may live
+-- and when it stops, there is none, or none that may live
 pub stops : (k low : ℕ) (old_next new_next : Bool) → false ≡ (nat_lt 0 k && (nat_lt low k || old_next || new_next)) → (k ≡ 0) ⊎ ((k ≤ low) × (old_next ≡ false) × (new_next ≡ false))
 stops k low old_next new_next is =
     elim (and_cases (nat_lt 0 k) _ (sym is)) [

@@ -77,13 +77,13 @@ pub none_push : (a b : Bool) → (not a && not b) ≡ not (a || b)
 none_push true b = refl
 none_push false b = refl
 
--- a class is negated where its flag says so
+-- a class is negated if its flag says so
 pub negate_is : (held negated : Bool) → not (beq held negated) ≡ (if negated then not held else held)
 negate_is true true = refl
 negate_is true false = refl
 negate_is false true = refl
 negate_is false false = refl
 
--- and its items are what they are
+-- and its items stay the same
 pub negated_as : (held either negated : Bool) → held ≡ either → not (beq held negated) ≡ (if negated then not either else either)
 negated_as held either negated is = negate_is held negated ∙ ap (λ (h : Bool). if negated then not h else h) is

@@ -15,7 +15,7 @@ use Rattle.wq_glob.specs.declared.class.Item.{Item}
 use Rattle.wq_glob.specs.declared.flag.Flags.{Flags}
 use Rattle.wq_glob.specs.declared.step.Step.TheVariants.{Byte, Set, Never}
 
--- a letter without its case is a slash where it was one
+-- a letter without its case is a slash if it was one
 slash_folded : (fold : Bool) (b : ℕ) → is_slash (lower_if fold b) ≡ is_slash b
 unfolding lower_of
 slash_folded false b = refl
@@ -42,13 +42,13 @@ pub stands_class : (f : Flags) (set : ByteSet) (c : Class) (known : Bool) → kn
 stands_class f set c known is all holds =
     subst (λ (u : Bool). IsStepOf f (Set set) (if u then Nothing else OneOf c)) (sym (not-true _ (sym is ∙ all))) (stands_set f set c holds)
 
--- what is read after a `[`, by the items that are read there
+-- the atom after a `[`, by the items that are read there
 pub one_of_some : (noescape : Bool) (text after : List ℕ) (items : List Item) → class_items noescape (if begins is_negation text then drop 1 text else text) ≡ Some (items, after) →
     one_of_at noescape text ≡ (known_class record { negated = begins is_negation text; items = items }, after)
 unfolding one_of_at class_at
 one_of_some noescape text after items is = rw is refl
 
--- or nothing, where the class has no end
+-- or nothing, if the class has no end
 pub one_of_none : (noescape : Bool) (text : List ℕ) → class_items noescape (if begins is_negation text then drop 1 text else text) ≡ None → one_of_at noescape text ≡ (Nothing, [])
 unfolding one_of_at class_at
 one_of_none noescape text is = rw is refl

@@ -9,7 +9,7 @@ use Rattle.wq_glob.specs.declared.row.Cell.{Cell}
 use Rattle.wq_glob.specs.declared.row.Window.{Window}
 use Rattle.wq_glob.specs.declared.step.Step.{Step}
 
--- what a sweep over a row from its end has made of it, with the cells from `k` on renewed for the byte `x`
+-- the row after a part of a sweep from its end, with the cells from `k` on renewed for the byte `x`
 pub record IsSwept (f : Flags) (steps : List Step) (x : Mark) (text : List Mark) (row : List Cell) (k : ℕ) (old_next new_next : Bool) : Type 0 where
   pub renewed : (j : ℕ) → k ≤ j → j ≤ length steps → get_or row j dead_cell ≡ cell_of f (drop j steps) (x ∷ text)
   pub left : (j : ℕ) → j < k → j ≤ length steps → get_or row j dead_cell ≡ cell_of f (drop j steps) text
@@ -45,7 +45,7 @@ module _ (f : Flags) (steps : List Step) (x : Mark) (text : List Mark) where
         new_fits = λ at. ap (λ (c : Cell). c.fits) new_is;
       }
 
-  -- where it stops, the cells before it are dead
+  -- when it stops, the cells before it are dead
   pub low_dead : (row : List Cell) (w : Window) (k : ℕ) (old_next new_next : Bool) → IsWindow f steps text 0 w → IsSwept f steps x text row k old_next new_next → (k ≡ 0) ⊎ ((k ≤ w.low) × (old_next ≡ false) × (new_next ≡ false)) → (j : ℕ) → j < k → cell_of f (drop j steps) (x ∷ text) ≡ dead_cell
   low_dead row w k old_next new_next lives swept (inl start) j before = absurd (omega arith)
   low_dead row w k old_next new_next lives swept (inr (low, old_none, new_none)) j before =

@@ -12,7 +12,8 @@ use Rattle.wq_glob.specs.declared.class.Item.{Item}
 use Rattle.wq_glob.specs.declared.class.Item.TheVariants.{Unknown}
 use Rattle.wq_glob.specs.declared.flag.Flags.{Flags}
 
--- an atom of a pattern: a byte, `?`, a class, `*`, `**/`, a last `**`, and what no text fits
+-- an atom of a pattern: a byte, `?`, a class, `*`, `**/`, a last `**`, and the atom that no text
+-- fits
 pub data Atom : Type 0 where
   Literal : ℕ → Atom
   One : Atom
@@ -28,7 +29,8 @@ opens (Literal b) = is_slash b
 opens Dirs = true
 opens _ = false
 
--- the atom of a byte that was read, and what follows it; where none was, nothing fits or follows
+-- the atom of a byte that was read, and the rest; if none was read, nothing fits and no rest is
+-- left
 abbrev pub literal_of : Option (ℕ × List ℕ) → Atom × List ℕ
 literal_of None = (Nothing, [])
 literal_of (Some (b, after)) = (Literal b, after)
@@ -42,11 +44,11 @@ abbrev pub is_unknown : Item → Bool
 is_unknown Unknown = true
 is_unknown _ = false
 
--- a class as an atom: where a name in it is unknown no text fits it, not even when it is negated
+-- a class as an atom: if a name in it is unknown, no text fits it, not even if it is negated
 abbrev pub known_class : Class → Atom
 known_class c = if list_any is_unknown c.items then Nothing else OneOf c
 
--- the atom of a class that was read, and what follows it; without its end nothing fits or follows
+-- the atom of a class that was read, and the rest; without its end nothing fits and no rest is left
 abbrev pub class_of : Option (Class × List ℕ) → Atom × List ℕ
 class_of None = (Nothing, [])
 class_of (Some (c, after)) = (known_class c, after)
@@ -55,7 +57,7 @@ class_of (Some (c, after)) = (known_class c, after)
 unfoldable pub one_of_at : Bool → List ℕ → Atom × List ℕ
 one_of_at noescape text = class_of (class_at noescape text)
 
--- what two stars or more are where directories may begin, by what follows them
+-- the atom of two stars or more, at a place where directories may begin, by the text after them
 abbrev pub stars_before : List ℕ → Atom × List ℕ
 stars_before [] = (Rest, [])
 stars_before (b ∷ bs) = if is_slash b then (Dirs, bs) else (Star, b ∷ bs)
@@ -68,7 +70,7 @@ stars_at wholename start text =
     if wholename && start && nat_le 2 run
     then stars_before (drop run text) else (Star, drop run text)
 
--- the atom at the front of a text, which is not empty, and what follows it
+-- the atom at the front of a text, which is not empty, and the rest
 unfoldable pub first_atom : Flags → Bool → List ℕ → Atom × List ℕ
 first_atom f start text =
     if begins is_star text then stars_at f.wholename start text
@@ -76,8 +78,8 @@ first_atom f start text =
     else if begins is_open text then one_of_at f.noescape (drop 1 text)
     else literal_at f.noescape text
 
--- The atoms of a text, where directories may begin at its front or not. A text has at most as many
--- atoms as bytes, so its length is enough for the first argument.
+-- The atoms of a text; the flag says whether directories may begin at its front. A text has at most
+-- as many atoms as bytes, so its length is enough for the first argument.
 unfoldable pub atoms_from : ℕ → Flags → Bool → List ℕ → List Atom
 atoms_from zero f start text = []
 atoms_from (suc n) f start [] = []

@@ -39,14 +39,14 @@ is_lower b = is_between (byte "a") (byte "z") b
 abbrev pub case_distance : ℕ
 case_distance = byte "a" - byte "A"
 
--- A to Z as a to z, every other byte as it is
+-- A to Z as a to z, every other byte unchanged
 unfoldable pub lower_of : ℕ → ℕ
 lower_of b = if is_upper b then b + case_distance else b
 
--- a to z as A to Z, every other byte as it is
+-- a to z as A to Z, every other byte unchanged
 unfoldable pub upper_of : ℕ → ℕ
 upper_of b = if is_lower b then b - case_distance else b
 
--- a byte as it is compared: without its case where `fold` says so
+-- a byte as it is compared: in lower case if `fold` says so
 abbrev pub lower_if : Bool → ℕ → ℕ
 lower_if fold b = if fold then lower_of b else b

@@ -1,5 +1,4 @@
--- Which bytes a set of four words holds.
--- This library's own.
+-- The bytes that a set of four words holds. This library's own.
 use Rattle.std.specs.Prelude.{ℕ, Bool, ◌==◌, ◌/◌, ◌%◌, slice_index}
 use Rattle.std.specs.Int.{bit_at}
 use Rattle.wq_glob.specs.declared.byte_set.ByteSet.{ByteSet}

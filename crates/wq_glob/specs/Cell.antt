@@ -39,7 +39,7 @@ fit_cell fits = record { fits = fits; begun = false }
 abbrev pub dead_cell : Cell
 dead_cell = fit_cell false
 
--- a cell, from those round it: its own and the next one after the byte, the next one at the byte
+-- a cell, from those around it: its own and the next one after the byte, the next one at the byte
 abbrev pub next_cell : Reach → Bool → Bool → Cell → Bool → Bool → Cell
 next_cell Single takes slash old old_next new_next = fit_cell (takes && old_next)
 next_cell Many takes slash old old_next new_next = fit_cell (new_next || (takes && old.fits))
@@ -47,12 +47,12 @@ next_cell Directories takes slash old old_next new_next =
     let begins = takes && (old.begun || (slash && old_next)) in
     record { fits = new_next || begins; begun = begins }
 
--- the cell of a step at a byte, from the cells round it
+-- the cell of a step at a byte, from the cells around it
 abbrev pub step_cell : Step → Seen → Cell → Bool → Bool → Cell
 step_cell step seen old old_next new_next =
     next_cell (step_reach step) (step_takes step seen) seen.slash old old_next new_next
 
--- the cells round the one at `k` before the byte `x`: its own, and whether the next one fits
+-- the cells around the one at `k` before the byte `x`: its own, and whether the next one fits
 pub record AreRound (f : Flags) (steps : List Step) (k : ℕ) (x : Mark) (text : List Mark)
     (old : Cell) (old_next : Bool) (new_next : Bool) : Type 0 where
   pub own : old ≡ step_row f steps text k

@@ -73,7 +73,7 @@ in_name Upper b = is_upper b
 in_name Xdigit b =
     is_digit b || is_between (byte "A") (byte "F") b || is_between (byte "a") (byte "f") b
 
--- the bytes of an item: a range holds its first byte even where its end is lower
+-- the bytes of an item: a range holds its first byte even if its end is lower
 abbrev pub in_item : ℕ → Item → Bool
 in_item b (Range first last) = b == first || is_between first last b
 in_item b (Named name) = in_name name b

@@ -1,5 +1,5 @@
 -- The cost of a match: how many cells it looks at in the table of the pattern and the text. This
--- library's own; what fits is defined without it.
+-- library's own; a fit is defined without it.
 use Rattle.std.specs.Prelude.{ℕ, ◌+◌, ◌-◌, Bool, false, not, ◌&&◌, ◌||◌, nat_le, if◌then◌else◌}
 use Rattle.std.specs.Prelude.{List, [], ◌∷◌, length, drop}
 use Rattle.std.specs.List.{count_by, list_any, range_with_len}
@@ -34,7 +34,7 @@ abbrev pub is_looked_at : ℕ → Row → Row → ℕ → Bool
 is_looked_at atoms old new k =
     lives_from atoms old k && (lives_to atoms old k || next_fits old k || next_fits new k)
 
--- a cell of the row at the end of the text is looked at where it or the next one fits
+-- a match looks at a cell of the row at the end of the text if it or the next one fits
 abbrev pub is_seen_at_end : Row → ℕ → Bool
 is_seen_at_end row k = (row k).fits || next_fits row k
 

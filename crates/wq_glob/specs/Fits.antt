@@ -1,5 +1,5 @@
--- The meaning of a fit: some cut of the text gives each atom in turn what it takes. After git's
--- wildmatch, in this server's own profile; no search is in it.
+-- The meaning of a fit: some cut of the text gives each atom in turn a part that it takes. After
+-- git's wildmatch, in this server's own profile; no search is in it.
 use Rattle.std.specs.Prelude.{◌≡◌, Bool, not, ◌==◌, ◌&&◌, IsTrue, ◌⊎◌, List, [], ◌∷◌, ◌++◌}
 use Rattle.std.specs.List.{list_all}
 use Rattle.wq_base.specs.Byte.{is_slash}
@@ -9,11 +9,11 @@ use Rattle.wq_glob.specs.Atom.{Atom, Literal, One, OneOf, Star, Dirs, Rest, Noth
 use Rattle.wq_glob.specs.Mark.{Mark}
 use Rattle.wq_glob.specs.declared.flag.Flags.{Flags}
 
--- no hidden dot: these only a literal takes
+-- no hidden dot, which only a literal takes
 abbrev pub has_no_hidden_dot : Mark → Bool
 has_no_hidden_dot x = not x.hidden
 
--- what `?`, a class and `*` may take: no hidden dot, and with `wholename` no slash
+-- the bytes that `?`, a class and `*` may take: no hidden dot, and with `wholename` no slash
 abbrev pub is_wild : Flags → Mark → Bool
 is_wild f x = has_no_hidden_dot x && not (f.wholename && is_slash x.byte)
 
@@ -40,7 +40,7 @@ Takes f Dirs part = (part ≡ []) ⊎ (IsEach has_no_hidden_dot part × EndsInSl
 Takes f Rest part = IsEach has_no_hidden_dot part
 Takes f Nothing part = ⊥
 
--- a cut of the text gives the first atom a part that it takes, and the later ones what follows it
+-- a cut of the text gives the first atom a part that it takes, and the later ones parts of the rest
 abbrev pub Cuts : Flags → List Atom → List Mark → Type 0
 Cuts f [] text = text ≡ []
 Cuts f (a ∷ later) text =

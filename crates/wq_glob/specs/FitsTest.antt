@@ -37,32 +37,33 @@ abbrev pub is_literal : Atom → Bool
 is_literal (Literal _) = true
 is_literal _ = false
 
--- what a test has to know of the atoms of a pattern: their reach, their bytes, which are literals
+-- the facts of a pattern's atoms that a test has to know: their reach, their bytes, which are
+-- literals
 pub record Form (A : Type 0) : Type 0 where
   pub reach_of : A → Reach
   pub admits_of : A → Mark → Bool
   pub is_literal : A → Bool
 
--- what a test has to know of the atoms themselves
+-- these facts of the atoms themselves
 abbrev pub atom_form : Flags → Form Atom
 atom_form f = record { reach_of = reach; admits_of = admits f; is_literal = is_literal }
 
--- the first byte passes, and what follows it fits
+-- the first byte passes, and the rest fits
 abbrev pub single : (Mark → Bool) → (List Mark → Bool) → List Mark → Bool
 single test fit [] = false
 single test fit (x ∷ xs) = test x && fit xs
 
--- each byte of some front of the text passes, and what follows that front fits
+-- each byte of some front of the text passes, and the rest fits
 abbrev pub many : (Mark → Bool) → (List Mark → Bool) → List Mark → Bool
 many test fit [] = fit []
 many test fit (x ∷ xs) = fit (x ∷ xs) || (test x && many test fit xs)
 
--- each byte of some front of the text, which ends in a slash, passes, and what follows it fits
+-- each byte of some front of the text, which ends in a slash, passes, and the rest fits
 abbrev pub directories : (Mark → Bool) → (List Mark → Bool) → List Mark → Bool
 directories test fit [] = false
 directories test fit (x ∷ xs) = test x && (directories test fit xs || (is_slash x.byte && fit xs))
 
--- some front of the text is a part of this reach, and what follows it fits
+-- some front of the text is a part of this reach, and the rest fits
 abbrev pub part_of : Reach → (Mark → Bool) → (List Mark → Bool) → List Mark → Bool
 part_of Single test fit text = single test fit text
 part_of Many test fit text = many test fit text

@@ -1,5 +1,5 @@
 -- The members that the reader of a class has gathered: the bytes of its items, and whether all
--- names are known. This library's own; `Class` says what an item is.
+-- names are known. This library's own; `Class` defines items.
 use Rattle.std.specs.Prelude.{◌≡◌, ℕ, ◌<◌, not, List, Option, Some}
 use Rattle.std.specs.List.{list_any}
 use Rattle.wq_glob.specs.Atom.{is_unknown}

@@ -1,5 +1,5 @@
--- A pattern as a contract sees it: its text and its flags; its atoms and what it fits follow. After
--- git's wildmatch, in this server's own profile.
+-- A pattern as a contract sees it: its text and its flags. Its atoms and the texts that it fits
+-- follow from them. After git's wildmatch, in this server's own profile.
 use Rattle.std.specs.Prelude.{ℕ, true, Bool, ◌&&◌, List, length}
 use Rattle.std.specs.Str.{bytes_eq}
 use Rattle.std.specs.Cmp.{IsEquivalence, and_equiv, bool_eq_equiv, on_equiv}
@@ -21,7 +21,7 @@ pub record PatternData : Type 0 where
 unfoldable pub atoms_of : PatternData → List Atom
 atoms_of g = atoms_from (length g.text) g.flags true g.text
 
--- the pattern fits the text: some cut gives each of its atoms in turn what it takes
+-- the pattern fits the text: some cut gives each of its atoms in turn a part that it takes
 unfoldable pub Fits : PatternData → List ℕ → Type 0
 Fits g text = Cuts g.flags (atoms_of g) (marks (g.flags).dotfiles text)
 
@@ -39,7 +39,7 @@ same_flags f g =
     beq f.wholename g.wholename && beq f.dotfiles g.dotfiles
     && beq f.noescape g.noescape && beq f.fold g.fold
 
--- two patterns are the same where their texts and their flags are
+-- two patterns are the same if their texts and their flags are
 abbrev pub same_pattern : PatternData → PatternData → Bool
 same_pattern g h = bytes_eq g.text h.text && same_flags g.flags h.flags
 

@@ -17,18 +17,18 @@ abbrev pub begins : (ℕ → Bool) → List ℕ → Bool
 begins test [] = false
 begins test (b ∷ _) = test b
 
--- the first byte and what follows it, where there is one
+-- the first byte and the rest, if there is one
 abbrev pub next : List ℕ → Option (ℕ × List ℕ)
 next [] = None
 next (b ∷ bs) = Some (b, bs)
 
--- the byte that the front of a text stands for, and what follows it. A backslash gives the byte
--- after it, unless `noescape`; there is none if the text ends first
+-- the byte that the front of a text stands for, and the rest. A backslash gives the byte after it,
+-- unless `noescape`; there is none if the text ends first
 abbrev pub letter : Bool → List ℕ → Option (ℕ × List ℕ)
 letter noescape text =
     if not noescape && begins is_escape text then next (drop 1 text) else next text
 
--- the named class that has this name, and where none has it an unknown item
+-- the named class that has this name, or an unknown item if none has it
 unfoldable pub item_named : List ℕ → Item
 item_named name =
     option_map_or Named (find (λ class. bytes_eq name (class_name class)) named_classes) Unknown
@@ -37,35 +37,34 @@ item_named name =
 abbrev pub is_behind_colon : List ℕ → ℕ → Bool
 is_behind_colon text place = nat_le 1 place && is_colon (slice_index text (place - 1))
 
--- the name before the `:` before a place, and what follows the place; none if no `:` is there
+-- the name before the `:` before a place, and the text after the place; none if no `:` is there
 abbrev pub name_to : List ℕ → ℕ → Option (Item × List ℕ)
 name_to text end =
     if is_behind_colon text end
     then Some (item_named (take (end - 1) text), drop (end + 1) text) else None
 
--- after `[:`, the named class and what follows its `:]`, whose `]` is the first in the text
+-- after `[:`, the named class and the text after its `:]`, whose `]` is the first in the text
 unfoldable pub named_item : List ℕ → Option (Item × List ℕ)
 named_item text = option_and_then (name_to text) (position is_close text)
 
--- after the first byte of a range, the byte that ends it and what follows: after a dash, any byte
--- but an unescaped `]`
+-- after the first byte of a range, the byte that ends it and the rest: after a dash, any byte but
+-- an unescaped `]`
 unfoldable pub range_end : Bool → List ℕ → Option (ℕ × List ℕ)
 range_end noescape text =
     if begins is_dash text && not (begins is_close (drop 1 text))
     then letter noescape (drop 1 text) else None
 
--- an item that begins with this byte: a range where an end follows, and else the byte alone
+-- an item that begins with this byte: a range if an end follows, and else the byte alone
 unfoldable pub item_from : ℕ → List ℕ → Option (ℕ × List ℕ) → Item × List ℕ
 item_from first after None = (Range first first, after)
 item_from first _ (Some (last, after)) = (Range first last, after)
 
--- the item at the front of a text that is no named class, and what follows it
+-- the item at the front of a text that is no named class, and the rest
 unfoldable pub plain_item : Bool → List ℕ → Option (Item × List ℕ)
 plain_item noescape text =
     option_map (λ (b, after). item_from b after (range_end noescape after)) (letter noescape text)
 
--- the item at the front of a text, and what follows it; a `[` with no name after it stands for
--- itself
+-- the item at the front of a text, and the rest; a `[` with no name after it stands for itself
 unfoldable pub first_item : Bool → List ℕ → Option (Item × List ℕ)
 first_item noescape text =
     if begins is_open text && begins is_colon (drop 1 text)
@@ -77,8 +76,8 @@ abbrev pub before_items : Item → Option (List Item × List ℕ) → Option (Li
 before_items item None = None
 before_items item (Some (items, after)) = Some (item ∷ items, after)
 
--- The items up to the `]` that ends the class, and what follows it; none if it has no end. A text
--- has at most as many items as bytes, so its length is enough for the first argument.
+-- The items up to the `]` that ends the class, and the rest; none if it has no end. A text has at
+-- most as many items as bytes, so its length is enough for the first argument.
 unfoldable pub items_from : ℕ → Bool → List ℕ → Option (List Item × List ℕ)
 items_from zero _ _ = None
 items_from (suc n) noescape text =
@@ -93,7 +92,7 @@ class_items noescape text =
     (λ (item, after). before_items item (items_from (length after) noescape after))
     (first_item noescape text)
 
--- a class begins with `!` or `^` where it is negated
+-- the byte after `[` that negates a class: `!` or `^`
 abbrev pub is_negation : ℕ → Bool
 is_negation b = b == byte "!" || b == byte "^"
 
@@ -101,7 +100,7 @@ is_negation b = b == byte "!" || b == byte "^"
 abbrev pub behind_negation : List ℕ → List ℕ
 behind_negation text = if begins is_negation text then drop 1 text else text
 
--- after its `[`, a class and what follows it; none if it has no end
+-- after its `[`, a class and the rest; none if it has no end
 unfoldable pub class_at : Bool → List ℕ → Option (Class × List ℕ)
 class_at noescape text =
     option_map

@@ -1,5 +1,5 @@
 -- The meaning of the steps of a compiled pattern, and that they stand for its atoms. This library's
--- own; `Atom` says what an atom is.
+-- own; `Atom` defines atoms.
 use Rattle.std.specs.Prelude.{◌≡◌, ℕ, ◌<◌, Bool, true, false, ◌==◌, ◌&&◌, ◌≤◌}
 use Rattle.std.specs.Prelude.{List, [], ◌∷◌, length}
 use Rattle.wq_base.specs.Byte.{is_slash}
@@ -52,7 +52,7 @@ abbrev pub is_byte : Step → Bool
 is_byte (Byte _) = true
 is_byte _ = false
 
--- what a test has to know of steps
+-- the facts of steps that a test has to know
 abbrev pub step_form : Flags → Form Step
 step_form f = record { reach_of = step_reach; admits_of = step_admits f; is_literal = is_byte }
 
@@ -62,7 +62,7 @@ step_opens (Byte b) = is_slash b
 step_opens Below = true
 step_opens _ = false
 
--- the step takes what the atom takes
+-- the step takes the parts that the atom takes
 pub record IsStepOf (f : Flags) (step : Step) (atom : Atom) : Type 0 where
   pub same_reach : step_reach step ≡ reach atom
   pub same_bytes : (x : Mark) → x.byte < 256 → step_admits f step x ≡ admits f atom x

@@ -1,11 +1,11 @@
 -- The table of a pattern and a text. Each tail of the text has a row, and in it each tail of the
--- pattern has a cell. This library's own; what fits is defined without it.
+-- pattern has a cell. This library's own; a fit is defined without it.
 use Rattle.std.specs.Prelude.{ℕ, Bool, false, List, [], ◌∷◌, drop}
 use Rattle.wq_glob.specs.Mark.{Mark}
 use Rattle.wq_glob.specs.FitsTest.{Reach, Directories, Form, directories, fits_by}
 use Rattle.wq_glob.specs.declared.row.Cell.{Cell}
 
--- of this reach a part has begun: some front of the text ends it in a slash, and what follows fits
+-- a part of this reach has begun: some front of the text ends it in a slash, and the rest fits
 abbrev pub begun_at : Reach → (Mark → Bool) → (List Mark → Bool) → List Mark → Bool
 begun_at Directories test fit text = directories test fit text
 begun_at _ test fit text = false

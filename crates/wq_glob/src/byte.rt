@@ -21,7 +21,7 @@ pub(crate) fn behind(text: &[u8]) -> &[u8]
     &text[1..]
 }
 
-/// A to Z as a to z, every other byte as it is.
+/// A to Z as a to z, every other byte unchanged.
 #[tactic(auto, unfolding(crate::specs::Byte::lower_of))]
 pub(crate) fn lower(byte: u8) -> u8
     ensures { result ≡ lower_of byte }
@@ -33,7 +33,7 @@ pub(crate) fn lower(byte: u8) -> u8
     }
 }
 
-/// a to z as A to Z, every other byte as it is.
+/// a to z as A to Z, every other byte unchanged.
 #[tactic(auto, unfolding(crate::specs::Byte::upper_of))]
 pub(crate) fn upper(byte: u8) -> u8
     ensures { result ≡ upper_of byte }
@@ -45,7 +45,7 @@ pub(crate) fn upper(byte: u8) -> u8
     }
 }
 
-/// The byte as it is compared.
+/// The byte as it is compared: in lower case if `fold` says so.
 pub(crate) fn lower_if(fold: bool, byte: u8) -> u8
     ensures { result ≡ lower_if fold byte }
 {

@@ -1,5 +1,5 @@
-//! Reads the classes of a pattern, as `[a-z]` or `[![:digit:]]`, into sets of bytes. It says where
-//! a class ends and what is no class; what a set takes of a text is for others.
+//! Reads the classes of a pattern, as `[a-z]` or `[![:digit:]]`, into sets of bytes. It finds the
+//! end of a class, and the texts that are no class. `matching` tries a set on a text.
 ghost use Rattle.std.specs.Prelude.{◌≡◌, ◌<◌, ◌==◌, ℕ, ◌+◌, List, [], ◌∷◌, ◌++◌, ◌||◌, length};
 ghost use Rattle.std.specs.Prelude.{drop, None, Some, MatchOption, option_map, not, position};
 ghost use Rattle.std.specs.Prelude.{IfSome, IsTrue, ◌≤◌, ◌-◌, ◌&&◌, nat_le, slice_index};
@@ -133,7 +133,7 @@ fn is_behind_colon(text: &[u8], place: usize) -> bool
     place >= 1 && text[place - 1] == b':'
 }
 
-/// Behind `[:`, the named class up to `:]`, and what follows it.
+/// After `[:`, the named class up to `:]`, and the rest.
 #[tactic(auto, unfolding(crate::specs::Reading::named_item))]
 fn named_item(text: &[u8]) -> Option<(Item, &[u8])>
     ensures { option_map (λ (read, after). (read, after.now)) result ≡ named_item text.now }
@@ -148,7 +148,7 @@ fn named_item(text: &[u8]) -> Option<(Item, &[u8])>
     }
 }
 
-/// Behind the first byte of a range, the byte that ends it, and what follows.
+/// After the first byte of a range, the byte that ends it, and the rest.
 #[tactic(auto, unfolding(crate::specs::Reading::range_end))]
 fn range_end(text: &[u8], noescape: bool) -> Option<(u8, &[u8])>
     ensures { option_map (λ (read, after). (read, after.now)) result ≡ range_end noescape text.now }
@@ -160,7 +160,7 @@ fn range_end(text: &[u8], noescape: bool) -> Option<(u8, &[u8])>
     }
 }
 
-/// The item at the front of a text that is no named class, and what follows it.
+/// The item at the front of a text that is no named class, and the rest.
 #[tactic(auto, unfolding(crate::specs::Reading::plain_item, crate::specs::Reading::item_from))]
 fn plain_item(text: &[u8], noescape: bool) -> Option<(Item, &[u8])>
     ensures { option_map (λ (read, after). (read, after.now)) result
@@ -173,7 +173,7 @@ fn plain_item(text: &[u8], noescape: bool) -> Option<(Item, &[u8])>
     }
 }
 
-/// The item at the front of a text, and what follows it.
+/// The item at the front of a text, and the rest.
 #[tactic(auto, unfolding(crate::specs::Reading::first_item))]
 fn first_item(text: &[u8], noescape: bool) -> Option<(Item, &[u8])>
     ensures { option_map (λ (read, after). (read, after.now)) result
@@ -212,7 +212,7 @@ impl Members {
         }
     }
 
-    /// Adds what one item more holds.
+    /// Adds the bytes of one more item.
     fn add(&mut self, item: Item)
         ensures { (items : List Item)
             → AreMembers self.old items → AreMembers self.new (items ++ item ∷ []) }

@@ -8,8 +8,8 @@
 //! ```
 //!
 //! A [`Pattern`] is read once from its text and its [`Flags`] and then tried on texts.
-//! `specs/Fits.antt` defines by cuts of the text what it fits. `specs/Reading.antt` and
-//! `specs/Atom.antt` define how its own text is read, and `specs/Cost.antt` what a trial costs.
+//! `specs/Fits.antt` defines the texts that it fits, by cuts. `specs/Reading.antt` and
+//! `specs/Atom.antt` define how its own text is read, and `specs/Cost.antt` the cost of a trial.
 //! This crate knows no files: a caller hands in a basename or a whole name.
 #![tactic(auto)]
 

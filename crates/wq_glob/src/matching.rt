@@ -1,5 +1,5 @@
-//! Whether a compiled pattern fits a text. The last byte is tried first, then the leading bytes one
-//! by one, and then row by row from the end of the text. `row` says what a row is.
+//! Tries a compiled pattern on a text: first the last byte, then the leading bytes one by one, and
+//! then row by row from the end of the text. `row` defines rows.
 ghost use Rattle.std.specs.Prelude.{◌≡◌, ◌<◌, ◌≤◌, ◌+◌, ◌-◌, ◌*◌, ◌&&◌, ℕ, List, ◌∷◌, [], length};
 ghost use Rattle.std.specs.Prelude.{drop, true, false, IsTrue, MatchOption, ⊤};
 ghost use Rattle.std.specs.Bool.{MatchBool};
@@ -39,7 +39,7 @@ fn run(row: &mut [Cell], steps: &[Step], text: &[u8], from: usize, flags: Flags)
     ensures looked { 1 ≤ result.cells }
 {
     let mut window = fill_end(row, steps);
-    // The cells of the window, and the dead one before it where there is one.
+    // The cells of the window, and the dead one before it if there is one.
     let mut cells = (window.high + 1 - window.low.saturating_sub(1)) as u64;
     let mut at = text.len();
     while at > from {
@@ -149,7 +149,7 @@ fn hit_by_rows(steps: &[Step], text: &[u8], from: usize, flags: Flags) -> Hit
     }
 }
 
-/// Whether the steps fit the text, and at what cost.
+/// Whether the steps fit the text, and the cost of the answer.
 #[inline(always)]
 pub(crate) fn hit_of(steps: &[Step], text: &[u8], flags: Flags) -> Hit
     requires small { length steps.now ≤ MAX_PATTERN }

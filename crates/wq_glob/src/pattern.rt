@@ -1,6 +1,6 @@
 //! Patterns: a text with flags, read once and then tried on paths. `reading` reads it, and
-//! `matching` tries it; which paths are tried, and whether by their last part or whole, is for
-//! others to say.
+//! `matching` tries it. The caller chooses the paths, and whether their last part or the whole is
+//! tried.
 ghost use Rattle.std.specs.Prelude.{◌≡◌, ◌<◌, ◌≤◌, ◌↔◌, ◌+◌, ◌*◌, IfOk, IsTrue, length, IsErrOf};
 ghost use Rattle.wq_glob.specs.Pattern.{atoms_of, cells_of, fits, Fits};
 ghost use Rattle.wq_glob.specs.Limit.{max_pattern_length, max_matched_text};
@@ -36,7 +36,7 @@ impl From<AllocError> for PatternFault {
     }
 }
 
-/// A pattern of wildmatch. Contracts see its text and its flags, and two patterns are equal where
+/// A pattern of wildmatch. Contracts see its text and its flags, and two patterns are equal if
 /// these are.
 #[derive(Debug, Drop)]
 pub struct Pattern {
@@ -79,7 +79,7 @@ impl PartialEq for Pattern {
 
     ghost laws = { partial_equiv_from_equiv same_pattern_equiv };
 
-    /// Two patterns are equal where their texts and their flags are.
+    /// Two patterns are equal if their texts and their flags are.
     fn eq(&self, other: &Pattern) -> bool
         ensures value { result ≡ same_pattern self.now other.now }
         ensures same { IsTrue result ↔ (self.now ≡ other.now) }
@@ -140,9 +140,9 @@ impl Pattern {
     }
 
     /// Whether the pattern fits a text of at most
-    /// [`MAX_MATCHED_TEXT`](crate::limit::MAX_MATCHED_TEXT) bytes, and at what cost.
+    /// [`MAX_MATCHED_TEXT`](crate::limit::MAX_MATCHED_TEXT) bytes, and the cost of the answer.
     ///
-    /// It fits where some cut of the text gives every atom, from left to right, a part that it
+    /// It fits if some cut of the text gives every atom, from left to right, a part that it
     /// takes. The cost is how many cells of the table of atoms and places the definition `cells_of`
     /// counts. For m atoms and t bytes that is at most (m + 1)(t + 1), whatever the pattern. It
     /// takes no memory.

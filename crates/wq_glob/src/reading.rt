@@ -1,5 +1,5 @@
 //! Reads a pattern into the steps that the matcher runs, one for each atom, from left to right.
-//! `class` says what a class is, and `row` how steps take a text.
+//! `class` reads classes, and `row` says how steps take a text.
 ghost use Rattle.std.specs.Prelude.{◌≡◌, ◌<◌, ◌≤◌, ℕ, List, [], ◌∷◌, ◌++◌, ◌&&◌, ◌||◌, length};
 ghost use Rattle.std.specs.Prelude.{drop, if◌then◌else◌, IfOk, true};
 ghost use Rattle.wq_glob.specs.Atom.{atoms_from, first_atom, known_class, literal_at, one_of_at};
@@ -93,7 +93,7 @@ fn stars(text: &[u8], at_start: bool, flags: Flags) -> (Step, &[u8])
     }
 }
 
-/// The step of the atom at the front of a text, and what follows it.
+/// The step of the atom at the front of a text, and the rest.
 #[tactic(auto, unfolding(crate::specs::Atom::first_atom))]
 fn first_step(text: &[u8], at_start: bool, flags: Flags) -> (Step, &[u8])
     requires { 0 < length text.now }

@@ -1,5 +1,5 @@
 //! The matcher: a row of cells over the steps of a pattern, filled from the end of the text to its
-//! start. It cuts nothing, goes back nowhere and takes no memory.
+//! start. It cuts no text, never goes back and takes no memory.
 ghost use Rattle.std.specs.Prelude.{◌≡◌, ◌<◌, ◌≤◌, ℕ, ◌+◌, length, drop, List, ◌∷◌, [], true};
 ghost use Rattle.std.specs.Prelude.{false, ◌⊎◌, ◌-◌, IsTrue, nat_lt, ◌&&◌, ◌||◌};
 ghost use Rattle.std.specs.Bool.{MatchBool};
@@ -49,7 +49,7 @@ pub(crate) struct Window {
 #[derive(Clone, Copy)]
 pub(crate) struct Seen {
     pub(crate) byte: u8,
-    /// The byte, without its case where the pattern has none.
+    /// The byte, in lower case if the pattern ignores case.
     pub(crate) folded: u8,
     pub(crate) slash: bool,
     /// It is no leading dot that a literal alone may take.
@@ -97,8 +97,7 @@ fn next_cell(step: &Step, seen: &Seen, old: Cell, old_next: bool, new_next: bool
     }
 }
 
-/// The cell of the steps from `k` on at a byte, from the cells round it: dead where no step is
-/// left.
+/// The cell of the steps from `k` on at a byte, from the cells around it: dead if no step is left.
 fn cell_at(steps: &[Step], k: usize, seen: &Seen, old: Cell, old_next: bool, new_next: bool) -> Cell
     requires { k ≤ length steps.now }
     ensures { (f : Flags) (x : Mark) (text : List Mark) → seen.now ≡ seen_of f x
@@ -112,7 +111,7 @@ fn cell_at(steps: &[Step], k: usize, seen: &Seen, old: Cell, old_next: bool, new
     }
 }
 
-/// The effect of a byte on a row: where it still lives, and how many cells were looked at.
+/// The effect of a byte on a row: its live window, and the number of cells that were looked at.
 #[derive(Clone, Copy)]
 pub(crate) struct Renewal {
     pub(crate) window: Option<Window>,
@@ -197,7 +196,8 @@ fn is_skipped(steps: &[Step], low: usize) -> bool
     low > 0 && may_take_nothing(&steps[low - 1])
 }
 
-/// Fills a blank row for the end of the text, where a tail fits whose steps may all take nothing.
+/// Fills a blank row for the end of the text, at which a tail fits if its steps may all take
+/// nothing.
 pub(crate) fn fill_end(row: &mut [Cell], steps: &[Step]) -> Window
     requires room { length steps.now < length row.old }
     requires blank { IsBlank row.old }

@@ -8,7 +8,7 @@ use crate::byte_set::ByteSet;
 /// The bytes of a text that an atom takes.
 #[derive(Clone, Copy, Debug)]
 pub(crate) enum Step {
-    /// One byte, this one; without case where the pattern is, and then kept in lower case.
+    /// This byte, which is kept in lower case if the pattern ignores case.
     Byte(u8),
     /// `?`: one byte.
     AnyByte,

@@ -76,7 +76,7 @@ other : (first count number : ℕ) → Apart first (suc count) number → nat_eq
 other first count number (inl far) = grind (arith, nat_tests)
 other first count number (inr far) = grind (arith, nat_tests)
 
--- and none of those that it is apart from
+-- and another than each of those that it is apart from
 others : (first count number : ℕ) → first < all → number < all → Apart first count number
     → AllByRecursion (λ n. nat_eq first n ≡ false) (upcoming count number)
 others first zero number small less apart = tt
@@ -111,7 +111,7 @@ same-test : (q : ℕ) (xs : List ℕ) → list_any (λ r. nat_eq r q) xs ≡ lis
 same-test q [] = refl
 same-test q (x ∷ xs) = ap₂ ◌||◌ (nat_eq_equiv.symm x q) (same-test q xs)
 
--- what is found among one number and more is that number, or among the more
+-- a number found among one number and more is that number, or among the more
 one-more : (count number : ℕ) (running : List ℕ) (q : ℕ)
     → (first_free count (number_after number) running ≡ None
     → list_any (nat_eq q) (upcoming count (number_after number)) ≡ true
@@ -162,7 +162,7 @@ is_free (suc count) number running n is =
         (sym is ∙ taken_at count number running free))
         ∙ free
 
--- what is found among more numbers than are taken
+-- a number found among more numbers than are taken
 found_among : (count number : ℕ) (running : List ℕ) → number < all → count ≤ all
     → length running < count → (limit : ℕ) (found : Option ℕ)
     → first_free count number running ≡ found

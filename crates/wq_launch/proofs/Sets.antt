@@ -7,7 +7,7 @@ use Rattle.std.specs.declared.process.command.Command.{Command}
 use Rattle.wq_follow.specs.Start.{EnvData, var, var_if, vars_of}
 use Rattle.wq_launch.specs.Command.{SetsAlso, said}
 
--- what is said after two lists of variables
+-- the word on a variable after two lists of variables
 said-append : (a b : List (List ℕ × List ℕ)) (name : List ℕ) (before : Option (Option (List ℕ)))
     → said (a ++ b) name before ≡ said b name (said a name before)
 said-append [] b name before = refl

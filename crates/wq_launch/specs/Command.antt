@@ -8,7 +8,7 @@ use Rattle.std.specs.Str.{bytes_eq}
 use Rattle.std.specs.declared.process.command.Command.{Command}
 use Rattle.wq_follow.specs.Start.{StartData, vars_of}
 
--- what is said of a variable once these were set, one after the other; `None` says nothing of it
+-- the word on a variable once these were set, one after the other; `None` if there is no word on it
 abbrev pub said : List (List ℕ × List ℕ) → List ℕ → Option (Option (List ℕ))
     → Option (Option (List ℕ))
 said [] name before = before

@@ -1,5 +1,4 @@
--- The starts that fail, and what the operator is told of them.
--- It is this server's own.
+-- The starts that fail, and the lines that tell the operator of them. It is this server's own.
 use Rattle.std.specs.Prelude.{◌≡◌, ℕ, Bool, not, ◌&&◌, ◌||◌, nat_lt, if◌then◌else◌, List, [], ◌∷◌, ◌++◌}
 use Rattle.std.specs.Prelude.{length, filter, drop, codes, Option, Some, None}
 use Rattle.std.specs.List.{list_any}
@@ -18,7 +17,7 @@ pub record FailingData : Type 0 where
 abbrev pub is_start_of : List ℕ → List ℕ → FailedStart → Bool
 is_start_of root trigger f = bytes_eq root f.root && bytes_eq trigger f.trigger
 
--- whether a start failed before, and so
+-- whether a start failed before in the same way
 abbrev pub is_known : FailedStart → List FailedStart → Bool
 is_known failed starts =
     list_any (λ f. is_start_of failed.root failed.trigger f && bytes_eq failed.words f.words) starts
@@ -50,7 +49,8 @@ after_success root trigger f = record {
   untold = without_failure root trigger f.untold;
 }
 
--- the failing starts after one failed: if it did not fail so before, the operator is to be told
+-- the failing starts after one failed: if it did not fail in this way before, the operator is to be
+-- told
 abbrev pub after_failure : FailedStart → FailingData → FailingData
 after_failure failed f =
     if is_known failed f.told || is_known failed f.untold then f

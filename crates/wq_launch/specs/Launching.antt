@@ -8,7 +8,8 @@ use Rattle.wq_launch.specs.Failing.{FailingData, after_failure}
 use Rattle.wq_launch.specs.Limit.{max_runs}
 use Rattle.wq_launch.specs.StartedRun.{StartedRun}
 
--- the launcher: the runs that nobody attends yet, how often it failed, and what failed
+-- the launcher: the runs that nobody attends yet, the count of its failures, and the starts that
+-- failed
 pub record LauncherNow : Type 0 where
   pub waiting : List StartedRun
   pub failures : ℕ

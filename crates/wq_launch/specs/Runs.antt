@@ -27,8 +27,8 @@ first_free (suc count) number running =
     if is_running number running then first_free count (number_after number) running
     else Some number
 
--- the number for the next command: the first after the last one that none has that runs. There is
--- none when as many run as may
+-- the number for the next command: the first after the last one that no running command has. There
+-- is none if as many run as may
 abbrev pub next_number : RunsData → Option ℕ
 next_number t =
     if nat_lt (length t.running) max_runs
@@ -48,7 +48,7 @@ GivesNumber old result new = (result ≡ next_number old) × (new ≡ with_numbe
 abbrev pub without_run : ℕ → List ℕ → List ℕ
 without_run run running = filter (λ r. not (nat_eq r run)) running
 
--- a number is given if fewer commands run than may, and it is of none that runs
+-- a number is given if fewer commands run than may, and no running command has it
 abbrev pub NumbersAreFree : Type 0
 NumbersAreFree = (t : RunsData) → t.last < 2 ^ 32 → MatchOption (next_number t)
     (max_runs ≤ length t.running) (λ number. is_running number t.running ≡ false)

@@ -43,8 +43,8 @@ impl Post {
 /// Has a thread of its own attend a command: it writes the input and waits for the end, which it
 /// tells to the runs.
 ///
-/// If no thread can be made, it gives the command back. Nobody waits for a command but its thread,
-/// which ends with it.
+/// If no thread can be made, it gives the command back. Only its thread waits for a command, and
+/// ends with it.
 pub fn attend<R>(rt: R, alloc: Global, runs: &Arc<Runs>, run: Run) -> Option<Run>
 where
     R: Threads + Wait + Copy + Drop + Send + Sync + 'static,

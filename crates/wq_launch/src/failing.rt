@@ -16,7 +16,7 @@ use wq_base::Text;
 /// How many failing starts are kept at most: one of each trigger that there may be.
 pub(crate) const MAX_FAILING: usize = 1024;
 
-/// A start that failed: its root, its trigger, and why in words.
+/// A start that failed: its root, its trigger, and the reason in words.
 #[derive(Drop)]
 pub(crate) struct FailedStart {
     pub(crate) root: Text,
@@ -32,7 +32,7 @@ impl FailedStart {
         root == self.root.as_str() && trigger == self.trigger.as_str()
     }
 
-    /// Whether another is of the same trigger, and failed so too.
+    /// Whether another is of the same trigger, and failed in the same way.
     fn is_same(&self, other: &FailedStart) -> bool
         ensures { result ≡ (is_start_of self.now.root self.now.trigger other.now
             && bytes_eq self.now.words other.now.words) }
@@ -104,7 +104,7 @@ impl Failing {
         put_start(&mut self.untold, failed);
     }
 
-    /// Whether a start failed before, and so.
+    /// Whether a start failed before in the same way.
     fn knows(&self, failed: &FailedStart) -> bool
         ensures { result ≡ (is_known failed.now self.now.told
             || is_known failed.now self.now.untold) }
@@ -136,7 +136,7 @@ impl Failing {
     }
 }
 
-/// Whether a start is one of these, and failed so.
+/// Whether a start is one of these, and failed in the same way.
 fn is_known(starts: &[FailedStart], failed: &FailedStart) -> bool
     ensures { result ≡ is_known failed.now starts.now }
 {

@@ -139,7 +139,7 @@ impl<S: Spawn + Drop, R: Wait + Drop> Launcher<S, R> {
         }
     }
 
-    /// Keeps why a start of a trigger failed.
+    /// Keeps the reason why a start of a trigger failed.
     fn fail(&mut self, env: Env, error: &io::Error)
         ensures failing { KeepsFailure (env_data env) self.old.failing self.new.failing }
         ensures failures { self.new.failures ≡ self.old.failures }

@@ -1,4 +1,4 @@
-//! Starting the commands of triggers by the system, and hearing of their ends.
+//! Starts the commands of triggers by the system, and hears of their ends.
 //!
 //! A [`Launcher`] starts commands and keeps them. Its caller takes each of them afterwards and has
 //! a thread attend it ([`attend`]), and tells the operator its lines.

@@ -50,7 +50,7 @@ impl RunTable {
         self.running.contains(&run)
     }
 
-    /// The first number after the last one that no command has that runs.
+    /// The first number after the last one that no running command has.
     #[tactic(auto, using(crate::proofs::Searches::goes_on, crate::proofs::Searches::found, crate::proofs::Searches::none_left))]
     fn free(&self) -> Option<u32>
         ensures { result ≡ first_free (max_runs + 1) (number_after self.now.last)
@@ -79,7 +79,7 @@ impl RunTable {
         Some(number)
     }
 
-    /// Takes the number of a command that runs no more out of the list.
+    /// Takes the number of a command that no longer runs out of the list.
     fn end(&mut self, run: u32)
         ensures { self.new ≡ record {
           last = self.old.last;
@@ -118,7 +118,7 @@ impl Runs {
         self.table.lock(rt).begin()
     }
 
-    /// The command of this number runs no more.
+    /// The command of this number no longer runs.
     pub(crate) fn end<R: Wait>(&self, rt: &R, run: u32) {
         self.table.lock(rt).end(run);
     }

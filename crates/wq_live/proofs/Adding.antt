@@ -1,4 +1,4 @@
--- The step that adds an event keeps what threads share: the length of the list.
+-- The step that adds an event keeps the fact that threads share: the length of the list.
 use Rattle.std.proofs.Common.{◌≡◌, ℕ, ◌+◌, ◌<◌, ◌==◌, Bool, true, false, List, [], ◌∷◌, ◌++◌, length, refl, ap, sym, subst, arith, inl, length-append, append-nil, None}
 use Rattle.std.proofs.lemmas.Bool.Decides.{nat_tests}
 use mathlib.Core.List.{IsPrefix}
@@ -41,7 +41,7 @@ adds_goes log v e old len pre false is =
       rw is (ap length all),
     )
 
--- whatever the list is, the exchange adds the event to all that was known, or finds that the list is longer
+-- for any list, the exchange adds the event to all that was known, or finds that the list is longer
 pub adds_moves : (v : List RootEvent) (e : RootEvent) (old : ℕ) → length v ≡ old
     → Moves IsCount shown moved 0 (v, (no_nib, None)) (λ n. either (n == old) (old + 1) n) (AddsEvent (step 0 old (old + 1) e) (v, (no_nib, None)))
 adds_moves v e old len cs log kept pre away =

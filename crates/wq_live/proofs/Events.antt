@@ -1,5 +1,4 @@
--- The changes that one more event makes to the roots that were started or are shown, and to their
--- passes.
+-- The changes that one more event makes in the roots that were started or are shown, and in their passes.
 use Rattle.std.proofs.Common.{◌≡◌, ◌≢◌, ◌==◌, ℕ, ◌<◌, ◌≤◌, Bool, true, false, not, ◌&&◌, ◌||◌, List, [], ◌∷◌, ◌++◌, filter, None, refl, ap, sym, ◌∙◌, arith, append-nil}
 use Rattle.std.specs.FinMap.{FinMap, empty}
 use Rattle.std.specs.List.{AllByRecursion}
@@ -14,7 +13,7 @@ use Rattle.wq_live.specs.declared.event.RootEvent.TheVariants.{Started, Passed, 
 use Rattle.wq_live.specs.Event.{Root, start_in, pass_in, is_end_of, number_in, started, has_ended, shown, passes_over}
 use Rattle.wq_live.proofs.Roots.{less_differs, filter_twice}
 
--- an event about another root tells no pass of this one
+-- an event of another root is no pass over this one
 no_pass : (n : ℕ) (e : RootEvent) → number_in e < n → pass_in n e ≡ None
 no_pass n (Started m t) lt = refl
 no_pass n (Passed m p) lt = rw (less_differs m n lt) refl
@@ -25,7 +24,7 @@ no_end n (Started m t) lt = refl
 no_end n (Passed m p) lt = refl
 no_end n (Ended m) lt = grind (arith, nat_tests)
 
--- nothing was told yet of a number that no root got
+-- a number that no root got has no events yet
 pub unknown_passes : (n k : ℕ) (events : List RootEvent) → k < n → AllByRecursion (λ e. number_in e ≤ k) events → passes_over n events ≡ []
 unknown_passes n k [] lt all = refl
 unknown_passes n k (e ∷ es) lt all = rw (no_pass n e (omega (arith, all.0))) (unknown_passes n k es lt all.1)
@@ -83,7 +82,7 @@ shown_after_end events n =
     parts false true = refl
     parts false false = refl
 
--- what one more event adds to the passes over a root
+-- the passes over a root that one more event adds
 pub passes_after : (m : ℕ) (events : List RootEvent) (e : RootEvent) → passes_over m (events ++ e ∷ []) ≡ passes_over m events ++ passes_over m (e ∷ [])
 passes_after m events e = filter_map-append (pass_in m) events (e ∷ [])
 

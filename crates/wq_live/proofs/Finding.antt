@@ -1,12 +1,12 @@
--- Answers of a search, seen through a reference and as they are.
+-- The results of a search, by reference and by value.
 use Rattle.std.proofs.Common.{◌≡◌, true, false, Result, Err, Option, Some, None, option_map, is_some, sym}
 
--- where the answer is none, none is found
+-- if the result is none, the search finds none
 pub none_found : {X Y : Type 0} (f : X → Y) (answer : Option X) (found : Option Y) → is_some answer ≡ false → option_map f answer ≡ found → found ≡ None
 none_found f None found fails e = sym e
 none_found f (Some x) found fails e = absurd cc
 
--- where there is an answer, it is what is found
+-- if there is a result, the search finds it
 pub one_found : {X Y : Type 0} (f : X → Y) (answer : Option X) (found : Option Y) → is_some answer ≡ true → option_map f answer ≡ found → (y : Y) × (found ≡ Some y)
 one_found f None found passes e = absurd cc
 one_found f (Some x) found passes e = (f x, sym e)

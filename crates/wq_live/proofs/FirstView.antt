@@ -11,15 +11,15 @@ use Rattle.wq_live.specs.Event.{first_history}
 is_zero : (n : ℕ) → (n == 0) ≡ true → n ≡ 0
 is_zero n h = grind (arith, nat_tests)
 
--- a map without entries is the empty one
+-- a map without entries is the empty map
 pub is_empty : (stats : FinMap name_cmp Stat) → (len stats == 0) ≡ true → empty ≡ stats
 is_empty stats e = sym (empty_of_len stats (is_zero (len stats) e))
 
--- and one with entries is not
+-- a map with entries is not the empty map
 pub not_empty : (stats : FinMap name_cmp Stat) → (len stats == 0) ≡ false → empty ≢ stats
 not_empty stats e same = absurd (cc (subst (λ n. (n == 0) ≡ false) (sym (ap len same) ∙ len-empty name_cmp Stat) e))
 
--- what absorbing the first pass leaves
+-- the view after the first pass
 pub first_view : (pass : PassData) (result : Result Bool ViewFault) (moved : Bool) (before after : ViewData) → result ≡ Ok moved → IsViewOf [] before
     → (result ≡ Ok true → IsViewOf (pass ∷ []) after)
     → ((result ≡ Ok false) ↔ (empty ≡ pass.stats))

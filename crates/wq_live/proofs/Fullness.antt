@@ -1,4 +1,4 @@
--- The facts that a table says of its list: how many roots, and which text.
+-- The facts about a list that its table has: the number of roots, and the root of a text.
 use Rattle.std.proofs.Common.{◌≡◌, ◌⊎◌, ◌↔◌, ◌==◌, ℕ, Bool, true, false, IsTrue, if◌then◌else◌, List, [], ◌∷◌, length, Result, Ok, Err, Option, Some, None, option_map, is_some, IfSome, refl, ap, sym, subst, ◌∙◌}
 use Rattle.std.specs.FinMap.{empty, len}
 use Rattle.std.specs.List.{find}
@@ -35,11 +35,11 @@ module _ (events : List RootEvent) (table : TableData) (is : IsTableOf events ta
   pub number_named : (text : List ℕ) → option_map (λ (r : RootView). r.number) (find (has_text text) table.roots) ≡ option_map (λ root. root.number) (shown_root text events)
   number_named text = number_is (find (has_text text) table.roots) ∙ ap (option_map (λ root. root.number)) (sym (named text))
 
-  -- a table is full where the list is
+  -- a table is full if the list is
   pub full : {Q : Type 0} → (Q ↔ ((length table.roots ≡ max_roots) ⊎ (table.given ≡ max_number))) → (Q ↔ ((length (shown events) ≡ max_roots) ⊎ (length (started events) ≡ max_number)))
   full iff = rw (sym is.given, sym is.roots, length-map table.roots root_of) iff
 
--- what a number finds in the table is the view of the passes over that root
+-- a number finds the view of the passes over its root in the table
 pub shows : {A : Type 0} (f : A → ViewData) (events : List RootEvent) (table : TableData) → IsTableOf events table → (number : ℕ) (answer : Option A)
     → option_map f answer ≡ option_map (λ (r : RootView). r.view) (find (has_number number) table.roots)
     → (is_some answer ≡ is_shown events number) × IfSome answer (λ view. IsViewOf (passes_over number events) (f view))
@@ -52,7 +52,7 @@ shows {A = A} f events table is number answer e = at answer (find (has_number nu
     at (Some v) None here e = absurd cc
     at (Some v) (Some r) here e = (sym (is_there events table is number r here), subst (IsViewOf (passes_over number events)) (cc e) (found_view events table is number r here))
 
--- what a text finds in the table is the view of the passes over the root of that number
+-- a text finds the view of the passes over its root in the table
 pub named_shows : {A : Type 0} (f : A → ℕ) (g : A → ViewData) (events : List RootEvent) (table : TableData) → IsTableOf events table → (text : List ℕ) (answer : Option A)
     → option_map f answer ≡ option_map (λ (r : RootView). r.number) (find (has_text text) table.roots)
     → option_map g answer ≡ option_map (λ (r : RootView). r.view) (find (has_text text) table.roots)
@@ -69,15 +69,15 @@ named_shows {A = A} f g events table is text answer d e = at answer (find (has_t
         subst (λ n. IsViewOf (passes_over n events) (g it)) number (subst (IsViewOf (passes_over r.number events)) view (found_passes (has_text text) (λ (root : RootView). IsViewOf (passes_over root.number events) root.view) table.roots r here
         (recursion_from_All (λ (root : RootView). IsViewOf (passes_over root.number events) root.view) table.roots is.views)).1)
 
--- a start that fails for memory did not find the table full
+-- if a start failed because memory ran out, the table was not full
 pub no_memory : {A B P : Type 0} (r : Result A StartFault) (s : Result B StartFault) (b : B) (y : StartFault) → r ≡ Err y → y ≡ NoMemory → s ≡ Ok b → ((s ≡ Err TooManyRoots) ↔ P) → ((r ≡ Err TooManyRoots) ↔ P)
 no_memory r s b y e f ok iff = ((λ h. absurd (cc (h, e, f))), (λ p. absurd (cc (iff.1 p, ok))))
 
--- and one that succeeds did not either
+-- if a start succeeded, the table was not full
 pub well : {A B P : Type 0} (a : A) (s : Result B StartFault) (b : B) → s ≡ Ok b → ((s ≡ Err TooManyRoots) ↔ P) → ((◌≡◌ {A = Result A StartFault} (Ok a) (Err TooManyRoots)) ↔ P)
 well a s b ok iff = ((λ h. absurd (cc h)), (λ p. absurd (cc (iff.1 p, ok))))
 
--- whether a first pass is one
+-- whether there is a first pass
 pub first_is : (pass : PassData) (none : Bool) → (IsTrue none ↔ (empty ≡ pass.stats)) → first_history pass ≡ (if none then [] else pass ∷ [])
 first_is pass true iff = at (len pass.stats == 0) refl
   where

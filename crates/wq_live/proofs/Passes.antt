@@ -1,4 +1,4 @@
--- The table after a pass, and which root a number finds.
+-- The table after a pass, and the root that a number finds.
 use Rattle.std.proofs.Common.{◌≡◌, ◌≢◌, ◌==◌, ℕ, ◌≤◌, Bool, true, false, List, [], ◌∷◌, ◌++◌, map, length, Some, None, is_some, refl, ap, sym, subst, ◌∙◌, append-nil}
 use Rattle.std.specs.List.{find}
 use Rattle.std.proofs.lemmas.List.Elements.{All-weaker, All-push, All-map, recursion_from_All}
@@ -25,14 +25,14 @@ module _ (events : List RootEvent) (table : TableData) (is : IsTableOf events ta
   pub is_there : (root : RootView) → find (has_number n) table.roots ≡ Some root → is_shown events n ≡ true
   is_there root found = in_table ∙ ap is_some found
 
-  -- what is found has the view of its passes
+  -- the root that is found has the view of its passes
   pub found_view : (root : RootView) → find (has_number n) table.roots ≡ Some root → IsViewOf (passes_over n events) root.view
   found_view root found =
       let it = found_passes (has_number n) (λ (root : RootView). IsViewOf (passes_over root.number events) root.view) table.roots root found
       (recursion_from_All (λ (root : RootView). IsViewOf (passes_over root.number events) root.view) table.roots is.views) in
       subst (λ m. IsViewOf (passes_over m events) root.view) (same_number root.number n it.0) it.1
 
-  -- and a number that was given
+  -- the number of the root that is found was given
   pub found_known : (root : RootView) → find (has_number n) table.roots ≡ Some root → n ≤ table.given
   found_known root found =
       let it = found_passes (has_number n) (λ (root : RootView). root.number ≤ table.given) table.roots root found (roots_known events table is) in

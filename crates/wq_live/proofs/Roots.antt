@@ -1,4 +1,4 @@
--- Lists of roots: which have a number, and what keeps their numbers.
+-- Lists of roots: the roots with a number, and the steps that keep their numbers.
 use Rattle.std.proofs.Common.{◌≡◌, ◌==◌, ℕ, ◌<◌, ◌≤◌, Bool, true, false, cond, not, ◌&&◌, List, [], ◌∷◌, map, filter, Some, is_some, refl, ap, subst, arith, option_map, bytes_eq}
 use Rattle.std.specs.List.{find, list_any, AllByRecursion}
 use Rattle.std.proofs.lemmas.Bool.Decides.{nat_tests}
@@ -6,7 +6,7 @@ use Rattle.wq_view.specs.View.{ViewData}
 use Rattle.wq_live.specs.Event.{Root}
 use Rattle.wq_live.specs.Table.{RootView, root_of, has_number, has_text, with_view}
 
--- numbers that differ are told apart
+-- different numbers are told apart
 pub less_differs : (m n : ℕ) → m < n → (m == n) ≡ false
 less_differs m n lt = grind (arith, nat_tests)
 
@@ -22,7 +22,7 @@ pub turned : (m n : ℕ) (b : Bool) → (m == n) ≡ b → (n == m) ≡ b
 turned m n true h = grind (arith, nat_tests)
 turned m n false h = grind (arith, nat_tests)
 
--- a root is shown under a number just where one of these roots has it
+-- a root is shown under a number exactly if one of these roots has it
 pub any_of_number : (n : ℕ) (roots : List RootView) → list_any (λ (root : Root). root.number == n) (map root_of roots) ≡ is_some (find (has_number n) roots)
 any_of_number n [] = refl
 any_of_number n (r ∷ rs) = at (r.number == n) refl (any_of_number n rs)
@@ -45,7 +45,7 @@ root_of_text text (r ∷ rs) = at (bytes_eq r.text text) refl (root_of_text text
     at true e ih = rw e refl
     at false e ih = rw e ih
 
--- what is found passes the test, and is as each of the list is
+-- the root that is found passes the test, and has each fact that holds of the whole list
 pub found_passes : {X : Type 0} (p : X → Bool) (P : X → Type 0) (xs : List X) (x : X) → find p xs ≡ Some x → AllByRecursion P xs → (p x ≡ true) × P x
 found_passes p P [] x h all = absurd cc
 found_passes p P (y ∷ ys) x h all = at (p y) refl (λ k. found_passes p P ys x k all.1)
@@ -74,7 +74,7 @@ same_roots n view (r ∷ rs) = at (r.number == n) refl (same_roots n view rs)
     at true e ih = rw e (ap (λ l. root_of r ∷ l) ih)
     at false e ih = rw e (ap (λ l. root_of r ∷ l) ih)
 
--- leaving out by number is the same with and without views
+-- a root left out by its number is the same with and without views
 pub without_number : (n : ℕ) (roots : List RootView) → map root_of (filter (λ r. not (has_number n r)) roots) ≡ filter (λ (root : Root). not (root.number == n)) (map root_of roots)
 without_number n [] = refl
 without_number n (r ∷ rs) = at (r.number == n) refl (without_number n rs)
@@ -84,7 +84,7 @@ without_number n (r ∷ rs) = at (r.number == n) refl (without_number n rs)
     at true e ih = rw e ih
     at false e ih = rw e (ap (λ l. root_of r ∷ l) ih)
 
--- two filters in turn are one
+-- two filters in turn are one filter
 pub filter_twice : {X : Type 0} (p q : X → Bool) (xs : List X) → filter q (filter p xs) ≡ filter (λ x. p x && q x) xs
 filter_twice p q [] = refl
 filter_twice p q (x ∷ xs) = at (p x) refl (filter_twice p q xs)

@@ -19,7 +19,7 @@ map_self : (xs : List ℕ) → map (λ x. x) xs ≡ xs
 map_self [] = refl
 map_self (x ∷ xs) = ap (λ l. x ∷ l) (map_self xs)
 
--- the numbers go on with the next one
+-- the numbers continue with the next one
 next_number : (k n : ℕ) → n ≡ 1 + k → range_with_len 1 k ++ n ∷ [] ≡ range_with_len 1 (k + 1)
 next_number k n e =
     sym (ap (λ l. l ++ n ∷ []) (map_self (range_with_len 1 k))) ∙ (sym (map-range_with_len_more (λ x. x) 1 k n (sym e)) ∙ map_self (range_with_len 1 (k + 1)))
@@ -64,7 +64,7 @@ module _ (events : List RootEvent) (table : TableData) (is : IsTableOf events ta
       differ = λ m. rw (same_passes m) (is.lawful.differ m);
     }
 
-    -- a root that no pass went over
+    -- a root before its first pass
     pub after_start_alone : (view : ViewData) → IsViewOf [] view
         → IsTableOf (events ++ start ∷ []) (record { roots = table.roots ++ record { number = n; text = text; view = view } ∷ []; given = n })
     after_start_alone view of = record {

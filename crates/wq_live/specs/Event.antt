@@ -1,5 +1,5 @@
--- The events of roots, in order: their starts, the passes over them and their ends. From that
--- follows which roots are shown, and which passes each of them had. No public document defines it.
+-- The events of roots, in order: their starts, the passes over them and their ends. They determine
+-- the roots that are shown, and the passes over each. No public document defines it.
 use Rattle.std.specs.Prelude.{◌≡◌, ◌≤◌, ◌⊎◌, ◌==◌, ℕ, Bool, false, not, if◌then◌else◌, All, List, [], ◌∷◌, length, map, filter, find, bytes_eq, Option, Some, None, option_map}
 use Rattle.std.specs.FinMap.{len}
 use Rattle.std.specs.List.{filter_map, list_any, range_with_len}
@@ -19,7 +19,7 @@ abbrev pub start_in : RootEvent → Option Root
 start_in (Started number text) = Some (record { number = number; text = text })
 start_in _ = None
 
--- the pass over the root of this number that an event tells
+-- the pass over the root of this number, if the event is such a pass
 abbrev pub pass_in : ℕ → RootEvent → Option PassData
 pass_in root (Passed number pass) = if number == root then Some pass else None
 pass_in root _ = None
@@ -51,15 +51,15 @@ shown events = filter (λ root. not (has_ended events root.number)) (started eve
 abbrev pub is_shown : List RootEvent → ℕ → Bool
 is_shown events number = list_any (λ root. root.number == number) (shown events)
 
--- the root of this text, where one is shown
+-- the root of this text, if it is shown
 abbrev pub shown_root : List ℕ → List RootEvent → Option Root
 shown_root text events = find (λ root. bytes_eq root.text text) (shown events)
 
--- its number
+-- the number of the root of this text, if it is shown
 abbrev pub number_of : List ℕ → List RootEvent → Option ℕ
 number_of text events = option_map (λ root. root.number) (shown_root text events)
 
--- no more root can be started: as many are shown as may be, or the last number was given
+-- no more root can be started, because the most roots are shown or the last number was given
 abbrev pub IsFull : List RootEvent → Type 0
 IsFull events = (length (shown events) ≡ max_roots) ⊎ (length (started events) ≡ max_number)
 
@@ -68,18 +68,18 @@ abbrev pub passes_over : ℕ → List RootEvent → History
 passes_over number events = filter_map (pass_in number) events
 
 -- the facts of each list that the server makes. The roots got the numbers 1, 2, 3 and so on, and no
--- event is about a number beyond the last one. Of the passes over a root each saw something else
--- than the one before
+-- event has a number beyond the last one. Each pass over a root saw something else than the one
+-- before
 pub record IsLawfulList (events : List RootEvent) : Type 0 where
   pub numbers : map (λ root. root.number) (started events) ≡ range_with_len 1 (length (started events))
   pub known : All (λ event. number_in event ≤ length (started events)) events
   pub differ : (number : ℕ) → Differ (passes_over number events)
 
--- the passes over a root that was started with this one: none if it saw no file
+-- the passes over a root that starts with this pass: none if the pass saw no file
 abbrev pub first_history : PassData → History
 first_history pass = if len pass.stats == 0 then [] else pass ∷ []
 
--- what the start of a root adds: its start, and its first pass unless that saw no file
+-- the events that the start of a root adds: its start, and its first pass unless that saw no file
 abbrev pub start_events : ℕ → List ℕ → PassData → List RootEvent
 start_events number text pass =
     Started number text ∷ map (λ first. Passed number first) (first_history pass)

@@ -12,7 +12,7 @@ use Rattle.wq_live.specs.declared.event.RootEvent.{RootEvent}
 abbrev pub events_code : Coded (List RootEvent)
 events_code = coded_list the_row.coded
 
--- which list it is, and the events of it that are known
+-- the identity of the list, and the events of it that are known
 pub record LogData : Type 0 where
   pub book : Book
   pub log : List RootEvent
@@ -24,15 +24,15 @@ log_code =
     (λ log. (log.book, log.log))
     (λ (book, log). record { book = book; log = log }) (λ _. refl)
 
--- the one log begins the other, which is of the same list
+-- the first log begins the second, which is of the same list
 abbrev pub BeginsLog : LogData → LogData → Type 0
 BeginsLog a b = (a.book ≡ b.book) × IsPrefix a.log b.log
 
--- how two logs of one list compare: the shorter begins the other
+-- the relation of two logs of one list: the shorter begins the other
 abbrev pub Compared : LogData → LogData → Type 0
 Compared a b = MatchBool (nat_lt (length a.log) (length b.log)) (BeginsLog a b) (BeginsLog b a)
 
--- the one list begins the other where it is the shorter one, and else the other begins it
+-- the first list begins the second if it is the shorter one, and else the second begins it
 abbrev pub AgreeAs : Bool → List RootEvent → List RootEvent → Type 0
 AgreeAs is_shorter a b = MatchBool is_shorter (IsPrefix a b) (IsPrefix b a)
 
@@ -40,12 +40,13 @@ AgreeAs is_shorter a b = MatchBool is_shorter (IsPrefix a b) (IsPrefix b a)
 abbrev pub longer_log : LogData → LogData → LogData
 longer_log a b = if nat_lt (length a.log) (length b.log) then b else a
 
--- what was told goes beyond what is seen, which begins it; or nothing is kept of it
+-- a log that a seat learned is longer than the log that it saw, which begins it; or none is kept
 abbrev pub IsAhead : LogData → Option LogData → Type 0
 IsAhead seen None = Unit {0}
 IsAhead seen (Some told) = BeginsLog seen told
 
--- the list with which a look begins: what was told, where that goes beyond what is seen
+-- the list with which a look begins: the log that was learned, if it is longer than the one that
+-- was seen
 abbrev pub begun_with : LogData → Option LogData → List RootEvent
 begun_with seen None = seen.log
 begun_with seen (Some told) = told.log
@@ -54,11 +55,11 @@ begun_with seen (Some told) = told.log
 abbrev pub IsCount : List Cell → List RootEvent → Type 0
 IsCount cells log = cells ≡ (length log, true) ∷ (0, true) ∷ []
 
--- that word of this list
+-- the shared word of this list
 abbrev pub head_of : Book → Named
 head_of book = record { tracked = true; key = 0; book = book }
 
--- the event was added to all that had been known; or the list was longer, and is known
+-- the event was added to a log that knew all; or the list was longer, and the log knows it now
 abbrev pub AddsEvent : Step RootEvent → View RootEvent ℕ → ℕ → View RootEvent ℕ → Type 0
 AddsEvent step before found after =
     MatchBool (found == step.old) (after.0 ≡ before.0 ++ step.ask ∷ []) (length after.0 ≡ found)

@@ -5,15 +5,15 @@ use mathlib.Core.Option.{some}
 use lib.ListN.{get_elem?}
 use Rattle.wq_live.specs.Log.{LogData, BeginsLog}
 
--- a seat that saw nothing yet knows nothing, and each other one a beginning
+-- a seat that saw nothing yet knows nothing, and each other seat knows a beginning
 abbrev pub Knows : Option LogData → LogData → Type 0
 Knows None log = Unit {0}
 Knows (Some seen) log = BeginsLog seen log
 
--- what each seat knows begins the list of what is shown
+-- each seat knows a beginning of the list that is shown
 abbrev pub AllBegin : LogData → List (Option LogData) → Type 0
 AllBegin log views = (seat : ℕ) (known : Option LogData) → get_elem? views seat ≡ some known → Knows known log
 
--- what was known begins what is known afterwards, which is the list of what is shown
+-- the list that was known begins the list that is known afterwards, which is the one that is shown
 abbrev pub Sees : Option LogData → LogData → Option LogData → Type 0
 Sees before shown after = Knows before shown × (after ≡ Some shown)

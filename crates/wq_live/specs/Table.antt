@@ -27,7 +27,7 @@ root_code =
 abbrev pub root_of : RootView → Root
 root_of root = record { number = root.number; text = root.text }
 
--- the roots that are shown, in the order of their starts, and how many were ever started
+-- the roots that are shown, in the order of their starts, and the number of roots ever started
 pub record TableData : Type 0 where
   pub roots : List RootView
   pub given : ℕ
@@ -39,8 +39,8 @@ table_code =
     (λ table. (table.roots, table.given))
     (λ (roots, given). record { roots = roots; given = given }) (λ _. refl)
 
--- the table of a list of events: its roots are those shown there, and the view of each is that of
--- the passes over it
+-- the table of a list of events: it has the roots that the list shows, and the view of each is that
+-- of the passes over it
 pub record IsTableOf (events : List RootEvent) (table : TableData) : Type 0 where
   pub lawful : IsLawfulList events
   pub given : table.given ≡ length (started events)
@@ -55,11 +55,11 @@ has_number number root = root.number == number
 abbrev pub has_text : List ℕ → RootView → Bool
 has_text text root = bytes_eq root.text text
 
--- the root of this text in a table, if it is there
+-- the root of this text in a table, if the table has it
 abbrev pub root_by_text : List ℕ → TableData → Option RootView
 root_by_text text table = find (has_text text) table.roots
 
--- its number
+-- the number of the root of this text in a table
 abbrev pub number_by_text : List ℕ → TableData → Option ℕ
 number_by_text text table = option_map (λ root. root.number) (root_by_text text table)
 
@@ -67,11 +67,11 @@ number_by_text text table = option_map (λ root. root.number) (root_by_text text
 abbrev pub IsFullTable : TableData → Type 0
 IsFullTable table = (length table.roots ≡ max_roots) ⊎ (table.given ≡ max_number)
 
--- the root, with this view where it has this number
+-- the root; if it has this number, with this view
 abbrev pub with_view : ℕ → ViewData → RootView → RootView
 with_view number view root = if root.number == number then record root { view = view } else root
 
--- the pass tells nothing: its root is not shown, or the last pass over it saw the same
+-- the pass adds nothing, because its root is not shown or the last pass over it saw the same
 abbrev pub IsNoNews : List RootEvent → ℕ → PassData → Type 0
 IsNoNews events number pass =
     (is_shown events number ≡ false) ⊎ (last_stats (passes_over number events) ≡ pass.stats)
@@ -81,7 +81,7 @@ abbrev pub IsNews : List RootEvent → ℕ → PassData → Type 0
 IsNews events number pass =
     (is_shown events number ≡ true) × (last_stats (passes_over number events) ≢ pass.stats)
 
--- the pass tells something, and its root has no tick left for it
+-- the pass is news, and its root has no tick left for it
 abbrev pub WantsForTicks : List RootEvent → ℕ → PassData → Type 0
 WantsForTicks events number pass =
     IsNews events number pass × (length (passes_over number events) ≡ max_tick)
@@ -93,7 +93,7 @@ without number table = record {
   given = table.given;
 }
 
--- the table with one more root, under the next number, that was started with this pass
+-- the table with one more root, under the next number, which starts with this pass
 abbrev pub IsStarted : TableData → List ℕ → PassData → TableData → Type 0
 IsStarted before text pass after =
     (view : ViewData) × IsViewOf (first_history pass) view

@@ -1,4 +1,4 @@
-//! The shared view before it has a name.
+//! The shared view, before its list of events has a name.
 ghost use Rattle.std.specs.Prelude.{◌≡◌, ◌<◌, ◌^◌, [], IfOk};
 
 use crate::log::{Head, Log};
@@ -13,9 +13,9 @@ use std::alloc::{AllocError, Global};
 use std::marker::Model;
 use std::sync::{Arc, Wait};
 
-/// A shared view in which nothing happened yet. Contracts see its list, and which list it is.
+/// A shared view before its first event. Contracts see its list, and the identity of that list.
 ///
-/// It is not `Drop`: open it.
+/// The type is not `Drop`: a caller has to open it.
 pub struct Blank {
     writer: ShownWriter,
     head: Head,
@@ -39,8 +39,8 @@ impl Model for Blank {
 }
 
 impl Blank {
-    /// A shared view with room for so many seats at once. It shows its first value once more, so that the writer has the
-    /// room that later values take.
+    /// A shared view with room for so many seats at once. It shows its first value once more, so that the writer has
+    /// the memory that later values need.
     pub fn new<R: Wait>(alloc: Global, rt: &R, seats: usize) -> Result<Blank, AllocError>
         requires { (0 < seats) × (seats < 2 ^ 32) }
         ensures { IfOk result (λ blank. blank.log ≡ []) }

@@ -1,15 +1,15 @@
-//! The events of a root. `specs/Event.antt` says what follows from a list of events.
+//! The events of a root. `specs/Event.antt` defines the state that follows from a list of events.
 
 use wq_base::Text;
 use wq_view::Pass;
 
-/// An event of a root, by the number of the root.
+/// An event of a root. It has the number of the root.
 #[derive(Drop)]
 pub enum RootEvent {
-    /// It was started, under a number that no root had before.
+    /// The root was started, under a number that no root had before.
     Started(u64, Text),
-    /// A pass went over it.
+    /// A pass went over the root.
     Passed(u64, Pass),
-    /// It ended, and is shown no more.
+    /// The root ended, and is no longer shown.
     Ended(u64),
 }

@@ -1,15 +1,14 @@
-//! The rule that threads keep about the value that they share: the list that a seat knows begins the list that is
-//! shown.
+//! The rule that threads keep about the value that they share: each seat knows a beginning of the list that is shown.
 
 use crate::log::Log;
 use crate::shown::Shown;
 use atomic_table::{Join, Split};
 use crossbeam_utils::rule::{Outcome, Protocol};
 
-/// The list that a seat knows: nothing yet, or a beginning.
+/// The part of the list that a seat knows: nothing yet, or a beginning.
 pub type Known = Option<Log>;
 
-/// The list that each seat knows begins the list that is shown.
+/// Each seat knows a beginning of the list that is shown.
 pub struct Kept;
 
 impl Protocol<Shown, Option<Log>> for Kept {
@@ -21,7 +20,7 @@ impl Protocol<Shown, Option<Log>> for Kept {
     ghost first = { None };
 }
 
-/// A step after which a seat knows the list of what is shown.
+/// A step after which a seat knows the list that is shown.
 pub struct Knowing;
 
 impl Outcome<Shown, Option<Log>> for Knowing {
@@ -30,7 +29,7 @@ impl Outcome<Shown, Option<Log>> for Knowing {
     ghost then = { λ before _ shown after. Sees before shown after };
 }
 
-/// A new seat gets to know what the publisher knows.
+/// A new seat learns the list that the publisher knows.
 pub struct Note;
 
 impl Split<Option<Log>> for Note {

@@ -1,6 +1,5 @@
-//! The views of all roots: which roots are shown, and the view of each, as they follow from one list of events.
-//! A publisher changes the list, and seats look at its table from other threads. Nothing here walks a tree of
-//! files.
+//! The views of all roots: the roots that are shown, and the view of each, as they follow from one list of events. A
+//! publisher changes the list. Seats look at its table from other threads. The crate of walks lists the trees of files.
 #![tactic(auto)]
 
 mod blank;

@@ -1,5 +1,5 @@
-//! A beginning of the one list of events of all roots. The list itself is kept nowhere: threads share its length, and
-//! have tokens without bytes of what they know of it.
+//! A beginning of the one list of events of all roots. No memory holds the list itself. Threads share its length, and
+//! have tokens without bytes for the part of it that they know.
 ghost use Rattle.std.specs.Prelude.{◌≡◌, ◌++◌, ◌∷◌, [], IsTrue, length, nat_lt};
 ghost use Rattle.wq_live.specs.Log.{Compared, head_of};
 
@@ -7,7 +7,7 @@ use crate::event::RootEvent;
 use logbook::{Gain, Offer, Plain, Play, Rule, Seen, Word};
 use std::marker::Model;
 
-/// The rule of the list and of the word that threads share: the word is its length.
+/// The rule for the list and for the word that threads share: the word is the length of the list.
 pub struct Law;
 
 impl Rule<RootEvent, u64> for Law {
@@ -78,7 +78,7 @@ impl Model for Log {
 }
 
 impl Log {
-    /// The log of a list that has no events yet.
+    /// The log of a list without events.
     pub(crate) fn new(seen: Seen<RootEvent, u64, Law>) -> Log
         requires { seen.log ≡ [] }
         ensures { result ≡ record { book = seen.book; log = [] } }
@@ -96,8 +96,8 @@ impl Log {
         }
     }
 
-    /// Whether this log is shorter than another of the same list. Then it begins the other, and else the other
-    /// begins it.
+    /// Whether this log is shorter than another of the same list. If it is, it begins the other log; if not, the other
+    /// log begins it.
     pub(crate) fn is_shorter(&self, other: &Log) -> bool
         requires { self.now.book ≡ other.now.book }
         ensures shorter { result ≡ nat_lt (length self.now.log) (length other.now.log) }
@@ -108,8 +108,8 @@ impl Log {
         self.count < other.count
     }
 
-    /// Adds an event to all that is known, and says whether it did. It did not where the list is longer, which it is
-    /// for no thread that alone adds to it.
+    /// Adds an event to a log that knows the whole list, and returns whether it did. The call adds nothing if the list
+    /// is longer. That never happens if one thread alone adds to the list.
     pub(crate) fn add(&mut self, head: &Head, event: &RootEvent) -> bool
         requires { head.now ≡ head_of self.old.book }
         ensures same { self.new.book ≡ self.old.book }
@@ -134,7 +134,7 @@ impl Log {
         found == count
     }
 
-    /// Adds events in their order, and says whether it added all.
+    /// Adds events in their order, and returns whether it added all.
     pub(crate) fn add_all(&mut self, head: &Head, events: &[RootEvent]) -> bool
         requires { head.now ≡ head_of self.old.book }
         ensures same { self.new.book ≡ self.old.book }

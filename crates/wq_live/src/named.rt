@@ -1,9 +1,8 @@
-//! The name of a list of events. It exists in proofs alone, so that a value of one list never meets a value of
-//! another.
+//! The name of a list of events. It exists in proofs alone. It keeps values of different lists apart.
 
 use std::marker::Brand;
 
-/// The list of events of one publisher. Each call of a program that opens one picks it.
+/// The list of events of one publisher. Each call that opens a publisher picks its own list.
 pub trait Named {
     ghost use Rattle.logbook.specs.Pages.{Book};
 

@@ -1,4 +1,4 @@
-//! The publisher: the one that changes the list of events, and shows what follows from it.
+//! The publisher, which alone changes the list of events. It shows the table that follows from the list.
 ghost use Rattle.std.specs.Prelude.{if◌then◌else◌, ◌+◌, ◌↔◌, None, option_map, ◌≡◌, ◌<◌, ◌⊎◌, ◌++◌, ◌∷◌, [], Err, IfErr, IfOk, MatchResult, Some, drop, false, length, nat_lt, true};
 ghost use Rattle.left_right.specs.Sides.{view};
 ghost use Rattle.wq_live.specs.Log.{AgreeAs, BeginsLog, head_of};
@@ -29,7 +29,7 @@ pub struct Publisher<N: Named, R: Wait + Drop> {
     head: Head,
     alloc: Global,
     rt: R,
-    /// Whether the table before the last one is kept too, for those that still look at it.
+    /// Whether the writer still keeps the table before the last one, for looks that have not ended.
     keeps_older: bool,
     of: PhantomData<N>,
 }
@@ -51,7 +51,7 @@ impl<N: Named, R: Wait + Drop> Model for Publisher<N, R> {
         × (drop p.writer.behind p.writer.log.items ≡ []) };
 }
 
-// The end waits for those that still look.
+// The end waits for looks that have not ended.
 impl<N: Named, R: Wait + Drop> Drop for Publisher<N, R> {
     fn drop(self) {
         let Publisher {
@@ -67,7 +67,7 @@ impl<N: Named, R: Wait + Drop> Drop for Publisher<N, R> {
 }
 
 impl<N: Named, R: Wait + Drop> Publisher<N, R> {
-    /// The publisher over a writer.
+    /// The publisher that shows its values by this writer.
     pub(crate) fn over(writer: ShownWriter, head: Head, alloc: Global, rt: R) -> Publisher<N, R>
         requires known { view writer.desk.place ≡ Some writer.desk.shown.value }
         requires named { writer.desk.shown.value.book ≡ N.book }
@@ -85,7 +85,8 @@ impl<N: Named, R: Wait + Drop> Publisher<N, R> {
         }
     }
 
-    /// A new seat, which has seen what is published. Refused where each place is in use too.
+    /// A new seat, which has seen all that is published. The call is refused if memory runs out, or if every place is
+    /// in use.
     pub fn seat(&mut self) -> Result<Seat<N>, AllocError>
         ensures seat { IfOk result (λ seat. seat ≡ self.new) }
         ensures kept { self.new ≡ self.old }
@@ -96,15 +97,15 @@ impl<N: Named, R: Wait + Drop> Publisher<N, R> {
         Ok(Seat::new(reader, saw))
     }
 
-    /// The table of what is published.
+    /// The table that is published.
     pub fn table(&self) -> &RootTable
         ensures { IsTableOf self.now result.now }
     {
         self.writer.published().table()
     }
 
-    /// Whether the list of events is shorter than that of a look. It then begins the look's, and else the look's begins
-    /// it: whatever a seat sees was published here.
+    /// Whether the list of events is shorter than that of a look. If it is, it begins the look's list; if not, the
+    /// look's list begins it. So a seat sees only events that were published here.
     pub fn is_shorter(&self, look: &Look<N>) -> bool
         ensures shorter { result ≡ nat_lt (length self.now) (length look.now) }
         ensures begins { AgreeAs result self.now look.now }
@@ -112,25 +113,25 @@ impl<N: Named, R: Wait + Drop> Publisher<N, R> {
         self.writer.published().log().is_shorter(look.log())
     }
 
-    /// The number of the root of this text, where it is shown.
+    /// The number of the root of this text, if it is shown.
     pub fn find(&self, text: &str) -> Option<u64>
         ensures { result ≡ option_map (λ root. root.number) (shown_root text.now self.now) }
     {
         self.table().number_of(text)
     }
 
-    /// How many roots are shown, at most 16.
+    /// The number of roots that are shown, at most 16.
     pub fn len(&self) -> usize
         ensures { result ≡ length (shown self.now) }
     {
         self.table().len()
     }
 
-    /// Publishes the start of a root that is not shown, whose first pass this is. It gives the root's number: one
-    /// more than the number of the last start. It tells the list after it.
+    /// Publishes the start of a root that is not shown, with its first pass. The root gets the number after that of the
+    /// last start. The call returns this number, and the list after the start.
     ///
-    /// Refused where 16 roots are shown or the number 2^62 was given. An error changes nothing. It waits for those
-    /// that still look at the value before the last one.
+    /// The call is refused if 16 roots are shown, if the number 2^62 was given, or if memory runs out. An error changes
+    /// nothing. The call waits for looks that still read the value before the last one.
     pub fn start(&mut self, text: &str, pass: Pass) -> Result<(u64, Told<N>), StartFault>
         requires new { shown_root text.now self.old ≡ None }
         ensures number { IfOk result (λ it. it.0 ≡ length (started self.old) + 1) }
@@ -155,11 +156,11 @@ impl<N: Named, R: Wait + Drop> Publisher<N, R> {
         Ok(Told::new(self.writer.published().again()?))
     }
 
-    /// Publishes a pass over the root of this number. Nothing is added where the root is not shown, or where the last
-    /// pass over it saw just the same. It tells the list after it.
+    /// Publishes a pass over the root of this number, and returns the list after it. The call adds nothing if the root
+    /// is not shown, or if the last pass over it saw just the same.
     ///
-    /// Refused where the root's ticks are spent and the pass saw something else. An error changes nothing. It waits
-    /// for those that still look at the value before the last one.
+    /// The call is refused if the root's ticks are spent and the pass saw something else, or if memory runs out. An
+    /// error changes nothing. The call waits for looks that still read the value before the last one.
     pub fn publish(&mut self, number: u64, pass: Pass) -> Result<Told<N>, ViewFault>
         ensures told { IfOk result (λ told. told ≡ self.new) }
         ensures added { IfOk result (λ _. (IsNoNews self.old number pass × (self.new ≡ self.old))
@@ -175,10 +176,10 @@ impl<N: Named, R: Wait + Drop> Publisher<N, R> {
         Ok(self.add(next, slice::from_ref(&event))?)
     }
 
-    /// Publishes the end of the root of this number. Nothing is added where it is not shown. It tells the list after
-    /// it.
+    /// Publishes the end of the root of this number, and returns the list after it. The call adds nothing if the root
+    /// is not shown.
     ///
-    /// An error changes nothing. It waits for those that still look at the value before the last one.
+    /// An error changes nothing. The call waits for looks that still read the value before the last one.
     pub fn end(&mut self, number: u64) -> Result<Told<N>, AllocError>
         ensures told { IfOk result (λ told. told ≡ self.new) }
         ensures added { IfOk result (λ _. ((is_shown self.old number ≡ false) × (self.new ≡ self.old))
@@ -192,8 +193,8 @@ impl<N: Named, R: Wait + Drop> Publisher<N, R> {
         self.add(next, slice::from_ref(&event))
     }
 
-    /// Lets go of the table before the last one, with the views that no other has. It changes nothing, and waits for those
-    /// that still look at that table.
+    /// Frees the table before the last one, with the views that no other table has. It changes nothing, and waits for
+    /// looks that still read that table.
     pub fn let_go(&mut self)
         ensures { self.new ≡ self.old }
     {
@@ -227,7 +228,8 @@ impl<N: Named, R: Wait + Drop> Publisher<N, R> {
         Ok(Told::new(told))
     }
 
-    /// Shows the next value, the list of which goes on from what is shown. Refused where there is no room to line it up.
+    /// Shows the next value, whose list continues the one that is shown. The call is refused if there is no memory to
+    /// line the value up.
     fn show(&mut self, next: Shown) -> Result<(), AllocError>
         requires { BeginsLog (record { book = N.book; log = self.old }) next }
         ensures { MatchResult result (λ _. self.new ≡ next.log) (λ _. self.new ≡ self.old) }

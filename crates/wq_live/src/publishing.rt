@@ -1,4 +1,4 @@
-//! How the writer of the shared value shows the next one.
+//! The step by which the writer of the shared value shows the next one.
 ghost use Rattle.std.specs.Prelude.{◌≡◌, ◌∷◌, [], MatchResult, Some, drop};
 ghost use Rattle.left_right.specs.Sides.{view};
 ghost use Rattle.wq_live.specs.Log.{BeginsLog};
@@ -13,10 +13,10 @@ use std::sync::Wait;
 /// The writer of the shared value.
 pub(crate) type ShownWriter = Writer<Shown, Shown, Option<Log>, Kept>;
 
-/// Shows the next value, the list of which goes on from what is shown. It waits for those that still look at the
-/// value before the last one.
+/// Shows the next value, whose list continues the one that is shown. The call waits for looks that still read the value
+/// before the last one.
 ///
-/// Refused where there is no room to line it up. Then the writer shows what it did.
+/// The call is refused if there is no memory to line the value up. The writer then shows the same value as before.
 pub(crate) fn show<R: Wait>(
     rt: &R,
     mut writer: ShownWriter,
@@ -36,7 +36,7 @@ pub(crate) fn show<R: Wait>(
     }
 }
 
-/// Shows what is lined up. A refused growth is tried again.
+/// Shows the value that is lined up. The loop repeats a growth that was refused.
 fn publish_pending<R: Wait>(rt: &R, mut writer: ShownWriter, next: &Log) -> ShownWriter
     requires pending { drop writer.behind writer.log.items ≡ next.now ∷ [] }
     requires goes_on { BeginsLog writer.desk.shown.value next.now }

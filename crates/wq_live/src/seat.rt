@@ -1,4 +1,4 @@
-//! Seats, which look at what is shown. A look waits for nobody and takes no memory.
+//! Seats, which look at the published table. A look waits for nobody and takes no memory.
 ghost use Rattle.std.specs.Prelude.{◌≡◌, ◌≤◌, IfOk, IfSome, MatchResult, Some, is_some, length, nat_lt, option_map};
 ghost use mathlib.Core.List.{IsPrefix};
 ghost use Rattle.left_right.specs.Sides.{view};
@@ -19,7 +19,7 @@ use std::marker::{Model, PhantomData};
 use std::sync::Arc;
 use wq_view::View;
 
-/// The list of events that the publisher told, as of that moment, with its table. Contracts see the list.
+/// A list of events that the publisher gave out, with its table. Contracts see the list.
 #[derive(Drop)]
 pub struct Told<N: Named> {
     shown: Shown,
@@ -53,8 +53,8 @@ impl<N: Named> Told<N> {
     }
 }
 
-/// A seat. Contracts see the list with which its next look begins. That is the longest that it was told, if that goes
-/// beyond what it saw, and else what it saw. No table is kept that a look would not show.
+/// A seat. Contracts see the list with which its next look begins. That is the longest list that it learned, or the
+/// list that it saw if that is longer. The seat keeps no table that a look would not show.
 #[derive(Drop)]
 pub struct Seat<N: Named> {
     reader: Reader<Shown, Option<Log>, Kept>,
@@ -96,7 +96,8 @@ impl<N: Named> Seat<N> {
         }
     }
 
-    /// Takes in what was told: from now on its looks begin with that list too. It takes neither a wait nor memory.
+    /// Learns a list of the publisher: from now on the seat's looks begin with that list too. The call neither waits
+    /// nor takes memory.
     pub fn learn(self, told: Told<N>) -> Seat<N>
         ensures kept { IsPrefix self result }
         ensures told { IsPrefix told result }
@@ -117,10 +118,11 @@ impl<N: Named> Seat<N> {
         }
     }
 
-    /// Looks at what is shown. Contracts see the list of the look: it begins with what the seat saw before, and with
-    /// each list that it was told.
+    /// Looks at the published table. Contracts see the list of the look. It begins with the list that the seat saw
+    /// before, and with each list that the seat learned.
     ///
-    /// Refused where the publisher is gone. A refused look changes nothing. It takes neither a wait nor memory.
+    /// The call is refused if the publisher is gone. A refused look changes nothing. The call neither waits nor takes
+    /// memory.
     pub fn look(self) -> Result<Look<N>, Seat<N>>
         ensures { MatchResult result (λ look. IsPrefix self look) (λ seat. seat ≡ self) }
     {
@@ -148,12 +150,12 @@ impl<N: Named> Seat<N> {
     }
 }
 
-/// A look at what is shown. Contracts see its list.
+/// A look at the published table. Contracts see its list.
 ///
-/// It is not `Drop`: end it by `leave`.
+/// The type is not `Drop`: a caller ends a look by `leave`.
 pub struct Look<N: Named> {
     reading: Reading<Shown, Option<Log>, Kept>,
-    /// The list that was told, if that is longer than the one that is shown.
+    /// The list that the seat learned, if it is longer than the published one.
     told: Option<Shown>,
     of: PhantomData<N>,
 }
@@ -187,8 +189,8 @@ impl<N: Named> Look<N> {
         }
     }
 
-    /// Whether this look's list is shorter than that of another look at the same publisher. It then begins the other's,
-    /// and else the other's begins it: whatever looks there are, all are of one order of events.
+    /// Whether this look's list is shorter than that of another look at the same publisher. If it is, it begins the
+    /// other list; if not, the other list begins it. So all looks have the same order of events.
     pub fn is_shorter(&self, other: &Look<N>) -> bool
         ensures shorter { result ≡ nat_lt (length self.now) (length other.now) }
         ensures begins { AgreeAs result self.now other.now }
@@ -206,7 +208,7 @@ impl<N: Named> Look<N> {
         }
     }
 
-    /// The number and the view of the root of this text, where it is shown in the look's list.
+    /// The number and the view of the root of this text, if the look's list shows it.
     pub fn root(&self, text: &str) -> Option<(u64, &View)>
         ensures lawful { IsLawfulList self.now }
         ensures number { option_map (λ it. it.0) result
@@ -217,10 +219,10 @@ impl<N: Named> Look<N> {
         self.table().root(text)
     }
 
-    /// The number of the root of this text, and a share of its view, where it is shown in the look's list. The share
-    /// outlives the look, so that whoever needs the view for long holds up no publish.
+    /// The number of the root of this text, and a share of its view, if the look's list shows it. The share outlives
+    /// the look. So a caller that needs the view for long holds up no publish.
     ///
-    /// Refused where no share can be had; then the look still lends the view.
+    /// The call is refused if no share can be had. The look then still lends the view.
     pub fn share(&self, text: &str) -> Result<Option<(u64, Arc<View>)>, AllocError>
         ensures lawful { IsLawfulList self.now }
         ensures number { IfOk result (λ it. option_map (λ it. it.0) it
@@ -233,7 +235,7 @@ impl<N: Named> Look<N> {
         Ok(share)
     }
 
-    /// The view of the root of this number, where it is shown in the look's list.
+    /// The view of the root of this number, if the look's list shows it.
     pub fn view(&self, number: u64) -> Option<&View>
         ensures lawful { IsLawfulList self.now }
         ensures shown { is_some result ≡ is_shown self.now number }
@@ -243,10 +245,9 @@ impl<N: Named> Look<N> {
         self.table().view(number)
     }
 
-    /// A share of the view of the root of this number, where it is shown in the look's list. The share outlives the
-    /// look.
+    /// A share of the view of the root of this number, if the look's list shows it. The share outlives the look.
     ///
-    /// Refused where no share can be had; then the look still lends the view.
+    /// The call is refused if no share can be had. The look then still lends the view.
     pub fn share_of(&self, number: u64) -> Result<Option<Arc<View>>, AllocError>
         ensures lawful { IsLawfulList self.now }
         ensures shown { IfOk result (λ it. is_some it ≡ is_shown self.now number) }
@@ -258,7 +259,7 @@ impl<N: Named> Look<N> {
         Ok(share)
     }
 
-    /// The seat, whose next look begins with this one's list.
+    /// Ends the look, and gives back the seat, whose next look begins with this look's list.
     pub fn leave(self) -> Seat<N>
         ensures { result ≡ self }
     {
@@ -273,7 +274,7 @@ impl<N: Named> Look<N> {
     }
 }
 
-/// The list that was told, if it goes beyond this one.
+/// The list that the seat learned, if it is longer than this one.
 fn ahead(log: &Log, told: Shown) -> Option<Shown>
     requires { log.now.book ≡ told.book }
     ensures ahead { IsAhead log.now result }
@@ -286,7 +287,7 @@ fn ahead(log: &Log, told: Shown) -> Option<Shown>
     }
 }
 
-/// The longest that was told.
+/// The longer of two lists that the seat learned.
 fn longest(before: Option<Shown>, told: Shown) -> Shown
     requires { IfSome before (λ before. before.book ≡ told.book) }
     ensures before { IfSome before (λ before. BeginsLog before result) }

@@ -1,4 +1,4 @@
-//! The value that threads share: the table of all roots, with the list of events of which it is the table.
+//! The value that threads share: the table of all roots, with the list of events from which it follows.
 ghost use Rattle.std.specs.Prelude.{◌≡◌, [], IfOk};
 ghost use Rattle.wq_live.specs.Log.{Compared, longer_log};
 ghost use Rattle.wq_live.specs.Table.{IsTableOf};
@@ -10,7 +10,7 @@ use std::alloc::{AllocError, Global};
 use std::marker::Model;
 use std::sync::Arc;
 
-/// A table with the list of which it is the table. Contracts see the list.
+/// A table with the list from which it follows. Contracts see the list.
 #[derive(Drop)]
 pub struct Shown {
     table: Arc<RootTable>,
@@ -39,7 +39,7 @@ impl Shown {
         Shown { table, log }
     }
 
-    /// The same, which shares the table.
+    /// The same value, which shares the table.
     pub(crate) fn again(&self) -> Result<Shown, AllocError>
         ensures { IfOk result (λ shown. shown ≡ self.now) }
     {
@@ -49,7 +49,7 @@ impl Shown {
         })
     }
 
-    /// The one of two with the longer list.
+    /// The value with the longer list.
     pub(crate) fn longer(self, other: Shown) -> Shown
         requires { self.book ≡ other.book }
         ensures longer { result ≡ longer_log self other }
@@ -77,7 +77,7 @@ impl Shown {
     }
 }
 
-// A newly published value replaces the old one, whole.
+// A newly published value replaces the old one as a whole.
 impl Absorb<Shown> for Shown {
     type State = Shown;
 

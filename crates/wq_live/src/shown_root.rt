@@ -31,7 +31,7 @@ impl Model for ShownRoot {
 }
 
 impl ShownRoot {
-    /// The same root, which shares text and view.
+    /// The same root, which shares the text and the view.
     pub(crate) fn copy(&self) -> Result<ShownRoot, AllocError>
         ensures { IfOk result (λ root. root ≡ self.now) }
     {
@@ -42,7 +42,7 @@ impl ShownRoot {
         })
     }
 
-    /// The same root, with this view where it has this number.
+    /// The same root; if it has this number, with this view.
     pub(crate) fn with_view(&self, number: u64, view: &Arc<View>) -> Result<ShownRoot, AllocError>
         ensures { IfOk result (λ root. root ≡ with_view number view.now.value self.now) }
     {

@@ -1,5 +1,5 @@
-//! The table of all roots that are shown. Each change makes a new table and leaves the old one. The two share the
-//! texts, and the views of the roots that did not change.
+//! The table of all roots that are shown. Each change makes a new table and leaves the old one. The two tables share
+//! the texts, and the views of the roots that did not change.
 ghost use Rattle.std.specs.Prelude.{◌≡◌, ◌≢◌, ◌≤◌, ◌<◌, ◌+◌, ◌++◌, ◌∷◌, ◌↔◌, ◌⊎◌, [], Err, IfErr, IfNone, IfOk, IfSome, IsTrue, List, MatchOption, MatchResult, None, Some, false, find, length, map, option_map, true};
 ghost use Rattle.wq_base.specs.Limit.{max_number, max_roots};
 ghost use Rattle.wq_live.specs.declared.event.RootEvent.{RootEvent};
@@ -18,13 +18,13 @@ use thiserror::Error;
 use wq_base::{MAX_NUMBER, MAX_ROOTS, Text};
 use wq_view::{Pass, View, ViewFault};
 
-/// Why a root is not started. It leaves the table as it was.
+/// The reason for which a root is not started. The fault leaves the table as it was.
 #[derive(Clone, Copy, Debug, PartialEq, Eq, Drop, Error)]
 pub enum StartFault {
     /// 16 roots are shown, or the number 2^62 was given.
     #[error("too many roots")]
     TooManyRoots,
-    /// A growth was refused.
+    /// Memory ran out.
     #[error("no memory")]
     NoMemory,
 }
@@ -40,7 +40,7 @@ impl From<AllocError> for StartFault {
     }
 }
 
-/// The roots that are shown, at most 16, with their views, and how many roots were ever started.
+/// The roots that are shown, at most 16, with their views, and the number of roots that were ever started.
 #[derive(Drop)]
 pub struct RootTable {
     roots: Vec<ShownRoot>,
@@ -73,7 +73,7 @@ impl RootTable {
         }
     }
 
-    /// How many roots are shown, at most 16.
+    /// The number of roots that are shown, at most 16.
     pub fn len(&self) -> usize
         ensures value { result ≡ length self.now.roots }
         ensures bound { result ≤ max_roots }
@@ -81,7 +81,7 @@ impl RootTable {
         self.roots.len()
     }
 
-    /// How many roots were ever started, which is the number of the last one.
+    /// The number of roots that were ever started. It is also the number of the last root.
     pub fn given(&self) -> u64
         ensures value { result ≡ self.now.given }
         ensures bound { result ≤ max_number }
@@ -96,7 +96,7 @@ impl RootTable {
         self.roots.is_empty()
     }
 
-    /// Whether no more root can be started: 16 are shown, or the number 2^62 was given.
+    /// Whether no more root can be started, because 16 are shown or the number 2^62 was given.
     pub fn is_full(&self) -> bool
         ensures table { IsTrue result ↔ IsFullTable self.now }
         ensures list { (events : List RootEvent) → IsTableOf events self.now
@@ -116,7 +116,8 @@ impl RootTable {
         Some((root.number, &root.view))
     }
 
-    /// The number of the root of this text, and a share of its view, if it is shown. Refused where no share can be had.
+    /// The number of the root of this text, and a share of its view, if it is shown. The call is refused if no share
+    /// can be had.
     pub fn share(&self, text: &str) -> Result<Option<(u64, Arc<View>)>, AllocError>
         ensures number { IfOk result (λ it. option_map (λ it. it.0) it
             ≡ number_by_text text.now self.now) }
@@ -160,7 +161,7 @@ impl RootTable {
         Some(&root.view)
     }
 
-    /// A share of the view of the root of this number, if it is shown. Refused where no share can be had.
+    /// A share of the view of the root of this number, if it is shown. The call is refused if no share can be had.
     pub fn share_of(&self, number: u64) -> Result<Option<Arc<View>>, AllocError>
         ensures view { IfOk result (λ it. option_map (λ view. view.value) it
             ≡ option_map (λ root. root.view) (find (has_number number) self.now.roots)) }
@@ -200,10 +201,10 @@ impl RootTable {
         self.roots.iter().find(|root| root.number == number)
     }
 
-    /// The table after the start of a root that is not shown, whose first pass this is. Its number is one more than
-    /// that of the last start.
+    /// The table after the start of a root that is not shown, with its first pass. The root gets the number after that
+    /// of the last start.
     ///
-    /// Refused where 16 roots are shown or the number 2^62 was given.
+    /// The call is refused if 16 roots are shown, if the number 2^62 was given, or if memory runs out.
     pub fn with_start(&self, text: &str, pass: &Pass) -> Result<RootTable, StartFault>
         requires new { root_by_text text.now self.now ≡ None }
         ensures started { (events : List RootEvent) → IsTableOf events self.now
@@ -218,7 +219,7 @@ impl RootTable {
         Ok(self.with_root(text, pass)?)
     }
 
-    /// The table with one more root, the view of which is that of this one pass.
+    /// The table with one more root. The view of that root is that of this one pass.
     fn with_root(&self, text: &str, pass: &Pass) -> Result<RootTable, AllocError>
         requires room { length self.now.roots ≢ max_roots }
         requires numbers { self.now.given ≢ max_number }
@@ -247,10 +248,10 @@ impl RootTable {
         Ok(roots)
     }
 
-    /// The table after a pass over the root of this number. There is none if nothing is added: the root is not
-    /// shown, or the last pass over it saw just the same.
+    /// The table after a pass over the root of this number. There is none if the pass adds nothing, because the root is
+    /// not shown or its last pass saw just the same.
     ///
-    /// Refused where the root's ticks are spent and the pass saw something else, and for want of memory.
+    /// The call is refused if the root's ticks are spent and the pass saw something else, or if memory runs out.
     pub fn with_pass(&self, number: u64, pass: &Pass) -> Result<Option<RootTable>, ViewFault>
         ensures passed { (events : List RootEvent) → IsTableOf events self.now
             → IfOk result (λ next. MatchOption next
@@ -289,7 +290,8 @@ impl RootTable {
         })
     }
 
-    /// The table after the end of the root of this number; none if it is not shown, and nothing is added.
+    /// The table after the end of the root of this number. There is none if the root is not shown, because nothing is
+    /// added then.
     pub fn with_end(&self, number: u64) -> Result<Option<RootTable>, AllocError>
         ensures { (events : List RootEvent) → IsTableOf events self.now
             → IfOk result (λ next. MatchOption next
@@ -319,7 +321,7 @@ impl RootTable {
     }
 }
 
-/// The view of a root that is started with this pass.
+/// The view of a root that starts with this pass.
 fn first_view(alloc: Global, pass: &Pass) -> Result<View, AllocError>
     ensures { IfOk result (IsViewOf (first_history pass.now)) }
 {

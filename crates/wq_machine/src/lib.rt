@@ -2,8 +2,8 @@
 //! or a no on every record, within its budget. It is never short of an operand, and never outside
 //! its code or its constants. So the loop has no test for any of these, and no refusal.
 //!
-//! `wq_code`'s `specs/Machine.antt` defines what a run means, and `specs/Item.antt` what a program
-//! reads of a record. This crate takes no memory.
+//! `wq_code`'s `specs/Machine.antt` defines the meaning of a run, and `specs/Item.antt` the facts
+//! of a record that a program reads. This crate takes no memory.
 #![tactic(auto)]
 
 mod ahead;

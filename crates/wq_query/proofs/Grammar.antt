@@ -42,7 +42,7 @@ use Rattle.wq_query.specs.Grammar.{IsSinceKey, IsProgram, IsWrittenBy}
 use Rattle.wq_query.proofs.Paths.{paths-found, paths-read}
 use Rattle.wq_query.specs.Law.{ValuesAskWhatTheyWrite}
 
--- what is right is one value
+-- a right result is one value
 same_Ok : {A E : Type 0} (x y : A) → ◌≡◌ {A = Result A E} (Ok x) (Ok y) → x ≡ y
 same_Ok x y e = cc
 
@@ -200,7 +200,7 @@ right (Err fault) a e = cc
 none_or_some : {A : Type 0} (a : A) → ◌≡◌ {A = Option A} None (Some a) → ⊥
 none_or_some a e = cc
 
--- a bound is said by no text that is a cursor
+-- no text of a cursor says a bound
 bound-no-cursor : (instance : InstanceData) (d : Data) (bound : Bound) → bound_in instance d ≡ Ok bound
     → cursor_in d ≡ None
 bound-no-cursor instance (string text) bound e = at (clock_spec_of text) refl
@@ -358,7 +358,7 @@ from_expression instance d =
 abbrev pub from_both : InstanceData → Data → Result QueryData QueryFault
 from_both instance d = unless_fault ExpressionAndProgram (not (has_both d)) (from_expression instance d)
 
--- what is asked is written
+-- a query that is asked is written
 found : ValuesSayWhatTheyWrite → BoundsSayWhatTheyWrite → TextsSayWhatTheySpell → NumbersSayWhatTheyWrite
     → (instance : InstanceData) (query : QueryData) (d : Data) → asks instance d ≡ Ok query
     → IsWrittenBy instance query d
@@ -390,7 +390,7 @@ found values bounds texts numbers instance query d e =
       sync_timeout = whole-found numbers (get (codes "sync_timeout") d) whole;
     })))))))))))
 
--- what is written is asked
+-- a query that is written is asked
 reads : ValuesSayWhatTheyWrite → BoundsSayWhatTheyWrite → TextsSayWhatTheySpell → NumbersSayWhatTheyWrite
     → (instance : InstanceData) (query : QueryData) (d : Data) → IsWrittenBy instance query d
     → asks instance d ≡ Ok query

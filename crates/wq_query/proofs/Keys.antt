@@ -1,4 +1,4 @@
--- The query that is asked, from what each key says.
+-- The query that is asked, from the values of its keys.
 use Rattle.std.proofs.Common.{◌≡◌, ℕ, Bool, false, ◌==◌, List, [], ◌∷◌, length, codes}
 use Rattle.std.proofs.Common.{Option, Some, None, Result, Ok, Err, Vec, refl, sym, ap, subst}
 use mathlib.Core.Bool.{false≢true}
@@ -68,7 +68,7 @@ asks_unnamed instance d t fields suffix path since UnknownField none one express
 asks_unnamed instance d t fields suffix path since BadGenerator none one expression named ends at from is = absurd is
 asks_unnamed instance d t fields suffix path since BadClockSpec none one expression named ends at from is = absurd is
 
--- a query whose flag is none
+-- a query whose flag is neither true nor false
 pub asks_unflagged : (instance : InstanceData) (d : Data) (t : ExprData) (fields : List Field)
     (suffix : Option (List (List ℕ))) (path : Option (List PathGen)) (since : SinceData)
     (program : Option (List ℕ)) → has_left_out_key d ≡ false → has_both d ≡ false

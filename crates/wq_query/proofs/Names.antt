@@ -1,4 +1,4 @@
--- Reading the items of a list from the front: what is read, and what is left.
+-- Reading the items of a list from the front: the items that were read, and the rest.
 use Rattle.std.proofs.Common.{◌≡◌, ℕ, ◌+◌, ◌<◌, List, [], ◌∷◌, ◌++◌, length, drop, get_or}
 use Rattle.std.proofs.Common.{Option, Some, None, Err, sym, ap, ◌∙◌}
 use Rattle.serde_json.specs.Data.{Data, Items, item}
@@ -13,7 +13,7 @@ use Rattle.wq_query.specs.declared.fault.QueryFault.TheVariants.{UnknownField, B
 use Rattle.wq_query.specs.declared.fault.QueryFault.TheVariants.{BadClockSpec, WrongValue, NoMemory}
 use Rattle.wq_query.specs.Outcome.{GivesGenerator}
 
--- each item is read by itself, and a list in which one is none is none
+-- each item is read by itself, and a list with a wrong item is wrong
 abbrev pub ReadsEach : {A : Type 0} → (Data → Option A) → (Items → Option (List A)) → Type 0
 ReadsEach one all = (d : Data) (ds : Items) → all (item d ds) ≡ with_first (one d) (all ds)
 
@@ -29,7 +29,7 @@ read_more one all each values i v xs x whole h here is so_far =
     ∙ ap (before xs) (sym (each (data_of v) (items_view (drop (i + 1) values))))
     ∙ ap (λ ds. before xs (all ds)) (sym (items_from values i v h here)) ∙ so_far
 
--- an item that is none
+-- a wrong item
 pub read_none : {A : Type 0} (one : Data → Option A) (all : Items → Option (List A))
     → ReadsEach one all → (values : List Value) (i : ℕ) (v : Value) (xs : List A)
     (whole : Option (List A)) → i < length values → v ≡ get_or values i v

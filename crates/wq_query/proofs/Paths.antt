@@ -23,7 +23,7 @@ use Rattle.wq_query.specs.Grammar.{IsPath, ListPaths}
 abbrev pub path_at : List ℕ × ℤ → PathGen
 path_at (text, depth) = record { path = without_end_slashes text; depth = depth }
 
--- what is a pair is one of two things that are there
+-- a pair is one of two things that are there
 zipped : {A B P : Type 0} (a : Option A) (b : Option B) (c : A × B)
     → ◌≡◌ {A = Option (A × B)} (option_zip a b) (Some c)
     → ((x : A) (y : B) → a ≡ Some x → b ≡ Some y → ◌≡◌ {A = A × B} (x, y) c → P) → P

@@ -18,12 +18,12 @@ use Rattle.wq_query.specs.Listing.{generators_of, is_listed, is_match, is_meant}
 use Rattle.wq_query.specs.Meaning.{SaysMeaning}
 use Rattle.wq_query.specs.Query.{PlanData}
 
--- the expression that stands for none keeps the limits
+-- the expression of a query that has none keeps the limits
 pub always_fits : expr_fits always ≡ true
 unfolding expr_fits
 always_fits = refl
 
--- a program that answers what an expression means says it
+-- a program that answers the meaning of an expression says it
 pub says_meaning : (raw : Raw) (t : ExprData) → AnswersAreSaid → IsValid raw → AnswersMeaning raw t → SaysMeaning raw t
 says_meaning raw t law valid answers r = sym (law raw r (means t r) (answers r).0 valid (answers r).1)
 
@@ -32,8 +32,8 @@ pub says_unnamed : (name : Option (List ℕ)) (raw : Raw) (t : ExprData) → Ans
     → (name ≡ None → AnswersMeaning raw t) → name ≡ None → SaysMeaning raw t
 says_unnamed name raw t law valid answers none = says_meaning raw t law valid (answers none)
 
--- the program of a plan decides which files are meant. It is the one of the query's name; if the
--- query has none, it says what the expression means
+-- the program of a plan decides which files match. It is the one of the query's name; if the query has none, it answers
+-- the meaning of the expression
 pub program_decides : (name : Option (List ℕ)) (raw : Raw) (t : ExprData) → (name ≡ None → SaysMeaning raw t)
     → (r : RecordData) → says_yes raw r ≡ is_meant (option_map (λ _. raw) name) t r
 program_decides None raw t says r = says refl r
@@ -83,14 +83,14 @@ places_matching plan raw records decides =
     passing (is_candidate (generators_of plan)) (says_yes raw) (is_match plan) records
     (λ r. ap (λ b. is_candidate (generators_of plan) r && b) (decides r))
 
--- at a fresh bound those that match and exist are listed
+-- at a fresh bound, the files that match and exist are listed
 pub places_existing : (plan : PlanData) (records : List RecordData) → is_fresh plan.bound ≡ true
     → filter (passes_at (λ r. r.exists) records) (positions_of (is_match plan) records) ≡ positions_of (is_listed plan) records
 places_existing plan records fresh =
     passing (is_match plan) (λ r. r.exists) (is_listed plan) records
     (λ r. ap (λ b. is_match plan r && (not b || r.exists)) (sym fresh))
 
--- at another bound all that match
+-- at another bound, all files that match are listed
 pub places_listed : (plan : PlanData) (records : List RecordData) → is_fresh plan.bound ≡ false
     → positions_of (is_match plan) records ≡ positions_of (is_listed plan) records
 places_listed plan records other =

@@ -18,7 +18,7 @@ use Rattle.wq_query.specs.Subscribed.{SubscriptionsArePlain, comes_first, has_cu
 use Rattle.wq_query.specs.Subscribed.{has_generator, without_generators}
 use Rattle.wq_query.proofs.Grammar.{cursor-reads}
 
--- what a subscription asks its object asks as a query, without a generator and without a cursor
+-- the query of a subscription is the one that its object asks, without a generator and without a cursor
 kept : (asked : Result QueryData QueryFault) (generator cursor : Bool) (query : QueryData)
     → without_generators asked generator cursor ≡ Ok query
     → (asked ≡ Ok query) × (generator ≡ false) × (cursor ≡ false)

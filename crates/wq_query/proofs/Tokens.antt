@@ -1,4 +1,4 @@
--- The tokens of what is printed.
+-- The tokens of printed values.
 use Rattle.std.proofs.Common.{◌≡◌, ℕ, List, [], ◌∷◌, ◌++◌, append_assoc, rules, ap, ◌∙◌}
 use Rattle.std.specs.Str.{IsUtf8}
 use Rattle.json.specs.Token.{Token}

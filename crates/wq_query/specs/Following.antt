@@ -17,7 +17,7 @@ use Rattle.wq_query.specs.Reply.{file_data}
 abbrev pub with_bound : Bound → PlanData → PlanData
 with_bound bound plan = record { query = plan.query; bound = bound; program = plan.program }
 
--- what a list tells of some files, from a bound
+-- the data that a list tells of some files, from a bound
 abbrev pub files_data : List Field → InstanceData → Bound → List RecordData → Data
 files_data fields instance bound files =
     array (items_of (map (file_data fields instance bound) files))

@@ -1,5 +1,5 @@
--- The generators of a query beside its `since`: what the keys `suffix` and `path` say. From
--- Watchman's documentation of the generators of file queries; the limits are this server's own.
+-- The generators of a query beside its `since`: the keys `suffix` and `path`. From Watchman's
+-- documentation of the generators of file queries; the limits are this server's own.
 use Rattle.std.specs.Prelude.{ℕ, ℤ, pos, negsuc, List, [], codes, Option, Some, None}
 use Rattle.std.specs.Prelude.{option_map, option_and_then}
 use Rattle.std.specs.Option.{option_zip}
@@ -11,7 +11,7 @@ use Rattle.wq_gen.specs.declared.generators.PathGen.{PathGen}
 use Rattle.wq_term.specs.Argument.{integer_between, text_of, texts_of}
 use Rattle.wq_term.specs.Text.{without_end_slashes}
 
--- the suffixes: a text or a list of texts, or no generator where the key is not there
+-- the suffixes: a text or a list of texts, or no generator if the key is not there
 abbrev pub suffixes_of : Option Data → Option (Option (List (List ℕ)))
 suffixes_of None = Some None
 suffixes_of (Some d) = option_map Some (texts_of d)
@@ -38,7 +38,7 @@ abbrev pub paths_in : Items → Option (List PathGen)
 paths_in no_items = Some []
 paths_in (item d ds) = with_first (path_of d) (paths_in ds)
 
--- the paths: a list of them, or no generator where the key is not there
+-- the paths: a list of them, or no generator if the key is not there
 abbrev pub paths_of : Option Data → Option (Option (List PathGen))
 paths_of None = Some None
 paths_of (Some (array ds)) = option_map Some (paths_in ds)

@@ -67,7 +67,7 @@ abbrev pub IsCursor : List ℕ → Data → Type 0
 IsCursor name (string text) = IsClockSpelling (named_cursor name) text
 IsCursor name _ = ⊥
 
--- from where changes are asked for: a bound, or a cursor
+-- the point from which changes are asked for: a bound, or a cursor
 abbrev pub IsSinceKey : InstanceData → SinceData → Data → Type 0
 IsSinceKey instance (at_bound bound) d = IsBound instance bound d
 IsSinceKey instance (at_cursor name) d = IsCursor name d

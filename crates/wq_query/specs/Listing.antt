@@ -1,5 +1,5 @@
--- Which files a plan lists: one filter over the records of the view, in their order.
--- From Watchman's documentation of file queries and of clockspecs.
+-- The files that a plan lists: one filter over the records of the view, in their order. From
+-- Watchman's documentation of file queries and of clockspecs.
 use Rattle.std.specs.Prelude.{Bool, true, not, ◌&&◌, ◌||◌, nat_lt, int_lt}
 use Rattle.std.specs.Prelude.{Option, Some, None}
 use Rattle.std.specs.Prelude.{if◌then◌else◌, List, [], filter, ℕ, ◌<◌, length}
@@ -21,7 +21,7 @@ is_new Fresh r = true
 is_new (Tick t) r = nat_lt t r.ctick
 is_new (Second s) r = int_lt s r.csec
 
--- where the candidates of a plan come from: its bound, and the suffixes and paths of its query
+-- the generators of a plan's candidates: its bound, and the suffixes and paths of its query
 abbrev pub generators_of : PlanData → Generators
 generators_of plan = record {
   since = Some plan.bound;
@@ -29,7 +29,7 @@ generators_of plan = record {
   path = (plan.query).path;
 }
 
--- whether the program answers yes for the file, or the expression matches it where there is none
+-- whether the program answers yes for the file, or the expression matches it if there is none
 abbrev pub is_meant : Option Raw → ExprData → RecordData → Bool
 is_meant (Some raw) t r = says_yes raw r
 is_meant None t r = means t r
@@ -39,11 +39,11 @@ abbrev pub is_match : PlanData → RecordData → Bool
 is_match plan r =
     is_candidate (generators_of plan) r && is_meant plan.program (plan.query).expression r
 
--- whether the file is a candidate that matches, and exists where the bound is fresh
+-- whether the file is a candidate that matches, and exists if the bound is fresh
 abbrev pub is_listed : PlanData → RecordData → Bool
 is_listed plan r = is_match plan r && (not (is_fresh plan.bound) || r.exists)
 
--- whether the list is to be empty whatever there is
+-- whether the list is to be empty, whatever files there are
 abbrev pub lists_nothing : PlanData → Bool
 lists_nothing plan = is_fresh plan.bound && (plan.query).empty_on_fresh_instance
 

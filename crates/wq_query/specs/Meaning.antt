@@ -1,5 +1,4 @@
--- A program says what an expression means.
--- The machine is this server's own.
+-- A program answers the meaning of an expression. The machine is this server's own.
 use Rattle.std.specs.Prelude.{◌≡◌}
 use Rattle.wq_code.specs.declared.raw.Raw.{Raw}
 use Rattle.wq_eval.specs.Answer.{says_yes}

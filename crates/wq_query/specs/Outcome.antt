@@ -40,7 +40,7 @@ GivesGenerator (Err BadGenerator) answer = answer ≡ None
 GivesGenerator (Err NoMemory) answer = Unit {0}
 GivesGenerator (Err _) answer = ⊥
 
--- the same of where changes are asked for from
+-- the same of the point from which changes are asked for
 abbrev pub GivesSince : Result Since QueryFault → Option SinceData → Type 0
 GivesSince (Ok since) answer = answer ≡ Some (since_data since)
 GivesSince (Err BadClockSpec) answer = answer ≡ None

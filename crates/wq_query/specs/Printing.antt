@@ -17,12 +17,12 @@ use Rattle.wq_query.specs.declared.form.Form.TheVariants.{Bare, Object}
 use Rattle.wq_query.specs.Field.{field_name}
 use Rattle.wq_query.specs.Reply.{field_data, file_data}
 
--- if the result is right, these tokens follow what was written before
+-- if the call succeeds, it writes these tokens after those that were written before
 abbrev pub Appends : {E : Type 0} → Result (Unit {0}) E → Written → Written → List Token → Type 0
 Appends result old new tokens =
     OnOk result ((new.before ≡ old.before) × (new.tokens ≡ old.tokens ++ tokens))
 
--- if the result is right, this data follows what was written before
+-- if the call succeeds, it writes this data after the tokens that were written before
 abbrev pub Prints : {E : Type 0} → Result (Unit {0}) E → Written → Written → Data → Type 0
 Prints result old new d = Appends result old new (json_tokens (outline d))
 
@@ -44,12 +44,12 @@ members_of instance bound r [] = no_members
 members_of instance bound r (f ∷ fs) =
     member (field_name f) (field_data instance bound r f) (members_of instance bound r fs)
 
--- what a form tells of a file
+-- the data that a form tells of a file
 abbrev pub told : Form → InstanceData → Bound → RecordData → Data
 told (Bare f) instance bound r = field_data instance bound r f
 told (Object fields) instance bound r = object (members_of instance bound r fields.items)
 
--- the form tells of each file what these fields tell
+-- the form tells of each file the data of these fields
 abbrev pub IsFormOf : List Field → Form → Type 0
 IsFormOf fields form = (instance : InstanceData) (bound : Bound) (r : RecordData)
     → told form instance bound r ≡ file_data fields instance bound r

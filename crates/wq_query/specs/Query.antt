@@ -1,5 +1,5 @@
--- Queries, and the plans of answering them, as the types `Query` and `Plan` stand for them. The
--- parts are keys of Watchman's documentation of file queries; programs are this server's own.
+-- Queries, and the plans of answering them, as the types `Query` and `Plan` hold them. The parts
+-- are keys of Watchman's documentation of file queries; programs are this server's own.
 use Rattle.std.specs.Prelude.{ℕ, Bool, List, Option, Some, None, option_map}
 use Rattle.wq_clock.specs.declared.bound.Bound.{Bound}
 use Rattle.wq_code.specs.declared.raw.Raw.{Raw}
@@ -11,13 +11,13 @@ use Rattle.wq_query.specs.declared.query.Plan.{Plan}
 use Rattle.wq_query.specs.declared.query.Since.{Since}
 use Rattle.wq_query.specs.declared.query.Since.TheVariants.{Bound as SinceBound, Cursor}
 
--- from where a query asks for changes: a bound, or the tick of a cursor, which is kept under its
--- name
+-- the point from which a query asks for changes: a bound, or the tick of a cursor, which is kept
+-- under its name
 pub data SinceData : Type 0 where
   at_bound : Bound → SinceData
   at_cursor : List ℕ → SinceData
 
--- the bound, where there is no cursor
+-- the bound, if there is no cursor
 abbrev pub since_bound : SinceData → Option Bound
 since_bound (at_bound bound) = Some bound
 since_bound (at_cursor name) = None
@@ -27,10 +27,10 @@ abbrev pub since_cursor : SinceData → Option (List ℕ)
 since_cursor (at_bound bound) = None
 since_cursor (at_cursor name) = Some name
 
--- the files that match are those of an expression; or those that the program of a name answers yes
--- for, if one is named. A query also says what is told of each, and from where changes are asked
--- for. It says with which suffixes and at which paths, and whether the list is empty if nothing is
--- known to the client
+-- A query asks for the files that its expression matches; if it names a program, for those for
+-- which the program answers yes. It has the fields that are told of each file, and the point from
+-- which changes are asked for. It has its suffixes and paths, and says whether the list is empty if
+-- nothing is known to the client.
 pub record QueryData : Type 0 where
   pub expression : ExprData
   pub program : Option (List ℕ)
@@ -52,7 +52,7 @@ abbrev pub since_data : Since → SinceData
 since_data (SinceBound bound) = at_bound bound
 since_data (Cursor name) = at_cursor name
 
--- what a `Query` asks
+-- the data of a `Query`
 abbrev pub asked_of : Query → QueryData
 asked_of query = record {
   expression = term_of query.expr;
@@ -64,7 +64,7 @@ asked_of query = record {
   empty_on_fresh_instance = query.empty_on_fresh_instance;
 }
 
--- what a `Plan` answers, with which bound, and by which program where the query names one
+-- the data of a `Plan`: its query, its bound, and its program if the query names one
 abbrev pub planned : Plan → PlanData
 planned plan = record {
   query = asked_of plan.query;

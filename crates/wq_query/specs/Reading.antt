@@ -51,7 +51,7 @@ has_left_out_key d =
 abbrev pub has_both : Data → Bool
 has_both d = is_some (get (codes "expression") d) && is_some (get (codes "program") d)
 
--- the expression: every file where there is none
+-- the expression: every file if there is none
 abbrev pub expression_of : InstanceData → Option Data → Result ExprData TermFault
 expression_of instance None = Ok always
 expression_of instance (Some d) = reads_as instance max_depth d
@@ -82,12 +82,13 @@ abbrev pub cursor_in : Data → Option (List ℕ)
 cursor_in (string text) = option_and_then spec_cursor (clock_spec_of text)
 cursor_in _ = None
 
--- the tick of a cursor, where there is one, or else a bound
+-- the tick of a cursor, if there is one, or else a bound
 abbrev pub since_from : Option (List ℕ) → Option Bound → Option SinceData
 since_from (Some name) bound = Some (at_cursor name)
 since_from None bound = option_map at_bound bound
 
--- from where `since` asks for changes at an instance: from a fresh bound where it is not there
+-- the point from which `since` asks for changes at an instance: a fresh bound if the key is not
+-- there
 abbrev pub since_of : InstanceData → Option Data → Option SinceData
 since_of instance None = Some (at_bound Fresh)
 since_of instance (Some d) = since_from (cursor_in d) (result_ok (bound_in instance d))
@@ -98,7 +99,7 @@ program_name None = Some None
 program_name (Some (string name)) = Some (Some name)
 program_name (Some _) = None
 
--- true or false; false where it is not there
+-- true or false; false if the key is not there
 abbrev pub flag_of : Option Data → Option Bool
 flag_of None = Some false
 flag_of (Some d) = as_bool d
@@ -108,7 +109,7 @@ abbrev pub is_whole_or_absent : Option Data → Bool
 is_whole_or_absent None = true
 is_whole_or_absent (Some d) = is_some (whole_number_of d)
 
--- what a query object asks at an instance: its faults are looked for in this order
+-- the query that an object asks at an instance: its faults are looked for in this order
 abbrev pub asks : InstanceData → Data → Result QueryData QueryFault
 asks instance d =
     unless_fault LeftOutKey (not (has_left_out_key d)) (

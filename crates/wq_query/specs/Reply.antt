@@ -21,7 +21,7 @@ use Rattle.wq_query.specs.Field.{field_name}
 use Rattle.wq_query.specs.Query.{PlanData}
 use Rattle.wq_query.specs.Listing.{is_new, files_of}
 
--- what a field says of a file, at an instance
+-- the data of a field of a file, at an instance
 abbrev pub field_data : InstanceData → Bound → RecordData → Field → Data
 field_data instance bound r Name = string r.name
 field_data instance bound r Exists = boolean r.exists
@@ -40,12 +40,12 @@ members_with instance bound r ms (field ∷ fields) =
     let more = with_member (field_name field) (field_data instance bound r field) ms in
     members_with instance bound r more fields
 
--- what is told of a file: the bare value of one field, or an object of several
+-- the data that is told of a file: the bare value of one field, or an object of several
 abbrev pub file_data : List Field → InstanceData → Bound → RecordData → Data
 file_data (field ∷ []) instance bound r = field_data instance bound r field
 file_data fields instance bound r = object (members_with instance bound r no_members fields)
 
--- what is told of the files that a plan lists of these records
+-- the data that is told of those of these records that a plan lists
 abbrev pub reply_files : PlanData → InstanceData → List RecordData → List Data
 reply_files plan instance records =
     map (file_data (plan.query).fields instance plan.bound) (files_of plan records)

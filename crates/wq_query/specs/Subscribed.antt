@@ -30,13 +30,13 @@ comes_first UnknownField = true
 comes_first NoMemory = true
 comes_first _ = false
 
--- whether what an object asks as a query is such a fault
+-- whether reading an object as a query gives such a fault
 abbrev pub fails_first : Result QueryData QueryFault → Bool
 fails_first (Ok query) = false
 fails_first (Err fault) = comes_first fault
 
--- what a subscription asks, from what its object asks as a query, whether that has a generator and
--- whether it has a cursor
+-- the query of a subscription, from the query that its object asks, whether that has a generator
+-- and whether it has a cursor
 abbrev pub without_generators : Result QueryData QueryFault → Bool → Bool
     → Result QueryData QueryFault
 without_generators asked generator cursor =
@@ -44,7 +44,8 @@ without_generators asked generator cursor =
     else if generator then Err BadGenerator
     else if cursor then Err BadClockSpec else asked
 
--- what the object of a subscription asks at an instance: its faults are looked for in this order
+-- the query that the object of a subscription asks at an instance: its faults are looked for in
+-- this order
 abbrev pub subscribes : InstanceData → Data → Result QueryData QueryFault
 subscribes instance d = without_generators (asks instance d) (has_generator d) (has_cursor d)
 
@@ -54,7 +55,7 @@ pub record HasBoundAlone (query : QueryData) : Type 0 where
   pub path : query.path ≡ None
   pub since : since_cursor query.since ≡ None
 
--- so it is with each query of a subscription
+-- each query of a subscription is of this kind
 abbrev pub SubscriptionsArePlain : Type 0
 SubscriptionsArePlain = (instance : InstanceData) (d : Data) (query : QueryData)
     → subscribes instance d ≡ Ok query → HasBoundAlone query

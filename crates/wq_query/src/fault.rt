@@ -1,4 +1,4 @@
-//! Why a JSON object is no query.
+//! The faults of a JSON object as a query.
 
 use std::alloc::{AllocError, AllocFailed};
 use thiserror::Error;

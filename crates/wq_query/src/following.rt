@@ -32,7 +32,7 @@ impl Plan {
         self.bound
     }
 
-    /// The plan tells what changed after this tick from now on. It takes no memory.
+    /// From now on the plan tells the changes after this tick. It takes no memory.
     pub fn tell_from(&mut self, tick: u64)
         ensures { planned self.new ≡ with_bound (Tick tick) (planned self.old) }
     {
@@ -99,7 +99,7 @@ fn put_list(
     put_end(out, plan.bound.is_fresh(), root, name)
 }
 
-/// Prints what comes after the files.
+/// Prints the end of the list, after the files.
 fn put_end(out: &mut Writer, fresh: bool, root: &str, name: &str) -> Result<(), AllocError>
     ensures { Appends result out.old out.new
         (key (codes "is_fresh_instance") ∷ boolean_token fresh

@@ -1,5 +1,5 @@
-//! Queries over one view: what a JSON object asks, which files it lists, and the reply.
-//! Which root is asked, and whether it is crawled first, is not said here.
+//! Queries over one view: the query that a JSON object asks, the files that it lists, and the
+//! reply. Neither the choice of a root nor a crawl of it before the answer is described here.
 #![tactic(auto)]
 
 mod fault;

@@ -1,4 +1,4 @@
-//! Which files a plan lists: candidates for which its program answers yes.
+//! The files that a plan lists: candidates for which its program answers yes.
 ghost use Rattle.std.specs.Prelude.{◌≡◌, IfOk, filter};
 ghost use Rattle.wq_view.specs.Position.{passes_at, positions_of, records_at};
 ghost use Rattle.wq_query.specs.Listing.{AreWithin, files_of, generators_of};
@@ -26,7 +26,7 @@ pub(crate) fn listed(alloc: Global, plan: &Plan, view: &View) -> Result<Vec<u32>
     listed_places(alloc, plan, view)
 }
 
-/// The places of the files that the plan lists, whether or not it is to list nothing.
+/// The places of the files that pass the plan's filter, even if the plan is to list nothing.
 #[tactic(auto, using(crate::proofs::Places::places_existing, crate::proofs::Places::places_listed))]
 fn listed_places(alloc: Global, plan: &Plan, view: &View) -> Result<Vec<u32>, AllocError>
     ensures { IfOk result (λ places. places.items
@@ -47,14 +47,14 @@ fn matching(alloc: Global, plan: &Plan, view: &View) -> Result<Vec<u32>, AllocEr
     ensures { IfOk result (λ places. places.items
         ≡ positions_of (is_match (planned plan.now)) view.now.records) }
 {
-    // The contract of a view about its length is for the proof alone.
+    // Only the proof uses the contract of this call, which is about the length of a view.
     view.len();
     positions_are_there();
     let places = candidates(alloc, view, generators(plan))?;
     filter(alloc, &plan.program, view, &places)
 }
 
-/// The sources of the plan's candidates.
+/// The generators of the plan's candidates.
 #[tactic(auto, using(crate::proofs::Places::with_bound))]
 fn generators(plan: &Plan) -> &Generators
     ensures { result.now ≡ generators_of (planned plan.now) }
@@ -62,7 +62,7 @@ fn generators(plan: &Plan) -> &Generators
     &plan.query.generators
 }
 
-/// Those of some places whose files exist.
+/// Those of these places whose files exist.
 fn existing(alloc: Global, view: &View, places: &[u32]) -> Result<Vec<u32>, AllocError>
     requires { AreWithin view.now.records places.now }
     ensures { IfOk result (λ kept. kept.items
@@ -88,7 +88,7 @@ pub(crate) fn is_new(bound: Bound, file: &Record) -> bool
     }
 }
 
-/// Whether the plan lists nothing, whatever there is.
+/// Whether the plan lists nothing, whatever files there are.
 pub(crate) fn is_empty(plan: &Plan) -> bool
     ensures { result ≡ lists_nothing (planned plan.now) }
 {

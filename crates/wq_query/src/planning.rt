@@ -64,7 +64,7 @@ impl Query {
         })
     }
 
-    /// Which files the query asks for, where it names no program: where it does, every file.
+    /// The expression that the files match; that of every file if the query names a program.
     pub fn expr(&self) -> &Expr
         ensures value { term_of result.now ≡ (asked_of self.now).expression }
         ensures limits { IsTrue (expr_fits (term_of result.now)) }
@@ -82,7 +82,7 @@ impl Query {
         }
     }
 
-    /// The bound that the query sets: fresh where it has no `since`, and none if that is a cursor.
+    /// The bound that the query sets: fresh if it has no `since`, and none if that is a cursor.
     pub fn bound(&self) -> Option<Bound>
         ensures { result ≡ since_bound (asked_of self.now).since }
     {
@@ -105,7 +105,7 @@ impl Query {
     /// The plan of answering the query with this bound, whichever the query sets.
     ///
     /// The program is the one that is kept under the name that the query has for one. Without a
-    /// name, it answers on every record what the query's expression means.
+    /// name, it answers the meaning of the query's expression on every record.
     pub fn plan(mut self, bound: Bound, program: Arc<Program>) -> Plan
         requires { (asked_of self).program ≡ None
             → AnswersMeaning program.value (asked_of self).expression }

@@ -1,5 +1,5 @@
-//! Printing a reply straight into bytes: nothing is allocated for a file. Which files are listed is
-//! not said here.
+//! Printing a reply straight into bytes: nothing is allocated for a file. `listing` chooses the
+//! files.
 ghost use Rattle.std.specs.Prelude.{◌≡◌, [], ◌∷◌, codes, map};
 ghost use Rattle.json.specs.Token.{begin_object, end_object, key};
 ghost use Rattle.json.specs.Token.{boolean as boolean_token, string as string_token};
@@ -83,7 +83,7 @@ fn print_end(out: &mut Writer, bound: Bound) -> Result<(), AllocError>
     out.end_object()
 }
 
-/// Prints what is told of the files at these places.
+/// Prints the data of the files at these places.
 pub(crate) fn print_files(
     out: &mut Writer,
     form: &Form,
@@ -104,7 +104,7 @@ pub(crate) fn print_files(
     out.end_array()
 }
 
-/// Prints what is told of a file.
+/// Prints the data of a file.
 pub(crate) fn print_file(
     out: &mut Writer,
     form: &Form,
@@ -140,7 +140,7 @@ fn print_object(
     out.end_object()
 }
 
-/// Prints what a field says of a file.
+/// Prints the value of a field of a file.
 fn print_field(
     out: &mut Writer,
     field: Field,

@@ -1,5 +1,4 @@
-//! A query and the plan of answering it, as they are kept. `planning` has what can be done with
-//! them.
+//! A query and the plan of answering it, as they are kept. `planning` has their functions.
 ghost use Rattle.std.specs.Prelude.{◌≡◌, IsTrue, Some, None};
 ghost use Rattle.wq_term.specs.Expr.{term_of};
 ghost use Rattle.wq_term.specs.Fits.{expr_fits};
@@ -13,7 +12,7 @@ use wq_gen::Generators;
 use wq_term::Expr;
 use wq_verify::Program;
 
-/// From where a query asks for changes.
+/// The point from which a query asks for changes.
 #[derive(Drop)]
 pub(crate) enum Since {
     /// From a bound.
@@ -22,8 +21,8 @@ pub(crate) enum Since {
     Cursor(Text),
 }
 
-/// A client's question to a view: which files, what of each, and what if nothing is known to the
-/// client.
+/// A client's question to a view: which files it wants, which fields of each, and whether it wants
+/// any if nothing is known to it.
 #[derive(Drop)]
 pub struct Query {
     pub(crate) expr: Expr,
@@ -38,8 +37,8 @@ pub struct Query {
 }
 
 /// A query with the bound from which its files are candidates, and the program that says which of
-/// them match. That is the one that its name stands for, or one that says what its expression
-/// means.
+/// them match. That is the one of the query's name, or one that answers the meaning of its
+/// expression.
 #[derive(Drop)]
 pub struct Plan {
     pub(crate) query: Query,

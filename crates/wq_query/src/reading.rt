@@ -53,7 +53,7 @@ fn has_key_of(query: &Value, keys: &[&str]) -> bool
     false
 }
 
-/// The expression: every file where there is none.
+/// The expression: every file if there is none.
 #[tactic(auto, using(crate::proofs::Places::always_fits))]
 pub(crate) fn expression(
     alloc: Global,
@@ -74,14 +74,14 @@ pub(crate) fn expression(
     }
 }
 
-/// The expression that stands for none.
+/// The expression of a query that has none.
 fn every_file() -> Expr
     ensures { term_of result ≡ always }
 {
     Expr::True
 }
 
-/// From where `since` asks for changes: from a fresh bound where it is not there.
+/// The point from which `since` asks for changes: a fresh bound if the key is not there.
 pub(crate) fn since(
     alloc: Global,
     value: Option<&Value>,
@@ -130,7 +130,7 @@ fn copy(alloc: Global, text: &str) -> Result<Text, AllocError>
     Ok(Text::from_string(String::from_str(alloc, text)?))
 }
 
-/// Whether a key that is there is true or false, and which; false where it is not there.
+/// The value of a key that is true or false; false if the key is not there.
 pub fn flag(value: Option<&Value>) -> Option<bool>
     ensures { result ≡ flag_of (option_map (λ v. data_of v.now) value.entry) }
 {

@@ -29,7 +29,7 @@ Once [] = Unit {0}
 Once (x ∷ xs) = (under x.0 xs ≡ None) × Once xs
 
 module _ {A : Type 0} where
-  -- another name keeps what it has
+  -- another name keeps its thing
   pub put-other : (name n : List ℕ) (a : A) (xs : ByName A) → bytes_eq name n ≡ false → under name (put n a xs) ≡ under name xs
   put-other name n a [] h = rw h refl
   put-other name n a (x ∷ xs) h = by (bytes_eq n x.0) refl (put-other name n a xs h)
@@ -40,7 +40,7 @@ module _ {A : Type 0} where
           rw other refl
       by false differs rest = ap (cond (bytes_eq name x.0) (Some x.1)) rest
 
-  -- the name has what is put
+  -- the name has the thing that is put
   pub put-same : (n : List ℕ) (a : A) (xs : ByName A) → under n (put n a xs) ≡ Some a
   put-same n a [] = rw (is_itself n) refl
   put-same n a (x ∷ xs) = by (bytes_eq n x.0) refl (put-same n a xs)
@@ -49,7 +49,7 @@ module _ {A : Type 0} where
       by true same rest = rw same refl
       by false differs rest = rw differs rest
 
-  -- a name that is not taken out keeps what it has
+  -- a name that is not taken out keeps its thing
   pub without-other : (name n : List ℕ) (xs : ByName A) → bytes_eq name n ≡ false → under name (without n xs) ≡ under name xs
   without-other name n [] h = refl
   without-other name n (x ∷ xs) h = by (bytes_eq n x.0) refl (without-other name n xs h)
@@ -92,7 +92,7 @@ module _ {A : Type 0} where
   once-changed (putting n a) xs h = once-put n a xs h
   once-changed (removing n) xs h = once-without n xs h
 
-  -- after a change a name has what the change says, and else what it had
+  -- after a change a name has the thing of the change, if that is on the name, and else its old one
   step : (name : List ℕ) (c : Change A) (xs : ByName A) → Once xs → under name (changed_by c xs) ≡ later (says_of name c) (under name xs)
   step name (putting n a) xs h = by (bytes_eq name n) refl
     where
@@ -105,7 +105,7 @@ module _ {A : Type 0} where
       by true same = subst (λ m. under m (without n xs) ≡ None) (sym (same_text name n same)) (without-same n xs h)
       by false differs = without-other name n xs differs
 
-  -- after changes a name has what the last one says
+  -- after changes a name has the thing of the last one
   pub under-made : (name : List ℕ) (cs : List (Change A)) (xs : ByName A) → Once xs → under name (made cs xs) ≡ last_said name cs (under name xs)
   under-made name [] xs h = refl
   under-made name (c ∷ cs) xs h = under-made name cs (changed_by c xs) (once-changed c xs h) ∙ ap (last_said name cs) (step name c xs h)
@@ -120,7 +120,7 @@ module _ {X : Type 0} where
   filter-all [] = refl
   filter-all (x ∷ xs) = ap (λ ys. x ∷ ys) (filter-all xs)
 
-  -- what passes of two lists
+  -- the items of two lists that pass
   filter-append : (test : X → Bool) (xs ys : List X) → filter test (xs ++ ys) ≡ filter test xs ++ filter test ys
   filter-append test [] ys = refl
   filter-append test (x ∷ xs) ys = by (test x) (filter-append test xs ys)
@@ -130,7 +130,7 @@ module _ {X : Type 0} where
       by false rest = rest
 
 module _ {A : Type 0} where
-  -- what one more change says counts
+  -- one more change decides
   last_said-push : (name : List ℕ) (before : List (Change A)) (c : Change A) (o : Option A) → last_said name (before ++ c ∷ []) o ≡ later (says_of name c) (last_said name before o)
   last_said-push name [] c o = refl
   last_said-push name (b ∷ before) c o = last_said-push name before c (later (says_of name b) o)
@@ -154,7 +154,7 @@ module _ {A : Type 0} where
       by false h rest = ap (λ ns. x.0 ∷ ns) (rest h)
 
   module _ (n : List ℕ) (goes : List ℕ → Bool) where
-    -- a name that is not there is none of the names
+    -- a name that is not there is not among the names
     filter-missing : (xs : ByName A) → under n xs ≡ None → filter (λ m. not (bytes_eq m n || goes m)) (names xs) ≡ filter (λ m. not (goes m)) (names xs)
     filter-missing [] h = refl
     filter-missing (x ∷ xs) h = by (bytes_eq n x.0) refl h (filter-missing xs)
@@ -233,7 +233,7 @@ module _ {A : Type 0} where
       by true rest = refl
       by false rest = rest
 
-  -- what is put at the place of a name is put under it
+  -- a thing that is put at the place of a name is put under it
   put_place : (k : ℕ) (name : List ℕ) (a : A) (xs : ByName A) → Once xs → slice_get (names xs) k ≡ Some name → put_at k a xs ≡ put name a xs
   put_place k name a [] once h = let no : None ≡ Some name = h in cc
   put_place zero name a (x ∷ xs) once h =

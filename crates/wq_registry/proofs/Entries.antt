@@ -21,7 +21,7 @@ module _ {A Z : Type 0} (name : List ℕ) where
   found [] = refl
   found (e ∷ es) = ap (cond (bytes_eq name (string_bytes e.0)) (Some e.1)) (found es)
 
-  -- what the map removes goes from the list
+  -- a name that the map removes goes from the list
   pub removed : (es : List (String Z × A)) → by_bytes (remove_entry (λ k. bytes_eq name (string_bytes k)) es) ≡ without name (by_bytes es)
   removed [] = refl
   removed (e ∷ es) =
@@ -30,7 +30,7 @@ module _ {A Z : Type 0} (name : List ℕ) where
         | false ↦ ap (λ xs. (string_bytes e.0, e.1) ∷ xs) (removed es)
       ]
 
--- what the map inserts is put into the list
+-- a thing that the map inserts is put into the list
 pub inserted : {A Z : Type 0} (k : String Z) (v : A) (es : List (String Z × A)) → by_bytes (insert_entry (λ a b. bytes_eq (string_bytes a) (string_bytes b)) es k v) ≡ put (string_bytes k) v (by_bytes es)
 inserted k v [] = refl
 inserted k v (e ∷ es) =
@@ -51,7 +51,7 @@ module _ {A Z : Type 0} where
   same_values [] = refl
   same_values (e ∷ es) = ap (λ xs. e.1 ∷ xs) (same_values es)
 
--- two ways to say what a loan leaves are one where they agree at each value and without one
+-- two ways to describe the end of a loan are one if they agree at each value and without one
 pub same_loan : {D E : Type 0} (name : Perhaps GName) {F G : E → D} {v w : D} → ((x : E) → F x ≡ G x) → v ≡ w → read_of name F v ≡ read_of name G w
 same_loan name each none = λ j. read_of name (λ x. each x j) (none j)
 
@@ -97,7 +97,7 @@ module _ {A Z : Type 0} (name : List ℕ) where
       ap (λ b. not b && nat_le limit (length (unshared xs))) (there-unshared xs)
       ∙ ap (λ n. not (is_some (under name xs)) && nat_le limit n) (length-map xs (λ x. (x.0, x.1.value)))
 
--- what is seen of a reference is made of its value
+-- the view of a reference is made of its value
 pub seen : {X Y : Type 0} (f : X → Y) (r : Option (Bor X)) → option_map (λ b. f b.now) r ≡ option_map f (option_copied r)
 seen f None = refl
 seen f (Some b) = refl
@@ -122,7 +122,7 @@ place_is true n i h = cc
 place_is false n i h = cc
 
 module _ {A Z : Type 0} (name : List ℕ) where
-  -- what is put at the first place with a name is put under it
+  -- a thing that is put at the first place with a name is put under it
   put-first : (v : A) (es : List (String Z × A)) → is_some (under name (by_bytes es)) ≡ true → put_at (position_or_len (λ k. bytes_eq name (string_bytes k)) (keys_of es)) v (by_bytes es) ≡ put name v (by_bytes es)
   put-first v [] h = absurd (true≢false (sym h))
   put-first v (e ∷ es) h = by (bytes_eq name (string_bytes e.0)) h (put-first v es)
@@ -134,7 +134,7 @@ module _ {A Z : Type 0} (name : List ℕ) where
           ap (λ k. put_at k v (by_bytes (e ∷ es))) (one_more (position_or_len (λ k. bytes_eq name (string_bytes k)) (keys_of es)))
           ∙ ap (λ xs. (string_bytes e.0, e.1) ∷ xs) (rest h)
 
-  -- at the place of a name, what is put there is put under the name
+  -- a thing that is put at the place of a name is put under the name
   pub at_place : (es : List (String Z × A)) (r : Option ℕ) → r ≡ position (λ k. bytes_eq name (string_bytes k)) (keys_of es) → is_some r ≡ is_some (lookup (λ k. bytes_eq name (string_bytes k)) es) → IfSome r (λ k. (v : A) → put_at k v (by_bytes es) ≡ put name v (by_bytes es))
   at_place es None is there = tt
   at_place es (Some k) is there = λ v.

@@ -24,7 +24,7 @@ use Rattle.wq_registry.specs.CacheKey.{CacheKeyData, Says}
 use Rattle.wq_registry.specs.Kept.{CacheData, StandsFor, KeepsMeanings, instance_at}
 
 module _ (instance : InstanceData) (text : List ℕ) (raw : Raw) (d : Data) (t : ExprData) (says : read text ≡ Some d) (reads : reads_as instance max_depth d ≡ Ok t) where
-  -- a program that answers what the value of the text says stands for the text
+  -- a program that answers the value of the text stands for the text
   pub stands : AnswersMeaning raw t → is_too_large t ≡ false → StandsFor instance text raw
   unfolding StandsFor
   stands means small d' t' says' reads' =
@@ -38,7 +38,7 @@ module _ (instance : InstanceData) (text : List ℕ) (raw : Raw) (d : Data) (t :
   stood stands = stands d t says reads
 
 module _ (key : CacheKeyData) (t : ExprData) (raw : Raw) (says : Says key t) where
-  -- a program that answers what the text of a key says stands for it
+  -- a program that answers the text of a key stands for it
   pub stands_for : AnswersMeaning raw t → is_too_large t ≡ false → StandsFor key.instance key.text raw
   stands_for = stands key.instance key.text raw says.0 t says.1 says.2
 
@@ -46,14 +46,14 @@ module _ (key : CacheKeyData) (t : ExprData) (raw : Raw) (says : Says key t) whe
   pub stood_for : StandsFor key.instance key.text raw → AnswersMeaning raw t × (is_too_large t ≡ false)
   stood_for = stood key.instance key.text raw says.0 t says.1 says.2
 
--- two keys are one where they are equal
+-- two keys are one if they are equal
 same_keys : (j k : Key) → (nat_eq j.root k.root && bytes_eq (string_bytes j.text) (string_bytes k.text)) ≡ true → (j.root ≡ k.root) × (string_bytes j.text ≡ string_bytes k.text)
 same_keys j k h =
     let parts = and_parts _ _ h in
     (eqb-true j.root k.root parts.0, (bytes_eq-Decides (string_bytes j.text) (string_bytes k.text)).0 parts.1)
 
 module _ {Z : Type 0} (cache : CacheData) (kept : List (Key × Arc Raw Z)) (key : Key) where
-  -- what is kept under a key stands for its text
+  -- a program that is kept under a key stands for its text
   pub found : (program : Arc Raw Z) → KeepsMeanings cache kept → lookup (λ k. nat_eq key.root k.root && bytes_eq (string_bytes key.text) (string_bytes k.text)) kept ≡ Some program → StandsFor (instance_at cache key.root) (string_bytes key.text) program.value
   found program meanings h =
       let on = Contains-lookup (λ k. nat_eq key.root k.root && bytes_eq (string_bytes key.text) (string_bytes k.text)) kept program h in
@@ -89,12 +89,12 @@ module _ {Z : Type 0} (cache : CacheData) (old : LruCache Key (Arc Raw Z)) (key 
   put_or_not new (Ok a) ok err meanings stands = subst (λ (c : LruCache Key (Arc Raw Z)). KeepsMeanings cache c.entries) (sym ok) (well_put meanings stands)
   put_or_not new (Err e) ok err meanings stands = subst (λ (c : LruCache Key (Arc Raw Z)). KeepsMeanings cache c.entries) (sym err) meanings
 
--- a program that is shared stands for what it stood for
+-- a program that is shared stands for the same text
 pub shared : {Z E : Type 0} (instance : InstanceData) (text : List ℕ) (seen : Arc Raw Z) (o : Option (Arc Raw Z)) (r : Result (Arc Raw Z) E) → o ≡ result_ok r → IfOk r (λ a. a.value ≡ seen.value) → StandsFor instance text seen.value → IfSome o (λ p. StandsFor instance text p.value)
 shared instance text seen o (Ok a) is same stands = subst (λ o. IfSome o (λ p. StandsFor instance text p.value)) (sym is) (subst (λ (raw : Raw). StandsFor instance text raw) (sym same) stands)
 shared instance text seen o (Err e) is same stands = subst (λ o. IfSome o (λ p. StandsFor instance text p.value)) (sym is) tt
 
--- where a program is given, what would refuse it is false
+-- if a program is given, the conditions of a refusal are false
 pub is_false : {A E : Type 0} (a : A) (e : E) (b : Bool) → (IsTrue b → IsErrOf {T = A} (Ok a) e) → b ≡ false
 is_false a e true h = let none : IsErrOf (Ok a) e = h refl in cc
 is_false a e false h = refl

@@ -13,7 +13,7 @@ place_is : (b : Bool) (n i : ℕ) → cond b (Some n) None ≡ Some i → n ≡ 
 place_is true n i h = cc
 place_is false n i h = cc
 
--- no place is given where the test fails
+-- no place is given if the test fails
 test_fails : (b : Bool) (n : ℕ) → cond b (Some n) None ≡ None → b ≡ false
 test_fails true n h = cc
 test_fails false n h = refl
@@ -27,15 +27,15 @@ past : (n m : ℕ) → nat_lt n m ≡ false → m ≤ n
 past n m h = grind (arith, nat_tests)
 
 module _ {T : Type 0} (number : ℕ) where
-  -- where the root has a place, it is the one there
+  -- if the root has a place, it is the one there
   pub at_place : (rs : List (RootData T)) (i : ℕ) → position (λ r. nat_eq number r.number) rs ≡ Some i → numbered number rs ≡ slice_get rs i
   at_place rs i h = find_at (λ r. nat_eq number r.number) rs ∙ ap (slice_get rs) (place_is (nat_lt (position_or_len (λ r. nat_eq number r.number) rs) (length rs)) (position_or_len (λ r. nat_eq number r.number) rs) i h)
 
-  -- where it has none, there is no such root
+  -- if it has none, there is no such root
   pub no_place : (rs : List (RootData T)) → position (λ r. nat_eq number r.number) rs ≡ None → numbered number rs ≡ None
   no_place rs h = find_at (λ r. nat_eq number r.number) rs ∙ slice_get_past rs _ (past _ _ (test_fails (nat_lt (position_or_len (λ r. nat_eq number r.number) rs) (length rs)) (position_or_len (λ r. nat_eq number r.number) rs) h))
 
-  -- what is written at the first place that passes is written over the root
+  -- a root that is written at the first place that passes is written over the root
   set_first : (rs : List (RootData T)) (w : RootData T) → slice_set rs (position_or_len (λ r. nat_eq number r.number) rs) w ≡ changed number (λ _. w) rs
   set_first [] w = refl
   set_first (r ∷ rs) w =
@@ -44,11 +44,11 @@ module _ {T : Type 0} (number : ℕ) where
         | false ↦ ap (λ i. slice_set (r ∷ rs) i w) (one_more (position_or_len (λ r. nat_eq number r.number) rs)) ∙ ap (λ rs. r ∷ rs) (set_first rs w)
       ]
 
-  -- what is written at its place is written over the root
+  -- a root that is written at its place is written over the root
   pub set_place : (rs : List (RootData T)) (i : ℕ) (w : RootData T) → position (λ r. nat_eq number r.number) rs ≡ Some i → slice_set rs i w ≡ changed number (λ _. w) rs
   set_place rs i w h = ap (λ i. slice_set rs i w) (sym (place_is (nat_lt (position_or_len (λ r. nat_eq number r.number) rs) (length rs)) (position_or_len (λ r. nat_eq number r.number) rs) i h)) ∙ set_first rs w
 
-  -- a change of the root that is there is what it makes of it
+  -- a change of the root that is there gives the result of the change
   pub change_of : (change : RootData T → RootData T) (rs : List (RootData T)) (r : RootData T) → numbered number rs ≡ Some r → changed number (λ _. change r) rs ≡ changed number change rs
   change_of change [] r h = refl
   change_of change (s ∷ rs) r h = by (nat_eq number s.number) h (change_of change rs r)
@@ -66,7 +66,7 @@ module _ {T : Type 0} (number : ℕ) where
       by true h rest = let e : s ≡ r = cc in ap (λ s. s ∷ rs) (sym e)
       by false h rest = ap (λ rs. s ∷ rs) (rest h)
 
-  -- where there is no such root, nothing changes
+  -- if there is no such root, nothing changes
   pub change_none : (change : RootData T → RootData T) (rs : List (RootData T)) → numbered number rs ≡ None → changed number change rs ≡ rs
   change_none change [] h = refl
   change_none change (s ∷ rs) h = by (nat_eq number s.number) h (change_none change rs)
@@ -89,12 +89,12 @@ pub shelf_same : {T : Type 0} (number : ℕ) (shelf : ShelfData T) (r : RootData
 shelf_same number shelf r h = ap (λ rs. record { programs = shelf.programs; roots = rs; sockname = shelf.sockname }) (same_root number shelf.roots r h)
 
 module _ {T A : Type 0} (number : ℕ) (change : RootData T → RootData T) (shelf : ShelfData T) (old new : RootData T) where
-  -- what a call answers well makes of the root, it makes of the shelf
+  -- a call that succeeds changes the shelf by its change of the root
   pub changed_well : (result : Result A ShelfFault) → Some old ≡ numbered number shelf.roots → OnOk result (new ≡ change old) → OnOk result (root_changed number (λ _. new) shelf ≡ root_changed number change shelf)
   changed_well (Ok a) h e = ap (λ r. root_changed number (λ _. r) shelf) e ∙ shelf_changed number change shelf old (sym h)
   changed_well (Err fault) h e = tt
 
-  -- and where it refuses and leaves the root, it leaves the shelf
+  -- and if it refuses and leaves the root, it leaves the shelf
   pub left_well : (result : Result A ShelfFault) → Some old ≡ numbered number shelf.roots → OnErr result (new ≡ old) → OnErr result (root_changed number (λ _. new) shelf ≡ shelf)
   left_well (Ok a) h e = tt
   left_well (Err fault) h e = ap (λ r. root_changed number (λ _. r) shelf) e ∙ shelf_same number shelf old (sym h)

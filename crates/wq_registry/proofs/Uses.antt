@@ -36,7 +36,7 @@ once-used : (u : Use) (xs : ByName ℕ) → Once xs → Once (used_by u xs)
 once-used (at_tick name tick) xs h = once-put name (larger (under name xs) tick) xs h
 once-used (unsetting name) xs h = once-without name xs h
 
--- one use, where none of the later ones unsets the cursor
+-- one use, if none of the later ones unsets the cursor
 step : (name : List ℕ) (u : Use) (xs : ByName ℕ) (ticks : List ℕ) → Once xs → both (under name (used_by u xs)) (greatest_tick ticks) ≡ both (cond (unsets name u) None (under name xs)) (greatest_tick (tick_given name u ++ ticks))
 step name (at_tick n tick) xs ticks h = by (bytes_eq name n) refl
   where

@@ -1,4 +1,4 @@
--- A root keeps what the calls since it was added make.
+-- A root keeps the things that the calls since it was added made.
 use Rattle.std.proofs.Common.{◌≡◌, ℕ, Bool, true, false, not, ◌&&◌, ◌||◌, ◌⊎◌, inl, inr, cond, nat_eq, List, [], ◌∷◌, ◌++◌, filter, Option, None, Some, is_some, option_map, refl, sym, ap, subst, ◌∙◌, true≢false}
 use Rattle.std.proofs.lemmas.Bool.{and_parts, or_parts, eqb-true, eq-eqb}
 use Rattle.std.specs.List.{list_any, flat_map}
@@ -50,7 +50,7 @@ module _ {T : Type 0} where
             ∙ sym (ap (λ b. cond b (Some r) (numbered root rs)) differs)
         by false differs rest = ap (cond (nat_eq root r.number) (Some r)) rest
 
-    -- where there is none, leaving some out leaves none
+    -- if there is none, leaving some out leaves none
     filter-none : (test : RootData T → Bool) (rs : List (RootData T)) → numbered root rs ≡ None → numbered root (filter test rs) ≡ None
     filter-none test [] h = refl
     filter-none test (r ∷ rs) h = by (nat_eq root r.number) refl h (filter-none test rs)
@@ -63,7 +63,7 @@ module _ {T : Type 0} where
         by true same h rest = let none : Some r ≡ None = h in cc
         by false differs h rest = keep (test r) differs (rest h)
 
-    -- where there is one, leaving some out leaves that one, or none
+    -- if there is one, leaving some out leaves that one, or none
     filter-some : (test : RootData T → Bool) (rs : List (RootData T)) (x : RootData T) → Numbered rs → numbered root rs ≡ Some x → (numbered root (filter test rs) ≡ Some x) ⊎ (numbered root (filter test rs) ≡ None)
     filter-some test [] x once h = let none : None ≡ Some x = h in cc
     filter-some test (r ∷ rs) x once h = by (nat_eq root r.number) refl h (filter-some test rs x once.1)
@@ -120,7 +120,7 @@ module _ {T : Type 0} where
         by true same h c rest = let none : Some r ≡ None = h in cc
         by false differs h c rest = put c differs h (rest h)
 
-    -- what a change makes of the root, whichever it is of
+    -- the effect of a change on the root, whichever it is of
     on-change : (n : ℕ) (f : RootData T → RootData T) → ((r : RootData T) → (f r).number ≡ r.number) → (rs : List (RootData T)) (x : RootData T) → numbered root rs ≡ Some x → numbered root (changed n f rs) ≡ Some (cond (nat_eq root n) (f x) x)
     on-change n f keeps rs x h = by (nat_eq root n) refl
       where
@@ -170,7 +170,7 @@ module _ {T : Type 0} where
   numbered-after (adds_trigger root name trigger) s once = numbered-changed root (with_trigger name trigger) (λ r. refl) s.roots once
   numbered-after (removes_trigger root name) s once = numbered-changed root (without_trigger name) (λ r. refl) s.roots once
 
-  -- what a call makes of a root that stays
+  -- the effect of a call on a root that stays
   abbrev effect : ℕ → Call T → RootData T → RootData T
   effect root (uses_cursor r name tick) x = cond (nat_eq root r) (with_cursor name tick x) x
   effect root (unsets_cursor r name) x = cond (nat_eq root r) (without_cursor name x) x
@@ -181,7 +181,7 @@ module _ {T : Type 0} where
   effect root (adds_root text number) x = x
   effect root (removes_root number) x = x
 
-  -- a root that stays on the shelf is what the call makes of it
+  -- a root that stays on the shelf is the result of the call on it
   stayed : (root : ℕ) (c : Call T) (s : ShelfData T) (x : RootData T) → Numbered s.roots → numbered root s.roots ≡ Some x → is_on root (after c s) ≡ true → numbered root (after c s).roots ≡ Some (effect root c x)
   stayed root (adds_program name program) s x once h on = h
   stayed root (removes_program name) s x once h on = h
@@ -246,7 +246,7 @@ module _ {T : Type 0} where
       (part-none : part None ≡ empty)
       (part-new : (x : RootData T) → IsNew x → part (Some x) ≡ empty)
       (part-effect : (root : ℕ) (c : Call T) (x : RootData T) → part (Some (effect root c x)) ≡ run (uses root c) (part (Some x))) where
-    -- what a call makes of the part of a root that stays
+    -- the effect of a call on the part of a root that stays
     part-stays : (root : ℕ) (c : Call T) (s : ShelfData T) → Numbered s.roots → stays_on root s c ≡ true → part (numbered root (after c s).roots) ≡ run (uses root c) (part (numbered root s.roots))
     part-stays root c s once h = by (numbered root s.roots) refl
       where
@@ -257,7 +257,7 @@ module _ {T : Type 0} where
             ∙ part-effect root c x
             ∙ ap (λ o. run (uses root c) (part o)) (sym is)
 
-    -- where the root is not there before or after, the part is empty
+    -- if the root is not there before or after, the part is empty
     part-off : (root : ℕ) (c : Call T) (s : ShelfData T) → stays_on root s c ≡ false → part (numbered root (after c s).roots) ≡ empty
     part-off root c s h = by (numbered root (after c s).roots) refl
       where
@@ -295,7 +295,7 @@ made-append [] vs xs = refl
 made-append (u ∷ us) vs xs = made-append us vs (changed_by u xs)
 
 module _ {T : Type 0} where
-  -- what a call makes of the cursors of a root
+  -- the effect of a call on the cursors of a root
   cursors-effect : (root : ℕ) (c : Call T) (x : RootData T) → cursors_in (Some (effect root c x)) ≡ used (cursor_use root c) x.cursors
   cursors-effect root (adds_program name program) x = refl
   cursors-effect root (removes_program name) x = refl

@@ -1,5 +1,4 @@
--- Expressions as they are looked for among the programs that are kept. No public document defines
--- it.
+-- The keys of expressions among the programs that are kept. No public document defines them.
 use Rattle.std.specs.Prelude.{ℕ, ◌≡◌, List, Some, Ok}
 use Rattle.serde_json.specs.Data.{Data}
 use Rattle.serde_json.specs.Read.{read}
@@ -19,7 +18,7 @@ abbrev pub Says : CacheKeyData → ExprData → Type 0
 Says key t =
     (d : Data) × (read key.text ≡ Some d) × (reads_as key.instance max_depth d ≡ Ok t)
 
--- a program that may be kept, and under which key
+-- a program that may be kept, and its key
 pub record CompiledData : Type 0 where
   pub key : CacheKeyData
   pub program : Raw

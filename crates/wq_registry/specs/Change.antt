@@ -1,4 +1,4 @@
--- Lists of changes of things under names, and what they come to. No public document defines it.
+-- Lists of changes of things under names, and their result. No public document defines it.
 use Rattle.std.specs.Prelude.{ℕ, ◌≡◌, Bool, false, List, [], ◌∷◌, ◌++◌, Option, None, Some, is_some}
 use Rattle.std.specs.Prelude.{◌||◌, if◌then◌else◌}
 use Rattle.std.specs.List.{list_any, slice_get}
@@ -21,17 +21,17 @@ module _ {A : Type 0} where
   made [] xs = xs
   made (c ∷ cs) xs = made cs (changed_by c xs)
 
-  -- what a change says of a name: that this thing is there, or that none is; of other names nothing
+  -- the effect of a change on a name: this thing is there, or none is; no effect on other names
   abbrev pub says_of : List ℕ → Change A → Option (Option A)
   says_of name (putting n a) = if bytes_eq name n then Some (Some a) else None
   says_of name (removing n) = if bytes_eq name n then Some None else None
 
-  -- what is said later counts
+  -- the thing that the later one of two leaves under a name
   abbrev pub later : Option (Option A) → Option A → Option A
   later None before = before
   later (Some now) before = now
 
-  -- what the last change that says something of a name says; before it the name has this
+  -- the thing that a list of changes leaves under a name that had this one
   abbrev pub last_said : List ℕ → List (Change A) → Option A → Option A
   last_said name [] before = before
   last_said name (c ∷ cs) before = last_said name cs (later (says_of name c) before)
@@ -49,12 +49,12 @@ module _ {A : Type 0} where
       else name ∷ []
   brings_in before (removing name) after = []
 
-  -- the names that changes bring in for good, each where it is brought in
+  -- the names that changes bring in for good, in the order in which they come in
   abbrev pub brought_in : List (Change A) → List (Change A) → List (List ℕ)
   brought_in before [] = []
   brought_in before (c ∷ after) = brings_in before c after ++ brought_in (before ++ c ∷ []) after
 
--- what is under a name is what the last change of it put there, or nothing if that took it out
+-- the thing under a name is the one that its last change put there, or none if that took it out
 abbrev pub LastChangeCounts : Type 0 → Type 0
 LastChangeCounts A = (changes : List (Change A)) (name : List ℕ)
     → under name (made changes []) ≡ last_said name changes None
@@ -64,7 +64,7 @@ LastChangeCounts A = (changes : List (Change A)) (name : List ℕ)
 abbrev pub NamesStandInOrder : Type 0 → Type 0
 NamesStandInOrder A = (changes : List (Change A)) → names (made changes []) ≡ brought_in [] changes
 
--- another thing that is put at a place is put under the name there, in what changes come to
+-- another thing that is put at a place is put under the name there, in the result of changes
 abbrev pub PlacesAreNames : Type 0 → Type 0
 PlacesAreNames A = (changes : List (Change A)) (k : ℕ) (name : List ℕ) (a : A)
     → slice_get (names (made changes [])) k ≡ Some name

@@ -9,6 +9,6 @@ use Rattle.wq_registry.specs.ByName.{ByName}
 abbrev pub by_bytes : {A Z : Type 0} → List (String Z × A) → ByName A
 by_bytes es = map (λ e. (string_bytes e.0, e.1)) es
 
--- the things themselves, where they are shared
+-- the things themselves, out of shared memory
 abbrev pub unshared : {A Z : Type 0} → ByName (Arc A Z) → ByName A
 unshared xs = map (λ x. (x.0, x.1.value)) xs

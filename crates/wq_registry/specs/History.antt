@@ -1,4 +1,4 @@
--- Lists of accepted calls, and what they come to. No public document defines it.
+-- Lists of accepted calls, and their result. No public document defines it.
 use Rattle.std.specs.Prelude.{ℕ, ◌≡◌, Bool, false, List, [], ◌∷◌, is_some, not, nat_eq, flat_map}
 use Rattle.std.specs.Prelude.{◌&&◌, ◌||◌, if◌then◌else◌}
 use Rattle.wq_code.specs.declared.raw.Raw.{Raw}
@@ -77,18 +77,19 @@ module _ {T : Type 0} where
   trigger_change root (removes_trigger r name) = if nat_eq root r then removing name ∷ [] else []
   trigger_change root _ = []
 
--- the programs of a shelf are what the calls for programs make, whatever other calls come between
+-- the programs of a shelf are the result of the calls for programs, whatever other calls come
+-- between
 abbrev pub ProgramsAreMade : Type 0 → Type 0
 ProgramsAreMade T = (calls : List (Call T)) (sockname : List ℕ)
     → (after_all calls (blank sockname)).programs ≡ made (program_changes calls) []
 
--- the cursors of a root are what the uses of its cursors since it was last added come to
+-- the cursors of a root are the result of the uses of its cursors since it was last added
 abbrev pub CursorsAreMade : Type 0 → Type 0
 CursorsAreMade T = (calls : List (Call T)) (sockname : List ℕ) (root : ℕ)
     → cursors_of root (after_all calls (blank sockname))
     ≡ used (flat_map (cursor_use root) (since_added root (blank sockname) calls)) []
 
--- and its triggers are what the changes of its triggers since then come to
+-- and its triggers are the result of the changes of its triggers since then
 abbrev pub TriggersAreMade : Type 0 → Type 0
 TriggersAreMade T = (calls : List (Call T)) (sockname : List ℕ) (root : ℕ)
     → triggers_of root (after_all calls (blank sockname))

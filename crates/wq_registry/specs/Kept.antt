@@ -1,4 +1,4 @@
--- Which programs may be kept for which texts. No public document defines it.
+-- The programs that may be kept for a text. No public document defines it.
 use Rattle.std.specs.Prelude.{ℕ, ◌≡◌, false, List, Some, Ok, Contains}
 use Rattle.std.specs.declared.sync.Arc.{Arc}
 use Rattle.std.specs.String.{string_bytes}
@@ -22,8 +22,8 @@ pub record CacheData : Type 0 where
 abbrev pub instance_at : CacheData → ℕ → InstanceData
 instance_at cache root = record { start = cache.start; pid = cache.pid; root = root }
 
--- a program stands for a text at an instance. If the text is of a value that says an expression
--- there, that expression is not too large, and the program answers what it means
+-- a program stands for a text at an instance. If the text is of a value that is an expression
+-- there, that expression is not too large, and the program answers its meaning
 unfoldable pub StandsFor : InstanceData → List ℕ → Raw → Type 0
 StandsFor instance text raw =
     (d : Data) (t : ExprData) → read text ≡ Some d → reads_as instance max_depth d ≡ Ok t

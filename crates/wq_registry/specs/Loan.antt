@@ -28,6 +28,6 @@ LendsRootAt T s place r =
     Lends (the_row T) (root_row T) s r
     (λ w. let shelf = s.now in record shelf { roots = slice_set shelf.roots place w })
 
--- whatever happens to the cache, the shelf stays as it is
+-- the shelf is unchanged, whatever happens to the cache
 abbrev pub LendsCache : (T : RattleType) → MutBor (ShelfData T.Denot) → MutBor CacheData → Fml
 LendsCache T s r = Lends (the_row T) cache_row s r (λ _. s.now)

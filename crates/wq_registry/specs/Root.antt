@@ -19,7 +19,7 @@ larger None tick = tick
 larger (Some old) tick = if nat_le old tick then tick else old
 
 module _ {T : Type 0} where
-  -- a root as it is when it is added
+  -- a root when it is added
   abbrev pub new_root : List ℕ → ℕ → RootData T
   new_root text number = record { text = text; number = number; cursors = []; triggers = [] }
 

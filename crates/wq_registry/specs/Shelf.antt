@@ -16,7 +16,7 @@ pub record ShelfData (T : Type 0) : Type 0 where
   pub sockname : List ℕ
 
 module _ {T : Type 0} where
-  -- a shelf as it is made
+  -- a shelf when it is made
   abbrev pub blank : List ℕ → ShelfData T
   blank sockname = record { programs = []; roots = []; sockname = sockname }
 

@@ -1,5 +1,5 @@
--- Lists of uses of cursors, and what they come to.
--- Cursors are those of Watchman's documentation (named cursors in clockspecs).
+-- Lists of uses of cursors, and their result. Cursors are those of Watchman's documentation (named
+-- cursors in clockspecs).
 use Rattle.std.specs.Prelude.{ℕ, ◌≡◌, Bool, false, List, [], ◌∷◌, ◌++◌, Option, None, Some}
 use Rattle.std.specs.Prelude.{if◌then◌else◌}
 use Rattle.std.specs.List.{list_any}

@@ -68,8 +68,8 @@ impl Cache {
         look_up(&mut self.kept, &key.key)
     }
 
-    /// Keeps a program, in the place of the one that was asked for longest ago where there are as
-    /// many as may be. A program of another run of the server is not kept, and none is if memory
+    /// Keeps a program. If as many are kept as may be, it takes the place of the one that was asked
+    /// for longest ago. A program of another run of the server is not kept, and none is if memory
     /// runs out.
     pub fn keep(&mut self, compiled: Compiled)
         ensures { self.new ≡ self.old }
@@ -88,7 +88,7 @@ impl Cache {
     }
 }
 
-/// How many programs are kept, as the cache wants it.
+/// How many programs are kept, in the type that the cache takes.
 fn size() -> NonZeroUsize {
     match NonZeroUsize::new(MAX_KEPT) {
         Some(size) => size,
@@ -115,8 +115,8 @@ impl Model for Compiled {
 }
 
 impl Compiled {
-    /// The entry of a program that a cache may keep: it answers what this expression means, and is
-    /// looked for by this key. It is none if the program cannot be shared.
+    /// The entry of a program that a cache may keep: it answers the meaning of this expression, and
+    /// this key finds it. There is no entry if the program cannot be shared.
     pub fn new(key: CacheKey, expr: &Expr, program: &Arc<Program>) -> Option<Compiled>
         requires says { Says key (term_of expr.now) }
         requires meaning { AnswersMeaning program.now.value (term_of expr.now) }

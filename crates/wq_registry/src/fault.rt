@@ -1,9 +1,9 @@
-//! Why a shelf refuses.
+//! The refusals of a shelf.
 
 use std::alloc::AllocError;
 use thiserror::Error;
 
-/// Why a shelf refuses. Each refusal leaves it as it was.
+/// A refusal of a shelf, which leaves it as it was.
 #[derive(Clone, Copy, Debug, PartialEq, Eq, Drop, Error)]
 pub enum ShelfFault {
     /// The root is not on the shelf.

@@ -1,4 +1,4 @@
-//! Under what programs are kept.
+//! The keys of the programs that are kept.
 ghost use Rattle.std.specs.Prelude.{◌≡◌, Ok, IfOk, IfSome, string_bytes};
 ghost use Rattle.serde_json.specs.View.{view as data_of};
 ghost use Rattle.wq_clock.specs.Instance.{instance_data};
@@ -17,8 +17,8 @@ use wq_clock::Instance;
 use wq_term::values_say_what_they_write;
 use wq_verify::Program;
 
-/// An expression, as it is looked for among the programs that are kept. It has the instance at
-/// which it was read, since clock specs in it are read there, and its compact text.
+/// The key of an expression among the programs that are kept. It has the instance at which the
+/// expression was read, since clock specs in it are read there, and its compact text.
 #[derive(Drop)]
 pub struct CacheKey {
     pub(crate) start: u64,

@@ -1,9 +1,9 @@
-//! The registry, which the rest of the project calls the shelf: what a server keeps for all its
-//! clients beside the views of its roots. Programs under their names; the roots that are watched,
-//! each with its cursors and triggers; and a cache of the programs of expressions.
+//! The registry, which the rest of the project calls the shelf. A server keeps in it, beside the
+//! views of its roots, the things of all its clients: programs under their names; the roots that
+//! are watched, each with its cursors and triggers; and a cache of the programs of expressions.
 //!
-//! `specs/Shelf.antt` defines what each call makes of a shelf, and `specs/History.antt` what a list
-//! of calls comes to. The answers to clients, and the meaning of a trigger, are for others.
+//! `specs/Shelf.antt` defines the effect of each call on a shelf, and `specs/History.antt` that of
+//! a list of calls. Other crates answer clients, and give a trigger its meaning.
 #![tactic(auto)]
 
 mod cache;

@@ -1,5 +1,4 @@
-//! Things under names, in the order in which the names came. How many there may be is not said
-//! here.
+//! Things under names, in the order in which the names came. The caller says how many there may be.
 ghost use Rattle.std.specs.Prelude.{◌≡◌, [], length, map, option_copied, option_map, slice_get};
 ghost use Rattle.std.specs.Prelude.{None, string_bytes, IfNone, IfSome, IsOk, IsSome, IfOk, OnOk, OnErr};
 ghost use Rattle.std.specs.Option.{option_copied_mut};

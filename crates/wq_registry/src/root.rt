@@ -1,4 +1,4 @@
-//! Roots: what a shelf keeps for each directory that is watched.
+//! Roots: the part of a shelf for each directory that is watched.
 ghost use Rattle.std.specs.Prelude.{◌≡◌, false, length, option_copied, option_map, slice_get, IfOk};
 ghost use Rattle.std.specs.Prelude.{IsOk, IsSome, OnErr, OnOk};
 ghost use Rattle.std.specs.Option.{option_copied_mut};

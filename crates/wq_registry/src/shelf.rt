@@ -30,8 +30,8 @@ use wq_verify::Program;
 /// How many programs a shelf may have.
 pub const MAX_PROGRAMS: usize = 256;
 
-/// The things that a server keeps for all its clients beside the views of its roots. `T` is what it
-/// keeps of a trigger.
+/// The things that a server keeps for all its clients beside the views of its roots. `T` is the
+/// type of a trigger.
 #[derive(Drop)]
 pub struct Shelf<T> {
     programs: ByName<Arc<Program>>,
@@ -103,7 +103,7 @@ impl<T> Shelf<T> {
     /// name comes last.
     ///
     /// # Errors
-    /// [`ShelfFault::Full`] where the name is new and there are [`MAX_PROGRAMS`];
+    /// [`ShelfFault::Full`] if the name is new and there are [`MAX_PROGRAMS`];
     /// [`ShelfFault::NoMemory`].
     pub fn add(&mut self, name: &str, program: Program) -> Result<bool, ShelfFault>
         ensures replaced { IfOk result (λ replaced.
@@ -127,7 +127,7 @@ impl<T> Shelf<T> {
         self.programs.has_no_place(MAX_PROGRAMS, name)
     }
 
-    /// Puts a program under a name, where there is a place for it.
+    /// Puts a program under a name, if there is a place for it.
     fn put(&mut self, name: &str, program: Arc<Program>) -> Result<bool, AllocError>
         ensures replaced { IfOk result (λ replaced.
             replaced ≡ is_some (under name.now self.old.programs)) }
@@ -198,7 +198,7 @@ impl<T> Shelf<T> {
     /// larger of the two. A cursor that is there is moved without memory.
     ///
     /// # Errors
-    /// [`ShelfFault::NoRoot`] where the root is not on the shelf; [`ShelfFault::Full`] where the
+    /// [`ShelfFault::NoRoot`] if the root is not on the shelf; [`ShelfFault::Full`] if the
     /// name is new and the root has [`MAX_CURSORS`](crate::MAX_CURSORS);
     /// [`ShelfFault::NoMemory`].
     pub fn swap_cursor(
@@ -247,7 +247,7 @@ impl<T: Drop> Shelf<T> {
     /// changes nothing.
     ///
     /// # Errors
-    /// [`ShelfFault::Full`] where the text is new and there are [`MAX_ROOTS`];
+    /// [`ShelfFault::Full`] if the text is new and there are [`MAX_ROOTS`];
     /// [`ShelfFault::NoMemory`].
     pub fn add_root(&mut self, text: &str, number: u64) -> Result<(), ShelfFault>
         ensures added { OnOk result (self.new ≡ root_added text.now number self.old) }
@@ -286,7 +286,7 @@ impl<T: Drop> Shelf<T> {
     /// takes without memory. A new name comes last.
     ///
     /// # Errors
-    /// [`ShelfFault::NoRoot`] where the root is not on the shelf; [`ShelfFault::Full`] where the
+    /// [`ShelfFault::NoRoot`] if the root is not on the shelf; [`ShelfFault::Full`] if the
     /// name is new and the root has [`MAX_TRIGGERS`](crate::MAX_TRIGGERS);
     /// [`ShelfFault::NoMemory`].
     pub fn add_trigger(

@@ -11,11 +11,11 @@ use Rattle.wq_stream.specs.declared.event.Event.{Event}
 use Rattle.wq_stream.specs.declared.event.Event.TheVariants.{Line, Long, Binary}
 use Rattle.wq_stream.proofs.Parts.{IsSome, behind, last_is_line, last_then, on_last, on_last_some, parts_behind, parts_some, parts_then}
 
--- these bytes of a line show what its event is
+-- the bytes of a line that show its event
 abbrev pub is_refused : List ℕ → Bool
 is_refused bytes = is_binary bytes || is_long bytes
 
--- nothing follows the event of a line just where its bytes show it
+-- no event follows the event of a line exactly if the bytes of the line show it
 refused_last : (line : List ℕ) → is_last (event_of line) ≡ is_refused line
 refused_last line = at (is_binary line) (is_long line)
   where
@@ -30,7 +30,7 @@ long_stays first bytes more is =
     let joined = length-append bytes more in
     lt-ltb _ _ (omega (arith, long, joined))
 
--- it stays its event, whatever follows
+-- the event of a line stays the same, whatever bytes follow
 pub refused_stays : (bytes more : List ℕ) → is_refused bytes ≡ true → (is_refused (bytes ++ more) ≡ true) × (event_of (bytes ++ more) ≡ event_of bytes)
 refused_stays [] more is = absurd (true≢false (sym is))
 refused_stays (first ∷ bytes) more is = at (first == 0) is
@@ -45,7 +45,7 @@ refused_stays (first ∷ bytes) more is = at (first == 0) is
 abbrev pub events_in : List (List ℕ) → List Event
 events_in parts = up_to_last (part_events parts)
 
--- a first part that shows its event is the only one that tells something
+-- a first part that shows its event is the only one with an event
 pub refused_first : (line : List ℕ) (later : List (List ℕ)) → is_refused line ≡ true → events_in (line ∷ later) ≡ event_of line ∷ []
 refused_first line [] is =
     ap (λ b. up_to_last (cond b (event_of line ∷ []) [])) is ∙ ap (λ b. event_of line ∷ cond b [] []) (refused_last line ∙ is)
@@ -66,7 +66,7 @@ pub line_first : (line : List ℕ) (parts : List (List ℕ)) → IsSome parts �
 line_first line parts (first, later, some) =
     ap (λ p. events_in (line ∷ p)) some ∙ ap (λ p. event_of line ∷ cond (is_last (event_of line)) [] (events_in p)) (sym some)
 
--- the events that are told after some events: none, if they tell the end
+-- the events after some events: none, if no event follows those
 abbrev pub unless_last : List Event → List Event → List Event
 unless_last told events = cond (list_any is_last told) [] events
 
@@ -92,11 +92,11 @@ adds_parts (line ∷ next ∷ parts) piece none =
     at true adds = refl
     at false adds = ap (λ events. event_of line ∷ events) adds
 
--- what a piece adds to the events of a stream
+-- the events that a piece adds to those of a stream
 pub piece_adds : (stream piece : List ℕ) → events_of (stream ++ piece) ≡ events_of stream ++ unless_last (events_of stream) (events_of (last_part (parts_of stream) ++ piece))
 piece_adds stream piece = ap events_in (parts_then stream piece) ∙ adds_parts (parts_of stream) piece (last_is_line stream)
 
--- what is kept then
+-- the rest that is kept then
 pub piece_keeps : (stream piece : List ℕ) → kept_of (stream ++ piece) ≡ cond (list_any is_last (events_of stream)) None (kept_of (last_part (parts_of stream) ++ piece))
 piece_keeps stream piece = at (list_any is_last (events_of stream)) refl
   where
@@ -117,7 +117,7 @@ piece_keeps stream piece = at (list_any is_last (events_of stream)) refl
         ap (λ b. cond b None (Some (last_part (parts_of (stream ++ piece))))) (told false is)
         ∙ ap (λ rest_is. cond (list_any is_last (events_of (rest ++ piece))) None (Some rest_is)) last_is
 
--- a stream that keeps nothing tells no more
+-- a stream without a rest has no more events
 pub adds_none : (stream piece : List ℕ) → None ≡ kept_of stream → Adds stream piece [] None
 adds_none stream piece is = at (list_any is_last (events_of stream)) refl is
   where
@@ -128,7 +128,7 @@ adds_none stream piece is = at (list_any is_last (events_of stream)) refl is
     }
     at false ended is = absurd (none-some _ is)
 
--- what is kept of a stream tells what a piece adds
+-- the rest of a stream determines the events that a piece adds
 pub adds_some : (stream rest piece : List ℕ) → Some rest ≡ kept_of stream → Adds stream piece (events_of (rest ++ piece)) (kept_of (rest ++ piece))
 adds_some stream rest piece is = at (list_any is_last (events_of stream)) refl is
   where
@@ -141,11 +141,11 @@ adds_some stream rest piece is = at (list_any is_last (events_of stream)) refl i
           kept_is = sym (piece_keeps stream piece ∙ ap (λ b. cond b None (kept_of (last_part (parts_of stream) ++ piece))) ended ∙ ap (λ r. kept_of (r ++ piece)) same);
         }
 
--- what was told of a stream stays told
+-- the events of a stream stay as they are
 pub told_stays : (stream piece : List ℕ) → (events : List Event) × Adds stream piece events (kept_of (stream ++ piece))
 told_stays stream piece = (_, record { events_are = piece_adds stream piece; kept_is = refl })
 
--- two pieces are one
+-- two pieces in turn are one piece
 pub cuts : (stream xs ys : List ℕ) (first second whole : List Event) (kept last last_of_whole : Option (List ℕ)) → Adds stream xs first kept → Adds (stream ++ xs) ys second last → Adds stream (xs ++ ys) whole last_of_whole → (first ++ second ≡ whole) × (last ≡ last_of_whole)
 cuts stream xs ys first second whole kept last last_of_whole one two both =
     let joined : (stream ++ xs) ++ ys ≡ stream ++ (xs ++ ys) = append_assoc stream xs ys in (
@@ -154,13 +154,13 @@ cuts stream xs ys first second whole kept last last_of_whole one two both =
       two.kept_is ∙ ap kept_of joined ∙ sym both.kept_is,
     )
 
--- what pieces add in turn goes on with the events of the stream
+-- the events that pieces add in turn continue those of the stream
 in_turn : (stream : List ℕ) (pieces : List (List ℕ)) (events : List Event) → AddInTurn stream pieces events → events_of stream ++ events ≡ events_of (stream ++ concat pieces)
 in_turn stream [] events is = ap (λ e. events_of stream ++ e) is ∙ append-nil (events_of stream) ∙ sym (ap events_of (append-nil stream))
 in_turn stream (piece ∷ pieces) events (first, later, kept, adds, turn, is) =
     ap (λ e. events_of stream ++ e) is ∙ sym (append_assoc (events_of stream) first later) ∙ ap (λ e. e ++ later) (sym adds.events_are)
     ∙ in_turn (stream ++ piece) pieces later turn ∙ ap events_of (append_assoc stream piece (concat pieces))
 
--- from the start they are the events of the whole
+-- from the start, pieces add the events of the whole stream
 pub all_in_turn : (pieces : List (List ℕ)) (events : List Event) → AddInTurn [] pieces events → events ≡ events_of (concat pieces)
 all_in_turn pieces events turn = in_turn [] pieces events turn

@@ -1,4 +1,4 @@
--- The effect of the first line of a rest and of the bytes after it on a stream.
+-- The first line of a rest and of the bytes after it.
 use Rattle.std.proofs.Common.{◌≡◌, ◌<◌, ◌≤◌, ◌+◌, ◌-◌, ℕ, zero, suc, true, false, ◌||◌, ◌==◌, cond, List, [], ◌∷◌, ◌++◌, length, take, drop, Some, None, refl, sym, ap, subst, ◌∙◌, arith, add-one, length-append, length-take-le}
 use Rattle.std.specs.List.{list_any}
 use Rattle.std.proofs.lemmas.Bool.{eqb-true, false_from_ne_true, lt-ltb, ltb-true}
@@ -14,7 +14,7 @@ use Rattle.wq_stream.specs.declared.line.FirstLine.TheVariants.{Ends, Open, Long
 use Rattle.wq_stream.proofs.Adding.{events_in, is_refused, line_first, refused_shown}
 use Rattle.wq_stream.proofs.Parts.{last_of_more, parts_behind, parts_some}
 
--- bytes before the first newline have none
+-- the bytes before the first newline have no newline
 none_in : (n : ℕ) (bytes : List ℕ) → Nowhere (Passes (is_byte 10) bytes) 0 n → list_any is_newline (take n bytes) ≡ false
 none_in zero bytes none = refl
 none_in (suc n) [] none = refl
@@ -23,7 +23,7 @@ none_in (suc n) (x ∷ xs) none =
     ap (λ b. b || list_any is_newline (take n xs)) other
     ∙ none_in n xs (λ k low high. none (suc k) (omega arith) (omega arith))
 
--- bytes are those before a newline, the newline, and those after it
+-- bytes with a newline are the bytes before it, the newline, and the bytes after it
 at_newline : (at : ℕ) (bytes : List ℕ) → at < length bytes → Passes (is_byte 10) bytes at → bytes ≡ take at bytes ++ newline ∷ drop (suc at) bytes
 at_newline at [] within here = absurd (omega arith)
 at_newline zero (x ∷ xs) within here = ap (λ b. b ∷ xs) (eqb-true x 10 here)

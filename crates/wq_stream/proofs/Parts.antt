@@ -24,7 +24,7 @@ on_last [] piece = parts_of piece
 on_last (rest ∷ []) piece = parts_of (rest ++ piece)
 on_last (line ∷ next ∷ parts) piece = line ∷ on_last (next ∷ parts) piece
 
--- there is a first one then
+-- there is a first part then
 pub on_last_some : (parts : List (List ℕ)) (piece : List ℕ) → IsSome (on_last parts piece)
 on_last_some [] piece = parts_some piece
 on_last_some (rest ∷ []) piece = parts_some (rest ++ piece)
@@ -35,7 +35,7 @@ byte_before : (b : ℕ) (first : List ℕ) (later : List (List ℕ)) (piece : Li
 byte_before b first [] piece is = sym (slice_split-cons_no is_newline b (first ++ piece) is)
 byte_before b first (next ∷ parts) piece is = refl
 
--- a piece after a stream goes on with its last part
+-- a piece after a stream continues its last part
 pub parts_then : (stream piece : List ℕ) → parts_of (stream ++ piece) ≡ on_last (parts_of stream) piece
 parts_then [] piece = refl
 parts_then (b ∷ bs) piece = at (is_newline b) refl (parts_some bs) (parts_then bs piece)
@@ -56,7 +56,7 @@ abbrev pub behind : List ℕ → List (List ℕ) → List (List ℕ)
 behind bytes [] = bytes ∷ []
 behind bytes (first ∷ later) = (bytes ++ first) ∷ later
 
--- bytes without a newline belong to the first part of what follows them
+-- bytes without a newline belong to the first part of the bytes after them
 pub parts_behind : (bytes piece : List ℕ) → list_any is_newline bytes ≡ false → parts_of (bytes ++ piece) ≡ behind bytes (parts_of piece)
 parts_behind [] piece none = at (parts_some piece)
   where

@@ -1,7 +1,6 @@
--- The limit of a client's lines, which is this server's own.
--- No public document names one.
+-- The limit of a client's lines, which is this server's own. No public document names one.
 use Rattle.std.specs.Prelude.{ℕ}
 
--- how many bytes a line may have, without its newline
+-- the most bytes of a line, without its newline
 abbrev pub max_line : ℕ
 max_line = 1048576

@@ -1,5 +1,4 @@
--- The effect of the first line of a rest and of the bytes after it on a stream. No public document
--- defines it.
+-- The first line of a rest and of the bytes after it. No public document defines it.
 use Rattle.std.specs.Prelude.{◌≡◌, ◌<◌, ◌≤◌, ℕ, ◌+◌, List, [], ◌∷◌, ◌++◌, length, take, drop, Some, None}
 use Rattle.wq_stream.specs.Limit.{max_line}
 use Rattle.wq_stream.specs.Stream.{IsRest, events_of, kept_of}
@@ -7,7 +6,7 @@ use Rattle.wq_stream.specs.declared.event.Event.TheVariants.{Line, Long, Binary}
 use Rattle.wq_stream.specs.declared.line.FirstLine.{FirstLine}
 use Rattle.wq_stream.specs.declared.line.FirstLine.TheVariants.{Ends, Open, Long as TooLong, Binary as IsBinary}
 
--- what the first line of a rest and of some bytes is
+-- this is the first line of a rest and of some bytes
 abbrev pub IsFirstLine : List ℕ → List ℕ → FirstLine → Type 0
 IsFirstLine rest bytes (Ends at) =
     (at < length bytes) × (length rest + at ≤ max_line)

@@ -3,11 +3,11 @@ use Rattle.std.specs.Prelude.{◌≡◌, ℕ, Bool, true, false, List, [], ◌�
 use Rattle.wq_stream.specs.declared.event.Event.{Event}
 use Rattle.wq_stream.specs.declared.event.Event.TheVariants.{End}
 
--- how many events may wait
+-- the most events that wait
 abbrev pub most_waiting : ℕ
 most_waiting = 8
 
--- the events that wait, the first one first, and whether no more are taken in
+-- the events that wait, the first one first, and whether the queue is closed
 pub record QueueData : Type 0 where
   pub events : List Event
   pub is_closed : Bool
@@ -17,16 +17,18 @@ abbrev pub with_event : Event → QueueData → QueueData
 with_event event queue =
     record { events = queue.events ++ event ∷ []; is_closed = queue.is_closed }
 
--- the queue in which nothing waits and no more is taken in
+-- the empty queue that is closed
 abbrev pub closed : QueueData
 closed = record { events = []; is_closed = true }
 
--- an event was put after the others of a queue that is open, or it was not and the queue is closed
+-- an event was put after the others of a queue that is open, or it was not put and the queue is
+-- closed
 abbrev pub Puts : Event → QueueData → Bool → QueueData → Type 0
 Puts event old true new = (old.is_closed ≡ false) × (new ≡ with_event event old)
 Puts event old false new = new ≡ closed
 
--- what was taken: of a closed queue the end; of an open one the first event, where one waits
+-- the event that was taken: the end from a closed queue; from an open queue the first event, if one
+-- waits
 abbrev pub TakesFirst : QueueData → Option Event → QueueData → Type 0
 TakesFirst old (Some event) new = (new.is_closed ≡ old.is_closed)
     × (old.is_closed ≡ true → event ≡ End) × (old.is_closed ≡ false → old.events ≡ event ∷ new.events)

@@ -12,7 +12,7 @@ use Rattle.wq_stream.specs.declared.event.Event.TheVariants.{Line, Long, Binary}
 abbrev pub is_newline : ℕ → Bool
 is_newline byte = byte == newline
 
--- the parts of a stream between its newlines: its lines, and what follows the last newline
+-- the parts of a stream between its newlines: its lines, and the bytes after the last newline
 abbrev pub parts_of : List ℕ → List (List ℕ)
 parts_of stream = slice_split is_newline stream
 
@@ -39,13 +39,13 @@ part_events [] = []
 part_events (rest ∷ []) = shown_by rest
 part_events (line ∷ next ∷ parts) = event_of line ∷ part_events (next ∷ parts)
 
--- an event of a stream that nothing follows
+-- whether no event follows this event of a stream
 abbrev pub is_last : Event → Bool
 is_last Long = true
 is_last Binary = true
 is_last _ = false
 
--- the events up to the first one that nothing follows
+-- the events up to the first one after which none follows
 abbrev pub up_to_last : List Event → List Event
 up_to_last [] = []
 up_to_last (event ∷ events) = event ∷ (if is_last event then [] else up_to_last events)
@@ -54,13 +54,13 @@ up_to_last (event ∷ events) = event ∷ (if is_last event then [] else up_to_l
 abbrev pub events_of : List ℕ → List Event
 events_of stream = up_to_last (part_events (parts_of stream))
 
--- what follows the last newline, of the parts of a stream
+-- the bytes after the last newline, from the parts of a stream
 abbrev pub last_part : List (List ℕ) → List ℕ
 last_part [] = []
 last_part (rest ∷ []) = rest
 last_part (line ∷ next ∷ parts) = last_part (next ∷ parts)
 
--- what is kept of a stream: what follows its last newline, as long as more events may come
+-- the rest of a stream: the bytes after its last newline, if more events may come
 abbrev pub kept_of : List ℕ → Option (List ℕ)
 kept_of stream =
     if list_any is_last (events_of stream) then None else Some (last_part (parts_of stream))
@@ -72,7 +72,7 @@ pub record IsRest (rest : List ℕ) : Type 0 where
   pub text : is_binary rest ≡ false
   pub short : length rest ≤ max_line
 
--- a piece after the bytes of a stream adds these events, and this is kept then
+-- a piece after the bytes of a stream adds these events, and leaves this rest
 pub record Adds (stream piece : List ℕ) (events : List Event) (kept : Option (List ℕ))
     : Type 0 where
   pub events_are : events_of (stream ++ piece) ≡ events_of stream ++ events

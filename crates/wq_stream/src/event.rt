@@ -1,4 +1,4 @@
-//! The events of a session. What the session does then is for others.
+//! The events of a session. Another crate handles them.
 
 use wq_base::Table;
 
@@ -11,7 +11,7 @@ pub enum Event {
     Long,
     /// A line begins with byte 0, as the messages of Watchman's BSER do. No event of the stream follows.
     Binary,
-    /// There is time to tell what changed below the root of this number.
+    /// It is time to look for changes below the root of this number.
     Idle(u64),
     /// The client has gone, or the server ends.
     End,

@@ -1,6 +1,6 @@
-//! The events that sessions of clients take: how the bytes of a client become events, and the events that wait.
+//! The events that sessions of clients take: the bytes of a client become events, and the events wait in a queue.
 //!
-//! The meaning of a line and its answer are for others; so are sockets and threads.
+//! Other crates read and answer the lines, and have the sockets and threads.
 #![tactic(auto)]
 
 mod event;

@@ -1,26 +1,26 @@
-//! The first line of some bytes. Nothing is kept here.
+//! The first line of some bytes. The module keeps no bytes.
 ghost use Rattle.std.specs.Prelude.{◌≡◌, ◌++◌, false};
 ghost use Rattle.wq_stream.specs.Line.{IsFirstLine};
 ghost use Rattle.wq_stream.specs.Stream.{IsRest, is_binary};
 
 use memchr::memchr;
 
-/// How many bytes a line may have, without its newline.
+/// The greatest number of bytes of a line, without its newline.
 pub const MAX_LINE: usize = 1_048_576;
 
 /// The first line of some bytes.
 pub(crate) enum FirstLine {
-    /// It ends at the newline in this place, and is within the limit.
+    /// The line ends at the newline in this place, and is within the limit.
     Ends(usize),
-    /// It has not ended, and may still.
+    /// The line has not ended, and may still.
     Open,
-    /// It is over the limit.
+    /// The line is over the limit.
     Long,
-    /// It begins with byte 0.
+    /// The line begins with byte 0.
     Binary,
 }
 
-/// The first line of a rest and of the bytes after it; places count in those bytes.
+/// The first line of a rest and of the bytes after it. Places count in those bytes.
 pub(crate) fn first_line(rest: &[u8], bytes: &[u8]) -> FirstLine
     requires { IsRest rest.now }
     ensures { IsFirstLine rest.now bytes.now result }
@@ -39,7 +39,7 @@ fn is_binary(bytes: &[u8]) -> bool
     bytes.first() == Some(&0)
 }
 
-/// The same of a line that begins with another byte, or has none yet.
+/// The first line of a rest and of the bytes after it, if it does not begin with byte 0.
 fn first_text_line(rest: &[u8], bytes: &[u8]) -> FirstLine
     requires rest { IsRest rest.now }
     requires text { is_binary (rest.now ++ bytes.now) ≡ false }

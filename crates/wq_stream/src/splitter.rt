@@ -1,5 +1,5 @@
-//! Cuts a client's stream of bytes into events, in whatever pieces it comes. The source of the pieces and the taker of
-//! the events are for others.
+//! Cuts a client's stream of bytes into events. The stream may come in any pieces. Other crates read the pieces and
+//! take the events.
 ghost use Rattle.std.specs.Prelude.{◌≡◌, ◌≤◌, ℕ, List, [], length, IfOk, IfSome, OnErr};
 ghost use Rattle.wq_stream.specs.Limit.{max_line};
 ghost use Rattle.wq_stream.specs.Stream.{Adds, kept_of};
@@ -11,7 +11,7 @@ use std::marker::Model;
 
 /// The rest of a stream that is kept between its pieces: the bytes of the line that has not ended, at most 1,048,576.
 ///
-/// Contracts see these bytes, or `None` where no more events may come.
+/// Contracts see these bytes, or `None` if no more events may come.
 #[derive(Drop)]
 pub struct Splitter {
     rest: Vec<u8>,
@@ -31,7 +31,7 @@ impl Model for Splitter {
 }
 
 impl Splitter {
-    /// The splitter of a stream of which no byte has come. It takes no memory.
+    /// The splitter of a stream before its first byte. It takes no memory.
     pub fn new(alloc: Global) -> Splitter
         ensures { result ≡ kept_of [] }
     {
@@ -41,15 +41,15 @@ impl Splitter {
         }
     }
 
-    /// Takes the next piece of the stream, and tells the events that it adds, in their order. The piece may be cut
+    /// Takes the next piece of the stream, and returns the events that it adds, in their order. The piece may be cut
     /// anywhere, and have any length.
     ///
-    /// If memory is refused, the splitter is as it was, and the same piece can be fed again.
+    /// If memory runs out, the splitter is as it was, and the same piece can be fed again.
     pub fn feed(&mut self, piece: &[u8]) -> Result<Vec<Event>, AllocError>
-        // For every stream of which this is kept:
+        // For every stream with this rest:
         ensures adds { (stream : List ℕ) → self.old ≡ kept_of stream
             → IfOk result (λ events. Adds stream piece.now events.items self.new) }
-        // And for any:
+        // And for any rest:
         ensures bounded { IfSome self.new (λ rest. length rest ≤ max_line) }
         ensures refused { OnErr result (self.new ≡ self.old) }
     {

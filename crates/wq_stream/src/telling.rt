@@ -1,5 +1,5 @@
-//! The events that a piece of a stream adds to it. All memory is taken first, and what is kept
-//! changes last.
+//! The events that a piece of a stream adds to it. The functions take all memory first, and change
+//! the rest last.
 ghost use Rattle.std.specs.Prelude.{true, ◌≡◌, ◌+◌, ◌≤◌, [], ◌∷◌, ◌++◌, length, IfOk, IfSome, OnErr, option_map};
 ghost use Rattle.wq_stream.specs.Limit.{max_line};
 ghost use Rattle.wq_stream.specs.Stream.{IsRest, events_of, kept_of};
@@ -19,7 +19,7 @@ pub(crate) struct Told {
     pub(crate) has_ended: bool,
 }
 
-/// Takes a piece after the rest of a stream. If memory is refused, the rest stays.
+/// Takes a piece after the rest of a stream. If memory runs out, the rest does not change.
 pub(crate) fn take_piece(rest: &mut Vec<u8>, piece: &[u8]) -> Result<Told, AllocError>
     requires { IsRest rest.old.items }
     ensures told { IfOk result (λ told. Tells (rest.old.items ++ piece.now) told rest.new.items) }
@@ -40,7 +40,7 @@ pub(crate) fn take_piece(rest: &mut Vec<u8>, piece: &[u8]) -> Result<Told, Alloc
     }
 }
 
-/// Tells the line that a rest and some bytes are, and the events of the bytes after it.
+/// Returns the line of a rest and some bytes, and the events of the bytes after it.
 fn end_line(
     alloc: Global,
     rest: &mut Vec<u8>,
@@ -74,7 +74,7 @@ fn end_line(
     }
 }
 
-/// Tells an event that nothing follows.
+/// Ends the stream with this event, and empties the rest.
 fn end(alloc: Global, rest: &mut Vec<u8>, event: Event) -> Result<Told, AllocError>
     ensures told { IfOk result (λ told. (told.events.items ≡ event ∷ [])
         × (told.has_ended ≡ true) × (rest.new.items ≡ [])) }
@@ -89,7 +89,7 @@ fn end(alloc: Global, rest: &mut Vec<u8>, event: Event) -> Result<Told, AllocErr
     })
 }
 
-/// The line that a rest and the bytes up to a newline are.
+/// The line of a rest and the bytes up to a newline.
 fn joined(alloc: Global, rest: &[u8], end: &[u8]) -> Result<Table<u8>, AllocError>
     requires { length rest.now + length end.now ≤ max_line }
     ensures { IfOk result (λ line. line ≡ rest.now ++ end.now) }
@@ -100,7 +100,7 @@ fn joined(alloc: Global, rest: &[u8], end: &[u8]) -> Result<Table<u8>, AllocErro
     Ok(Table::from_vec(line))
 }
 
-/// Adds the events of bytes at which a line begins to others, and gives what is kept of them.
+/// Adds the events of bytes at which a line begins to others, and returns the rest of the bytes.
 fn split<'a>(
     alloc: Global,
     events: &mut Vec<Event>,

@@ -1,4 +1,4 @@
-//! The events that wait for a session, in a queue of some length. Which thread waits for which is for others.
+//! The events that wait for a session, in a queue of limited length. Another crate lets threads wait for it.
 ghost use Rattle.std.specs.Prelude.{◌≡◌, ◌↔◌, IfOk, IsTrue, [], false, length as count_of};
 ghost use Rattle.wq_stream.specs.Queue.{Puts, TakesFirst, closed, most_waiting};
 
@@ -7,10 +7,11 @@ use std::alloc::{AllocError, Global};
 use std::collections::VecDeque;
 use std::marker::Model;
 
-/// How many events may wait. A line has up to a mebibyte, and another piece of the stream waits with its reader.
+/// The greatest number of events that wait. A line has up to a mebibyte, and another piece of the stream waits with its
+/// reader.
 pub const MAX_WAITING: usize = 8;
 
-/// Events that wait, at most [`MAX_WAITING`]. Contracts see them and whether more are taken in.
+/// Events that wait, at most [`MAX_WAITING`]. Contracts see the events and whether the queue is closed.
 #[derive(Drop)]
 pub struct Waiting {
     events: VecDeque<Event>,
@@ -29,7 +30,7 @@ impl Model for Waiting {
 }
 
 impl Waiting {
-    /// A queue in which nothing waits, with room for all that may.
+    /// An empty queue, with room for the most events that may wait.
     pub fn new(alloc: Global) -> Result<Waiting, AllocError>
         ensures { IfOk result (λ it. (it.events ≡ []) × (it.is_closed ≡ false)) }
     {
@@ -39,7 +40,7 @@ impl Waiting {
         })
     }
 
-    /// Whether an event that would be put has to wait.
+    /// Whether a thread that puts an event has to wait.
     pub fn is_full(&self) -> bool
         ensures { IsTrue result ↔ ((self.now.is_closed ≡ false) × (count_of self.now.events ≡ most_waiting)) }
     {
@@ -59,8 +60,8 @@ impl Waiting {
         self.is_closed
     }
 
-    /// Puts an event after the others, and says whether it is there. If it is not, the queue is closed from then on: no
-    /// event is lost without an end of the session.
+    /// Puts an event after the others, and returns whether it is there. If it is not, the queue is closed from then on.
+    /// So no event is lost unless the session ends.
     pub fn put(&mut self, event: Event) -> bool
         ensures { Puts event self.old result self.new }
     {
@@ -74,7 +75,7 @@ impl Waiting {
         false
     }
 
-    /// Takes the first event, or the end of a session where the queue is closed.
+    /// Takes the first event, or the end of a session if the queue is closed.
     pub fn take(&mut self) -> Option<Event>
         ensures { TakesFirst self.old result self.new }
     {
@@ -84,7 +85,7 @@ impl Waiting {
         self.events.pop_front()
     }
 
-    /// Takes in no more events, and gives back the memory of those that wait.
+    /// Closes the queue: it takes in no more events, and gives back the memory of those that wait.
     pub fn close(&mut self)
         ensures { self.new ≡ closed }
     {

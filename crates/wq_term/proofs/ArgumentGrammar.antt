@@ -1,4 +1,4 @@
--- An argument says exactly what the grammar has written by it.
+-- A value is read as an argument exactly if the grammar writes it so.
 use Rattle.std.proofs.Common.{◌≡◌, ◌≢◌, ℕ, ℤ, pos, ◌≤◌, ◌<◌, ◌^◌, ◌≤ℤ◌, T, Bool, true, false, cond}
 use Rattle.std.proofs.Common.{◌&&◌, List, [], ◌∷◌, length}
 use Rattle.std.proofs.Common.{Option, Some, None, option_map, option_and_then, Ok, Result, refl}
@@ -45,7 +45,7 @@ use Rattle.wq_term.specs.Argument.{relation_of, comparison_of, depth_argument, b
 use Rattle.wq_term.specs.ArgumentGrammar.{IsText, AreListed, AreTexts, IsBetween, IsKind}
 use Rattle.wq_term.specs.ArgumentGrammar.{IsComparison, IsDepth, IsBound}
 
--- what is right is one value
+-- a right result is one value
 pub same_Ok : {A E : Type 0} (x y : A) → ◌≡◌ {A = Result A E} (Ok x) (Ok y) → x ≡ y
 same_Ok x y e = cc
 
@@ -54,13 +54,13 @@ pub holds_true : (b : Bool) → T b → b ≡ true
 holds_true true t = refl
 holds_true false t = absurd t
 
--- what is there under a test has passed it
+-- a value that is there under a test has passed it
 pub cond_then : {A : Type 0} (b : Bool) (o : Option A) (y : A) → cond b o None ≡ Some y
     → (b ≡ true) × (o ≡ Some y)
 cond_then true o y e = (refl, e)
 cond_then false o y e = cc
 
--- what a map gives is of something
+-- a value that a map gives is that of something
 pub mapped : {A B P : Type 0} (f : A → B) (o : Option A) (y : B) → option_map f o ≡ Some y
     → ((x : A) → o ≡ Some x → f x ≡ y → P) → P
 mapped f None y e goal = cc

@@ -12,7 +12,7 @@ use Rattle.wq_term.specs.Argument.{comparison_of}
 use Rattle.wq_term.specs.Reading.{Answer, read_plain, read_kind, read_name, read_match, read_suffix}
 use Rattle.wq_term.specs.Reading.{read_dirname, read_since, read_negation}
 
--- some where there are to be none
+-- a term without arguments is given some
 pub not_plain : (t : ExprData) (values : List Value) → (length values == 0) ≡ false
     → read_plain t (items_view values) ≡ Err WrongArguments
 not_plain t [] e = absurd (false≢true (sym e))

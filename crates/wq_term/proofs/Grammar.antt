@@ -76,7 +76,7 @@ parts-found head Arguments (array (item (string s) ds)) p e named h =
     (ap (λ q. q.0) is ∙ named, subst Arguments (sym (ap (λ q. q.1) is)) h)
 parts-found head Arguments _ p e named h = cc
 
--- a value is a writing of a term where it has its name and arguments, and the term is this deep
+-- a value is a writing of a term if it has its name and arguments, and the term is this deep
 abbrev pub Writes : InstanceData → ℕ → Head → Items → ExprData → Type 0
 Writes instance levels head ds t =
     ((d : Data) → IsTerm head (λ es. es ≡ ds) d → IsWrittenBy instance t d) × (depth_of t ≤ suc levels)
@@ -121,7 +121,7 @@ all-found instance levels read one (item d ds) ts e =
     subst (λ vs. AreWrittenBy instance vs (item d ds) × (greatest_depth vs ≤ levels)) (same_Ok (term t us) ts is)
     ((h.0, hs.0), omega (arith, h1, hs1))))
 
--- what a head and arguments are read as, they write
+-- a head and arguments write the term that is read from them
 named-found : TextsSayWhatTheySpell → (instance : InstanceData) (levels : ℕ) (read : Data → Answer)
     → ((d : Data) (t : ExprData) → read d ≡ Ok t → IsWrittenBy instance t d × (depth_of t ≤ levels))
     → (head : Head) (ds : Items) (t : ExprData) → read_named instance read head ds ≡ Ok t
@@ -182,7 +182,7 @@ named-found law instance levels read one AnyOf ds t e =
     subst (Writes instance levels AnyOf ds) (same_Ok (any_of us) t is)
     ((λ d has. filled AnyOf ds (AreWrittenBy instance us) d has h.0), omega (arith, h1)))
 
--- what is read is written, and no deeper than it may be
+-- a term that is read is written, and is no deeper than it may be
 pub found : TextsSayWhatTheySpell → (instance : InstanceData) (levels : ℕ) (d : Data) (t : ExprData)
     → reads_as instance levels d ≡ Ok t → IsWrittenBy instance t d × (depth_of t ≤ levels)
 unfolding reads_as
@@ -193,7 +193,7 @@ found law instance (suc levels) d t e =
     let h = named-found law instance levels (reads_as instance levels) (found law instance levels) head p.1 t e'' in
     (h.0 d (parts-found head (λ es. es ≡ p.1) d p parts (head-found p.0 head named) refl), h.1)))
 
--- a term is read where its arguments are
+-- a term is read if its arguments are
 term-reads : (instance : InstanceData) (head : Head) (Arguments : Items → Type 0) (t : ExprData) (levels : ℕ) (d : Data)
     → 1 ≤ levels → IsTerm head Arguments d
     → ((k : ℕ) (ds : Items) → suc k ≡ levels → Arguments ds → read_named instance (reads_as instance k) head ds ≡ Ok t)
@@ -226,7 +226,7 @@ pattern-read instance read ds pattern h = at (pattern.flags).fold refl
     at true e = match-reads Folded ds pattern (sym e) h
     at false e = match-reads Exact ds pattern (sym e) h
 
--- `not` of what is read
+-- `not` of a term that is read
 negation-reads : (instance : InstanceData) (read : Data → Answer) (t : ExprData) (ds : Items)
     → ((d : Data) → IsWrittenBy instance t d → read d ≡ Ok t) → IsOnly (IsWrittenBy instance t) ds
     → read_negation read ds ≡ Ok (negation t)
@@ -247,7 +247,7 @@ both-reads instance levels t ts no_items one rest h = absurd h
 both-reads instance levels t ts (item d ds) one rest h = rw (one d h.0, rest ds h.1) refl
 
 mutual
-  -- what is written is read, where it is not too deep
+  -- a value that is written is read, if it is not too deep
   pub reads : TextsSayWhatTheySpell
       → (instance : InstanceData) (t : ExprData) (levels : ℕ) (d : Data)
       → IsWrittenBy instance t d → depth_of t ≤ levels → reads_as instance levels d ≡ Ok t
@@ -301,7 +301,7 @@ pub values_say : TextsSayWhatTheySpell → ValuesSayWhatTheyWrite
 values_say law instance t d =
     (found law instance max_depth d t, λ h. reads law instance t max_depth d h.0 h.1)
 
--- so what is read is shallow
+-- so a term that is read is shallow
 pub are_shallow : TextsSayWhatTheySpell → ReadExpressionsAreShallow
 are_shallow law instance t d e = (found law instance max_depth d t e).1
 

@@ -189,7 +189,7 @@ mutual
   all-keep instance no_terms ds h = refl
   all-keep instance (term t ts) ds h = all-keep-both instance t ts ds (keeps instance t) (all-keep instance ts) h
 
--- so what is read keeps them, and is no deeper than it may be
+-- so a term that is read keeps them, and is no deeper than it may be
 pub read_fit : TextsSayWhatTheySpell → ReadExpressionsFit
 unfolding expr_fits
 read_fit law instance t d e =

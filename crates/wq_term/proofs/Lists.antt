@@ -1,4 +1,4 @@
--- Reading a list of terms from the front: what is read, and what is left.
+-- Reading a list of terms from the front: the terms that were read, and the rest.
 use Rattle.std.proofs.Common.{◌≡◌, map, ℕ, suc, ◌+◌, ◌<◌, List, [], ◌∷◌, ◌++◌, length, drop, get_or}
 use Rattle.std.proofs.Common.{Result, Ok, Err, refl, sym, ap, ◌∙◌, add-one}
 use Rattle.std.proofs.Math.Seq.{drop-cons}
@@ -72,7 +72,7 @@ pub terms-push : (es : List Expr) (e : Expr)
 terms-push [] e = refl
 terms-push (x ∷ es) e = ap (λ ts. term_of x ∷ ts) (terms-push es e)
 
--- what a refusal inside says of the whole
+-- a refusal inside is a refusal of the whole
 pub all_refused : {A B C D : Type 0} (see : A → B) (see_all : C → D) (fault : TermFault)
     (answer : Result B TermFault) (all : Result D TermFault) → GivesAs see (Err fault) answer
     → (answer ≡ Err fault → all ≡ Err fault) → GivesAs see_all (Err fault) all

@@ -1,4 +1,4 @@
--- The arguments of `match` say exactly what the grammar has written by them.
+-- Values are read as the arguments of `match` exactly if the grammar writes them so.
 use Rattle.std.proofs.Common.{◌≡◌, ◌↔◌, ◌⊎◌, inl, inr, Bool, true, false, ◌||◌, length}
 use Rattle.std.proofs.Common.{Option, Some, None, option_and_then, Ok, refl, sym, ap, subst, ◌∙◌}
 use Rattle.std.specs.Prelude.{codes, bytes_eq, nat_le, if◌then◌else◌}

@@ -1,4 +1,4 @@
--- A text is what is left without the slashes at its end, and those slashes.
+-- A text is its part without the slashes at its end, and then those slashes.
 use Rattle.std.proofs.Common.{◌≡◌, ℕ, zero, suc, ◌+◌, ◌-◌, Bool, true, false, cond, List, [], ◌∷◌}
 use Rattle.std.proofs.Common.{◌++◌}
 use Rattle.std.proofs.Common.{length, take, drop, refl, sym, ap, ◌∙◌, arith, subst}
@@ -44,7 +44,7 @@ prefix (b ∷ bs) = at (is_slash b) (eqb-true b (byte "/")) (prefix bs)
         rw (one_more (prefix_len is_slash bs)) (ap (λ x. x ∷ take (prefix_len is_slash bs) bs) (is refl) ∙ ap (λ cs. byte "/" ∷ cs) rest)
     at false is rest = refl
 
--- after them there is none
+-- after them there is no slash
 behind : (bs : List ℕ) → prefix_len is_slash (drop (prefix_len is_slash bs) bs) ≡ 0
 behind [] = refl
 behind (b ∷ bs) = at (is_slash b) refl (behind bs)
@@ -79,7 +79,7 @@ cut text =
     ∙ reverse-append (take n bs) (drop n bs)
     ∙ ap (λ s. reverse (drop n bs) ++ s) (ap reverse (prefix bs) ∙ turned n)
 
--- what is left without them, where the text is cut
+-- dropping as many slashes as were added leaves the directory
 left : (dir : List ℕ) (n : ℕ) → suffix_len is_slash (dir ++ slashes n) ≡ n
     → without_end_slashes (dir ++ slashes n) ≡ dir
 left dir n is =
@@ -87,7 +87,7 @@ left dir n is =
     let rest : length (dir ++ slashes n) - suffix_len is_slash (dir ++ slashes n) ≡ length dir = omega (arith, long, is) in
     ap (λ k. take k (dir ++ slashes n)) rest ∙ take-append_seam dir (slashes n)
 
--- a directory without slashes at its end is what is left of it with some
+-- a directory without slashes at its end is left when added ones are dropped
 pub drops : (dir : List ℕ) (n : ℕ) → suffix_len is_slash dir ≡ 0
     → without_end_slashes (dir ++ slashes n) ≡ dir
 drops dir n none =

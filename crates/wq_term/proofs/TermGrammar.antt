@@ -1,4 +1,4 @@
--- The arguments of a term say exactly what the grammar has written by them.
+-- Values are read as the arguments of a term exactly if the grammar writes them so.
 use Rattle.std.proofs.Common.{◌≡◌, ℕ, ℤ, List, ◌++◌, Some, Ok, refl, sym, ap, subst, ◌∙◌}
 use Rattle.std.specs.Prelude.{pos}
 use Rattle.serde_json.specs.Data.{Data, string, Items, no_items, item}
@@ -99,7 +99,7 @@ abbrev pub IsNames : Scope → List (List ℕ) → Items → Type 0
 IsNames scope texts ds =
     IsOneOrTwo (AreTexts texts) (scope ≡ Basename) (IsWord (scope_name scope)) ds
 
--- what `name` and `iname` are read with
+-- the reader of `name` and `iname`
 pub name-found : {P : Type 0} (case : Case) (ds : Items) (t : ExprData) → read_name case ds ≡ Ok t
     → ((scope : Scope) (texts : List (List ℕ)) → name_is case scope texts ≡ t → IsNames scope texts ds → P)
     → P
@@ -138,7 +138,7 @@ dir-reads d dir case depth h =
 abbrev pub IsBelow : List ℕ → Depth → Items → Type 0
 IsBelow dir depth ds = IsOneOrTwo (IsDirectory dir) (depth ≡ Any) (IsDepth depth) ds
 
--- what `dirname` and `idirname` are read with
+-- the reader of `dirname` and `idirname`
 pub dirname-found : {P : Type 0} (case : Case) (ds : Items) (t : ExprData)
     → read_dirname case ds ≡ Ok t
     → ((dir : List ℕ) (depth : Depth) → below case dir depth ≡ t → IsBelow dir depth ds → P) → P
@@ -168,7 +168,7 @@ placed field Point d point (item x no_items) h = (subst Point (sym h.0) point, h
 placed field Point d point (item x (item f no_items)) h = (subst Point (sym h.0) point, h.1)
 placed field Point d point _ h = absurd h
 
--- what `since` says by its field
+-- the reading of `since` by its field
 by-found : {P : Type 0} → TextsSayWhatTheySpell
     → (instance : InstanceData) (d : Data) (field : SinceField) (t : ExprData)
     → since_by instance d field ≡ Ok t
@@ -198,7 +198,7 @@ since-found law instance (item d (item f no_items)) t e goal =
     goal point is (at (item d (item f no_items)) (refl, field-found f field named))))
 since-found law instance _ t e goal = cc
 
--- a field and what it says
+-- a field and its bound
 by-reads : (instance : InstanceData) (Point : Data → Type 0) (field : SinceField) (t : ExprData) (ds : Items)
     → ((d : Data) → Point d → since_by instance d field ≡ Ok t) → IsSinceBy field Point ds
     → read_since instance ds ≡ Ok t

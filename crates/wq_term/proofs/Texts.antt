@@ -33,7 +33,7 @@ part_is_short Basename name h =
     let rest = length-drop (length name - suffix_len (λ b. not (is_slash b)) name) name in
     omega (arith, short, rest)
 
--- what is right where it is there
+-- a value is right, if it is there
 pub was_some : {A E : Type 0} (o : Option A) (fault : E) (x : A) → ok_or o fault ≡ Ok x → o ≡ Some x
 was_some None fault x e = cc
 was_some (Some y) fault x e = cc
@@ -57,7 +57,7 @@ pub texts_in-push : (vs : List (Vec ℕ Global)) (v : Vec ℕ Global)
 texts_in-push [] v = refl
 texts_in-push (u ∷ vs) v = ap (λ ts. u.items ∷ ts) (texts_in-push vs v)
 
--- a part that is none makes the whole none, with one fault
+-- a part that is missing makes the whole missing, with one fault
 pub none_fault : {A B : Type 0} (one : Option A) (all : Option B) (wrong fault : TermFault)
     → ok_or one wrong ≡ Err fault → (one ≡ None → all ≡ None) → ok_or all wrong ≡ Err fault
 none_fault None all wrong fault is next = ap (λ o. ok_or o wrong) (next refl) ∙ let e : wrong ≡ fault = cc in ap Err e

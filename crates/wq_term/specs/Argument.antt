@@ -24,7 +24,7 @@ use Rattle.wq_term.specs.declared.fault.TermFault.TheVariants.{BadClockSpec, Cur
 use Rattle.wq_term.specs.Limit.{max_term_text}
 use Rattle.wq_term.specs.Word.{kind_named, scope_named, relation_named, since_field_named}
 
--- a name and what follows it: an array headed by a text, or the bare text with nothing after it
+-- a name and the items after it: an array headed by a text, or the bare text with nothing after it
 abbrev pub term_parts : Data → Option (List ℕ × Items)
 term_parts (string name) = Some (name, no_items)
 term_parts (array (item (string name) arguments)) = Some (name, arguments)
@@ -35,7 +35,7 @@ abbrev pub text_of : Data → Option (List ℕ)
 text_of (string text) = if nat_le (length text) max_term_text then Some text else None
 text_of _ = None
 
--- the texts of a list, unless one of its items is none
+-- the texts of a list, unless one of its items is no text
 abbrev pub all_texts_of : Items → Option (List (List ℕ))
 all_texts_of no_items = Some []
 all_texts_of (item d ds) = with_first (text_of d) (all_texts_of ds)

@@ -98,7 +98,7 @@ AreFlagMembers (member key (boolean b) ms) =
     ((key ≡ codes "includedotfiles") ⊎ (key ≡ codes "noescape")) × AreFlagMembers ms
 AreFlagMembers _ = ⊥
 
--- a flag that is on is a member that is true, and one that is off is none
+-- a flag that is on is a member that is true, and one that is off is no member
 abbrev pub IsFlag : List ℕ → Bool → Members → Type 0
 IsFlag key on ms = (on ≡ true) ↔ (get_member key ms ≡ Some (boolean true))
 
@@ -113,8 +113,8 @@ AreFlags flags _ = ⊥
 abbrev pub IsPlain : Flags → Type 0
 IsPlain flags = (flags.dotfiles ≡ false) × (flags.noescape ≡ false)
 
--- a pattern, its scope and its flags: flags that are off may be left out, and with them the scope
--- where it is the basename
+-- a pattern, its scope and its flags. Flags that are off may be left out; so may the scope with
+-- them, if it is the basename
 abbrev pub IsPattern : PatternData → Items → Type 0
 IsPattern pattern (item d no_items) =
     IsPatternText pattern d × (scope_with pattern.flags ≡ Basename) × IsPlain pattern.flags

@@ -10,13 +10,13 @@ use Rattle.wq_term.specs.Expr.{ExprData, always, never, exists, empty, kind_is, 
 use Rattle.wq_term.specs.Expr.{suffix_is, size_is, since, below, negation, all_of, any_of}
 use Rattle.wq_term.specs.Expr.{ExprsData, no_terms, term}
 
--- what is after a bound: `exists` after a fresh one; else a number, a constant and a comparison
+-- changes after a bound: `exists` after a fresh one; else a number, a constant and a comparison
 abbrev pub since_len : Since → ℕ
 since_len (Observed Fresh) = 1
 since_len (Created Fresh) = 1
 since_len _ = 3
 
--- below a directory: five instructions, and seven more where a depth is asked for
+-- below a directory: five instructions, and seven more if a depth is asked for
 abbrev pub below_len : Depth → ℕ
 below_len Any = 5
 below_len (Is _ _) = 12

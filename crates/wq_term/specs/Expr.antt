@@ -21,7 +21,7 @@ use Rattle.wq_term.specs.Number.{is_since}
 use Rattle.wq_term.specs.Text.{is_named, has_suffix, lies_below}
 use Rattle.wq_term.specs.NameFit.{name_fits}
 
--- an expression without where it lies in memory
+-- an expression, apart from its place in memory
 mutual
   pub data ExprData : Type 0 where
     always : ExprData

@@ -28,7 +28,7 @@ head_name Not = codes "not"
 head_name AllOf = codes "allof"
 head_name AnyOf = codes "anyof"
 
--- what heads a term, all of it
+-- the heads of all terms
 abbrev pub heads : List Head
 heads =
     True ∷ False ∷ Exists ∷ Empty ∷ KindIs ∷ Name ∷ Iname ∷ Match ∷ Imatch ∷ Suffix

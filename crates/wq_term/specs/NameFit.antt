@@ -1,5 +1,5 @@
--- Which part of a file's name a pattern is tried on, and whether it fits.
--- From Watchman's documentation of the terms `match` and `imatch`.
+-- The part of a file's name that a pattern is tried on, and whether it fits. From Watchman's
+-- documentation of the terms `match` and `imatch`.
 use Rattle.std.specs.Prelude.{ℕ, Bool, List, if◌then◌else◌}
 use Rattle.wq_glob.specs.Pattern.{PatternData, fits}
 use Rattle.wq_glob.specs.declared.flag.Flags.{Flags}

@@ -7,14 +7,14 @@ use Rattle.wq_view.specs.RecordData.{RecordData}
 use Rattle.wq_term.specs.declared.expr.Since.{Since}
 use Rattle.wq_term.specs.declared.expr.Since.TheVariants.{Observed, Created, Modified}
 
--- whether a moment, by its tick and its second, lies strictly after a bound;
--- where the client knows nothing, whether the file exists
+-- whether a moment, by its tick and its second, lies strictly after a bound; if the client knows
+-- nothing, whether the file exists
 abbrev pub is_after : Bound → Bool → ℕ → ℤ → Bool
 is_after Fresh exists tick second = exists
 is_after (Tick bound) exists tick second = nat_lt bound tick
 is_after (Second bound) exists tick second = int_lt bound second
 
--- whether a record changed, came, or was modified after what `since` says
+-- whether a record changed, came, or was modified after the point that `since` says
 abbrev pub is_since : Since → RecordData → Bool
 is_since (Observed bound) r = is_after bound r.exists r.otick r.osec
 is_since (Created bound) r = is_after bound r.exists r.ctick r.csec

@@ -22,7 +22,7 @@ GivesExpr = GivesAs term_of
 abbrev pub GivesAll : Result (Vec Expr Global) TermFault → Result ExprsData TermFault → Type 0
 GivesAll = GivesAs (λ es. terms_of (map term_of es.items))
 
--- the same of texts, which are wrong arguments where there are none
+-- the same of texts, which are wrong arguments if there are none
 abbrev pub GivesTexts : Result (Vec (Vec ℕ Global) Global) TermFault → Option (List (List ℕ))
     → Type 0
 GivesTexts result texts = GivesAs (λ ts. texts_in ts.items) result (ok_or texts WrongArguments)

@@ -35,7 +35,7 @@ abbrev pub is_whole_name : Scope → Bool
 is_whole_name Basename = false
 is_whole_name Wholename = true
 
--- the flags of a pattern in a term of this case and scope, where it is given none
+-- the flags of a pattern in a term of this case and scope, if it is given none
 abbrev pub plain_flags : Case → Scope → Flags
 plain_flags case scope = record {
   wholename = is_whole_name scope;

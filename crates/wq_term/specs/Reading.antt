@@ -32,7 +32,7 @@ use Rattle.wq_term.specs.Expr.{ExprData, always, never, exists, empty, kind_is, 
 use Rattle.wq_term.specs.Expr.{suffix_is, size_is, since, below, negation, all_of, any_of}
 use Rattle.wq_term.specs.Expr.{ExprsData, no_terms, term}
 
--- what reading an expression answers: its term, or its first fault
+-- the outcome of reading an expression: its term, or its first fault
 abbrev pub Answer : Type 0
 Answer = Result ExprData TermFault
 
@@ -59,7 +59,7 @@ read_name case (item texts (item d no_items)) =
     or_fault WrongArguments (scope_of d) (λ scope. name_in case scope texts)
 read_name case _ = Err WrongArguments
 
--- `match` and `imatch` of a pattern with these flags; that it is long is told last
+-- `match` and `imatch` of a pattern with these flags; the fault of a long pattern comes last
 abbrev pub match_with : Data → Flags → Answer
 match_with (string text) flags =
     unless_fault PatternTooLong (nat_le (length text) max_pattern_length)
@@ -147,7 +147,7 @@ read_named instance read Not ds = read_negation read ds
 read_named instance read AllOf ds = or_own_fault (read_all read ds) (λ ts. Ok (all_of ts))
 read_named instance read AnyOf ds = or_own_fault (read_all read ds) (λ ts. Ok (any_of ts))
 
--- what a value says as an expression that may be this many terms deep, at this instance
+-- the expression that a value says, which may be this many terms deep, at this instance
 unfoldable pub reads_as : InstanceData → ℕ → Data → Answer
 reads_as instance zero d = Err TooDeep
 reads_as instance (suc levels) d =

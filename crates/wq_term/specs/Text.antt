@@ -32,11 +32,11 @@ has_suffix texts name = list_any (λ text. is_suffix text (suffix_of name)) text
 abbrev pub without_end_slashes : List ℕ → List ℕ
 without_end_slashes text = take (length text - suffix_len is_slash text) text
 
--- whether what follows a directory has as many slashes as is asked for
+-- whether the rest after a directory has as many slashes as the depth asks for
 abbrev pub has_depth : Depth → List ℕ → Bool
 has_depth Any rest = true
 has_depth (Is relation depth) rest = compares relation (pos (count_by is_slash rest)) depth
 
--- whether a name lies strictly below a directory, so deep
+-- whether a name lies strictly below a directory, at this depth
 abbrev pub lies_below : Case → List ℕ → Depth → List ℕ → Bool
 lies_below case dir depth name = option_map_or (has_depth depth) (rest_below case dir name) false

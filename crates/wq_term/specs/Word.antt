@@ -55,16 +55,16 @@ relations = Eq ∷ Ne ∷ Gt ∷ Ge ∷ Lt ∷ Le ∷ []
 unfoldable pub relation_named : List ℕ → Option Relation
 relation_named word = named relation_name relations word
 
--- the name of what `since` compares
+-- the name of the field that `since` compares
 abbrev pub since_field_name : SinceField → List ℕ
 since_field_name Oclock = codes "oclock"
 since_field_name Cclock = codes "cclock"
 since_field_name Mtime = codes "mtime"
 
--- all that `since` compares
+-- all fields that `since` compares
 abbrev pub since_fields : List SinceField
 since_fields = Oclock ∷ Cclock ∷ Mtime ∷ []
 
--- what `since` compares, by the word that names it
+-- the field that `since` compares, by the word that names it
 unfoldable pub since_field_named : List ℕ → Option SinceField
 since_field_named word = named since_field_name since_fields word

@@ -1,4 +1,4 @@
-//! How many instructions the code of an expression has. The code itself is not made here.
+//! How many instructions the code of an expression has. `wq_compile` makes the code itself.
 ghost use Rattle.std.specs.Prelude.{◌≡◌, map};
 ghost use Rattle.wq_term.specs.CodeLength.{at_most_word, below_len, code_len, since_len, terms_len};
 ghost use Rattle.wq_term.specs.Expr.{term_of, terms_of};

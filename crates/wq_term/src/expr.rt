@@ -34,7 +34,7 @@ pub enum Expr {
     Suffix(Vec<Vec<u8>>),
     /// `size`: the files that exist, and whose size in bytes has this relation to the number.
     Size(Relation, i64),
-    /// `since`: the files of which something happened strictly after a point.
+    /// `since`: the files to which something happened strictly after a point.
     Since(Since),
     /// `dirname` and `idirname`: the files strictly below a directory, which is written without
     /// slashes at its end. Below the empty one lies every file.
@@ -45,13 +45,13 @@ pub enum Expr {
     },
     /// `not`: the records that the term does not match.
     Not(Box<Expr>),
-    /// `allof`: the records that every term matches; all of them where there is no term.
+    /// `allof`: the records that every term matches; all of them if there is no term.
     AllOf(Vec<Expr>),
     /// `anyof`: the records that some term matches; none if there is no term.
     AnyOf(Vec<Expr>),
 }
 
-/// Which part of a name is compared.
+/// The part of a name that is compared.
 #[derive(Clone, Copy)]
 pub enum Scope {
     /// The part after the last slash.
@@ -71,12 +71,12 @@ pub enum Since {
     Modified(i64),
 }
 
-/// How deep below a directory a file lies: the number of slashes in what follows the directory and
-/// its slash.
+/// How deep below a directory a file lies: the number of slashes in the rest of its name after the
+/// directory and its slash.
 #[derive(Clone, Copy)]
 pub enum Depth {
-    /// However deep.
+    /// At any depth.
     Any,
-    /// So deep, in this relation.
+    /// At a depth in this relation to the number.
     Is(Relation, i64),
 }

@@ -1,4 +1,4 @@
-//! Why a JSON value is no expression.
+//! The faults of a JSON value as an expression.
 
 use std::alloc::{AllocError, AllocFailed};
 use thiserror::Error;

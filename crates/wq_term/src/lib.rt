@@ -1,5 +1,5 @@
-//! The expressions of queries: what a JSON value says as an expression, and which records match it.
-//! Which records are asked, and by which program, is not said here.
+//! The expressions of queries: how a JSON value is read as one, and which records match it. Other
+//! crates choose the records that are asked, and run the program that asks them.
 #![tactic(auto)]
 
 mod code_length;

@@ -1,4 +1,4 @@
-//! Whether a record matches an expression, straight from what the expression means. It takes no
+//! Whether a record matches an expression, straight from the expression's meaning. It takes no
 //! memory.
 ghost use Rattle.std.specs.Prelude.{◌≡◌, ◌||◌, ◌&&◌, map};
 ghost use Rattle.wq_term.specs.Expr.{means, every, some, has_kind, empty, term_of, terms_of};

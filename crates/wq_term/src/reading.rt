@@ -1,5 +1,5 @@
 //! Reading an expression from a JSON value: the terms, their heads and how they nest. The modules
-//! below read the arguments of one term; what a term means is for others.
+//! below read the arguments of one term; `meaning` says what a term means.
 ghost use Rattle.std.specs.Prelude.{◌≡◌, IfOk, IsTrue};
 ghost use Rattle.serde_json.specs.View.{view as data_of, items_view};
 ghost use Rattle.wq_clock.specs.Instance.{instance_data};

@@ -103,7 +103,7 @@ suffix_low name = by (list_any is_dot (basename_of name))
     by true = omega (arith, basename_low name, length-drop {A = ℕ})
     by false = omega arith
 
--- ---- what an instruction leaves
+-- ---- the cells that an instruction leaves
 
 -- the cells after an instruction are there, of the kinds that are known, and none is too wide
 record Leaves (raw : Raw) (item : Item) (width : ℕ) (op : Op) (cells : List Cell) : Type 0 where
@@ -258,7 +258,7 @@ sum_later f (x ∷ xs) (suc i) (suc j) le =
     let below = sum_later f xs i j (omega arith) in
     omega (arith, sum_by-cons f x (take i xs), sum_by-cons f x (take j xs), below)
 
--- ---- where a run goes on
+-- ---- the place at which a run goes on
 
 or_right : (a b : Bool) → b ≡ true → (a || b) ≡ true
 or_right true b e = refl

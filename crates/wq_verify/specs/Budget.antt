@@ -29,6 +29,6 @@ most_cost raw width (Match place) =
 most_cost raw width (OneOf _ place) = 1 + option_map_or length (slice_get raw.lists place) 0
 most_cost raw width _ = 1
 
--- what the instructions can cost together, each counted once, whether a run meets it or not
+-- the costs of all instructions together, each counted once, whether a run meets it or not
 unfoldable pub budget_of : Raw → ℕ → ℕ
 budget_of raw name_len = sum_by (most_cost raw (width_of raw name_len)) raw.code

@@ -1,5 +1,5 @@
--- Which programs might run if nobody looked at how many cells an instruction takes.
--- So it is seen what rests on that number. This server's own rules.
+-- The programs that might run if nobody looked at how many cells an instruction takes. They show
+-- the facts that rest on that number. This server's own rules.
 use Rattle.std.specs.Prelude.{◌≡◌, ℕ, ◌<◌, ◌≤◌, ◌⊎◌, IsTrue, [], ◌∷◌, length, Some, slice_get}
 use Rattle.wq_code.specs.Constant.{constant, has_constant}
 use Rattle.wq_code.specs.Fits.{raw_fits}

@@ -36,9 +36,8 @@ pub fn steps_go_well()
     ensures { StepsGoWell }
 {}
 
-/// If the number of cells that an instruction takes were left out of what may run, a program might
-/// run that has no answer. So what a machine does where a cell lacks is proved never to come, and
-/// that rests on this number.
+/// If the number of cells that an instruction takes were left out of the rules, a program might run
+/// that has no answer. The proof that a machine never misses a cell rests on this number.
 #[tactic(auto, using(crate::proofs::ShortPrograms::operands_are_needed))]
 pub fn operands_are_needed()
     ensures { OperandsAreNeeded }

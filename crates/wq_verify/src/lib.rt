@@ -1,9 +1,9 @@
-//! Which programs may run. A program is accepted where the kinds of the cells on its stack are
+//! Decides which programs may run. It accepts a program if the kinds of the cells on its stack are
 //! known at each place, whatever way led there. Such a program ends on every file, always finds the
 //! cells and constants that it uses, and costs no more than a number known beforehand.
 //!
 //! `specs/Typing.antt` defines whether a program may run, by the existence of such kinds, and
-//! `specs/Fault.antt` what is wrong with one that may not. This crate runs no programs.
+//! `specs/Fault.antt` the faults of one that may not. This crate runs no programs.
 #![tactic(auto)]
 
 mod budget;

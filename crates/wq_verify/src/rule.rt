@@ -55,7 +55,7 @@ fn is_bad_jump(way: Flow, at: usize, len: usize) -> bool
     }
 }
 
-/// Whether an instruction can go on to the next place, and there is none.
+/// Whether an instruction can go on to the next place, though there is none.
 fn lacks_next(way: Flow, at: usize, len: usize) -> bool
     requires { at < len }
     ensures { result ≡ lacks_next way at len }

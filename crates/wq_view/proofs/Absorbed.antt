@@ -1,4 +1,4 @@
--- The records after a pass, name by name: each has seen what the pass saw of its name.
+-- The records after a pass, name by name: each is changed by the stat that the pass saw of its name.
 use Rattle.std.proofs.Common.{◌≡◌, ℕ, ℤ, true, false, cond, if◌then◌else◌, List, [], ◌∷◌, map, Option, Some, None, sym, refl, ap, subst, ◌∙◌}
 use mathlib.Core.Bool.{false≢true}
 use Rattle.std.specs.declared.cmp.Ordering.{Ordering}
@@ -13,7 +13,7 @@ use Rattle.wq_view.specs.Merge.{records_after as absorbed_at}
 use Rattle.wq_view.proofs.NameOrder.{names_total, names_exact, both_true, less_from_lt}
 use Rattle.wq_view.proofs.Listings.{tie_is_same, name_ties_itself}
 
--- what a pass makes of the record of a name, where the name may have none
+-- the record of a name after a pass, if the name may have had none
 abbrev pub after_pass : List ℕ → Option RecordData → Option Stat → ℕ → ℤ → Option RecordData
 after_pass name None None tick second = None
 after_pass name None (Some s) tick second = Some (record_after (blank_record name) (Some s) tick second)
@@ -26,14 +26,14 @@ find_below q (x ∷ es) e =
     let parts = both_true (is_lt (name_cmp q x.0)) (below_all name_cmp q es) e in
     rw (less_from_lt (name_cmp q x.0) parts.0) (find_below q es parts.1)
 
--- what is below a name is below all that this name is below
+-- a name below a second one is below all names that the second is below
 pub below_through : {X : Type 0} (a b : List ℕ) (es : List (List ℕ × X)) → name_cmp a b ≡ Less → below_all name_cmp b es ≡ true → below_all name_cmp a es ≡ true
 below_through a b [] less e = refl
 below_through a b (x ∷ es) less e =
     let parts = both_true (is_lt (name_cmp b x.0)) (below_all name_cmp b es) e in
     rw (names_total.trans a b x.0 less (less_from_lt (name_cmp b x.0) parts.0)) (below_through a b es less parts.1)
 
--- names that tie are one
+-- names that tie are the same
 pub tied : (a b : List ℕ) → eq_by_cmp name_cmp a b ≡ true → a ≡ b
 tied a b e = names_exact a b (at (name_cmp a b) refl)
   where
@@ -42,7 +42,7 @@ tied a b e = names_exact a b (at (name_cmp a b) refl)
     at Equal is = is
     at Greater is = absurd (false≢true (sym (ap is_eq is) ∙ e))
 
--- what a pass sees leaves the name
+-- a pass keeps the name of a record
 pub observed_name : (r : RecordData) (seen : Option Stat) (tick : ℕ) (second : ℤ) → (record_after r seen tick second).name ≡ r.name
 observed_name r None tick second = elim r.exists as (λ b. (if b then after_deletion r tick second else r).name ≡ r.name) [ true ↦ refl | false ↦ refl ]
 observed_name r (Some s) tick second = elim r.exists as (λ b. (if b then (if same_stat (last_stat r) s then r else after_change r s tick second) else after_creation r s tick second).name ≡ r.name) [
@@ -57,7 +57,7 @@ module _ (tick : ℕ) (second : ℤ) where
   abbrev seen_row : SeenData → RecordData
   seen_row row = record_after (blank_record row.name) (Some (stat_of row)) tick second
 
-  -- the first of the records after the pass, by which name comes first
+  -- the first of the records after the pass, by the order of the first names
   first_row : (row : SeenData) (rows : List SeenData) → records_after [] (row ∷ rows) ≡ seen_row row ∷ records_after [] rows
   first_row row rows = refl
 
@@ -70,7 +70,7 @@ module _ (tick : ℕ) (second : ℤ) where
   first_greater : (r : RecordData) (rs : List RecordData) (row : SeenData) (rows : List SeenData) → name_cmp r.name row.name ≡ Greater → records_after (r ∷ rs) (row ∷ rows) ≡ seen_row row ∷ records_after (r ∷ rs) rows
   first_greater r rs row rows greater = rw greater refl
 
-  -- the records after the pass answer to each name as they should
+  -- the records after the pass are as they should be for each name
   abbrev pub Answers : List RecordData → List SeenData → Type 0
   Answers rs rows = (q : List ℕ) → record_named q (records_after rs rows) ≡ after_pass q (record_named q rs) (find name_cmp q (map entry_of rows)) tick second
 
@@ -88,11 +88,11 @@ module _ (tick : ℕ) (second : ℤ) where
   sorted_rest : {A X : Type 0} (f : A → List ℕ × X) (a : A) (xs : List A) → is_sorted name_cmp (map f (a ∷ xs)) ≡ true → is_sorted name_cmp (map f xs) ≡ true
   sorted_rest f a xs e = (both_true (below_all name_cmp (f a).0 (map f xs)) (is_sorted name_cmp (map f xs)) e).1
 
-  -- a name that ties with no head looks past it
+  -- a lookup of a name that ties with no head goes past the heads
   past : {X : Type 0} (q n : List ℕ) (x : X) (es : List (List ℕ × X)) → eq_by_cmp name_cmp q n ≡ false → find name_cmp q ((n, x) ∷ es) ≡ find name_cmp q es
   past q n x es e = rw e refl
 
-  -- a name finds the head that has it
+  -- a lookup of a name that a head has finds that head
   at_head : {X : Type 0} (n : List ℕ) (x : X) (es : List (List ℕ × X)) → find name_cmp n ((n, x) ∷ es) ≡ Some x
   at_head n x es = rw (tie_is_same n n, name_ties_itself n) refl
 
@@ -139,14 +139,14 @@ module _ (tick : ℕ) (second : ℤ) where
   by_first r rs row rows sorted_rs sorted_rows less equal greater Equal is = answers_equal r rs row rows is equal
   by_first r rs row rows sorted_rs sorted_rows less equal greater Greater is = answers_greater r rs row rows is sorted_rs greater
 
-  -- with the answers of the later records, those of all
+  -- the lookups in all records, by those in the later records
   through : (r : RecordData) (rs : List RecordData) → is_sorted name_cmp (by_name (r ∷ rs)) ≡ true → ((rows : List SeenData) → is_sorted name_cmp (map entry_of rows) ≡ true → Answers rs rows) → (rows : List SeenData) → is_sorted name_cmp (map entry_of rows) ≡ true → Answers (r ∷ rs) rows
   through r rs sorted_rs later [] sorted_rows = answers_ended r rs (later [] refl)
   through r rs sorted_rs later (row ∷ rows) sorted_rows =
       let rest = sorted_rest entry_of row rows sorted_rows in
       by_first r rs row rows sorted_rs sorted_rows (later (row ∷ rows) sorted_rows) (later rows rest) (through r rs sorted_rs later rows rest) (name_cmp r.name row.name) refl
 
-  -- each name finds what the pass makes of its record
+  -- for each name, the lookup finds its record after the pass
   pub absorbed_answers : (rs : List RecordData) (rows : List SeenData) → is_sorted name_cmp (by_name rs) ≡ true → is_sorted name_cmp (map entry_of rows) ≡ true → Answers rs rows
   absorbed_answers [] rows sorted_rs sorted_rows = alone rows
     where
@@ -183,7 +183,7 @@ module _ (tick : ℕ) (second : ℤ) where
   abbrev IsOrdered : List RecordData → List SeenData → Type 0
   IsOrdered rs rows = is_sorted name_cmp (by_name (records_after rs rows)) ≡ true
 
-  -- a head below the rest goes before it
+  -- a head below the other heads is put before them
   ordered_cons : (rs : List RecordData) (rows : List SeenData) (v : RecordData) (rest : List RecordData) → records_after rs rows ≡ v ∷ rest → below_all name_cmp v.name (by_name rest) ≡ true → is_sorted name_cmp (by_name rest) ≡ true → IsOrdered rs rows
   ordered_cons rs rows v rest is under sorted = rw (is, under) sorted
 

@@ -1,4 +1,4 @@
--- The first fault of rows: the lawful rows before it, and whether a name is there twice among them.
+-- The first fault of rows: the lawful rows before it, and whether a name comes twice among them.
 use Rattle.std.proofs.Common.{◌≡◌, ℕ, ℤ, nat_lt, suc, ◌<◌, ◌≤◌, Bool, true, false, cond, not, ◌||◌, ◌&&◌, List, [], ◌∷◌, ◌++◌, length, take, drop, get_or, bytes_eq, Option, Some, None, IfSome, IsTrue, ◌↔◌, slice_get, if◌then◌else◌, sym, refl, ap, ◌∙◌, arith}
 use mathlib.Core.Bool.{false≢true}
 use Rattle.std.specs.Cmp.{eq_by_cmp_equiv}
@@ -25,11 +25,11 @@ either_false : (a b : Bool) → (a || b) ≡ false → (a ≡ false) × (b ≡ f
 either_false true b e = absurd (false≢true (sym e))
 either_false false b e = (refl, e)
 
--- two names are one whichever comes first
+-- whether two names are the same does not depend on their order
 pub same_name_flips : (a b : List ℕ) → bytes_eq a b ≡ bytes_eq b a
 same_name_flips a b = texts_ties a b ∙ (eq_by_cmp_equiv names_total).symm a b ∙ sym (texts_ties b a)
 
--- each name of the list is none of those before
+-- no name of the list is one of those before
 IsNew : List (List ℕ) → List (List ℕ) → Type 0
 IsNew before xs = AllByRecursion (λ x. list_any (bytes_eq x) before ≡ false) xs
 
@@ -73,7 +73,7 @@ clash_is false xs tells = elim (clash [] xs) as (λ b. clash [] xs ≡ b → b �
   | false ↦ λ e. absurd (false≢true (tells.1 (distinct_without_clash [] xs e).0))
 ] refl
 
--- past lawful rows, the first fault is a clash among them or what the rest has
+-- after lawful rows, the first fault is a clash among them or the first fault of the rest
 past_lawful : (before : List (List ℕ)) (front rest : List SeenData) (last : Option PassFault) → list_all is_lawful_row front ≡ true → ((b : List (List ℕ)) → row_fault b rest ≡ last) → row_fault before (front ++ rest) ≡ if clash before (names_of front) then Some NameTwice else last
 unfolding clash
 past_lawful before [] rest last lawful is = is before
@@ -103,13 +103,13 @@ own_fault_is before row rows unlawful = elim (is_valid_name row.name) as (λ b. 
   | false ↦ λ e. refl
 ] unlawful
 
--- of lawful rows: a name that is there twice, or nothing
+-- the fault of lawful rows: a name that comes twice, or none
 pub fault_of_lawful : (rows : List SeenData) (r : Bool) → list_all is_lawful_row rows ≡ true → IsTrue r ↔ IsDistinct bytes_eq (names_of rows) → row_fault [] rows ≡ if r then None else Some NameTwice
 fault_of_lawful rows r lawful tells =
     ap (row_fault []) (sym (append-nil rows)) ∙ past_lawful [] rows [] None lawful (λ b. refl)
     ∙ rw (clash_is r (names_of rows) tells) (turned r None (Some NameTwice))
 
--- of rows with an unlawful one after lawful ones: a name that is there twice before it, or its own fault
+-- the fault of rows with an unlawful one after lawful ones: a name that comes twice before it, or its own fault
 pub fault_at_unlawful : (rows : List SeenData) (at : ℕ) (row : SeenData) (r : Bool) → list_all is_lawful_row (take at rows) ≡ true → at < length rows → row ≡ get_or rows at row → IfSome (slice_get rows at) (λ row. is_lawful_row row ≡ false) → IsTrue r ↔ IsDistinct bytes_eq (names_of (take at rows)) → row_fault [] rows ≡ Some (if r then (if is_valid_name row.name then OutOfRange else BadName) else NameTwice)
 fault_at_unlawful rows at row r lawful bound here unlawful tells =
     let there : slice_get rows at ≡ Some row = slice_get_read rows (length rows) at row refl bound here in
@@ -118,11 +118,11 @@ fault_at_unlawful rows at row r lawful bound here unlawful tells =
     ∙ past_lawful [] (take at rows) (row ∷ drop (suc at) rows) (Some (own_fault row)) lawful (λ before. own_fault_is before row (drop (suc at) rows) (rw there at unlawful))
     ∙ rw (clash_is r (names_of (take at rows)) tells) (chosen r (own_fault row))
 
--- past the tests of the whole, a listing's fault is that of its rows
+-- after the tests of the whole, a listing's fault is that of its rows
 pub fault_of_rows : (rows : List SeenData) (second : ℤ) → nat_lt max_listing_rows (length rows) ≡ false → is_count second ≡ true → listing_fault rows second ≡ row_fault [] rows
 fault_of_rows rows second short in_range = rw (short, in_range) refl
 
--- the fault of lawful rows of which r says whether their names are distinct
+-- the fault of lawful rows, if r says whether their names are distinct
 pub fault_when_lawful : (rows : List SeenData) (second : ℤ) (r : Bool) → length rows ≤ max_listing_rows → is_count second ≡ true → list_all is_lawful_row rows ≡ true → IsTrue r ↔ IsDistinct bytes_eq (names_of rows) → listing_fault rows second ≡ if r then None else Some NameTwice
 fault_when_lawful rows second r short in_range lawful tells =
     let short_test : nat_lt max_listing_rows (length rows) ≡ false = grind (arith, nat_tests) in

@@ -9,7 +9,7 @@ use Rattle.wq_view.proofs.Absorbed.{after_pass}
 use Rattle.wq_view.proofs.Stats.{one_stat, same_stat-itself}
 
 module _ (name : List ℕ) (stats : ℕ → Option Stat) (seconds : ℕ → ℤ) where
-  -- a pass that sees it is the last that does
+  -- the last pass that sees the file is the new one, if it sees the file
   seen_now : (n : ℕ) (s : Stat) → stats n ≡ Some s → stats (greatest (is_seen stats) n) ≡ Some s
   seen_now zero s e = e
   seen_now (suc n) s e = rw (e, e) refl
@@ -30,7 +30,7 @@ module _ (name : List ℕ) (stats : ℕ → Option Stat) (seconds : ℕ → ℤ)
           told true h last = let again : stats (suc n) ≡ Some t = ea ∙ ap Some (sym (one_stat t s h)) in let same = same_stat-itself t in simp (again, eb, last, same)
           told false h last = simp (ea, eb, last, h)
 
--- what is read only up to n
+-- a value that depends only on the passes up to n
 module _ (n : ℕ) where
   greatest_alike : (t u : ℕ → Bool) (m : ℕ) → m ≤ n → ((i : ℕ) → i ≤ n → t i ≡ u i) → greatest t m ≡ greatest u m
   greatest_alike t u zero low same = refl
@@ -44,12 +44,12 @@ module _ (n : ℕ) where
   changed_alike s z same zero low = refl
   changed_alike s z same (suc i) low = rw (same (suc i) low, same i (omega arith)) refl
 
--- the greatest number that passes is at most the last
+-- the greatest number that passes a test is at most the last number
 pub greatest_le : (t : ℕ → Bool) (n : ℕ) → greatest t n ≤ n
 greatest_le t zero = omega arith
 greatest_le t (suc n) = elim (t (suc n)) as (λ b. cond b (suc n) (greatest t n) ≤ suc n) [ true ↦ omega arith | false ↦ omega (arith, greatest_le t n) ]
 
--- a record is made of what was seen up to the last pass
+-- a record depends on the passes up to the last one
 record_alike : (name : List ℕ) (s z : ℕ → Option Stat) (c d : ℕ → ℤ) (n : ℕ) → ((i : ℕ) → i ≤ n → s i ≡ z i) → ((i : ℕ) → i ≤ n → c i ≡ d i) → record_from name s c n ≡ record_from name z d n
 record_alike name s z c d n stats seconds =
     let seen = greatest_alike n (is_seen s) (is_seen z) n (omega arith) (λ i low. ap is_some (stats i low)) in
@@ -91,12 +91,12 @@ record_of_more history pass name =
     ∙ ap (λ o. after_pass name (record_of history name) o (suc (length history)) (second_of all (suc (length history)))) stat
     ∙ ap (after_pass name (record_of history name) (get pass.stats name) (suc (length history))) second
 
--- what a file's record shows of it: what was last seen, if it exists
+-- a file's record shows the stat that was last seen, if the file exists
 abbrev pub existing_stat : Option RecordData → Option Stat
 existing_stat None = None
 existing_stat (Some r) = if r.exists then Some (last_stat r) else None
 
--- the record that a history gives shows what the last pass saw
+-- the record that a history gives shows the stat that the last pass saw
 existing_from : (name : List ℕ) (stats : ℕ → Option Stat) (seconds : ℕ → ℤ) (n : ℕ) → existing_stat (record_from name stats seconds n) ≡ stats n
 existing_from name stats seconds n = at (stats n) (stats (greatest (is_seen stats) n)) refl refl
   where
@@ -105,11 +105,11 @@ existing_from name stats seconds n = at (stats n) (stats (greatest (is_seen stat
     at None (Some l) eb ec = simp (eb, ec)
     at (Some t) c eb ec = let last = seen_now name stats seconds n t eb in simp (eb, last)
 
--- what is seen of a file that exists is what the last pass saw
+-- the stat of a file that exists is the one that the last pass saw
 pub existing_of : (history : History) (name : List ℕ) → existing_stat (record_of history name) ≡ stat_at history name (length history)
 existing_of history name = existing_from name (stat_at history name) (second_of history) (length history)
 
--- the last map answers what the last pass saw
+-- the last map has the stats that the last pass saw
 pub last_answers : (history : History) (name : List ℕ) → get (last_stats history) name ≡ stat_at history name (length history)
 last_answers [] name = get-empty name_cmp name
 last_answers (p ∷ []) name = refl

@@ -34,7 +34,7 @@ rest_sorted r rs e = (both_true (below_all name_cmp r.name (by_name rs)) (is_sor
 head_below : (r : RecordData) (rs : List RecordData) → is_sorted name_cmp (by_name (r ∷ rs)) ≡ true → below_all name_cmp r.name (by_name rs) ≡ true
 head_below r rs e = (both_true (below_all name_cmp r.name (by_name rs)) (is_sorted name_cmp (by_name rs)) e).0
 
--- of records in the order of their names a later one has the later name
+-- in records in the order of their names, a later record has a later name
 pub rise_at : (rs : List RecordData) (i j : ℕ) (d : RecordData) → is_sorted name_cmp (by_name rs) ≡ true → i < j → j < length rs → name_cmp (get_or rs i d).name (get_or rs j d).name ≡ Less
 rise_at [] i j d e low h = absurd (omega arith)
 rise_at (r ∷ rs) zero zero d e low h = absurd (omega arith)
@@ -42,7 +42,7 @@ rise_at (r ∷ rs) zero (suc j) d e low h = below_at r.name rs j d (head_below r
 rise_at (r ∷ rs) (suc i) zero d e low h = absurd (omega arith)
 rise_at (r ∷ rs) (suc i) (suc j) d e low h = rise_at rs i j d (rest_sorted r rs e) (omega arith) (omega arith)
 
--- neighbours rise, as a binary search asks
+-- neighbouring names rise, as a binary search needs it
 neighbours : (rs : List RecordData) → is_sorted name_cmp (by_name rs) ≡ true → IsSortedBy (λ a b. is_lt (name_cmp a.name b.name)) rs
 neighbours [] e k d low h = absurd (omega arith)
 neighbours (r ∷ rs) e zero d low h =
@@ -50,7 +50,7 @@ neighbours (r ∷ rs) e zero d low h =
     ap is_lt (names_total.antisymm (get_or rs 0 d).name r.name ∙ ap ordering_reverse less)
 neighbours (r ∷ rs) e (suc k) d low h = simp unary_clauses (simp unary_clauses at (neighbours rs (rest_sorted r rs e) k d (omega arith) (omega arith)))
 
--- a record at a place is what its name finds
+-- a name finds the record that has it
 named_at : (q : List ℕ) (rs : List RecordData) (at : ℕ) → is_sorted name_cmp (by_name rs) ≡ true → at < length rs → (get_or rs at nobody).name ≡ q → slice_get rs at ≡ record_named q rs
 named_at q [] at e h is = absurd (omega arith)
 named_at q (r ∷ rs) zero e h is = subst (λ n. Some r ≡ record_named n (r ∷ rs)) is (rw (tie_is_same r.name r.name, name_ties_itself r.name) refl)
@@ -59,7 +59,7 @@ named_at q (r ∷ rs) (suc at) e h is =
     let apart : name_cmp q r.name ≡ Greater = names_total.antisymm q r.name ∙ ap ordering_reverse less in
     rw apart (named_at q rs at (rest_sorted r rs e) (omega arith) is)
 
--- a name that no record has finds none
+-- a name that no record has finds nothing
 named_nowhere : (q : List ℕ) (rs : List RecordData) → ((k : ℕ) → k < length rs → name_cmp (get_or rs k nobody).name q ≢ Equal) → record_named q rs ≡ None
 named_nowhere q [] apart = refl
 named_nowhere q (r ∷ rs) apart = elim (eq_by_cmp name_cmp q r.name) as (λ b. eq_by_cmp name_cmp q r.name ≡ b → cond b (Some r) (record_named q rs) ≡ None) [
@@ -75,7 +75,7 @@ named_nowhere q (r ∷ rs) apart = elim (eq_by_cmp name_cmp q r.name) as (λ b. 
         at Equal is = names_total.antisymm r.name q ∙ ap ordering_reverse is
         at Greater is = absurd (false≢true (sym (ap is_eq is) ∙ e))
 
--- what a binary search by name finds
+-- the result of a binary search by name
 pub searched : (q : List ℕ) (rs : List RecordData) (r : Result ℕ ℕ) → is_sorted name_cmp (by_name rs) ≡ true → IsSearchInRange r (length rs) → IsBinarySearchResult (λ a. name_cmp a.name q) rs r → MatchOption (result_ok r) (record_named q rs ≡ None) (λ i. (i < length rs) × (slice_get rs i ≡ record_named q rs))
 searched q rs (Ok at) sorted in_range equal = (in_range, named_at q rs at sorted in_range (names_exact _ _ (equal nobody)))
 searched q rs (Err at) sorted in_range parted =
@@ -85,7 +85,7 @@ searched q rs (Err at) sorted in_range parted =
       | inr high ↦ cc (parts.1 k nobody high h)
     ])
 
--- of the names at all positions a binary search finds the one sought, and no other
+-- a binary search finds the position of the name, and no other
 pub alone : (q : List ℕ) (rs : List RecordData) (r : Result ℕ ℕ) → is_sorted name_cmp (by_name rs) ≡ true → IsSearchInRange r (length rs) → IsBinarySearchResult (λ a. name_cmp a.name q) rs r → MatchOption (result_ok r) ((j : ℕ) → passes_at (has_name q) rs j ≡ false) (λ i. (j : ℕ) → passes_at (has_name q) rs j ≡ (j == i))
 alone q rs (Ok i) sorted in_range equal = λ j. at j (cases_lt j (length rs)) (cases_order j i)
   where
@@ -104,12 +104,12 @@ alone q rs (Err i) sorted in_range parted = λ j. at j (cases_lt j (length rs)) 
     at j (inl h) (inl low) parts = rw (slice_get-get_or rs j nobody h) (sym (is_eq-slice_cmp (get_or rs j nobody).name q) ∙ ap is_eq (parts.0 j nobody (omega arith) low))
     at j (inl h) (inr high) parts = rw (slice_get-get_or rs j nobody h) (sym (is_eq-slice_cmp (get_or rs j nobody).name q) ∙ ap is_eq (parts.1 j nobody high h))
 
--- of two cases the one without a value
+-- of two cases, the one without a value
 pub absent_from : {A : Type 0} (P : Type 0) (Q : A → Type 0) (o : Option A) → MatchOption o P Q → IfNone o P
 absent_from P Q None holds = holds
 absent_from P Q (Some a) holds = tt
 
--- and the one with a value
+-- of two cases, the one with a value
 pub found_from : {A : Type 0} (P : Type 0) (Q : A → Type 0) (o : Option A) → MatchOption o P Q → IfSome o Q
 found_from P Q None holds = tt
 found_from P Q (Some a) holds = holds

@@ -1,4 +1,4 @@
--- The byte order of names, and what rises in it.
+-- The byte order of names, and the lists that rise in it.
 use Rattle.std.proofs.Common.{◌≡◌, ℕ, Bool, true, false, ◌&&◌, List, [], ◌∷◌, map, bytes_eq, IsTrue, sym, refl, ap, subst, ◌∙◌}
 use mathlib.Core.Bool.{false≢true}
 use Rattle.std.specs.declared.cmp.Ordering.{Ordering}
@@ -22,21 +22,21 @@ names_total = nat_list_cmp_total
 pub names_exact : IsAntisymmetric name_cmp
 names_exact = slice_cmp-IsAntisymmetric nat_cmp-IsAntisymmetric
 
--- names that tie are one
+-- names that tie are the same
 pub same_name : (a b : List ℕ) → bytes_eq a b ≡ true → a ≡ b
 same_name a b e = (bytes_eq-Decides a b).0 e
 
--- the order of names that are one
+-- the order of two names that are the same
 pub order_of_same : (a b : List ℕ) → bytes_eq a b ≡ true → name_cmp a b ≡ Equal
 order_of_same a b e = ap (name_cmp a) (sym (same_name a b e)) ∙ tied_itself names_total a
 
--- an order that tests as less is less
+-- an order that is tested to be less is less
 pub less_from_lt : (o : Ordering) → is_lt o ≡ true → o ≡ Less
 less_from_lt Less e = refl
 less_from_lt Equal e = absurd (false≢true e)
 less_from_lt Greater e = absurd (false≢true e)
 
--- names that are not one, and of which the first is not below, are the other way round
+-- if two names differ, and the first is not below the second, the second is below the first
 pub order_of_others : (a b : List ℕ) → bytes_eq a b ≡ false → is_lt (name_cmp a b) ≡ false → name_cmp a b ≡ Greater
 order_of_others a b apart not_below = at (name_cmp a b) refl
   where
@@ -45,12 +45,12 @@ order_of_others a b apart not_below = at (name_cmp a b) refl
     at Equal is = absurd (false≢true (sym apart ∙ texts_ties a b ∙ ap is_eq is))
     at Greater is = is
 
--- both of two tests hold where their conjunction does
+-- if a conjunction holds, both of its tests hold
 pub both_true : (a b : Bool) → (a && b) ≡ true → (a ≡ true) × (b ≡ true)
 both_true true b e = (refl, e)
 both_true false b e = absurd (false≢true e)
 
--- what a list of entries with names says of those names
+-- the names of a list of entries
 module _ {A X : Type 0} (f : A → List ℕ × X) where
   below_from_rising : (x : List ℕ) (xs : List A) → AllByRecursion (λ y. name_cmp x y ≡ Less) (map (λ a. (f a).0) xs) → below_all name_cmp x (map f xs) ≡ true
   below_from_rising x [] all = refl
@@ -68,7 +68,7 @@ module _ {A X : Type 0} (f : A → List ℕ × X) where
   sorted_from_rising [] rise = refl
   sorted_from_rising (a ∷ xs) rise = rw (below_from_rising (f a).0 xs rise.0) (sorted_from_rising xs rise.1)
 
-  -- what tests as sorted rises
+  -- a list that is tested to be sorted rises
   pub rising_from_sorted : (xs : List A) → is_sorted name_cmp (map f xs) ≡ true → IsStrictlySortedBy name_cmp (map (λ a. (f a).0) xs)
   unfolding IsStrictlySortedBy
   rising_from_sorted [] e = tt

@@ -1,4 +1,4 @@
--- The names strictly below a directory lie together in the byte order of names.
+-- The names strictly below a directory are neighbours in the byte order of names.
 use Rattle.std.proofs.Common.{◌≡◌, ℕ, ◌<◌, ◌≤◌, true, false, cond, ◌&&◌, nat_lt, nat_le, nat_eq, ◌==◌, is_some, List, [], ◌∷◌, length, take, drop, get_or, bytes_eq, Some, None, ◌⊎◌, inl, inr, refl, ap, sym, subst, ◌∙◌, arith}
 use Rattle.std.specs.List.Sorted.{IsPartitionedBy, IsPartitionPoint}
 use Rattle.std.specs.Str.{byte}
@@ -19,13 +19,13 @@ use Rattle.wq_view.specs.Below.{is_below, order_below}
 use Rattle.wq_view.specs.Position.{passes_at}
 use Rattle.wq_view.proofs.Lookups.{nobody, rise_at}
 
--- a name that has ended comes before those below a directory
+-- a name that ends within the directory comes before the names below it
 pub ended : (dir left : List ℕ) → length left ≡ 0 → order_below dir left ≡ Less
 ended [] [] h = refl
 ended (d ∷ dir) [] h = refl
 ended dir (b ∷ left) h = absurd (omega (arith, h))
 
--- how one number compares to another
+-- the order of two numbers
 data Compared (x y : ℕ) : Type 0 where
   lower : x < y → nat_cmp x y ≡ Less → Compared x y
   same : x ≡ y → nat_cmp x y ≡ Equal → Compared x y
@@ -49,7 +49,7 @@ then_equal Less = refl
 then_equal Equal = refl
 then_equal Greater = refl
 
--- the lower of two numbers, or the same one with what rises after it, does not come later
+-- a lower number, or the same number before a later rest, does not come later
 then_rises : (x y d : ℕ) (p q : Ordering) → (x < y) ⊎ ((x ≡ y) × (ordering_index p ≤ ordering_index q)) → ordering_index (ordering_then (nat_cmp x d) p) ≤ ordering_index (ordering_then (nat_cmp y d) q)
 then_rises x y d p q (inl less) = at (compared x d) (compared y d)
   where
@@ -68,7 +68,7 @@ then_rises x y d p q (inr (is, rises)) = subst (λ n. ordering_index (ordering_t
     at (same _ e) = rw e rises
     at (higher _ e) = rw e (omega arith)
 
--- of two names in order, the first bytes rise, or are one and the rests are in order
+-- for two names in order: the first bytes rise, or they are equal and the rests are in order
 heads : (x y : ℕ) (xs ys : List ℕ) → name_cmp (x ∷ xs) (y ∷ ys) ≡ Less → (x < y) ⊎ ((x ≡ y) × (name_cmp xs ys ≡ Less))
 heads x y xs ys less = at (compared x y)
   where
@@ -77,7 +77,7 @@ heads x y xs ys less = at (compared x y)
     at (same h e) = inr (h, rw e at less)
     at (higher h e) = absurd (false≢true (ap is_lt (rw e at less)))
 
--- of two names in order, the later does not come before the earlier
+-- for two names in order: the later one does not come before the earlier one
 rises : (dir a b : List ℕ) → name_cmp a b ≡ Less → ordering_index (order_below dir a) ≤ ordering_index (order_below dir b)
 rises [] [] b less = omega arith
 rises [] (x ∷ xs) [] less = absurd (false≢true (ap is_lt less))
@@ -94,7 +94,7 @@ rises (d ∷ dir) (x ∷ xs) (y ∷ ys) less = at (heads x y xs ys less) (λ lat
     at (inl h) _ = then_rises x y d (order_below dir xs) (order_below dir ys) (inl h)
     at (inr (h, later)) rest = then_rises x y d (order_below dir xs) (order_below dir ys) (inr (h, rest later))
 
--- a name is among those below a directory if something follows the directory and a slash
+-- a name is below a directory if it has something after the directory and a slash
 begins : (dir name : List ℕ) → is_some (cond (bytes_eq (take (length dir) name) dir) (after_slash (drop (length dir) name)) None) ≡ is_eq (order_below dir name)
 begins [] [] = refl
 begins [] (b ∷ rest) = at (compared b (byte "/"))
@@ -142,7 +142,7 @@ le_stays Greater Greater h t = absurd (false≢true t)
 pub before_parts : (dir : List ℕ) (rs : List RecordData) → is_sorted name_cmp (by_name rs) ≡ true → IsPartitionedBy (λ r. is_lt (order_below dir r.name)) rs
 before_parts dir rs e i j d low h = lt_stays _ _ (rises_at dir rs i j d e low h)
 
--- and the records after them come last
+-- the records after those below a directory come last
 pub not_behind_parts : (dir : List ℕ) (rs : List RecordData) → is_sorted name_cmp (by_name rs) ≡ true → IsPartitionedBy (λ r. is_le (order_below dir r.name)) rs
 not_behind_parts dir rs e i j d low h = le_stays _ _ (rises_at dir rs i j d e low h)
 
@@ -166,9 +166,9 @@ behind_not_eq Less t = absurd (true≢false t)
 behind_not_eq Equal t = absurd (true≢false t)
 behind_not_eq Greater t = refl
 
--- where the records before those below a directory end, and where the records after them begin
+-- the end of the records before a directory, and the beginning of the records after it
 module _ (dir : List ℕ) (rs : List RecordData) (start end : ℕ) (from : IsPartitionPoint (λ r. is_lt (order_below dir r.name) ≡ true) (λ r. is_lt (order_below dir r.name) ≡ false) rs start) (to : IsPartitionPoint (λ r. is_le (order_below dir r.name) ≡ true) (λ r. is_le (order_below dir r.name) ≡ false) rs end) (low : start ≤ length rs) (high : end ≤ length rs) where
-  -- the range does not run backward
+  -- the end of the range is not before its beginning
   pub range_rises : start ≤ end
   range_rises = at (cases_lt end start)
     where

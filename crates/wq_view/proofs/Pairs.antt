@@ -1,4 +1,4 @@
--- Records and rows pair by pair: how many pairs there are, and what holds of each.
+-- Records and rows pair by pair: the number of pairs, and the facts that hold of each.
 use Rattle.std.proofs.Common.{◌≡◌, ℕ, ℤ, suc, ◌+◌, ◌≤◌, true, IsTrue, List, [], ◌∷◌, ◌++◌, length, map, refl, sym, ap, ◌∙◌, arith, append_assoc}
 use Rattle.std.specs.declared.cmp.Ordering.{Ordering}
 use Rattle.std.specs.declared.cmp.Ordering.TheVariants.{Less, Equal, Greater}
@@ -12,7 +12,7 @@ use Rattle.wq_view.specs.Merge.{PairData, record_alone, record_and_row, row_alon
 use Rattle.wq_view.specs.Pair.{has_lawful_row}
 use Rattle.wq_view.proofs.NameOrder.{both_true}
 
--- the pairs of a record and a row, by which name comes first
+-- the pairs that begin with a record and a row, by the order of their names
 abbrev first_pairs : RecordData → List RecordData → SeenData → List SeenData → Ordering → List PairData
 first_pairs r rs row rows o =
     by_order o (record_alone r ∷ pairs_of rs (row ∷ rows)) (record_and_row r row ∷ pairs_of rs rows) (row_alone row ∷ pairs_of (r ∷ rs) rows)
@@ -42,7 +42,7 @@ lawful_through r rs later (row ∷ rows) e =
     let parts = both_true (is_lawful_row row) (list_all is_lawful_row rows) e in
     lawful_by_first r rs row rows parts.0 (later (row ∷ rows) e) (later rows parts.1) (lawful_through r rs later rows parts.1) (name_cmp r.name row.name)
 
--- the row of each pair is lawful, where all rows are
+-- the row of each pair is lawful, if all rows are
 pub rows_lawful : (rs : List RecordData) (rows : List SeenData) → list_all is_lawful_row rows ≡ true → list_all has_lawful_row (pairs_of rs rows) ≡ true
 rows_lawful [] [] e = refl
 rows_lawful [] (row ∷ rows) e =
@@ -50,7 +50,7 @@ rows_lawful [] (row ∷ rows) e =
     rw parts.0 (rows_lawful [] rows parts.1)
 rows_lawful (r ∷ rs) rows e = lawful_through r rs (λ rows e. rows_lawful rs rows e) rows e
 
--- what is done and left, after the first pair that is left is done
+-- the records done and those of the rest of the pairs, after the first pair of the rest is done
 pub after_taken : (tick : ℕ) (second : ℤ) (done : List RecordData) (r : RecordData) (p : PairData) (left next : List PairData) (all : List RecordData) → left ≡ p ∷ next → r ≡ pair_after tick second p → done ++ map (pair_after tick second) left ≡ all → (done ++ r ∷ []) ++ map (pair_after tick second) next ≡ all
 after_taken tick second done r p left next all left_is r_is known =
     append_assoc done (r ∷ []) (map (pair_after tick second) next)
@@ -58,6 +58,6 @@ after_taken tick second done r p left next all left_is r_is known =
     ∙ sym (ap (λ l. done ++ map (pair_after tick second) l) left_is)
     ∙ known
 
--- where the rows of all pairs are lawful, those of the first and of the others are
+-- if the rows of all pairs are lawful, those of the first pair and of the others are
 pub lawful_taken : (p : PairData) (left next : List PairData) → left ≡ p ∷ next → IsTrue (list_all has_lawful_row left) → IsTrue (has_lawful_row p) × IsTrue (list_all has_lawful_row next)
 lawful_taken p left next left_is all = both_true (has_lawful_row p) (list_all has_lawful_row next) (sym (ap (list_all has_lawful_row) left_is) ∙ all)

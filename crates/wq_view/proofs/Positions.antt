@@ -23,28 +23,28 @@ kept_positions_filter test records (i ∷ is) = at (slice_get records i) refl (k
 next : (r : RecordData) (rs : List RecordData) (i : ℕ) → slice_get (r ∷ rs) (i + 1) ≡ slice_get rs i
 next r rs i = ap (slice_get (r ∷ rs)) (add-one i)
 
--- after a first record each position is one higher
+-- after a first record each position is higher by one
 shifted : (r : RecordData) (rs : List RecordData) (at n : ℕ) → filter_map (slice_get (r ∷ rs)) (range_with_len (at + 1) n) ≡ filter_map (slice_get rs) (range_with_len at n)
 shifted r rs at zero = refl
 shifted r rs at (suc n) =
     rw (next r rs at) (ap (cons_option (slice_get rs at)) (shifted r rs (at + 1) n))
 
--- the records at all positions are all
+-- the records at all positions are all records
 all_are_there : (rs : List RecordData) → records_at rs (all_positions rs) ≡ rs
 all_are_there [] = refl
 all_are_there (r ∷ rs) = ap (λ rest. r ∷ rest) (shifted r rs 0 (length rs) ∙ all_are_there rs)
 
--- the records at the positions of those that pass a test are these
+-- the records at the positions of those that pass a test are the records that pass it
 pub positions_filter : PositionsFilter
 positions_filter test records =
     kept_positions_filter test records (all_positions records) ∙ ap (filter test) (all_are_there records)
 
--- numbers from one on are below the one after the last
+-- the numbers of a range are below its end
 below_end : (at n end : ℕ) → at + n ≤ end → AllByRecursion (λ i. i < end) (range_with_len at n)
 below_end at zero end fits = tt
 below_end at (suc n) end fits = (omega (arith, fits), below_end (at + 1) n end (omega (arith, fits)))
 
--- positions of records are positions, and no more than there are records
+-- the positions of records are positions, and at most as many as the records
 pub positions_are_there : PositionsAreThere
 positions_are_there test records =
     let n = length records in

@@ -1,4 +1,4 @@
--- When rows say of the files that exist what the records say.
+-- The equality of rows and the records of files that exist.
 use Rattle.std.proofs.Common.{◌≡◌, ℕ, Bool, true, false, not, ◌&&◌, cond, List, [], ◌∷◌, map, Some, None, sym, refl, ap, ◌∙◌}
 use mathlib.Core.Bool.{false≢true}
 use Rattle.std.specs.Cmp.{tied_itself}
@@ -23,7 +23,7 @@ abbrev pub existing : List RecordData → List (List ℕ × Stat)
 existing [] = []
 existing (r ∷ rs) = cond r.exists ((r.name, last_stat r) ∷ existing rs) (existing rs)
 
--- rows that say so are those stats
+-- if rows say the same as the records, they have these stats
 shown_by_first : (r : RecordData) (rs : List RecordData) (row : SeenData) (rows : List SeenData) → (shows rs (row ∷ rows) ≡ true → existing rs ≡ map entry_of (row ∷ rows)) → (shows rs rows ≡ true → existing rs ≡ map entry_of rows) → (o : Ordering) → name_cmp r.name row.name ≡ o → list_all is_unchanged (by_order o (record_alone r ∷ pairs_of rs (row ∷ rows)) (record_and_row r row ∷ pairs_of rs rows) (row_alone row ∷ pairs_of (r ∷ rs) rows)) ≡ true → existing (r ∷ rs) ≡ map entry_of (row ∷ rows)
 shown_by_first r rs row rows less equal Less is e =
     let parts = both_true (not r.exists) (shows rs (row ∷ rows)) e in
@@ -56,7 +56,7 @@ below_existing x (r ∷ rs) e =
     let rest = below_existing x rs parts.1 in
     elim r.exists as (λ b. below_all name_cmp x (cond b ((r.name, last_stat r) ∷ existing rs) (existing rs)) ≡ true) [ true ↦ rw parts.0 rest | false ↦ rest ]
 
--- and rows that are those stats say so, where the names of the records rise
+-- rows with these stats say the same as the records, if the names of the records rise
 unchanged_alone : (r : RecordData) (rs : List RecordData) (row : SeenData) (rows : List SeenData) → r.exists ≡ false → below_all name_cmp r.name (existing rs) ≡ true → existing rs ≡ map entry_of (row ∷ rows) → shows rs (row ∷ rows) ≡ true → shows (r ∷ rs) (row ∷ rows) ≡ true
 unchanged_alone r rs row rows gone below is later =
     let first = both_true (is_lt (name_cmp r.name row.name)) (below_all name_cmp r.name (map entry_of rows)) (sym (ap (below_all name_cmp r.name) is) ∙ below) in
@@ -91,7 +91,7 @@ shown_existing (r ∷ rs) rows sorted e =
         let rest : existing rs ≡ map entry_of (row ∷ rows) = rw is at e in
         unchanged_alone r rs row rows is below rest (later (row ∷ rows) rest)
 
--- the files that exist are in the order of all
+-- the files that exist are in the order of all files
 pub existing_sorted : (rs : List RecordData) → is_sorted name_cmp (by_name rs) ≡ true → is_sorted name_cmp (existing rs) ≡ true
 existing_sorted [] e = refl
 existing_sorted (r ∷ rs) e =
@@ -99,7 +99,7 @@ existing_sorted (r ∷ rs) e =
     let rest = existing_sorted rs parts.1 in
     elim r.exists as (λ b. is_sorted name_cmp (cond b ((r.name, last_stat r) ∷ existing rs) (existing rs)) ≡ true) [ true ↦ rw (below_existing r.name rs parts.0) rest | false ↦ rest ]
 
--- a name finds among them what its record shows
+-- a name finds the stat of its record among the files that exist
 pub existing_found : (rs : List RecordData) → is_sorted name_cmp (by_name rs) ≡ true → (q : List ℕ) → find name_cmp q (existing rs) ≡ existing_stat (record_named q rs)
 existing_found [] e q = refl
 existing_found (r ∷ rs) e q =

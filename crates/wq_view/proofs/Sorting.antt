@@ -1,4 +1,4 @@
--- The facts about the names of rows that come from sorting by name and looking at neighbours.
+-- Facts about the names of rows that were sorted by name, and whose neighbours were compared.
 use Rattle.std.proofs.Common.{◌≡◌, ℕ, ◌+◌, ◌<◌, Bool, true, false, List, [], map, length, get_or, bytes_eq, pos, IsTrue, ◌⊎◌, ◌↔◌, sym, refl, ap, subst, ◌∙◌, inl, inr, arith}
 use mathlib.Core.Bool.{false≢true}
 use Rattle.std.specs.declared.cmp.Ordering.{Ordering}
@@ -21,7 +21,7 @@ use Rattle.wq_view.proofs.NameOrder.{names_total, less_from_lt, sorted_from_risi
 nobody : SeenData
 nobody = record { name = []; kind = Unknown; size = pos 0; mtime_ms = pos 0 }
 
--- a row's name is below another's
+-- the name of a row is below that of another
 abbrev pub is_below : SeenData → SeenData → Bool
 is_below a b = is_lt (name_cmp a.name b.name)
 
@@ -40,13 +40,13 @@ between a b not_above apart = at (name_cmp a.name b.name) refl
     at Equal e = absurd (false≢true (sym apart ∙ texts_ties a.name b.name ∙ ap is_eq e))
     at Greater e = absurd (false≢true (sym not_above ∙ ap is_lt (names_total.antisymm b.name a.name ∙ ap ordering_reverse e)))
 
--- neighbours that rise make all names rise
+-- if neighbours rise, all names rise
 rising_from_neighbours : (rows : List SeenData) → ((k : ℕ) → k + 1 < length rows → is_below (get_or rows k nobody) (get_or rows (k + 1) nobody) ≡ true) → IsStrictlySortedBy name_cmp (names_of rows)
 rising_from_neighbours rows below = sorted_from_all_adjacent names_total (names_of rows) [] (λ k h.
     let inside : k + 1 < length rows = omega (arith, length-map rows (λ (row : SeenData). row.name)) in
     rw (name_at rows k (omega arith), name_at rows (k + 1) inside) (less_from_lt _ (below k inside)))
 
--- a look at neighbours answers whether the entries are sorted
+-- a comparison of neighbours tests whether the entries are sorted
 pub sorted_from_look : (rows : List SeenData) (r : Bool) → IsAllAdjacentAnswer (λ x y b. b ≡ is_below x y) rows r → r ≡ is_sorted name_cmp (map entry_of rows)
 sorted_from_look rows true all = sym (sorted_from_rising entry_of rows (rising_from_neighbours rows (λ k h. sym (all k nobody h))))
 sorted_from_look rows false (k, h, apart) = elim (is_sorted name_cmp (map entry_of rows)) as (λ b. is_sorted name_cmp (map entry_of rows) ≡ b → false ≡ b) [
@@ -60,13 +60,13 @@ sorted_from_look rows false (k, h, apart) = elim (is_sorted name_cmp (map entry_
 pub distinct_from_sorted : (rows : List SeenData) → is_sorted name_cmp (map entry_of rows) ≡ true → IsDistinct bytes_eq (names_of rows)
 distinct_from_sorted rows e = subst (λ same. IsDistinct same (names_of rows)) ties_are_same (IsDistinct-from_sorted name_cmp (names_of rows) (rising_from_sorted entry_of rows e))
 
--- distinct names whose neighbours do not fall rise
+-- distinct names rise if no neighbours fall
 pub sorted_from_weak : (rows : List SeenData) → IsSortedBy is_below rows → IsDistinct bytes_eq (names_of rows) → is_sorted name_cmp (map entry_of rows) ≡ true
 sorted_from_weak rows weak distinct = sorted_from_rising entry_of rows (rising_from_neighbours rows (λ k h.
     let apart = apart_from_distinct bytes_eq (names_of rows) k (k + 1) [] distinct (omega arith) (omega (arith, length-map rows (λ (row : SeenData). row.name))) in
     between (get_or rows k nobody) (get_or rows (k + 1) nobody) (weak k nobody (omega arith) h) (rw (name_at rows k (omega arith), name_at rows (k + 1) h) at apart)))
 
--- rows in another order, none above the next: whether they are sorted says whether the names were distinct
+-- rows in another order, none above the next, are sorted exactly if the names were distinct
 pub sorted_tells : (old new : List SeenData) (r : Bool) → IsPermutation old new → (is_sorted name_cmp (map entry_of new) ≡ true) ⊎ IsSortedBy is_below new → r ≡ is_sorted name_cmp (map entry_of new) → IsTrue r ↔ IsDistinct bytes_eq (names_of old)
 sorted_tells old new r moved weak is = (λ h. back (distinct_from_sorted new (sym is ∙ h)), λ distinct. is ∙ at weak (there distinct))
   where

@@ -1,4 +1,4 @@
--- Stats that pass the test of sameness are one.
+-- Stats that are tested to be the same are equal.
 use Rattle.std.proofs.Common.{◌≡◌, ℕ, true, ◌&&◌, ◌==◌, cond, sym, refl, ap, ◌∙◌}
 use Rattle.std.specs.Ordering.{int_eq}
 use Rattle.std.proofs.lemmas.Bool.Decides.{Decides-int_eq, Decides-eqb}
@@ -24,11 +24,11 @@ kind_of-letter_of Socket = refl
 kind_of-letter_of Door = refl
 kind_of-letter_of Unknown = refl
 
--- a letter stands for one kind
+-- a letter is that of one kind
 pub same_kind : (k l : Kind) → letter_of k ≡ letter_of l → k ≡ l
 same_kind k l e = sym (kind_of-letter_of k) ∙ ap kind_of e ∙ kind_of-letter_of l
 
--- what tests as the same is equal
+-- stats that are tested to be the same are equal
 pub one_stat : (a b : Stat) → same_stat a b ≡ true → a ≡ b
 one_stat a b e =
     let front = both_true ((letter_of a.kind == letter_of b.kind) && int_eq a.size b.size) (int_eq a.mtime_ms b.mtime_ms) e in

@@ -12,12 +12,12 @@ use Rattle.memchr.specs.Find.{NoneAfter, Nowhere, Passes, is_byte2}
 use Rattle.wq_base.specs.Byte.{is_slash, is_dot}
 use Rattle.wq_base.specs.Name.{basename_of, suffix_of}
 
--- neither holds
+-- neither fact holds
 neither : (a b : Bool) → (a || b) ≡ false → (a ≡ false) × (b ≡ false)
 neither true b h = absurd cc
 neither false b h = (refl, h)
 
--- a test that does not hold fails
+-- a test whose fact does not hold fails
 fails : (b : Bool) → (b ≡ true → ⊥) → b ≡ false
 fails true isnt = absurd (isnt refl)
 fails false isnt = refl
@@ -38,7 +38,7 @@ tail_counts p front (x ∷ tail) none =
     let here = append_assoc front (x ∷ []) tail in
     rw here at more ∙ omega (arith, last)
 
--- and stay after what follows the last that passes
+-- these bytes are also after the last byte that passes
 after_last-front : (p : ℕ → Bool) (front tail : List ℕ) → list_any p tail ≡ false
     → after_last p (front ++ tail) ≡ after_last p front ++ tail
 after_last-front p front tail none =
@@ -49,12 +49,12 @@ after_last-front p front tail none =
     omega (arith, tail_counts p front tail none, length-append front tail, low) in
     rw count (drop-append-le (length front - s) front tail (omega arith))
 
--- nothing is after the end
+-- the part after the end is empty
 past : (xs : List ℕ) → drop (length xs) xs ≡ []
 past [] = refl
 past (x ∷ xs) = past xs
 
--- what follows one that passes, if none after it does
+-- the part after a byte that passes, if no later byte does
 after_last-here : (p : ℕ → Bool) (front tail : List ℕ) (x : ℕ) → p x ≡ true
     → list_any p tail ≡ false
     → after_last p (front ++ x ∷ tail) ≡ tail
@@ -67,11 +67,11 @@ after_last-here p front tail x here none =
     let parts = after_last-front p (front ++ x ∷ []) tail none in
     rw (append_assoc front (x ∷ []) tail, gone) at parts
 
--- where none passes, all of it
+-- if no byte passes, it is the whole text
 after_last-none : (p : ℕ → Bool) (xs : List ℕ) → list_any p xs ≡ false → after_last p xs ≡ xs
 after_last-none p xs none = after_last-front p [] xs none
 
--- bytes of which none passes from a place on
+-- the bytes from a place on, none of which passes
 rest_fails : (test : ℕ → Bool) (bytes : List ℕ) (n : ℕ)
     → Nowhere (Passes test bytes) n (length bytes)
     → list_any test (drop n bytes) ≡ false
@@ -83,7 +83,7 @@ rest_fails test (b ∷ bytes) zero none =
 rest_fails test (b ∷ bytes) (suc n) none =
     rest_fails test bytes n (λ k low high. none (suc k) (omega arith) (omega arith))
 
--- neither a dot nor a slash is neither of them
+-- a byte that is neither a dot nor a slash is neither of them
 no_dot : (bytes : List ℕ) → list_any (is_byte2 (byte ".") (byte "/")) bytes ≡ false
     → list_any is_dot bytes ≡ false
 no_dot [] none = refl
@@ -100,7 +100,7 @@ no_slash (b ∷ bytes) none =
     (list_any (is_byte2 (byte ".") (byte "/")) bytes) none in
     rw ((neither (is_dot b) (is_slash b) parts.0).1) (no_slash bytes parts.1)
 
--- a byte that is there joins what is in front of it and after it
+-- a byte at a place joins the bytes before it and the bytes after it
 parted : (name : List ℕ) (at : ℕ) → at < length name
     → take at name ++ slice_index name at ∷ drop (at + 1) name ≡ name
 parted name at inside =
@@ -118,11 +118,11 @@ no_suffix name none =
 not_slash : (x : ℕ) → is_dot x ≡ true → is_slash x ≡ false
 not_slash x dot = let e : x ≡ byte "." = eqb-true x (byte ".") dot in rw e refl
 
--- the other of two
+-- the other one of two
 is_other : (x : ℕ) → is_byte2 (byte ".") (byte "/") x ≡ true → is_dot x ≡ false → is_slash x ≡ true
 is_other x either other = rw other at either
 
--- after a dot
+-- the bytes after a dot
 from_dot : (front rest : List ℕ) (x : ℕ) → is_dot x ≡ true → list_any is_dot rest ≡ false
     → list_any is_slash rest ≡ false
     → suffix_of (front ++ x ∷ rest) ≡ rest
@@ -138,14 +138,14 @@ from_dot front rest x dot dots slashes =
     or_true true = refl
     or_true false = refl
 
--- after a slash
+-- the bytes after a slash
 from_slash : (front rest : List ℕ) (x : ℕ) → is_slash x ≡ true → list_any is_dot rest ≡ false
     → list_any is_slash rest ≡ false
     → suffix_of (front ++ x ∷ rest) ≡ []
 from_slash front rest x slash dots slashes =
     rw (after_last-here is_slash front rest x slash slashes, dots) refl
 
--- if the last dot or slash is a dot, the suffix follows it
+-- if the last dot or slash is a dot, the suffix is the part after it
 pub suffix_after : (name : List ℕ) (at : ℕ)
     → NoneAfter (Passes (is_byte2 (byte ".") (byte "/")) name) 0 (length name) at
     → slice_index name at ≡ byte "."
@@ -158,7 +158,7 @@ suffix_after name at place is =
     (no_slash rest all))
     ∙ ap suffix_of (parted name at place.high)
 
--- where it is a slash, there is none
+-- if the last dot or slash is a slash, there is no suffix
 pub no_suffix_after : (name : List ℕ) (at : ℕ)
     → NoneAfter (Passes (is_byte2 (byte ".") (byte "/")) name) 0 (length name) at
     → Passes (is_byte2 (byte ".") (byte "/")) name at → (slice_index name at ≡ byte "." → ⊥)

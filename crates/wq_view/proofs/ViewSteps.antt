@@ -1,4 +1,4 @@
--- One pass more, and the view of the history with it.
+-- One more pass, and the view of the history with it.
 use Rattle.std.proofs.Common.{◌≡◌, ℕ, suc, ◌+◌, true, List, [], ◌∷◌, ◌++◌, map, length, IsTrue, ◌↔◌, sym, refl, ap, subst, ◌∙◌, arith, length-append}
 use Rattle.std.proofs.Math.Dec.{T}
 use Rattle.std.specs.FinMap.{find, entries, get, get-entries, is_sorted, same_map}
@@ -19,7 +19,7 @@ module _ (history : History) (view : ViewData) (pass : PassData) (rows : List Se
   found_is : (q : List ℕ) → find name_cmp q (map entry_of rows) ≡ get pass.stats q
   found_is q = ap (find name_cmp q) (sym are_entries) ∙ sym (get-entries pass.stats q)
 
-  -- the view with the pass is that of the history with it
+  -- the view after the pass is that of the history with the pass
   pub view_of_more : is_sorted name_cmp (map entry_of rows) ≡ true → IsViewOf (history ++ pass ∷ []) (record { tick = view.tick + 1; records = records_after (view.tick + 1) pass.second view.records rows })
   view_of_more sorted = record {
     tick = omega (arith, is_view.tick, length-append history (pass ∷ []));
@@ -33,7 +33,7 @@ module _ (history : History) (view : ViewData) (pass : PassData) (rows : List Se
         ∙ sym (record_of_more history pass q);
   }
 
-  -- what is found among the existing files is what the last pass saw
+  -- a lookup among the existing files finds the stat that the last pass saw
   existing_is : (q : List ℕ) → find name_cmp q (existing view.records) ≡ get (last_stats history) q
   existing_is q = existing_found view.records is_view.ordered q ∙ ap existing_stat (is_view.files q) ∙ existing_of history q ∙ sym (last_answers history q)
 
@@ -47,7 +47,7 @@ module _ (history : History) (view : ViewData) (pass : PassData) (rows : List Se
       back : last_stats history ≡ pass.stats → IsTrue (shows view.records rows)
       back e = shown_existing view.records rows is_view.ordered (same_entries name_cmp names_total names_exact (existing view.records) (map entry_of rows) (subst T (sym (existing_sorted view.records is_view.ordered)) tt) (subst T (sym sorted) tt) (λ q. existing_is q ∙ ap (λ m. get m q) e ∙ sym (found_is q)))
 
--- records whose names rise are those that their names find
+-- records with rising names are those that their names find
 same_records : (a b : List RecordData) → is_sorted name_cmp (by_name a) ≡ true → is_sorted name_cmp (by_name b) ≡ true → ((q : List ℕ) → record_named q a ≡ record_named q b) → a ≡ b
 same_records a b sorted_a sorted_b same =
     let keys = same_entries name_cmp names_total names_exact (by_name a) (by_name b) (subst T (sym sorted_a) tt) (subst T (sym sorted_b) tt) same in

@@ -1,5 +1,5 @@
--- Which records lie strictly below a directory, and how a name compares to the names that do. From
--- Watchman's documentation of the query key `path`.
+-- The records strictly below a directory, and how a name compares to the names below it. The source
+-- is Watchman's documentation of the query key `path`.
 use Rattle.std.specs.Prelude.{ℕ, Bool, is_some, List, [], ◌∷◌}
 use Rattle.std.specs.Str.{byte}
 use Rattle.std.specs.Ordering.{nat_cmp, ordering_then}
@@ -9,7 +9,7 @@ use Rattle.wq_base.specs.Directory.{rest_below}
 use Rattle.wq_base.specs.declared.compare.Case.TheVariants.{Exact}
 use Rattle.wq_view.specs.RecordData.{RecordData}
 
--- whether the record is of a name strictly below the directory; all are below the empty one
+-- whether the name of the record is strictly below the directory; all names are below the empty one
 abbrev pub is_below : List ℕ → RecordData → Bool
 is_below dir r = is_some (rest_below Exact dir r.name)
 

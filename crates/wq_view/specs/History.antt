@@ -1,5 +1,5 @@
--- Histories: the passes over one root, and the record of each name that follows from what they saw.
--- The fields of a record are those of Watchman's documentation of file queries.
+-- Histories: the passes over one root, and the record of each name that follows from them. The
+-- fields of a record are those of Watchman's documentation of file queries.
 use Rattle.std.specs.Prelude.{◌≢◌, ℕ, zero, suc, ℤ, pos, Bool, true, false, not, ◌&&◌, is_some, is_none, if◌then◌else◌, List, [], ◌∷◌, length, slice_get, Option, Some, None, option_map, option_and_then}
 use Rattle.std.specs.Option.{option_map_or}
 use Rattle.std.specs.FinMap.{FinMap, empty, get}
@@ -7,11 +7,11 @@ use Rattle.wq_view.specs.Seen.{Stat, same_stat}
 use Rattle.wq_view.specs.Listing.{PassData, name_cmp}
 use Rattle.wq_view.specs.RecordData.{RecordData}
 
--- the list of the passes over one root, the first pass first; neighbours need not differ
+-- the list of the passes over one root, the first pass first; neighbouring passes may be equal
 abbrev pub History : Type 0
 History = List PassData
 
--- what pass i saw of the name: passes count from 1, and before them nothing exists
+-- the stat that pass i saw for the name: passes count from 1, and before them nothing exists
 abbrev pub stat_at : History → List ℕ → ℕ → Option Stat
 stat_at history name zero = None
 stat_at history name (suc i) = option_and_then (λ pass. get pass.stats name) (slice_get history i)
@@ -21,7 +21,7 @@ abbrev pub second_of : History → ℕ → ℤ
 second_of history zero = pos 0
 second_of history (suc i) = option_map_or (λ pass. pass.second) (slice_get history i) (pos 0)
 
--- whether two stats are one: nothing twice, or one stat twice
+-- whether two observations are the same: no file twice, or one stat twice
 abbrev pub same_observation : Option Stat → Option Stat → Bool
 same_observation None None = true
 same_observation None (Some b) = false
@@ -33,21 +33,22 @@ abbrev pub greatest : (ℕ → Bool) → ℕ → ℕ
 greatest test zero = 0
 greatest test (suc n) = if test (suc n) then suc n else greatest test n
 
--- pass i saw it
+-- whether pass i saw the file
 abbrev pub is_seen : (ℕ → Option Stat) → ℕ → Bool
 is_seen stats i = is_some (stats i)
 
--- pass i saw it, and the pass before did not
+-- whether pass i saw the file, and the pass before did not
 abbrev pub has_come : (ℕ → Option Stat) → ℕ → Bool
 has_come stats zero = false
 has_come stats (suc i) = is_some (stats (suc i)) && is_none (stats i)
 
--- pass i and the pass before differ on it
+-- whether pass i and the pass before differ on the file
 abbrev pub has_changed : (ℕ → Option Stat) → ℕ → Bool
 has_changed stats zero = false
 has_changed stats (suc i) = not (same_observation (stats i) (stats (suc i)))
 
--- the record of a name after n passes that saw this of it, at these seconds; none if no pass saw it
+-- the record of a name after n passes with these stats, at these seconds; none if no pass saw the
+-- name
 abbrev pub record_from : List ℕ → (ℕ → Option Stat) → (ℕ → ℤ) → ℕ → Option RecordData
 record_from name stats seconds n =
     option_map (λ last. record {

@@ -1,4 +1,4 @@
--- The letters that stand for kinds of files, as in Watchman's documentation of the field `type`.
+-- The letters of the kinds of files, as in Watchman's documentation of the field `type`.
 use Rattle.std.specs.Prelude.{ℕ, ◌==◌, List, [], ◌∷◌, Option, find}
 use Rattle.std.specs.Str.{byte}
 use Rattle.wq_view.specs.declared.kind.Kind.{Kind}

@@ -1,5 +1,5 @@
--- The result of one pass over a tree of files: a finite map from names to stats, and when. A pass
--- is made from a list of rows, whose first fault refuses it.
+-- The result of one pass over a tree of files: a finite map from names to stats, and the second of
+-- the pass. A list of rows makes a pass, or its first fault refuses it.
 use Rattle.std.specs.Prelude.{ℕ, ℤ, Bool, true, false, ◌≤◌, IsTrue, nat_lt, not, if◌then◌else◌, List, [], ◌∷◌, length, map, bytes_eq, refl, Option, Some, None}
 use Rattle.std.specs.Coded.{Coded, code_by, coded×, coded_ℕ, coded_ℤ, coded_list}
 use Rattle.std.specs.List.{list_any, list_all}
@@ -17,7 +17,7 @@ use Rattle.wq_view.specs.Seen.{SeenData, Stat, stat_code, stat_of, entry_of, is_
 abbrev pub name_cmp : List ℕ → List ℕ → Ordering
 name_cmp = slice_cmp nat_cmp
 
--- what a pass saw, by name
+-- the stats that a pass saw, by name, and its second
 pub record PassData : Type 0 where
   pub stats : FinMap name_cmp Stat
   -- in seconds of the Unix epoch
@@ -30,11 +30,11 @@ pass_code =
     (λ pass. (pass.stats, pass.second))
     (λ (stats, second). record { stats = stats; second = second }) (λ _. refl)
 
--- the listing of rows in which no name is there twice
+-- the listing of rows with different names
 abbrev pub listing_of : List SeenData → ℤ → PassData
 listing_of rows second = record { stats = from_entries (map entry_of rows); second = second }
 
--- the first fault of rows, row by row, after rows with these names
+-- the first fault of rows, row by row, if rows with these names come before them
 abbrev pub row_fault : List (List ℕ) → List SeenData → Option PassFault
 row_fault before [] = None
 row_fault before (row ∷ rows) =
@@ -50,8 +50,8 @@ listing_fault rows second =
     else if not (is_count second) then Some OutOfRange
     else row_fault [] rows
 
--- whether a fault is one of a whole listing, and not of a row by itself. Such a fault is that there
--- are too many rows, the second is out of range, or a name is there twice
+-- whether a fault is one of a whole listing, and not of a single row. Such a fault is that there
+-- are too many rows, the second is out of range, or a name comes twice
 abbrev pub is_of_whole : PassFault → Bool
 is_of_whole TooManyRows = true
 is_of_whole OutOfRange = true
@@ -62,7 +62,7 @@ is_of_whole _ = false
 abbrev pub names_of : List SeenData → List (List ℕ)
 names_of = map (λ row. row.name)
 
--- rows that a pass keeps: in the byte order of their names, none twice, each lawful
+-- the rows of a pass: in the byte order of their names, each name once, each row lawful
 pub record IsPass (rows : List SeenData) (at : ℤ) : Type 0 where
   pub rise : IsTrue (is_sorted name_cmp (map entry_of rows))
   pub lawful : IsTrue (list_all is_lawful_row rows)

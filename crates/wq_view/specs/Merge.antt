@@ -1,5 +1,5 @@
--- How a view takes in a pass: records and rows in the order of their names, side by side. Only the
--- view of a history says what the result means.
+-- The step by which a view takes in a pass: records and rows in the order of their names, side by
+-- side. The meaning of the result is in the view of a history.
 use Rattle.std.specs.Prelude.{ℕ, ℤ, Bool, false, not, ◌&&◌, List, [], ◌∷◌, map, Some, None}
 use Rattle.std.specs.FinMap.Entries.{by_order}
 use Rattle.std.specs.List.{list_all}
@@ -7,13 +7,13 @@ use Rattle.wq_view.specs.Seen.{SeenData, stat_of, same_stat}
 use Rattle.wq_view.specs.Listing.{name_cmp}
 use Rattle.wq_view.specs.RecordData.{RecordData, last_stat, blank_record, record_after}
 
--- what records and rows have of a name: a record alone, a record and a row, or a row alone
+-- the record or the row of a name, or both: a record alone, a record and a row, or a row alone
 pub data PairData : Type 0 where
   record_alone : RecordData → PairData
   record_and_row : RecordData → SeenData → PairData
   row_alone : SeenData → PairData
 
--- the pairs of a record, of those that come later, and of these rows
+-- the pairs of a record, of the records after it, and of these rows
 abbrev pub pairs_from : RecordData → (List SeenData → List PairData) → List SeenData
     → List PairData
 pairs_from r later [] = record_alone r ∷ later []
@@ -23,18 +23,19 @@ pairs_from r later (row ∷ rows) =
     (record_and_row r row ∷ later rows)
     (row_alone row ∷ pairs_from r later rows)
 
--- the pairs of records and rows whose names rise, in the order of names
+-- the pairs of records and rows with rising names, in the order of names
 abbrev pub pairs_of : List RecordData → List SeenData → List PairData
 pairs_of [] rows = map row_alone rows
 pairs_of (r ∷ rs) rows = pairs_from r (pairs_of rs) rows
 
--- whether the row says of the file what the record says, or there is no row, and the file is deleted
+-- whether the row says of the file the same as the record, or there is no row and the file is
+-- deleted
 abbrev pub is_unchanged : PairData → Bool
 is_unchanged (record_alone r) = not r.exists
 is_unchanged (record_and_row r row) = r.exists && same_stat (last_stat r) (stat_of row)
 is_unchanged (row_alone row) = false
 
--- whether the rows say what the records say of the files that exist
+-- whether the rows say the same as the records of the files that exist
 abbrev pub shows : List RecordData → List SeenData → Bool
 shows rs rows = list_all is_unchanged (pairs_of rs rows)
 

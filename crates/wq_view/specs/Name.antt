@@ -1,5 +1,5 @@
 -- The names of files: paths relative to a root, as bytes, with their parts between slashes. The
--- rule of valid names is this server's own.
+-- rule for valid names is this server's own.
 use Rattle.std.specs.Prelude.{ℕ, Bool, ◌==◌, nat_le, not, ◌&&◌, List, [], length, bytes_eq, codes}
 use Rattle.std.specs.Str.{is_utf8}
 use Rattle.std.specs.List.{list_any, list_all, slice_split}
@@ -11,8 +11,8 @@ abbrev pub is_plain_part : List ℕ → Bool
 is_plain_part part =
     not (bytes_eq part []) && not (bytes_eq part (codes ".")) && not (bytes_eq part (codes ".."))
 
--- a name: a text in UTF-8, neither empty nor over 4,096 bytes, in which no byte is 0 and each part
--- between slashes is plain
+-- a name: a text in UTF-8 with 1 to 4,096 bytes, in which no byte is 0 and each part between
+-- slashes is plain
 unfoldable pub is_valid_name : List ℕ → Bool
 is_valid_name bytes =
     nat_le 1 (length bytes) && nat_le (length bytes) max_name

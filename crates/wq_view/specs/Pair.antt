@@ -1,4 +1,4 @@
--- The data that the types of pairs stand for. No public document defines it.
+-- The data of the types of pairs. No public document defines it.
 use Rattle.std.specs.Prelude.{Bool, true, List}
 use Rattle.wq_view.specs.declared.pair.Pair.{Pair}
 use Rattle.wq_view.specs.declared.pair.Pair.TheVariants.{Old, Both, New}
@@ -6,13 +6,13 @@ use Rattle.wq_view.specs.declared.pair.Pairs.{Pairs}
 use Rattle.wq_view.specs.Seen.{is_lawful_row}
 use Rattle.wq_view.specs.Merge.{PairData, record_alone, record_and_row, row_alone, pairs_of}
 
--- what a pair has of its name
+-- the record, the row or both that a pair has of its name
 abbrev pub pair_data : Pair → PairData
 pair_data (Old known) = record_alone known.now
 pair_data (Both known row) = record_and_row known.now row.now
 pair_data (New row) = row_alone row.now
 
--- the pairs that are left
+-- the rest of the pairs
 abbrev pub pairs_left : Pairs → List PairData
 pairs_left pairs = pairs_of pairs.records.now pairs.rows.now
 

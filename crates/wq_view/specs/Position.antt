@@ -1,5 +1,4 @@
--- Positions of records: their places in the list of a view, from 0.
--- This server's own.
+-- Positions of records: their places in the list of a view, from 0. They are this server's own.
 use Rattle.std.specs.Prelude.{◌≡◌, ◌<◌, ◌≤◌, ℕ, Bool, false, All, List, length, filter, slice_get}
 use Rattle.std.specs.Prelude.{bytes_eq}
 use Rattle.std.specs.List.{filter_map, range_with_len}
@@ -26,18 +25,19 @@ positions_of test records = filter (passes_at test records) (all_positions recor
 abbrev pub records_at : List RecordData → List ℕ → List RecordData
 records_at records positions = filter_map (slice_get records) positions
 
--- the records at the positions of those that pass a test are the records that pass it
+-- the records at the positions of the records that pass a test are the records that pass it
 abbrev pub PositionsFilter : Type 0
 PositionsFilter = (test : RecordData → Bool) (records : List RecordData)
     → records_at records (positions_of test records) ≡ filter test records
 
--- the records at those of some positions that pass a test are the records there that pass it
+-- filtering some positions by a test of their records keeps the records there that pass the test
 abbrev pub KeptPositionsFilter : Type 0
 KeptPositionsFilter = (test : RecordData → Bool) (records : List RecordData) (positions : List ℕ)
     → records_at records (filter (passes_at test records) positions)
     ≡ filter test (records_at records positions)
 
--- the positions of the records that pass a test are positions, and no more than there are records
+-- the positions of the records that pass a test are below the number of records, and are at most
+-- that many
 abbrev pub PositionsAreThere : Type 0
 PositionsAreThere = (test : RecordData → Bool) (records : List RecordData)
     → All (λ i. i < length records) (positions_of test records)

@@ -1,8 +1,8 @@
--- The data that the fields of the type `Record` stand for. No public document defines it.
+-- The data of the fields of the type `Record`. No public document defines it.
 use Rattle.wq_view.specs.declared.file_record.Record.TheInside.{Inside}
 use Rattle.wq_view.specs.RecordData.{RecordData}
 
--- the record that they make
+-- the record that the fields make
 abbrev pub record_data : Inside → RecordData
 record_data r = record {
   name = r.name;

@@ -1,5 +1,6 @@
--- The record that a view keeps of one file: what was last seen of it, and when it came and changed.
--- Its fields are those of Watchman's documentation of file queries; a tick is the number of a pass.
+-- The record that a view keeps of one file: the kind, size and time that were last seen, and when
+-- the file came and changed. Its fields are those of Watchman's documentation of file queries. A
+-- tick is the number of a pass.
 use Rattle.std.specs.Prelude.{ℕ, ℤ, pos, ◌≤◌, Bool, false, true, IsTrue, if◌then◌else◌, List, map, Option, Some, None, refl}
 use Rattle.std.specs.Coded.{Coded, code_by, coded×, coded_ℕ, coded_ℤ, coded_bool, coded_list}
 use Rattle.std.specs.FinMap.{find}
@@ -11,15 +12,15 @@ use Rattle.wq_view.specs.Name.{is_valid_name}
 use Rattle.wq_view.specs.Seen.{Stat, is_count, is_in_range, same_stat}
 use Rattle.wq_view.specs.Listing.{name_cmp}
 
--- what is kept of one file, deleted or not
+-- the record of one file, deleted or not
 pub record RecordData : Type 0 where
   pub name : List ℕ
   pub kind : Kind
   pub size : ℤ
   pub mtime_ms : ℤ
-  -- whether the last pass saw it
+  -- whether the last pass saw the file
   pub exists : Bool
-  -- the pass that saw it come, and the last pass that saw a change of it
+  -- the pass that saw the file come, and the last pass that saw a change of it
   pub ctick : ℕ
   pub otick : ℕ
   -- the seconds of those passes
@@ -58,7 +59,7 @@ record_code =
     })
     (λ _. refl)
 
--- what was last seen of the file
+-- the kind, size and time that were last seen of the file
 abbrev pub last_stat : RecordData → Stat
 last_stat r = record { kind = r.kind; size = r.size; mtime_ms = r.mtime_ms }
 
@@ -85,7 +86,7 @@ blank_record name = record {
   osec = pos 0;
 }
 
--- the record after a pass that saw the file otherwise than it was
+-- the record after a pass that saw a change of the file
 abbrev pub after_change : RecordData → Stat → ℕ → ℤ → RecordData
 after_change r s tick second =
     record r { kind = s.kind; size = s.size; mtime_ms = s.mtime_ms; otick = tick; osec = second }
@@ -99,7 +100,7 @@ after_creation r s tick second =
 abbrev pub after_deletion : RecordData → ℕ → ℤ → RecordData
 after_deletion r tick second = record r { exists = false; otick = tick; osec = second }
 
--- the record after a pass that saw this of the file, or nothing
+-- the record after a pass that saw this stat of the file, or no file
 abbrev pub record_after : RecordData → Option Stat → ℕ → ℤ → RecordData
 record_after r None tick second = if r.exists then after_deletion r tick second else r
 record_after r (Some s) tick second =

@@ -1,5 +1,5 @@
 -- One file as a pass sees it: its kind, its size, and its modification time in milliseconds. A row
--- of a listing is a name with what was seen of it.
+-- of a listing is a name with its stat.
 use Rattle.std.specs.Prelude.{refl, ℕ, ℤ, pos, neg_ℤ, Bool, ◌&&◌, ◌==◌, int_le, List}
 use Rattle.std.specs.Coded.{Coded, code_by, coded×, coded_ℤ}
 use Rattle.std.specs.Ordering.{int_eq}
@@ -9,7 +9,7 @@ use Rattle.wq_base.specs.Limit.{max_number}
 use Rattle.wq_view.specs.Kind.{letter_of}
 use Rattle.wq_view.specs.Name.{is_valid_name}
 
--- what a pass saw of a name
+-- the stat that a pass saw of a name
 pub record Stat : Type 0 where
   pub kind : Kind
   pub size : ℤ
@@ -23,14 +23,14 @@ stat_code =
     (λ (kind, (size, mtime_ms)). record { kind = kind; size = size; mtime_ms = mtime_ms })
     (λ _. refl)
 
--- a name with what was seen of it
+-- a name with its stat
 pub record SeenData : Type 0 where
   pub name : List ℕ
   pub kind : Kind
   pub size : ℤ
   pub mtime_ms : ℤ
 
--- what the row says of its file
+-- the stat of the file in the row
 abbrev pub stat_of : SeenData → Stat
 stat_of row = record { kind = row.kind; size = row.size; mtime_ms = row.mtime_ms }
 
@@ -38,7 +38,7 @@ stat_of row = record { kind = row.kind; size = row.size; mtime_ms = row.mtime_ms
 abbrev pub entry_of : SeenData → List ℕ × Stat
 entry_of row = (row.name, stat_of row)
 
--- whether two stats are one
+-- whether two stats are the same
 abbrev pub same_stat : Stat → Stat → Bool
 same_stat a b =
     (letter_of a.kind == letter_of b.kind) && int_eq a.size b.size && int_eq a.mtime_ms b.mtime_ms

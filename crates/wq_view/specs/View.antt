@@ -1,5 +1,5 @@
--- The view of a history: the records of all names that its passes saw, and how many there were.
--- It is this server's own.
+-- The view of a history: the records of all names that its passes saw, and the number of passes. It
+-- is this server's own.
 use Rattle.std.specs.Prelude.{◌≡◌, ℕ, IsTrue, List, length, refl}
 use Rattle.std.specs.Coded.{Coded, code_by, coded×, coded_ℕ, coded_list}
 use Rattle.std.specs.FinMap.{is_sorted}
@@ -7,7 +7,7 @@ use Rattle.wq_view.specs.Listing.{name_cmp}
 use Rattle.wq_view.specs.RecordData.{RecordData, record_code, by_name, record_named}
 use Rattle.wq_view.specs.History.{History, record_of}
 
--- what is known of a root
+-- the last tick of a root, and the records of its files
 pub record ViewData : Type 0 where
   -- the number of the last pass
   pub tick : ℕ

@@ -1,4 +1,4 @@
-//! How a name compares to the names strictly below a directory, which lie together in byte order.
+//! The order of a name and the names strictly below a directory. Those names are neighbours in byte order.
 ghost use Rattle.std.specs.Prelude.{◌≡◌};
 ghost use Rattle.wq_view.specs.Below.{order_below};
 

@@ -1,5 +1,5 @@
-//! The record that a view keeps of one file, and how a pass changes it.
-//! Which records a view has, and in which order, is not said here.
+//! The record that a view keeps of one file, and the changes that a pass makes in it. The list of all records is in the
+//! module of views.
 ghost use Rattle.std.specs.Prelude.{◌≡◌, ◌≤◌, Some, None, IfOk, IsTrue, bytes_eq};
 ghost use Rattle.wq_base.specs.Name.{basename_of, suffix_of};
 ghost use Rattle.wq_view.specs.Name.{is_valid_name};
@@ -18,7 +18,7 @@ use std::alloc::AllocError;
 use std::cmp::Ordering;
 use std::marker::Model;
 
-/// How many milliseconds a second has.
+/// The number of milliseconds in a second.
 const MILLISECONDS: i64 = 1000;
 
 /// The record that a view keeps of one file, deleted or not. A tick is the number of a pass over
@@ -39,7 +39,7 @@ pub struct Record {
     /// The second of the Unix epoch of the pass `otick`.
     pub osec: i64,
     pub kind: Kind,
-    /// Whether the last pass saw the file. If it did not, kind, size and time say what was last seen.
+    /// Whether the last pass saw the file. If it did not, kind, size and time are those of the last pass that did.
     pub exists: bool,
 }
 
@@ -66,14 +66,14 @@ impl Record {
         after_last(b'/', name).unwrap_or(name)
     }
 
-    /// The part after the last dot of the basename, and nothing if it has no dot: the suffix of `.php` is `php`.
+    /// The part after the last dot of the basename, or nothing if it has no dot. The suffix of `.php` is `php`.
     pub fn suffix(&self) -> &[u8]
         ensures { result.now ≡ suffix_of self.now.name }
     {
         suffix_of(self.name.as_bytes())
     }
 
-    /// The modification time in whole seconds of the Unix epoch, rounded down: -1 ms lies in second -1.
+    /// The modification time in whole seconds of the Unix epoch, rounded down: -1 ms is in second -1.
     pub fn mtime(&self) -> i64
         ensures { result ≡ seconds_of self.now.mtime_ms }
     {
@@ -98,7 +98,7 @@ impl Record {
         })
     }
 
-    /// An equal record, over the same name.
+    /// An equal record, which shares the name.
     pub(crate) fn copy(&self) -> Result<Record, AllocError>
         ensures { IfOk result (λ r. r ≡ self.now) }
     {
@@ -136,14 +136,14 @@ impl Record {
         self.name.as_bytes() == row.name.as_slice()
     }
 
-    /// Whether the row says of the file what was last seen of it.
+    /// Whether the row has the kind, size and time that were last seen of the file.
     pub(crate) fn has_stat_of(&self, row: &Seen) -> bool
         ensures { result ≡ same_stat (last_stat self.now) (stat_of row.now) }
     {
         self.kind == row.kind && self.size == row.size && self.mtime_ms == row.mtime_ms
     }
 
-    /// Takes in what a pass saw of the file.
+    /// Changes the record by a row that a pass saw of the file.
     pub(crate) fn observe(&mut self, row: &Seen, tick: u64, second: i64)
         requires row { IsTrue (is_lawful_row row.now) }
         requires tick { tick ≤ MAX_TICK }
@@ -157,7 +157,7 @@ impl Record {
         }
     }
 
-    /// The file is there, and was not before.
+    /// Notes that the file exists, and did not exist before.
     fn come(&mut self, row: &Seen, tick: u64, second: i64)
         requires row { IsTrue (is_lawful_row row.now) }
         requires tick { tick ≤ MAX_TICK }
@@ -170,7 +170,7 @@ impl Record {
         self.change(row, tick, second);
     }
 
-    /// The file is not what it was.
+    /// Notes that the file changed.
     fn change(&mut self, row: &Seen, tick: u64, second: i64)
         requires row { IsTrue (is_lawful_row row.now) }
         requires tick { tick ≤ MAX_TICK }
@@ -184,7 +184,7 @@ impl Record {
         self.osec = second;
     }
 
-    /// Takes in that a pass did not see the file.
+    /// Changes the record by a pass that did not see the file.
     pub(crate) fn observe_absence(&mut self, tick: u64, second: i64)
         requires tick { tick ≤ MAX_TICK }
         requires second { IsTrue (is_count second) }

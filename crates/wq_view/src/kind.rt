@@ -1,8 +1,8 @@
-//! The kinds of files, and the letters that stand for them in listings and replies.
+//! The kinds of files, and their letters in listings and replies.
 ghost use Rattle.std.specs.Prelude.{◌≡◌, MatchOption, ◌≢◌, ℕ};
 ghost use Rattle.wq_view.specs.Kind.{kind_with, letter_of};
 
-/// The kind of a file, one of those of POSIX or one that only Solaris has.
+/// The kind of a file, as POSIX has it. One more kind exists on Solaris alone.
 #[derive(Clone, Copy, Debug, PartialEq, Eq)]
 pub enum Kind {
     /// A regular file.
@@ -19,14 +19,14 @@ pub enum Kind {
     Fifo,
     /// A socket.
     Socket,
-    /// A door, which Solaris has.
+    /// A door, which only Solaris has.
     Door,
     /// Anything else.
     Unknown,
 }
 
 impl Kind {
-    /// The letter of the kind, as in Watchman's field `type`: `f d l b c p s D`, and `?` for what is none of these.
+    /// The letter of the kind, as in Watchman's field `type`: one of `f d l b c p s D`, or `?` for any other kind.
     pub fn letter(self) -> u8
         ensures { result ≡ letter_of self }
     {

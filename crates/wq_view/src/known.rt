@@ -1,4 +1,5 @@
-//! The names of a view's records, which the rows of the next listing share: what they share need not be tested again.
+//! The names of a view's records. The rows of the next listing share them, so that a shared name need not be tested
+//! again.
 ghost use Rattle.std.specs.Prelude.{◌≡◌, false, IfOk, IfSome, IsTrue, MatchOption};
 ghost use Rattle.std.specs.Arc.{arc_slice_items};
 ghost use Rattle.wq_view.specs.Name.{is_valid_name};
@@ -9,17 +10,17 @@ use std::alloc::{AllocError, Global};
 use std::cmp::Ordering;
 use std::sync::ArcSlice;
 
-/// Records whose names rise, of which those below the last name that was asked for are passed.
+/// Records with rising names. The records below the last name that was asked for are passed.
 #[derive(Clone, Copy)]
 pub struct Known<'a> {
-    /// Those that are not passed yet.
+    /// The records that are not passed yet.
     pub records: &'a [Record],
 }
 
 impl<'a> Known<'a> {
-    /// The bytes of a name that a pass takes, shared with the record of that name here if it is not passed. There are
-    /// none if no pass takes the name. If names are asked for as they rise, each that is here is found, and all
-    /// together take one pass over both.
+    /// The bytes of a name that a pass takes. They are shared with the record of that name, if it is here and not
+    /// passed. There are none if no pass takes the name. If names are asked for in rising order, each name that is
+    /// here is found, and all calls together go once over the names and the records.
     pub fn shared(&mut self, alloc: Global, name: &[u8]) -> Result<Option<ArcSlice<u8>>, AllocError>
         ensures { IfOk result (λ shared. MatchOption shared
             (is_valid_name name.now ≡ false)
@@ -34,7 +35,7 @@ impl<'a> Known<'a> {
         Ok(Some(ArcSlice::from_slice(alloc, name)?))
     }
 
-    /// The name of the record of these bytes, if it is not passed. The records below it are passed now.
+    /// The name of the record with these bytes, if it is not passed. The call passes the records below it.
     #[tactic(auto, using(crate::proofs::NameOrder::same_bytes, crate::proofs::NameOrder::same_valid))]
     fn find(&mut self, name: &[u8]) -> Option<&'a Name>
         ensures { IfSome result (λ known. (known.now ≡ name.now) × IsTrue (is_valid_name name.now)) }

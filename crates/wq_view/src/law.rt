@@ -1,4 +1,4 @@
-//! Laws of views, each the contract of a function that does nothing.
+//! Laws of views. Each law is the contract of a function that does nothing.
 ghost use Rattle.wq_view.specs.Position.{KeptPositionsFilter, PositionsAreThere, PositionsFilter};
 ghost use Rattle.wq_view.specs.View.{HasOneView};
 
@@ -8,19 +8,20 @@ pub fn history_has_one_view()
     ensures { HasOneView }
 {}
 
-/// The records at the positions of those that pass a test are the records that pass it.
+/// The records at the positions of the records that pass a test are the records that pass it.
 #[tactic(auto, using(crate::proofs::Positions::positions_filter))]
 pub fn positions_filter()
     ensures { PositionsFilter }
 {}
 
-/// The records at those of some positions that pass a test are the records there that pass it.
+/// Filtering some positions by a test of their records keeps the records there that pass the test.
 #[tactic(auto, using(crate::proofs::Positions::kept_positions_filter))]
 pub fn kept_positions_filter()
     ensures { KeptPositionsFilter }
 {}
 
-/// The positions of the records that pass a test are positions, and no more than there are records.
+/// The positions of the records that pass a test are below the number of records, and are at most
+/// that many.
 #[tactic(auto, using(crate::proofs::Positions::positions_are_there))]
 pub fn positions_are_there()
     ensures { PositionsAreThere }

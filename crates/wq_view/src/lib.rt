@@ -1,6 +1,6 @@
-//! The view of a tree of files that is listed again and again. It says of each file what was last seen,
-//! whether it exists, and at which pass it came and last changed. It keeps no contents, walks no
-//! directory and knows no clock: listings and their seconds are handed in.
+//! The view of a tree of files that is listed again and again. It has for each file the kind, size and time that were
+//! last seen. It also has whether the file exists, and the passes at which it came and last changed. It keeps no
+//! contents, walks no directory and knows no clock. Its callers pass listings and their seconds.
 //!
 //! ```text
 //! let row = Seen { name: ArcSlice::from_slice(alloc, b"src/a.c")?, kind: Kind::File, size: 5, mtime_ms: 1000 };

@@ -1,5 +1,5 @@
-//! Listings of a tree: rows as a walker saw them, and the pass that rows without a fault make.
-//! Nothing here reads a directory.
+//! Listings of a tree: rows as a walker saw them, and the pass that rows without a fault make. The crate of walks reads
+//! the directories.
 ghost use Rattle.std.specs.Prelude.{◌≡◌, ◌<◌, ◌↔◌, false, Some, None, MatchResult, IfSome, IfNone, IfErr, List, [], length, ◌≤◌, IfOk, map, take, bytes_eq, slice_get, IsTrue, IsPermutation};
 ghost use Rattle.std.specs.FinMap.{entries, is_sorted};
 ghost use Rattle.std.specs.List.{list_all, IsDistinct};
@@ -14,7 +14,7 @@ use std::sync::ArcSlice;
 use thiserror::Error;
 use wq_base::MAX_SIGNED;
 
-/// One row of a listing, as a walker saw it: nothing of it is tested yet.
+/// One row of a listing, as a walker saw it. Nothing in it is tested yet.
 #[derive(Drop)]
 pub struct Seen {
     /// The path below the root. A pass and a view share these bytes.
@@ -35,28 +35,27 @@ impl Model for Seen {
     ghost view = { λ s. record { name = arc_slice_items s.name; kind = s.kind; size = s.size; mtime_ms = s.mtime_ms } };
 }
 
-/// Why rows make no pass.
+/// The reason for which rows make no pass.
 #[derive(Clone, Copy, Debug, PartialEq, Eq, Drop, Error)]
 pub enum PassFault {
-    /// A name that is not valid.
+    /// A row has a name that is not valid.
     #[error("a name is not valid")]
     BadName,
-    /// A name that an earlier row has.
+    /// A row has the name of an earlier row.
     #[error("a name stands twice")]
     NameTwice,
-    /// More than 1,000,000 rows.
+    /// There are more than 1,000,000 rows.
     #[error("too many rows")]
     TooManyRows,
-    /// A size or a second that is not 0 to 2^62, or a time that is not -2^62 to 2^62.
+    /// A size or a second is not from 0 to 2^62, or a time is not from -2^62 to 2^62.
     #[error("a number is out of range")]
     OutOfRange,
-    /// For callers that make rows and a pass in one step: making a pass of rows takes none.
+    /// Memory ran out, for callers that make rows and a pass in one step. A pass of given rows takes no memory.
     #[error("no memory")]
     NoMemory,
 }
 
-/// The result of one pass over a tree: of each name one row, and the second at which the pass was
-/// made.
+/// The result of one pass over a tree: one row for each name, and the second at which the pass was made.
 #[derive(Drop)]
 pub struct Pass {
     rows: Vec<Seen>,
@@ -79,10 +78,10 @@ impl Model for Pass {
 }
 
 impl Pass {
-    /// The pass that these rows make, in any order, seen at this second of the Unix epoch.
+    /// The pass that these rows make. The rows may be in any order. They were seen at this second of the Unix epoch.
     ///
-    /// The first fault refuses them: too many rows, then the second. Then come, row by row, a name that
-    /// is not valid, a number out of range, a name that an earlier row has. It takes no memory.
+    /// The first fault refuses the rows: too many rows, and then the second. After that the faults of rows come, row by
+    /// row: a name that is not valid, a number out of range, a name that an earlier row has. The call takes no memory.
     pub fn new(mut rows: Vec<Seen>, second: i64) -> Result<Pass, PassFault>
         ensures fault { MatchResult result
             (λ _. listing_fault rows.items second ≡ None)
@@ -100,8 +99,8 @@ impl Pass {
         }
     }
 
-    /// The pass that these rows make, none of which has a fault of its own, as [`Pass::new`] makes it. No row is tested:
-    /// what is left to refuse them is too many rows, the second, and then a name that an earlier row has.
+    /// The pass that these rows make, as [`Pass::new`] makes it, if no row has a fault of its own. No row is tested.
+    /// The remaining faults are too many rows, the second, and then a name that an earlier row has.
     pub fn of_lawful(rows: Vec<Seen>, second: i64) -> Result<Pass, PassFault>
         requires { IsTrue (list_all is_lawful_row rows.items) }
         ensures fault { MatchResult result
@@ -116,7 +115,7 @@ impl Pass {
         Pass::of_few(rows, second)
     }
 
-    /// The pass that these rows make, which are not too many, and none of which has a fault of its own.
+    /// The pass that these rows make. The rows are not too many, and no row has a fault of its own.
     fn of_few(mut rows: Vec<Seen>, second: i64) -> Result<Pass, PassFault>
         requires few { length rows.items ≤ MAX_LISTING_ROWS }
         requires lawful { IsTrue (list_all is_lawful_row rows.items) }
@@ -145,7 +144,7 @@ impl Pass {
         &self.rows
     }
 
-    /// When the pass was made, in seconds of the Unix epoch.
+    /// The second of the Unix epoch at which the pass was made.
     pub fn second(&self) -> i64
         ensures value { result ≡ self.now.second }
         ensures range { IsTrue (is_count result) }
@@ -179,7 +178,7 @@ fn first_unlawful(rows: &[Seen]) -> Option<usize>
     None
 }
 
-/// The first fault of rows of which the one at this place is the first that is not lawful.
+/// The first fault of rows whose first row with a fault of its own is at this place.
 fn first_fault(rows: &mut [Seen], at: usize) -> PassFault
     requires before { IsTrue (list_all is_lawful_row (take at rows.old)) }
     requires bound { at < length rows.old }
@@ -197,7 +196,7 @@ fn first_fault(rows: &mut [Seen], at: usize) -> PassFault
     }
 }
 
-/// Brings rows into the byte order of their names, and says whether no name is there twice.
+/// Sorts rows in the byte order of their names, and returns whether no name comes twice.
 fn sort_by_name(rows: &mut [Seen]) -> bool
     ensures same { IsPermutation rows.old rows.new }
     ensures distinct { IsTrue result ↔ IsDistinct bytes_eq (names_of rows.old) }

@@ -1,5 +1,5 @@
 //! The changes that a pass makes in a view: records and rows pair by pair, both in the byte order of
-//! their names. Each function goes over the pairs once.
+//! their names. No function goes over the pairs more than twice.
 ghost use Rattle.std.specs.Prelude.{◌≡◌, ◌≤◌, ◌++◌, length, vec_len, IfOk, OnOk, IsTrue};
 ghost use Rattle.std.specs.List.{list_all};
 ghost use Rattle.wq_view.specs.Limit.{max_listing_rows};
@@ -12,14 +12,15 @@ use crate::listing::Seen;
 use crate::pair::Pairs;
 use std::alloc::{AllocError, Global};
 
-/// Whether the rows say just what the records say of the files that exist.
+/// Whether rows and records say just the same of the files that exist.
 pub(crate) fn shows(records: &[Record], rows: &[Seen]) -> bool
     ensures { result ≡ shows records.now rows.now }
 {
     Pairs::of(records, rows).all(|pair| pair.is_unchanged())
 }
 
-/// The records after a pass with these rows. Refused where there would be too many, too.
+/// The records after a pass with these rows. The call is refused if memory runs out, and also if there
+/// would be too many records.
 pub(crate) fn records_after(
     alloc: Global,
     records: &[Record],
@@ -46,7 +47,7 @@ pub(crate) fn records_after(
     Ok(after)
 }
 
-/// How many names records and rows have together.
+/// The number of names that records and rows have together.
 fn count_of(records: &[Record], rows: &[Seen]) -> usize
     requires { (length records.now ≤ MAX_RECORDS) × (length rows.now ≤ max_listing_rows) }
     ensures { result ≡ length (pairs_of records.now rows.now) }

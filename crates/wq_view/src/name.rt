@@ -1,5 +1,5 @@
-//! The names of files: paths relative to a root, shared between listings and views so that none of them
-//! copies a text. It says what a basename or a suffix is; what a name matches is for others.
+//! The names of files: paths relative to a root. Listings and views share their bytes, so that none of them copies a
+//! text. The module finds the basename and the suffix of a name; other crates match names.
 ghost use Rattle.std.specs.Prelude.{◌≡◌, ◌==◌, true, false, IfOk, IsTrue, MatchOption};
 ghost use Rattle.std.specs.Arc.{arc_slice_items};
 ghost use Rattle.std.specs.List.{after_last, list_all, list_any, slice_split};
@@ -13,10 +13,10 @@ use std::alloc::AllocError;
 use std::marker::Model;
 use std::sync::ArcSlice;
 
-/// How many bytes a name may have.
+/// The greatest number of bytes of a name.
 pub const MAX_NAME: usize = 4096;
 
-/// A valid name over shared bytes: a copy of it costs a pointer.
+/// A valid name over shared bytes. A copy of it costs a pointer.
 #[derive(Drop)]
 pub struct Name {
     bytes: ArcSlice<u8>,
@@ -60,15 +60,15 @@ impl Name {
         self.bytes.clone()
     }
 
-    /// The name as text, which a valid name is.
+    /// The name as text. A valid name is UTF-8.
     pub fn as_str(&self) -> &str
         ensures { result.now ≡ self.now }
     {
-        // A valid name is UTF-8, which is proved here and so not tested again.
+        // A valid name is UTF-8. That is proved here, and so it is not tested again.
         unsafe { str::from_utf8_unchecked(self.as_bytes()) }
     }
 
-    /// The bytes of the name, 1 to 4,096 of them.
+    /// The bytes of the name, from 1 to 4,096.
     pub fn as_bytes(&self) -> &[u8]
         ensures value { result.now ≡ self.now }
         ensures valid { IsTrue (is_valid_name self.now) }
@@ -77,9 +77,8 @@ impl Name {
     }
 }
 
-/// Whether bytes are a name: a text in UTF-8, neither empty nor over 4,096 bytes, in which no byte is 0.
-/// Slashes part it into steps, each of at least one byte and neither `.` nor `..`. So a name neither begins
-/// nor ends with a slash.
+/// Whether bytes are a name: a text in UTF-8 with 1 to 4,096 bytes, in which no byte is 0. Slashes divide it into
+/// steps. Each step has at least one byte, and is neither `.` nor `..`. So a name neither begins nor ends with a slash.
 #[tactic(auto, unfolding(crate::specs::Name::is_valid_name))]
 pub fn is_valid_name(bytes: &[u8]) -> bool
     ensures { result ≡ is_valid_name bytes.now }
@@ -108,7 +107,7 @@ fn is_utf8(bytes: &[u8]) -> bool
     str::from_utf8(bytes).is_ok()
 }
 
-/// The part after the last such byte, if there is one.
+/// The part after the last byte that equals this one, if there is such a byte.
 pub(crate) fn after_last(byte: u8, bytes: &[u8]) -> Option<&[u8]>
     ensures { MatchOption result
         ((list_any (λ b. b == byte) bytes.now ≡ false)
@@ -122,8 +121,8 @@ pub(crate) fn after_last(byte: u8, bytes: &[u8]) -> Option<&[u8]>
     Some(bytes.split_at(at + 1).1)
 }
 
-/// The part after the last dot of the basename, and nothing if it has no dot. No byte before that dot is read, and
-/// none before the basename.
+/// The part after the last dot of the basename, or nothing if it has no dot. The call reads no byte before that dot,
+/// and none before the basename.
 pub(crate) fn suffix_of(name: &[u8]) -> &[u8]
     ensures { result.now ≡ suffix_of name.now }
 {

@@ -1,5 +1,5 @@
-//! Records and rows side by side: of each name the record, the row or both, in the byte order of names. What a pass
-//! makes of them is for others.
+//! Records and rows side by side: for each name the record, the row or both, in the byte order of names. The change
+//! that a pass makes in a record is for others.
 ghost use Rattle.std.specs.Prelude.{◌≡◌, ◌≤◌, IfOk, IsTrue};
 ghost use Rattle.wq_view.specs.Seen.{is_count};
 ghost use Rattle.wq_view.specs.Merge.{is_unchanged, pair_after, pairs_of};
@@ -22,7 +22,7 @@ pub(crate) enum Pair<'a> {
 }
 
 impl Pair<'_> {
-    /// Whether the row says of the file just what the record says; without a row, that it does not exist.
+    /// Whether the row says of the file just the same as the record. Without a row, whether the file does not exist.
     pub(crate) fn is_unchanged(self) -> bool
         ensures { result ≡ is_unchanged (pair_data self.entry) }
     {
@@ -33,7 +33,7 @@ impl Pair<'_> {
         }
     }
 
-    /// The record of the name after a pass that saw the row, or no file of this name.
+    /// The record of the name after a pass that saw the row, or saw no file of this name.
     pub(crate) fn after(self, tick: u64, second: i64) -> Result<Record, AllocError>
         requires lawful { IsTrue (has_lawful_row (pair_data self)) }
         requires tick { tick ≤ MAX_TICK }
@@ -60,7 +60,7 @@ impl Pair<'_> {
     }
 }
 
-/// The pairs of records and rows, both of whose names rise. It goes over both lists once.
+/// The pairs of records and rows with rising names. The iterator goes over both lists once.
 #[derive(Drop)]
 pub(crate) struct Pairs<'a> {
     records: &'a [Record],
@@ -68,7 +68,7 @@ pub(crate) struct Pairs<'a> {
 }
 
 impl<'a> Pairs<'a> {
-    /// The pairs of these.
+    /// The pairs of these records and rows.
     pub(crate) fn of(records: &'a [Record], rows: &'a [Seen]) -> Pairs<'a>
         ensures { pairs_left result ≡ pairs_of records.now rows.now }
     {
@@ -90,7 +90,7 @@ impl<'a> Iterator for Pairs<'a> {
     #[tactic(auto, using(crate::proofs::NameOrder::order_of_same, crate::proofs::NameOrder::less_from_lt, crate::proofs::NameOrder::order_of_others))]
     fn next(&mut self) -> Option<Pair<'a>> {
         match (self.records.split_first(), self.rows.split_first()) {
-            // Mostly the names are the same, which is found soonest.
+            // Mostly the names are the same, and this test finds it soonest.
             (Some((record, records)), Some((row, rows))) if record.has_name_of(row) => {
                 self.records = records;
                 self.rows = rows;

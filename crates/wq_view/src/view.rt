@@ -1,5 +1,5 @@
 //! The view of a root: the records of all files that its passes saw, in the byte order of their names.
-//! Lookups take no memory; only a pass that moves the view, and a copy, do.
+//! Lookups take no memory. Only a pass that moves the view, and a copy of the view, take memory.
 ghost use Rattle.std.specs.Prelude.{MatchOption, ℕ, nat_le, nat_lt, ◌==◌, ◌&&◌, ◌≡◌, ◌≢◌, ◌+◌, ◌≤◌, ◌<◌, ◌↔◌, List, [], ◌∷◌, ◌++◌, Ok, Err, Some, None, true, false, length, IfOk, IfErr, IfNone, IfSome, IsTrue, slice_get};
 ghost use Rattle.wq_view.specs.RecordData.{record_named};
 ghost use Rattle.wq_view.specs.History.{History, last_stats};
@@ -16,13 +16,13 @@ use std::alloc::{AllocError, Global};
 use std::marker::Model;
 use thiserror::Error;
 
-/// Why a view takes in no pass, or has no copy. It leaves the view as it was.
+/// The reason for which a view takes in no pass, or has no copy. The fault leaves the view as it was.
 #[derive(Clone, Copy, Debug, PartialEq, Eq, Drop, Error)]
 pub enum ViewFault {
     /// The tick is 2^62, and the pass differs from the last one.
     #[error("the ticks are spent")]
     TicksSpent,
-    /// A growth was refused, or there would be over 4,294,967,295 records.
+    /// Memory ran out, or there would be over 4,294,967,295 records.
     #[error("no memory")]
     NoMemory,
 }
@@ -38,7 +38,7 @@ impl From<AllocError> for ViewFault {
     }
 }
 
-/// The files of one root, as the passes over it make them known.
+/// The files of one root, as the passes over the root saw them.
 #[derive(Drop)]
 pub struct View {
     tick: u64,
@@ -61,7 +61,7 @@ impl Model for View {
 }
 
 impl View {
-    /// The view of a root that no pass went over: tick 0, and no records.
+    /// The view of a root before its first pass: tick 0, and no records.
     pub fn new(alloc: Global) -> View
         ensures empty { result ≡ record { tick = 0; records = [] } }
         ensures history { IsViewOf [] result }
@@ -72,9 +72,10 @@ impl View {
         }
     }
 
-    /// Takes in a pass, and says whether the tick moved: a pass that saw just what the one before it saw moves nothing.
+    /// Takes in a pass, and returns whether the tick moved. A pass that saw just the same as the pass before it moves
+    /// nothing.
     ///
-    /// In O(n + m) for n records and m rows. Only a pass that moves it takes memory.
+    /// The call runs in O(n + m) for n records and m rows. Only a pass that moves the view takes memory.
     pub fn absorb(&mut self, pass: &Pass) -> Result<bool, ViewFault>
         // For every history of which this is the view:
         ensures moved { (history : History) → IsViewOf history self.old
@@ -84,7 +85,7 @@ impl View {
         ensures spent { (history : History) → IsViewOf history self.old
             → ((result ≡ Err ViewFault.TicksSpent)
             ↔ ((self.old.tick ≡ max_tick) × (last_stats history ≢ pass.now.stats))) }
-        // And for any:
+        // And for any view:
         ensures room { result ≡ Ok true → self.old.tick < max_tick }
         ensures kept { result ≢ Ok true → self.new ≡ self.old }
     {
@@ -98,10 +99,10 @@ impl View {
         }
     }
 
-    /// The view after a pass; none if that saw just what the pass before it saw. The records of the two
-    /// share their names.
+    /// The view after a pass, or none if the pass saw just the same as the pass before it. The records of
+    /// the two views share their names.
     ///
-    /// In O(n + m) for n records and m rows. Only a pass that saw something else takes memory.
+    /// The call runs in O(n + m) for n records and m rows. Only a pass that saw something else takes memory.
     pub fn after(&self, pass: &Pass) -> Result<Option<View>, ViewFault>
         // For every history of which this is the view:
         ensures moved { (history : History) → IsViewOf history self.now
@@ -111,7 +112,7 @@ impl View {
         ensures spent { (history : History) → IsViewOf history self.now
             → ((result ≡ Err ViewFault.TicksSpent)
             ↔ ((self.now.tick ≡ max_tick) × (last_stats history ≢ pass.now.stats))) }
-        // And for any:
+        // And for any view:
         ensures room { IfOk result (λ next. IfSome next (λ _. self.now.tick < max_tick)) }
     {
         if self.shows(pass) {
@@ -123,7 +124,8 @@ impl View {
         Ok(Some(self.moved_by(pass)?))
     }
 
-    /// Whether the pass saw just what the last one saw, so that taking it in would move nothing. It takes no memory.
+    /// Whether the pass saw just the same as the last one, so that taking it in would move nothing. The call takes no
+    /// memory.
     pub fn shows(&self, pass: &Pass) -> bool
         ensures { (history : History) → IsViewOf history self.now
             → (IsTrue result ↔ (last_stats history ≡ pass.now.stats)) }
@@ -143,7 +145,7 @@ impl View {
         Ok(View { tick, records })
     }
 
-    /// The number of the last pass that moved it, at most 2^62; 0 before any.
+    /// The number of the last pass that moved the view, at most 2^62. It is 0 before any such pass.
     pub fn tick(&self) -> u64
         ensures value { result ≡ self.now.tick }
         ensures bound { result ≤ max_tick }
@@ -151,7 +153,7 @@ impl View {
         self.tick
     }
 
-    /// How many records there are, those of deleted files too.
+    /// The number of records, including those of deleted files.
     pub fn len(&self) -> usize
         ensures value { result ≡ length self.now.records }
         ensures bound { result ≤ max_records }
@@ -159,7 +161,7 @@ impl View {
         self.records.len()
     }
 
-    /// Whether there are no records: no pass saw a file.
+    /// Whether there are no records, because no pass saw a file.
     pub fn is_empty(&self) -> bool
         ensures { IsTrue result ↔ (self.now.records ≡ []) }
     {
@@ -183,7 +185,7 @@ impl View {
         &self.records
     }
 
-    /// The place of the record of this name, which need be no valid one.
+    /// The place of the record of this name. The name need not be valid.
     pub fn find(&self, name: &str) -> Option<usize>
         ensures absent { IfNone result (record_named name.now self.now.records ≡ None) }
         ensures found { IfSome result (λ i. (i < length self.now.records)
@@ -200,9 +202,9 @@ impl View {
     }
 
     /// The range of the positions of the records strictly below a directory: from the first number up to the
-    /// second, which is not in it. Below the empty directory lie all.
+    /// second, which is not in it. All records are below the empty directory.
     ///
-    /// Found by binary search.
+    /// The call takes two binary searches.
     pub fn below(&self, dir: &str) -> (usize, usize)
         ensures exact { (i : ℕ) → passes_at (is_below dir.now) self.now.records i
             ≡ (nat_le result.0 i && nat_lt i result.1) }
@@ -223,7 +225,7 @@ impl View {
         (start, end)
     }
 
-    /// An equal view, whose records share their names with this one's.
+    /// An equal view. Its records share their names with the records of this view.
     pub fn copy(&self) -> Result<View, ViewFault>
         ensures ok { IfOk result (λ view. view ≡ self.now) }
         ensures err { IfErr result (λ fault. fault ≡ ViewFault.NoMemory) }

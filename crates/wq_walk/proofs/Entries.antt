@@ -1,4 +1,4 @@
--- The names at places of a text, and what is left of places where some are left out.
+-- The names at places of a text, and the places that remain if some are left out.
 use Rattle.std.proofs.Common.{◌≡◌, ℕ, Bool, true, false, List, [], ◌∷◌, ◌++◌, All, IsTrue, IfNone, IfOk, Option, None, Some, Result, Ok, Err, option_map, ap, sym, subst, ◌∙◌}
 use Rattle.std.specs.List.Retain.{DedupsAll, DedupsFrom, IsDeduped}
 use Rattle.std.proofs.lemmas.List.{map-append}
@@ -16,13 +16,13 @@ pub taken : (bytes : List ℕ) (old new : List Place) (place : Place) → old �
     → names_at bytes old ≡ names_at bytes new ++ (name_at bytes place ∷ [])
 taken bytes old new place is = ap (names_at bytes) is ∙ map-append (name_at bytes) new (place ∷ [])
 
--- what is told of a directory: the names of its entries, or that a call of the system failed
+-- the names of a directory: those of its entries, or none because a call of the system failed
 pub told_here : {E : Type 0} (path : List ℕ) (result : Result (Option Names) E) → IfOk result (λ names. IfNone names HasMissed) → IfOk result (λ names. has_here path (option_map left_of names))
 told_here path (Ok None) missed = missed
 told_here path (Ok (Some names)) missed = All-map (λ name. IsTrue (is_entry name)) (name_at names.bytes.items) names.places.items names.entries
 told_here path (Err fault) missed = tt
 
--- what is left where those that a test tells are left out, which changes none, keeps what all have
+-- if a test leaves some items out and changes none, the rest keep each fact that holds of all
 pub all_deduped : {X S : Type 0} (P : X → Type 0) (R : S → X → X → Bool → S → X → X → Type 0)
     → ((s : S) (x k : X) (b : Bool) (t : S) (x' k' : X) → R s x k b t x' k' → (x' ≡ x) × (k' ≡ k))
     → (s : S) (xs ys : List X) → IsDeduped R s xs ys → All P xs → All P ys

@@ -1,4 +1,4 @@
--- In how many pieces a name is, where one more is cut off.
+-- The number of pieces that have a name, if one more piece is cut off.
 use Rattle.std.proofs.Common.{◌≡◌, ℕ, ◌+◌, Bool, true, false, cond, not, ◌&&◌, List, [], ◌∷◌, ◌++◌, Bor, Some, None, refl, ap, ◌∙◌, arith}
 use mathlib.Core.Bool.{false≢true}
 use Rattle.std.specs.declared.cmp.Ordering.{Ordering}
@@ -12,24 +12,24 @@ use Rattle.wq_walk.specs.declared.piece.Piece.{Piece}
 use Rattle.wq_walk.specs.Part.{is_in}
 use Rattle.wq_walk.specs.Pieces.{is_behind, pieces_with, IsSharedOut, IsSharedOutBelow}
 
--- an order that tests as less is less
+-- an order that is tested to be less is less
 less_from_lt : (o : Ordering) → is_lt o ≡ true → o ≡ Less
 less_from_lt Less e = refl
 less_from_lt Equal e = absurd (false≢true e)
 less_from_lt Greater e = absurd (false≢true e)
 
--- a name below a cut is below each name behind it
+-- a name below a cut is below each name after it
 below_both : (name cut other : List ℕ) → is_lt (name_cmp cut other) ≡ true → is_lt (name_cmp name cut) ≡ true → is_lt (name_cmp name other) ≡ true
 below_both name cut other behind below = ap is_lt (nat_list_cmp_total.trans name cut other (less_from_lt _ below) (less_from_lt _ behind))
 
--- what is below one of two cuts is below the later one, and what is between them too
+-- a name below one of two cuts is below the later one, and so is a name between them
 one_of_two : (a b : Bool) → (a ≡ true → b ≡ true) → cond a 1 0 + cond (not a && b) 1 0 ≡ cond b 1 0
 one_of_two true true h = refl
 one_of_two true false h = absurd (false≢true (h refl))
 one_of_two false true h = refl
 one_of_two false false h = refl
 
--- what is not below a cut is in what is left
+-- a name that is not below a cut is in the rest
 one_of_rest : (a : Bool) → cond a 1 0 + cond (not a && true) 1 0 ≡ 1
 one_of_rest true = refl
 one_of_rest false = refl
@@ -40,12 +40,12 @@ none_and n = omega arith
 one_more : (name : List ℕ) (pieces : List Piece) (piece : Piece) → pieces_with name (pieces ++ (piece ∷ [])) ≡ pieces_with name pieces + cond (is_in piece.part name) 1 0
 one_more name pieces piece = sum_by-append (λ (p : Piece). cond (is_in p.part name) 1 0) pieces (piece ∷ []) ∙ ap (λ n. pieces_with name pieces + n) (none_and _)
 
--- the piece between the last cut and one behind it
+-- the piece between the last cut and one after it
 pub shared_with_one : (pieces : List Piece) (last : Option (Bor (List ℕ))) (cut : Bor (List ℕ)) (known : _) → is_behind cut.now last ≡ true → IsSharedOutBelow last pieces → IsSharedOutBelow (Some cut) (pieces ++ (record { part = record { from = last; below = Some cut }; known = known } ∷ []))
 shared_with_one pieces None cut known behind shared name = one_more name pieces _ ∙ rw (shared name) (none_and _)
 shared_with_one pieces (Some last) cut known behind shared name = one_more name pieces _ ∙ rw (shared name) (one_of_two _ _ (below_both name last.now cut.now behind))
 
--- the piece behind the last cut
+-- the piece after the last cut
 pub shared_with_rest : (pieces : List Piece) (last : Option (Bor (List ℕ))) (known : _) → IsSharedOutBelow last pieces → IsSharedOut (pieces ++ (record { part = record { from = last; below = None }; known = known } ∷ []))
 shared_with_rest pieces None known shared name = one_more name pieces _ ∙ rw (shared name) refl
 shared_with_rest pieces (Some last) known shared name = one_more name pieces _ ∙ rw (shared name) (one_of_rest _)

@@ -16,16 +16,16 @@ use Rattle.wq_walk.specs.Pieces.{IsSharedOut}
 use Rattle.wq_walk.specs.Told.{Has, IsRootFault, Says}
 use Rattle.wq_walk.specs.Walk.{IsWalk}
 
--- a function of each item of a list that is turned round
+-- a function of each item of a reversed list
 pub map_reverse : {X Y : Type 0} (f : X → Y) (xs : List X) → map f (reverse xs) ≡ reverse (map f xs)
 map_reverse f [] = refl
 map_reverse f (x ∷ xs) = ap (map f) (reverse-cons x xs) ∙ map-append f (reverse xs) (x ∷ []) ∙ ap (λ ys. ys ++ (f x ∷ [])) (map_reverse f xs) ∙ sym (reverse-cons (f x) (map f xs))
 
--- what a list begins with is its front
+-- the first items of a list are its front
 pub front : {X Y : Type 0} (f : X → Y) (xs : List X) (ys zs : List Y) → map f xs ++ ys ≡ zs → map f xs ≡ take (length xs) zs
 front f xs ys zs is = sym (ap (take (length xs)) (sym is) ∙ take_at (map f xs) ys (length xs) (length-map xs f))
 
--- a front of a list, and one of the same list turned round, that are as long together, make the list
+-- a front of a list, and a front of the reversed list, make the list if they have its length together
 pub meet : {X : Type 0} (first rest whole : List X) (n m : ℕ) → first ≡ take n whole → rest ≡ take m (reverse whole) → n + m ≡ length whole → first ++ reverse rest ≡ whole
 meet first rest whole n m is back all = (λ i. is i ++ reverse (turned i)) ∙ ap (λ ys. take n whole ++ ys) (reverse-reverse (drop n whole)) ∙ whole_is
   where
@@ -38,7 +38,7 @@ meet first rest whole n m is back all = (λ i. is i ++ reverse (turned i)) ∙ a
     turned : rest ≡ reverse (drop n whole)
     turned = back ∙ ap (λ ws. take m (reverse ws)) (sym whole_is) ∙ ap (take m) (reverse-append (take n whole) (drop n whole)) ∙ take_at (reverse (drop n whole)) (reverse (take n whole)) m long
 
--- the rows of one piece more
+-- the rows of one more piece
 pub one_more : (walked : List Rows) (rows : Rows) (piece : Piece) (pieces left : List Piece) (whole : List Part) → pieces ≡ piece ∷ left → rows.part ≡ piece.part
     → walked_parts walked ++ parts_of pieces ≡ whole → walked_parts (walked ++ (rows ∷ [])) ++ parts_of left ≡ whole
 one_more walked rows piece pieces left whole are part all =
@@ -82,20 +82,20 @@ walked_more says has root walked new rows piece pieces i lt at is part walk (wal
     next : drop i pieces ≡ piece ∷ drop (i + 1) pieces
     next = at_drop_more (λ ps. ps) pieces i piece lt ∙ (λ j. sym at j ∷ drop (i + 1) pieces)
 
--- rows of pieces that share out all names, each of which was walked once, are a listing
+-- rows of pieces that share out all names, and were each walked once, are a listing
 pub listed : {A E : Type 0} (items : A → List SeenData) (says : Says) (has : Has) (root path : List ℕ) (pieces : List Piece) (result : Result A E)
     → IsPathOf root path → IsSharedOut pieces → IfOk result (λ rows. IsWalked says has path (parts_of pieces) (items rows))
     → IfOk result (λ rows. IsListed says has root (items rows))
 listed items says has root path pieces (Ok rows) at shared walked = (path, pieces, at, shared, walked)
 listed items says has root path pieces (Err fault) at shared walked = tt
 
--- what is known of pieces that were walked
+-- the facts about pieces that were walked
 pub walked_ok : (says : Says) (has : Has) (fails : List ℕ → Type 0) (root : List ℕ) (pieces : List Piece) (result : Result (Vec Rows Global) TreeFault) (walked : Vec Rows Global)
     → result ≡ Ok walked → AreWalkedFrom says has fails root pieces result
     → AreWalks says has root walked.items × (walked_parts walked.items ≡ take (length walked.items) (parts_of pieces))
 walked_ok says has fails root pieces result walked is from = let known = subst (λ r. AreWalkedFrom says has fails root pieces r) is from in (known.0, known.1)
 
--- what is known of a walk that failed
+-- the facts about a walk that failed
 pub walked_err : (says : Says) (has : Has) (fails : List ℕ → Type 0) (root : List ℕ) (pieces : List Piece) (result : Result (Vec Rows Global) TreeFault) (fault : TreeFault)
     → result ≡ Err fault → AreWalkedFrom says has fails root pieces result → IsRootFault says has fails root fault
 walked_err says has fails root pieces result fault is from = (subst (λ r. AreWalkedFrom says has fails root pieces r) is from).2

@@ -7,7 +7,7 @@ use Rattle.wq_walk.specs.declared.part.Part.{Part}
 use Rattle.wq_walk.specs.Told.{Has, IsRead, Says}
 use Rattle.wq_walk.specs.Walk.{DirectoryData, Ends, Enters, IsDone, IsLooked, IsPassedOver, IsStep, Leads, Looks, WalkData, fresh, looked, name_of_path}
 
--- where a walk is
+-- the place of a walk
 abbrev walk : List DirectoryData → DirectoryData → List SeenData → WalkData
 walk above here rows = record { above = above; here = here; rows = rows }
 
@@ -15,7 +15,7 @@ walk above here rows = record { above = above; here = here; rows = rows }
 pub path_of : (path front front' back back' : List ℕ) → path ≡ front ++ back → front ≡ front' → back ≡ back' → path ≡ front' ++ back'
 path_of path front front' back back' is a b = is ∙ (λ i. a i ++ b i)
 
--- what is so where nothing is seen
+-- the facts if nothing is seen
 pub unseen : {X A : Type 0} (B : X → Type 0) (seen : Option X) → seen ≡ None → MatchOption seen A B → A
 unseen B None is at = at
 unseen B (Some x) is at = absurd (none-some x (sym is))
@@ -26,7 +26,7 @@ pub passed_over : (says : Says) (root_len : ℕ) (part : Part) (path : List ℕ)
     → (added : List SeenData) × IsLooked says root_len part path added false × (rows ≡ rows ++ added)
 passed_over says root_len part path rows over = ([], inl (over, refl, refl), sym (append-nil rows))
 
--- what was found at a path is found at one that is the same
+-- the result at a path is the result at an equal path
 pub found_at : (says : Says) (root_len root_len' : ℕ) (part : Part) (path path' : List ℕ) (enters enters' : Bool) (old new : List SeenData)
     → root_len ≡ root_len' → path ≡ path' → enters ≡ enters'
     → ((rows : List SeenData) × IsLooked says root_len part path rows enters × (new ≡ old ++ rows))
@@ -36,7 +36,7 @@ found_at says root_len root_len' part path path' enters enters' old new a b c fo
     (subst (λ p. (rows : List SeenData) × IsLooked says root_len' part p rows enters × (new ≡ old ++ rows)) b
     (subst (λ r. (rows : List SeenData) × IsLooked says r part path rows enters × (new ≡ old ++ rows)) a found))
 
--- a directory was read at a path that is the same
+-- a directory was read at an equal path
 pub read_at : (has : Has) (path path' : List ℕ) (names : List (List ℕ)) → path ≡ path' → IsRead has path names → IsRead has path' names
 read_at has path path' names is read = subst (λ p. IsRead has p names) is read
 
@@ -80,12 +80,12 @@ enters has above above' first next last name old new (waiting, path, left) pushe
     here : fresh (next.path ++ name ++ (byte "/" ∷ [])) names ≡ fresh (first.path ++ name ++ (byte "/" ∷ [])) names
     here = λ i. fresh (sym path i ++ name ++ (byte "/" ∷ [])) names
 
--- no step leads from a walk to where it is
+-- no steps lead from a walk to its own place
 pub begins : (says : Says) (has : Has) (root_len : ℕ) (part : Part) (before : WalkData) → (steps : ℕ) × Leads says has root_len part steps before before
 unfolding Leads
 begins says has root_len part before = (0, refl)
 
--- a walk that goes no further has ended
+-- a walk without a next step has ended
 pub ended : (says : Says) (has : Has) (root_len : ℕ) (part : Part) (before now : WalkData) (above : List DirectoryData) (here : DirectoryData) (rows : List SeenData)
     → ((steps : ℕ) × Leads says has root_len part steps before now)
     → IsDone here × (walk above here rows ≡ now) × (above ≡ [])
@@ -93,7 +93,7 @@ pub ended : (says : Says) (has : Has) (root_len : ℕ) (part : Part) (before now
 ended says has root_len part before now above here rows (steps, leads) (done, same, none) =
     (steps, here, subst (λ (w : WalkData). Leads says has root_len part steps before w) (sym same ∙ ap (λ above. walk above here rows) none) leads, done)
 
--- a walk that goes a step further
+-- a walk with a next step
 pub further : (says : Says) (has : Has) (root_len root_len' : ℕ) (part part' : Part) (before mid after : WalkData)
     → root_len ≡ root_len' → part ≡ part'
     → ((steps : ℕ) × Leads says has root_len' part' steps before mid)

@@ -1,5 +1,4 @@
--- A directory on the way of a walk, as the code holds it.
--- No public document is behind it.
+-- A directory of a walk, as the code holds it. No public document defines it.
 use Rattle.std.specs.Prelude.{◌≡◌, ℕ, List, [], ◌∷◌, ◌++◌, map}
 use Rattle.wq_walk.specs.declared.directory.Directory.{Directory}
 use Rattle.wq_walk.specs.declared.directory.Step.{Step}
@@ -26,12 +25,12 @@ data_of directory = record {
   waiting = names_at directory.names.bytes.items directory.waiting.items;
 }
 
--- a walk in this directory, with these above it and these rows, as definitions see it
+-- a walk in this directory, below these directories and with these rows, as definitions see it
 abbrev pub walk_of : List Directory → Directory → Rows → WalkData
 walk_of above here rows =
     record { above = map data_of above; here = data_of here; rows = rows.rows.items }
 
--- this came next in a directory, which it leaves so
+-- this was the next step in a directory, and the directory after it
 abbrev pub IsNext : Directory → Step → Directory → Type 0
 IsNext before (Look place) after =
     ((data_of before).left ≡ (data_of after).left ++ (entry_at after place ∷ []))

@@ -1,5 +1,4 @@
--- A listing of a tree, put together of the walks of its parts.
--- No public document is behind it.
+-- A listing of a tree, which joins the walks of its parts. No public document defines it.
 use Rattle.std.specs.Prelude.{◌≡◌, ◌⊎◌, ℕ, List, [], ◌∷◌, ◌++◌, length, map, take}
 use Rattle.std.specs.Prelude.{Result, Vec, IfOk, IfErr}
 use Rattle.std.specs.List.{All, flat_map}
@@ -19,11 +18,11 @@ use Rattle.wq_walk.specs.Walk.{IsWalk}
 abbrev pub parts_of : List Piece → List Part
 parts_of pieces = map (λ piece. piece.part) pieces
 
--- the parts whose rows these are
+-- the parts of these rows
 abbrev pub walked_parts : List Rows → List Part
 walked_parts walked = map (λ rows. rows.part) walked
 
--- rows each of which are those of a walk of their part
+-- rows that are each those of a walk of their part
 abbrev pub AreWalks : Says → Has → List ℕ → List Rows → Type 0
 AreWalks says has root walked =
     All (λ rows. IsWalk says has root rows.part rows.rows.items) walked
@@ -37,23 +36,23 @@ AreWalkedFrom says has fails root pieces result =
     walked_parts walked.items ≡ take (length walked.items) (parts_of pieces))
     × IfErr result (IsRootFault says has fails root)
 
--- rows of a tree of which each of these parts was walked once, in this order
+-- rows of a tree in which each of these parts was walked once, in this order
 abbrev pub IsWalked : Says → Has → List ℕ → List Part → List SeenData → Type 0
 IsWalked says has root parts rows =
     (walked : List Rows) × AreWalks says has root walked × (walked_parts walked ≡ parts)
     × (rows ≡ flat_map (λ rows. rows.rows.items) walked)
 
--- the path of a root, as that of a directory: a slash may have been added to it
+-- the path of a root, like that of a directory: a slash may have been added to it
 abbrev pub IsPathOf : List ℕ → List ℕ → Type 0
 IsPathOf root path = (path ≡ root) ⊎ (path ≡ root ++ (byte "/" ∷ []))
 
--- a listing of the tree below a root: of parts that share out all names, each of which was walked once
+-- a listing of the tree below a root, from parts that share out all names and were each walked once
 abbrev pub IsListed : Says → Has → List ℕ → List SeenData → Type 0
 IsListed says has root rows =
     (path : List ℕ) × (pieces : List Piece) × IsPathOf root path × IsSharedOut pieces
     × IsWalked says has path (parts_of pieces) rows
 
--- a fault of a listing: that the root cannot be read is told only where it could not
+-- a fault of a listing: it says that the root cannot be read only if the root could not be read
 abbrev pub IsUnread : Says → Has → (List ℕ → Type 0) → List ℕ → TreeFault → Type 0
 IsUnread says has fails root fault =
     fault ≡ Unreadable

@@ -1,5 +1,4 @@
--- The part of a tree that a walk lists, and what a listing of it is.
--- No public document is behind it.
+-- The part of a tree that a walk lists, and the listings of a part. No public document defines it.
 use Rattle.std.specs.Prelude.{◌≡◌, ℕ, Bool, List, ◌∷◌, ◌++◌, true, not, ◌&&◌, ◌≤◌, length}
 use Rattle.std.specs.Prelude.{IsTrue, IfSome}
 use Rattle.std.specs.List.{list_all}
@@ -13,7 +12,8 @@ use Rattle.wq_view.specs.Limit.{max_listing_rows}
 use Rattle.wq_view.specs.Seen.{SeenData, is_lawful_row}
 use Rattle.wq_walk.specs.declared.part.Part.{Part}
 
--- whether a name is in a part: from one cut on and below the other one, where there is one
+-- whether a name is in a part: from the first cut on and below the second one, if there are such
+-- cuts
 abbrev pub is_in : Part → List ℕ → Bool
 is_in part name =
     option_map_or (λ cut. not (is_lt (name_cmp name cut.now))) part.from true
@@ -23,24 +23,25 @@ is_in part name =
 abbrev pub is_row_in : Part → SeenData → Bool
 is_row_in part row = is_in part row.name
 
--- at most 1,000,000 rows, each of which a pass takes, and whose names are in a part
+-- at most 1,000,000 rows that a pass takes, with names in a part
 abbrev pub IsListing : Part → List SeenData → Type 0
 IsListing part rows =
     IsTrue (list_all is_lawful_row rows)
     × (length rows ≤ max_listing_rows)
     × IsTrue (list_all (is_row_in part) rows)
 
--- the name of a file below a directory: the directory's name, a slash, and what follows
+-- the name of a file below a directory: the directory's name, a slash, and the rest
 abbrev pub name_below : List ℕ → List ℕ → List ℕ
 name_below directory rest = directory ++ (byte "/" ∷ rest)
 
--- how a cut stands to the names below a directory: before each of them, one of them, or behind each
+-- the order of a cut and the names below a directory: the cut is before each of them, one of them,
+-- or after each
 abbrev pub IsOrderBelow : List ℕ → List ℕ → Ordering → Type 0
 IsOrderBelow directory cut Less = (rest : List ℕ) → name_cmp cut (name_below directory rest) ≡ Less
 IsOrderBelow directory cut Equal = (rest : List ℕ) × (cut ≡ name_below directory rest)
 IsOrderBelow directory cut Greater = (rest : List ℕ) → name_cmp cut (name_below directory rest) ≡ Greater
 
--- a part that may have names below a directory: its first cut is not behind each of them, and its
+-- a part that may have names below a directory: its first cut is not after each of them, and its
 -- second one not before each
 abbrev pub MayHaveBelow : Part → List ℕ → Type 0
 MayHaveBelow part directory =

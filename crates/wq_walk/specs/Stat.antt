@@ -1,12 +1,13 @@
--- What the walker makes of what the system says of a file: its kind, its size and its time.
--- The types of files are those of POSIX's <sys/stat.h>; the ranges are this server's own.
+-- The kind, the size and the time of a file that the walker makes of the system's metadata. The
+-- types of files are those of POSIX's <sys/stat.h>. The ranges are this server's own.
 use Rattle.std.specs.Prelude.{ℕ, ℤ, pos, neg_ℤ, min, ◌==◌, ◌+ℤ◌, ◌*ℤ◌, if◌then◌else◌}
 use Rattle.std.specs.Int.{int_div_euclid, int_max, int_min}
 use Rattle.wq_base.specs.Limit.{max_number}
 use Rattle.wq_view.specs.declared.kind.Kind.{Kind}
 use Rattle.wq_view.specs.declared.kind.Kind.TheVariants.{File, Dir, Link, Unknown}
 
--- the kind of a file with this type in its mode: a regular file, a directory, a link, and else unknown
+-- the kind of a file with this type in its mode: a regular file, a directory, a link, or else
+-- unknown
 abbrev pub kind_of_mode : ℕ → Kind
 kind_of_mode type_bits =
     if type_bits == 0o100000 then File

@@ -1,6 +1,6 @@
--- What is known of the disk of this machine: what is told of a path is what calls of the system said. That
--- they were calls at that path is in no contract of the system's calls.
--- No public document is behind it.
+-- The facts about the disk of this machine: its answers for a path are results of calls of the
+-- system. No contract of the system's calls says that they were calls at that path. No public
+-- document defines it.
 use Rattle.std.specs.Prelude.{◌≡◌, ℕ, ℤ, List, MatchOption}
 use Rattle.std.specs.Fs.{file_type, metadata_len}
 use Rattle.std.specs.declared.fs.Metadata.{Metadata}
@@ -12,7 +12,7 @@ use Rattle.wq_walk.specs.Stat.{kind_of_mode, milliseconds_of, nearest_size}
 use Rattle.wq_walk.specs.Told.{Has, Says}
 use Rattle.wq_walk.specs.Unseen.{HasFailed, HasMissed}
 
--- what is seen of a file is what the system says of one: its type, its size and its time
+-- a stat has the type, the size and the time that the system gives for some file
 abbrev pub IsOfMetadata : Stat → Type 0
 IsOfMetadata stat =
     (metadata : Metadata) × (seconds : ℤ) × (nanoseconds : ℤ)
@@ -20,11 +20,13 @@ IsOfMetadata stat =
     × (stat.size ≡ nearest_size (metadata_len metadata))
     × (stat.mtime_ms ≡ milliseconds_of seconds nanoseconds)
 
--- what this disk says of a file: what the system says of one, or that a call of it failed
+-- the answers of this disk for a file: the system's metadata of some file, or nothing because a
+-- call of the system failed
 abbrev pub says_here : Says
 says_here path told = MatchOption told HasMissed IsOfMetadata
 
--- which names this disk tells of a directory: those of entries, or that a call of the system failed
+-- the names that this disk gives for a directory: those of entries, or nothing because a call of
+-- the system failed
 abbrev pub has_here : Has
 has_here path told = MatchOption told HasMissed AreEntries
 
@@ -36,6 +38,6 @@ fails_here path = HasFailed
 abbrev pub IsListedHere : List ℕ → List SeenData → Type 0
 IsListedHere root rows = IsListed says_here has_here root rows
 
--- a fault of a listing on this disk: that the root cannot be read is told only where a call failed
+-- a fault of a listing on this disk: it says that the root cannot be read only if a call failed
 abbrev pub IsUnreadHere : List ℕ → TreeFault → Type 0
 IsUnreadHere root fault = IsUnread says_here has_here fails_here root fault

@@ -1,5 +1,5 @@
--- What an error of the system at one path means for a walk.
--- The numbers are those of errno(3) on Linux; that such an error ends the walk is this server's own.
+-- The meaning of an error of the system at one path for a walk. The numbers are those of errno(3)
+-- on Linux. The rule that such an error ends the walk is this server's own.
 use Rattle.std.specs.Prelude.{◌≡◌, ℤ, pos, negsuc, Bool, false, ◌==◌, ◌||◌, if◌then◌else◌, Option, Some, None}
 use Rattle.std.specs.IoError.{error_kind, raw_os_error}
 use Rattle.std.specs.declared.io.Error.{Error}
@@ -15,13 +15,13 @@ is_of_handles (Some (pos number)) = (number == 23) || (number == 24)
 is_of_handles (Some (negsuc below)) = false
 is_of_handles None = false
 
--- the fault of a whole walk that an error of this kind is: memory ran out, and else none
+-- the fault of a whole walk that an error of this kind means: memory ran out, or else none
 abbrev pub memory_fault : ErrorKind → Option TreeFault
 memory_fault OutOfMemory = Some NoMemory
 memory_fault kind = None
 
--- the fault of a whole walk that an error with this number and of this kind is; none where it
--- speaks of its path alone
+-- the fault of a whole walk that an error with this number and of this kind means; none if the
+-- error is about its path alone
 abbrev pub walk_fault : Option ℤ → ErrorKind → Option TreeFault
 walk_fault number kind = if is_of_handles number then Some Unreadable else memory_fault kind
 
@@ -30,6 +30,6 @@ abbrev pub HasFailed : Type 0
 HasFailed =
     (error : Error) × (walk_fault (raw_os_error error) (error_kind error) ≡ Some Unreadable)
 
--- a call of the system failed with an error that speaks of its path alone
+-- a call of the system failed with an error that is about its path alone
 abbrev pub HasMissed : Type 0
 HasMissed = (error : Error) × (walk_fault (raw_os_error error) (error_kind error) ≡ None)

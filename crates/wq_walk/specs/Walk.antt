@@ -1,5 +1,5 @@
--- How a tree is walked: which rows a walk lists of what a disk tells.
--- No public document is behind it.
+-- The walk of a tree: the rows that a walk lists from the answers of a disk. No public document
+-- defines it.
 use Rattle.std.specs.Prelude.{◌≡◌, ◌⊎◌, ℕ, zero, suc, Bool, true, false, IsTrue, if◌then◌else◌}
 use Rattle.std.specs.Prelude.{List, [], ◌∷◌, ◌++◌, length, drop, Option, Some, None}
 use Rattle.std.specs.Str.{IsUtf8, byte}
@@ -11,15 +11,16 @@ use Rattle.wq_walk.specs.declared.part.Part.{Part}
 use Rattle.wq_walk.specs.Part.{MayHaveBelow, is_in, name_below}
 use Rattle.wq_walk.specs.Told.{Has, IsRead, Says}
 
--- a directory on the way of a walk: its path with a slash at its end, the names in it that were not
--- looked at yet, the next one last, and those of directories that are entered later, the next one last
+-- a directory of a walk: its path with a slash at its end; the names in it that the walk has not
+-- looked at yet, the next one last; and the names of directories that it enters later, the next one
+-- last
 pub record DirectoryData : Type 0 where
   pub path : List ℕ
   pub left : List (List ℕ)
   pub waiting : List (List ℕ)
 
--- where a walk is: the directories above the one in which it is, the innermost last, that directory,
--- and the rows so far
+-- the place of a walk: the directories above the one in which it is, the innermost last, that
+-- directory, and the rows so far
 pub record WalkData : Type 0 where
   pub above : List DirectoryData
   pub here : DirectoryData
@@ -29,12 +30,12 @@ pub record WalkData : Type 0 where
 abbrev pub name_of_path : ℕ → List ℕ → List ℕ
 name_of_path root_len path = drop root_len path
 
--- the row of a file of which the disk says this
+-- the row of a file with this stat
 abbrev pub row_of : List ℕ → Stat → SeenData
 row_of name stat =
     record { name = name; kind = stat.kind; size = stat.size; mtime_ms = stat.mtime_ms }
 
--- the rows of a file of which the disk says this: one, if its name is in the part
+-- the rows of a file with this stat: one, if its name is in the part
 abbrev pub rows_of_file : Part → List ℕ → Stat → List SeenData
 rows_of_file part name stat = if is_in part name then row_of name stat ∷ [] else []
 
@@ -42,20 +43,20 @@ rows_of_file part name stat = if is_in part name then row_of name stat ∷ [] el
 abbrev pub HasNoneBelow : Part → List ℕ → Type 0
 HasNoneBelow part name = (rest : List ℕ) → IsTrue (is_in part (name_below name rest)) → ⊥
 
--- a file is passed over: neither its name nor one below it is in the part, or no pass takes its name,
--- or its path is no text, or the disk cannot look at it
+-- a walk passes over a file: neither its name nor one below it is in the part; or no pass takes its
+-- name, its path is no text, or the disk cannot look at it
 abbrev pub IsPassedOver : Says → Part → List ℕ → List ℕ → Type 0
 IsPassedOver says part path name =
     ((is_in part name ≡ false) × HasNoneBelow part name)
     ⊎ ((is_valid_name name ≡ false) ⊎ ((IsUtf8 path → ⊥) ⊎ says path None))
 
--- whether a file of which the disk says this is entered: a directory alone, below which names may be in
--- the part; and each below which one is
+-- whether the walk enters a file with this stat. It enters only a directory below which names may
+-- be in the part, and each directory below which one is
 abbrev pub IsEntered : Part → List ℕ → Stat → Bool → Type 0
 IsEntered part name stat true = (stat.kind ≡ Dir) × MayHaveBelow part name
 IsEntered part name stat false = stat.kind ≡ Dir → HasNoneBelow part name
 
--- a file was looked at: these rows are listed of it, and it is entered later or not
+-- the walk looked at a file: it lists these rows, and enters the file later or not
 abbrev pub IsLooked : Says → ℕ → Part → List ℕ → List SeenData → Bool → Type 0
 IsLooked says root_len part path rows enters =
     (IsPassedOver says part path (name_of_path root_len path) × (rows ≡ []) × (enters ≡ false))
@@ -63,15 +64,15 @@ IsLooked says root_len part path rows enters =
     × (rows ≡ rows_of_file part (name_of_path root_len path) stat)
     × IsEntered part (name_of_path root_len path) stat enters)
 
--- a directory of which nothing was looked at yet
+-- a directory of which the walk has looked at no name yet
 abbrev pub fresh : List ℕ → List (List ℕ) → DirectoryData
 fresh path names = record { path = path; left = names; waiting = [] }
 
--- a directory in which nothing is left to be done
+-- a directory in which no step is left
 abbrev pub IsDone : DirectoryData → Type 0
 IsDone directory = (directory.left ≡ []) × (directory.waiting ≡ [])
 
--- what is left of a directory in which a name was looked at, which is entered later or not
+-- the rest of a directory after the walk looked at a name, which it enters later or not
 abbrev pub looked : DirectoryData → List (List ℕ) → List ℕ → Bool → DirectoryData
 looked directory left name enters = record {
   path = directory.path;
@@ -79,7 +80,7 @@ looked directory left name enters = record {
   waiting = if enters then directory.waiting ++ (name ∷ []) else directory.waiting;
 }
 
--- the next name of the directory in which a walk is was looked at
+-- the walk looked at the next name of the directory in which it is
 abbrev pub Looks : Says → ℕ → Part → WalkData → WalkData → Type 0
 Looks says root_len part before after =
     (name : List ℕ) × (left : List (List ℕ)) × (rows : List SeenData) × (enters : Bool)
@@ -91,7 +92,8 @@ Looks says root_len part before after =
       rows = before.rows ++ rows;
     })
 
--- the next directory that waits was entered, by its path without a slash, so that no link is followed
+-- the walk entered the next directory that waits, by its path without a slash, so that the system
+-- follows no link
 abbrev pub Enters : Has → WalkData → WalkData → Type 0
 Enters has before after =
     (name : List ℕ) × (waiting : List (List ℕ)) × (names : List (List ℕ))
@@ -103,7 +105,7 @@ Enters has before after =
       rows = before.rows;
     })
 
--- a directory in which nothing is left to be done was left
+-- the walk left a directory in which no step is left
 abbrev pub Leaves : WalkData → WalkData → Type 0
 Leaves before after =
     IsDone before.here × (before.above ≡ after.above ++ (after.here ∷ []))
@@ -121,15 +123,15 @@ Leads says has root_len part (suc n) before after =
     (mid : WalkData) × Leads says has root_len part n before mid
     × IsStep says has root_len part mid after
 
--- a walk on its way ended, after some steps, where nothing is left to be done
+-- a walk ended after some steps, in a directory in which no step is left and with none above it
 abbrev pub Ends : Says → Has → ℕ → Part → WalkData → List SeenData → Type 0
 Ends says has root_len part before rows =
     (steps : ℕ) × (last : DirectoryData)
     × Leads says has root_len part steps before (record { above = []; here = last; rows = rows })
     × IsDone last
 
--- a walk of a part of the tree below a root lists these rows: it begins in the root's directory, and
--- ends where nothing is left to be done
+-- a walk of a part of the tree below a root lists these rows: it begins in the root's directory,
+-- and ends when no step is left
 abbrev pub IsWalk : Says → Has → List ℕ → Part → List SeenData → Type 0
 IsWalk says has root part rows =
     (names : List (List ℕ)) × has root (Some names)

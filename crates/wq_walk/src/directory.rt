@@ -1,5 +1,6 @@
-//! A directory that is being walked: what comes next in it, so that whole names rise. Whole names rise as `a`, `a-b`, `a/x`,
-//! `a0`: between a directory and what lies below it there may be names beside it. Nothing is read here.
+//! A directory that is being walked, and the next step in it. The steps go over whole names as they rise. Whole names
+//! rise as `a`, `a-b`, `a/x`, `a0`: between a directory and the names below it there may be names beside it. Another
+//! module reads the disk.
 ghost use Rattle.std.specs.Prelude.{◌≡◌, ◌++◌, ◌∷◌, [], IfNone, IfSome, IsTrue, OnOk};
 ghost use Rattle.wq_walk.specs.Directory.{IsNext, data_of, entry_at, left_of};
 ghost use Rattle.wq_walk.specs.Walk.{fresh};
@@ -12,25 +13,25 @@ use std::alloc::{AllocError, Global};
 pub(crate) struct Directory {
     /// Its path, with a slash at its end.
     path: Vec<u8>,
-    /// The names that were not looked at yet.
+    /// The names that the walk has not looked at yet.
     names: Names,
-    /// The directories that were looked at and not entered yet. The last one comes first.
+    /// The directories that the walk looked at and did not enter yet. The last one is entered first.
     waiting: Vec<Place>,
 }
 
-/// What comes next in a directory.
+/// The next step in a directory.
 #[derive(Clone, Copy)]
 pub(crate) enum Step {
-    /// The name at this place is looked at.
+    /// The walk looks at the name at this place.
     Look(Place),
-    /// The directory of the name at this place is entered.
+    /// The walk enters the directory of the name at this place.
     Enter(Place),
-    /// Nothing is left.
+    /// Nothing is left, and the walk leaves the directory.
     Leave,
 }
 
 impl Directory {
-    /// A directory of this path, which ends in a slash, of which nothing was looked at yet.
+    /// A directory with this path, which ends in a slash. The walk has not looked at any of these names yet.
     pub(crate) fn new(alloc: Global, path: Vec<u8>, names: Names) -> Directory
         ensures { data_of result ≡ fresh path.items (left_of names) }
     {
@@ -55,7 +56,7 @@ impl Directory {
         self.names.at(place)
     }
 
-    /// What comes next.
+    /// Takes the next step.
     #[tactic(auto, using(crate::proofs::Entries::taken))]
     pub(crate) fn step(&mut self) -> Step
         ensures { IsNext self.old result self.new }
@@ -69,7 +70,7 @@ impl Directory {
         }
     }
 
-    /// Takes the last directory that waits, if it is entered now.
+    /// Takes the last directory that waits, if the walk enters it now.
     fn take_entered(&mut self) -> Option<Place>
         ensures path { self.new.path ≡ self.old.path }
         ensures names { self.new.names ≡ self.old.names }
@@ -86,8 +87,8 @@ impl Directory {
         }
     }
 
-    /// Has the directory of the name at this place entered as soon as all names are looked at that stand before those below
-    /// it.
+    /// Lets the directory of the name at this place wait, until the walk has looked at all names that come before the
+    /// names below it.
     pub(crate) fn enter_later(&mut self, name: Place) -> Result<(), AllocError>
         ensures { OnOk result (data_of self.new ≡ record (data_of self.old) {
           waiting = (data_of self.old).waiting ++ (entry_at self.old name ∷ []);
@@ -97,7 +98,7 @@ impl Directory {
         Ok(())
     }
 
-    /// Whether the last directory that waits is entered now. It is where no name is left.
+    /// Whether the walk enters the last directory that waits now. It does if no name is left.
     fn enters(&self) -> bool
         ensures { self.now.names.places.items ≡ [] → IsTrue result }
     {
@@ -108,7 +109,7 @@ impl Directory {
     }
 }
 
-/// Whether a name that is above a directory's is below those of the directory's entries.
+/// Whether a name that is above a directory's name is below the names of the directory's entries.
 fn comes_before_entries(name: &[u8], directory: &[u8]) -> bool {
     match name.strip_prefix(directory) {
         Some([next, ..]) => *next < b'/',

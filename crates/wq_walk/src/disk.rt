@@ -1,4 +1,5 @@
-//! What a walk asks of a disk: the names in a directory, and what stands in its index of a file. Two threads may ask at once.
+//! The questions of a walk to a disk: the names in a directory, and the kind, size and time of a file. Two threads may
+//! ask at once.
 ghost use Rattle.std.specs.Prelude.{IfErr, IfOk};
 ghost use Rattle.std.specs.Option.{option_map};
 ghost use Rattle.wq_walk.specs.Directory.{left_of};
@@ -10,28 +11,28 @@ use crate::unseen::walk_fault;
 use std::fs::Files;
 use wq_crawl::TreeFault;
 
-/// What tells of directories and files. It fails where nothing can be told of any: no more files can be opened, or memory ran
-/// out.
+/// A source of directories and files. It fails if no answer can be had for any of them, because no more files can be
+/// opened or memory ran out.
 pub(crate) trait Disk {
     ghost use Rattle.std.specs.Prelude.{ℕ, List, Option};
     ghost use Rattle.wq_view.specs.Seen.{Stat};
 
-    // What it may say of the file of a path: none where it cannot be looked at.
+    // The stats that it may give for the file of a path: none if it cannot look at the file.
     ghost says: { Self → List ℕ → Option Stat → Type 0 };
 
-    // Which names it may tell of the directory of a path: none where it cannot be read.
+    // The names that it may give for the directory of a path: none if it cannot read the directory.
     ghost has: { Self → List ℕ → Option (List (List ℕ)) → Type 0 };
 
-    // A call of the system failed at a path, so that nothing can be told of any.
+    // A call of the system failed at a path, in a way that allows no answer for any path.
     ghost fails: { Self → List ℕ → Type 0 };
 
-    /// The names in the directory of this path, each once, and nothing where it cannot be read. A path that ends in a slash
-    /// may lead over a link; another that ends in a link is not read.
+    /// The names in the directory of this path, each once, or nothing if the directory cannot be read. If a path ends
+    /// in a slash, the disk may follow a link there. A path without that slash is not read if it ends in a link.
     fn names_in(&self, block: &mut Block, path: &str) -> Result<Option<Names>, TreeFault>
         ensures told { IfOk result (λ names. has self.now path.now (option_map left_of names)) }
         ensures fault { IfErr result (IsFailure (fails self.now)) };
 
-    /// What is seen of the file of this path, and nothing where it cannot be looked at. A link is not followed.
+    /// The stat of the file of this path, or nothing if the disk cannot look at it. A link is not followed.
     fn stat(&self, path: &str) -> Result<Option<Stat>, TreeFault>
         ensures told { IfOk result (says self.now path.now) }
         ensures fault { IfErr result (IsFailure (fails self.now)) };

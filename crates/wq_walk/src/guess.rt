@@ -1,4 +1,4 @@
-//! Where a tree that was not listed yet may be cut: at the names that stand at its top.
+//! The names at which a tree that was not listed yet may be cut: names at its top.
 ghost use Rattle.std.specs.Prelude.{IfErr};
 ghost use Rattle.wq_walk.specs.Told.{IsRootFault};
 
@@ -9,14 +9,15 @@ use crate::piece::MOST_PIECES;
 use std::alloc::{AllocError, Global};
 use wq_crawl::TreeFault;
 
-/// Where the root has fewer names than this, some of those below them are taken too.
+/// If the root has fewer names than this, some of the names below them are taken too.
 const FEW: usize = 256;
 
-/// Of so many names of a directory below the root's one is taken. Few are asked for in the end, and whole names take memory.
+/// The module takes one of so many names of a directory below the root's. A walk needs few of them in the end, and
+/// whole names take memory.
 const ONE_IN: usize = 16;
 
-/// Some names at even distances among those in the root's directory and, if these are few, some of those in its directories. They
-/// rise. The root's path ends in a slash.
+/// Some names at even distances among the names in the root's directory. If these are few, also some of the names in
+/// its directories. The names rise. The root's path ends in a slash.
 pub(crate) fn names_at_top<D: Disk>(
     disk: &D,
     alloc: Global,
@@ -32,7 +33,8 @@ pub(crate) fn names_at_top<D: Disk>(
     Ok(names_around(disk, &mut block, root, top)?)
 }
 
-/// Some of these names of the root's directory and, if they are few, some of those in its directories. They rise.
+/// Some of these names of the root's directory. If they are few, also some of the names in its directories. The names
+/// rise.
 fn names_around<D: Disk>(
     disk: &D,
     block: &mut Block,
@@ -42,7 +44,7 @@ fn names_around<D: Disk>(
     let alloc = block.allocator();
     let is_few = top.len() < FEW;
     let mut names = Vec::new(alloc);
-    // Each of them, since the directories below are found by these names.
+    // All of them, because the directories below are found by these names.
     add_names(&mut names, b"", top, 1)?;
     if is_few {
         add_names_below(disk, block, root, &mut names)?;
@@ -51,7 +53,7 @@ fn names_around<D: Disk>(
     some_of(alloc, names)
 }
 
-/// As many of these names as a tree has pieces, at even distances; all of them if they are fewer.
+/// As many of these names as a tree has pieces, at even distances, or all of them if they are fewer.
 fn some_of(alloc: Global, names: Vec<Vec<u8>>) -> Result<Vec<Vec<u8>>, AllocError> {
     if names.len() <= MOST_PIECES {
         return Ok(names);
@@ -90,8 +92,8 @@ fn add_names_below<D: Disk>(
     Ok(())
 }
 
-/// Adds the whole names of entries of a directory, whose name has a slash at its end: of one in so many, beginning with the
-/// first.
+/// Adds the whole names of some entries of a directory, whose name has a slash at its end. It takes the first entry,
+/// and then one in so many.
 fn add_names(
     names: &mut Vec<Vec<u8>>,
     directory: &[u8],

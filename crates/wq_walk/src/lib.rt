@@ -1,5 +1,5 @@
-//! Walks the tree of files below a root on disk, and lists what it sees: a row for each file, in the byte order of whole
-//! names as far as the tree holds still. What a view makes of the rows is not said here.
+//! Walks the tree of files below a root on disk, and lists a row for each file. The rows are in the byte order of whole
+//! names, if the tree does not change meanwhile. Another crate makes views of the rows.
 #![tactic(auto)]
 
 mod directory;

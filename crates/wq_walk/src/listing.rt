@@ -1,4 +1,4 @@
-//! A listing of a tree, made in pieces by two threads, or by one. How a piece is walked is not said here.
+//! A listing of a tree, which two threads make in pieces, or one thread alone. Another module walks a piece.
 ghost use Rattle.std.specs.Prelude.{◌≡◌, ◌+◌, ◌≤◌, ◌<◌, ◌++◌, length, take, IfErr, IfOk, IsTrue};
 ghost use Rattle.std.specs.List.{flat_map, list_all};
 ghost use Rattle.std.specs.Thread.{IsSync};
@@ -36,7 +36,7 @@ pub(crate) fn first_rows<T: Threads, D: Disk + Sync>(
     rows_of(threads, disk, alloc, &path, &pieces)
 }
 
-/// The rows of the files below a root whose last view has these records. They share the names.
+/// The rows of the files below a root with a last view of these records. The rows share the names of the records.
 pub(crate) fn rows_again<T: Threads, D: Disk + Sync>(
     threads: &T,
     disk: &D,
@@ -52,10 +52,11 @@ pub(crate) fn rows_again<T: Threads, D: Disk + Sync>(
     rows_of(threads, disk, alloc, &path, &pieces)
 }
 
-/// The rows of the files below a root, whose path ends in a slash, of these pieces of its tree. They share the names of the
-/// pieces' records.
+/// The rows of the files below a root, from these pieces of its tree. They share the names of the pieces' records. The
+/// root's path ends in a slash.
 ///
-/// A root that went while it was walked cannot be read: of what was not looked at yet nothing is known.
+/// If the root is deleted during the walk, the listing fails because the root cannot be read. Nothing is known then of
+/// the files that the walk has not looked at.
 fn rows_of<T: Threads, D: Disk + Sync>(
     threads: &T,
     disk: &D,
@@ -74,7 +75,7 @@ fn rows_of<T: Threads, D: Disk + Sync>(
     }
 }
 
-/// The rows of each piece. Two threads walk them where they are more than one.
+/// The rows of each piece. Two threads walk them if there are several pieces.
 fn walked<'a, T: Threads, D: Disk + Sync>(
     threads: &T,
     disk: &D,
@@ -88,7 +89,7 @@ fn walked<'a, T: Threads, D: Disk + Sync>(
     }
 }
 
-/// The rows of each piece, walked one after the other.
+/// The rows of each piece. One thread walks the pieces one after the other.
 fn walked_by_one<'a, D: Disk>(
     disk: &D,
     alloc: Global,
@@ -110,10 +111,11 @@ fn walked_by_one<'a, D: Disk>(
     Ok(walked)
 }
 
-/// The rows of each piece. Two threads take the pieces, one from the first on and one from the last back, until they meet; where
-/// no thread can be made, one takes all. Where one of them fails the other takes no further piece.
+/// The rows of each piece. Two threads take the pieces, one from the first on and one from the last back, until they
+/// meet. If no second thread can be made, one takes all. If one of them fails, the other takes no more pieces.
 ///
-/// Each piece is taken by one of them, since they count together. Were it not so, all would be walked here once more.
+/// Each piece is taken by one of them, because they share a count. If that were not so, all pieces would be walked here
+/// once more.
 fn walked_by_two<'a, T: Threads, D: Disk + Sync>(
     threads: &T,
     disk: &D,
@@ -147,7 +149,7 @@ fn walked_by_two<'a, T: Threads, D: Disk + Sync>(
     Ok(walked)
 }
 
-/// The rows of the first pieces, as many as one thread takes. Where it fails it leaves no piece for the other thread.
+/// The rows of the first pieces, as many as one thread takes. If it fails, it leaves no piece for the other thread.
 fn walked_from<'a, D: Disk>(
     disk: &D,
     alloc: Global,
@@ -169,7 +171,7 @@ fn walked_from<'a, D: Disk>(
     walked
 }
 
-/// The rows of the first pieces, one after the other, as long as there are some to be taken.
+/// The rows of the first pieces, one after the other, as long as pieces are left.
 fn walked_while_free<'a, D: Disk>(
     disk: &D,
     alloc: Global,
@@ -195,7 +197,7 @@ fn walked_while_free<'a, D: Disk>(
     Ok(walked)
 }
 
-/// The rows of these pieces, one behind the other. What one of them held is free again once it is added.
+/// The rows of these pieces, one piece after the other. The memory of a piece is freed as soon as its rows are added.
 fn joined(alloc: Global, pieces: Vec<Rows<'_>>) -> Result<Vec<Seen>, TreeFault>
     ensures all { IfOk result (λ rows.
         rows.items ≡ flat_map (λ piece. piece.rows.items) pieces.entry.items) }
@@ -212,7 +214,7 @@ fn joined(alloc: Global, pieces: Vec<Rows<'_>>) -> Result<Vec<Seen>, TreeFault>
     Ok(rows)
 }
 
-/// How many rows there are in all pieces.
+/// The number of rows in all pieces.
 fn count_of(pieces: &[Rows<'_>]) -> usize {
     let mut count = 0usize;
     for rows in pieces {
@@ -221,7 +223,7 @@ fn count_of(pieces: &[Rows<'_>]) -> usize {
     count
 }
 
-/// Rows, and others behind them.
+/// Rows, and other rows after them.
 #[tactic(auto, using(crate::proofs::Joins::all_of_both))]
 fn with_rows(mut first: Vec<Seen>, mut rest: Vec<Seen>) -> Result<Vec<Seen>, TreeFault>
     requires lawful { IsTrue (list_all is_lawful_row first.items)

@@ -1,4 +1,4 @@
-//! The names in one directory on disk. What they name is not looked at here.
+//! The names in one directory on disk. Another module looks at their files.
 ghost use Rattle.std.specs.Prelude.{◌≡◌, ◌++◌, ◌∷◌, [], IfErr, IfNone, IfOk, IfSome, IsTrue, None};
 ghost use Rattle.wq_crawl.specs.declared.tree.TreeFault.TheVariants.{Unreadable};
 ghost use Rattle.wq_walk.specs.Entries.{is_entry};
@@ -12,13 +12,13 @@ use std::fs::Files;
 use std::io::{Error, ErrorKind, Read};
 use wq_crawl::TreeFault;
 
-/// How many bytes of names are asked for at once.
+/// The number of bytes of names that one call asks for.
 const BLOCK: usize = 32_768;
 
-/// How many bytes a head has.
+/// The number of bytes of a head.
 const HEAD: usize = 16;
 
-/// Room for a block of names, which all directories of a walk use in turn.
+/// Memory for a block of names. All directories of a walk use it in turn.
 #[derive(Drop)]
 pub(crate) struct Block {
     bytes: Vec<u8>,
@@ -31,7 +31,7 @@ impl Block {
         })
     }
 
-    /// Where its memory is from.
+    /// The allocator of its memory.
     pub(crate) fn allocator(&self) -> Global {
         *self.bytes.allocator()
     }
@@ -40,7 +40,7 @@ impl Block {
 /// The place of one of a directory's names.
 #[derive(Clone, Copy)]
 pub(crate) struct Place {
-    /// Its first bytes as a number, so that most names are compared by one step.
+    /// The first bytes of the name as a number, so that most names are compared in one step.
     head: u128,
     start: usize,
     end: usize,
@@ -50,7 +50,7 @@ pub(crate) struct Place {
 #[derive(Drop)]
 pub(crate) struct Names {
     bytes: Vec<u8>,
-    /// Those that were not taken yet, falling.
+    /// The places of the names that were not taken yet, in falling order.
     places: Vec<Place>,
     ghost entries: { AreOfEntries bytes.items places.items },
 }
@@ -66,7 +66,7 @@ impl Names {
         }
     }
 
-    /// How many names were not taken yet.
+    /// The number of names that were not taken yet.
     pub(crate) fn len(&self) -> usize {
         self.places.len()
     }
@@ -89,14 +89,15 @@ impl Names {
         self.places.pop()
     }
 
-    /// The name at a place, also of one that was taken.
+    /// The name at a place, even if it was taken.
     pub(crate) fn at(&self, place: Place) -> &[u8]
         ensures { result.now ≡ name_at self.now.bytes.items place }
     {
         text_at(&self.bytes, place)
     }
 
-    /// Adds the names of a block, in which byte 0 ends each, but for those of the directory itself and of the one above it.
+    /// Adds the names of a block, in which byte 0 ends each name. It leaves out the names of the directory itself and
+    /// of the one above it.
     fn add(&mut self, block: &[u8]) -> Result<(), AllocError> {
         for name in block.split(|byte| *byte == 0) {
             if is_entry(name) {
@@ -120,7 +121,7 @@ impl Names {
         Ok(())
     }
 
-    /// Brings the names into their order, each once.
+    /// Sorts the names, and keeps each once.
     fn sort(&mut self) {
         let bytes = self.bytes.as_slice();
         self.places.sort_unstable_by(|a, b| order(bytes, *b, *a));
@@ -131,8 +132,8 @@ impl Names {
     }
 }
 
-/// The names in the directory of this path, and nothing where it cannot be read. A path that ends in a slash may lead over a
-/// link; another that ends in a link is not read.
+/// The names in the directory of this path, or nothing if it cannot be read. If a path ends in a slash, the call may
+/// follow a link there. A path without that slash is not read if it ends in a link.
 pub(crate) fn names_in<R: Files>(
     files: &R,
     block: &mut Block,
@@ -158,14 +159,14 @@ pub(crate) fn names_in<R: Files>(
     Ok(Some(names))
 }
 
-/// Whether a name that the system tells is that of an entry: not of the directory itself, and not of the one above it.
+/// Whether a name that the system gives is that of an entry, and not of the directory itself or the one above it.
 fn is_entry(name: &[u8]) -> bool
     ensures { result ≡ is_entry name.now }
 {
     !name.is_empty() && name != b".".as_slice() && name != b"..".as_slice()
 }
 
-/// The first bytes of a name as a number, of which numbers rise as names do.
+/// The first bytes of a name as a number. The numbers rise as the names do.
 fn head_of(name: &[u8]) -> u128 {
     let mut head = [0; HEAD];
     let len = name.len().min(HEAD);
@@ -187,7 +188,7 @@ fn text_at(bytes: &[u8], place: Place) -> &[u8]
     bytes.get(place.start..place.end).unwrap_or(b"")
 }
 
-/// No names, where an error speaks of their directory alone.
+/// No names, if an error is about their directory alone.
 fn nothing(error: &Error) -> Result<Option<Names>, TreeFault>
     ensures none { IfOk result (λ names. (names ≡ None) × HasMissed) }
     ensures fault { IfErr result (λ fault. fault ≡ Unreadable → HasFailed) }

@@ -1,10 +1,11 @@
-//! The part of a tree that a walk lists: the names between two cuts. What lists it is not said here.
+//! The part of a tree that a walk lists: the names between two cuts. Another module lists it.
 ghost use Rattle.std.specs.Prelude.{◌≡◌, ℕ, IsTrue, List};
 ghost use Rattle.wq_walk.specs.Part.{IsOrderBelow, MayHaveBelow, is_in, name_below};
 
 use std::cmp::Ordering;
 
-/// Which names a walk lists, in the byte order of whole names: those from a cut on and below another one, where there is one.
+/// The names that a walk lists, in the byte order of whole names: those from a first cut on and below a second one.
+/// Either cut may be missing.
 #[derive(Clone, Copy)]
 pub(crate) struct Part<'a> {
     pub(crate) from: Option<&'a [u8]>,
@@ -27,7 +28,7 @@ impl Part<'_> {
         is_from && is_below
     }
 
-    /// Whether names below the directory of this name may be in the part: true wherever one is.
+    /// Whether names below the directory of this name may be in the part. It is true if one of them is.
     #[tactic(auto, using(crate::proofs::Below::from_there, crate::proofs::Below::below_there, crate::proofs::Below::not_behind, crate::proofs::Below::not_before))]
     pub(crate) fn reaches(&self, directory: &[u8]) -> bool
         ensures all { (rest : List ℕ) → IsTrue (is_in self.now (name_below directory.now rest))
@@ -48,7 +49,7 @@ impl Part<'_> {
     }
 }
 
-/// How a cut stands to the names below a directory: before them, among them, or behind them.
+/// The order of a cut and the names below a directory: the cut is before them, among them, or after them.
 #[tactic(auto, using(crate::proofs::Below::order_beside, crate::proofs::Below::order_from, crate::proofs::Below::order_at))]
 fn order_below(directory: &[u8], cut: &[u8]) -> Ordering
     ensures { IsOrderBelow directory.now cut.now result }

@@ -1,21 +1,21 @@
-//! The path of a file below a root, which also tells the file's name. Nothing is looked up on disk here.
+//! The path of a file below a root, which also gives the file's name. Another module reads the disk.
 ghost use Rattle.std.specs.Prelude.{◌≡◌, ◌⊎◌, ◌++◌, ◌∷◌, [], IfOk, MatchOption, OnOk, drop, string_bytes};
 ghost use Rattle.std.specs.Str.{IsUtf8, byte};
 
 use std::alloc::{AllocError, Global};
 use std::str;
 
-/// The path of a file below a root: that of the directory in which it is, with a slash at its end, and the name that it has
+/// The path of a file below a root: the path of the file's directory, with a slash at its end, and the file's name
 /// there.
 #[derive(Drop)]
 pub(crate) struct TreePath {
     bytes: Vec<u8>,
-    /// How many bytes the path of the root has, with its slash.
+    /// The number of bytes of the root's path, with its slash.
     root_len: usize,
 }
 
 impl TreePath {
-    /// The path of nothing yet. It takes no memory.
+    /// A path that is still empty. It takes no memory.
     pub(crate) fn new(alloc: Global, root_len: usize) -> TreePath
         ensures { result.root_len ≡ root_len }
     {
@@ -47,14 +47,14 @@ impl TreePath {
         }
     }
 
-    /// The name below the root: what stands after the root and its slash.
+    /// The name below the root: the part after the root and its slash.
     pub(crate) fn name(&self) -> &[u8]
         ensures { result.now ≡ drop self.now.root_len self.now.bytes.items }
     {
         self.bytes.get(self.root_len..).unwrap_or(b"")
     }
 
-    /// The path with a slash at its end, as that of a directory.
+    /// The path with a slash at its end, like that of a directory.
     pub(crate) fn directory(&self, alloc: Global) -> Result<Vec<u8>, AllocError>
         ensures { IfOk result (λ path. path.items ≡ self.now.bytes.items ++ (byte "/" ∷ [])) }
     {
@@ -65,7 +65,7 @@ impl TreePath {
     }
 }
 
-/// The path of a root with a slash at its end, so that a root that is a link is followed.
+/// The path of a root with a slash at its end. So the system follows a root that is a link.
 pub(crate) fn with_slash(alloc: Global, root: &str) -> Result<String, AllocError>
     ensures { IfOk result (λ path. (string_bytes path ≡ root.now)
         ⊎ (string_bytes path ≡ root.now ++ (byte "/" ∷ []))) }

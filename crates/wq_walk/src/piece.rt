@@ -1,5 +1,5 @@
-//! The pieces in which a tree is walked: parts of it, and what of the last view of it lies in each. What walks them is not said
-//! here.
+//! The pieces in which a tree is walked: parts of it, each with the records of its last view. Another module walks
+//! them.
 
 ghost use Rattle.std.specs.Prelude.{◌≡◌, IfOk};
 ghost use Rattle.wq_walk.specs.Pieces.{IsSharedOut, IsSharedOutBelow, is_behind};
@@ -8,11 +8,11 @@ use crate::part::Part;
 use std::alloc::{AllocError, Global};
 use wq_view::Record;
 
-/// How many pieces there are at most. The more there are, the closer together two threads end, and the more directories are read
+/// The greatest number of pieces. With more pieces two threads end closer together, and more directories are read
 /// twice.
 pub(crate) const MOST_PIECES: usize = 8;
 
-/// The last view of a tree that is one piece has fewer records than this.
+/// Trees with fewer records than this in their last view are walked in one piece.
 const FEW: usize = 2000;
 
 /// A part of a tree, and the records of its last view whose names are in the part.
@@ -22,7 +22,7 @@ pub(crate) struct Piece<'a> {
     pub(crate) known: &'a [Record],
 }
 
-/// What has a name.
+/// An item that has a name.
 trait HasName {
     fn name(&self) -> &[u8];
 }
@@ -39,7 +39,7 @@ impl HasName for Vec<u8> {
     }
 }
 
-/// Pieces that were cut off a tree, in the order of names, so that each name below the last cut is in exactly one of them.
+/// Pieces that were cut off a tree, in the order of names. Each name below the last cut is in exactly one of them.
 #[derive(Drop)]
 struct Cuts<'a> {
     pieces: Vec<Piece<'a>>,
@@ -48,7 +48,7 @@ struct Cuts<'a> {
 }
 
 impl<'a> Cuts<'a> {
-    /// A tree that is whole, with room for so many pieces of it.
+    /// A whole tree, with room for so many pieces of it.
     fn new(alloc: Global, most: usize) -> Result<Cuts<'a>, AllocError> {
         Ok(Cuts {
             pieces: Vec::with_capacity(alloc, most)?,
@@ -56,7 +56,8 @@ impl<'a> Cuts<'a> {
         })
     }
 
-    /// Cuts off the piece below a name, whose part has these records, if the name is behind the last cut. Says whether it is.
+    /// Cuts off the piece below a name if the name is after the last cut, and says whether it is. The piece's part has
+    /// these records.
     fn cut(&mut self, name: &'a [u8], known: &'a [Record]) -> Result<bool, AllocError> {
         if !is_behind(name, self.last) {
             return Ok(false);
@@ -72,7 +73,7 @@ impl<'a> Cuts<'a> {
         Ok(true)
     }
 
-    /// All pieces: those that were cut off, and what is left, whose part has these records.
+    /// All pieces: the ones that were cut off, and the rest of the tree. The rest's part has these records.
     fn with_rest(self, known: &'a [Record]) -> Result<Vec<Piece<'a>>, AllocError>
         ensures { IfOk result (λ pieces. IsSharedOut pieces.items) }
     {
@@ -86,7 +87,7 @@ impl<'a> Cuts<'a> {
     }
 }
 
-/// The pieces of a tree whose last view has these records, in the order of names. Each name is in exactly one.
+/// The pieces of a tree with a last view of these records, in the order of names. Each name is in exactly one piece.
 pub(crate) fn pieces_of(alloc: Global, last: &[Record]) -> Result<Vec<Piece<'_>>, AllocError>
     ensures { IfOk result (λ pieces. IsSharedOut pieces.items) }
 {
@@ -94,17 +95,18 @@ pub(crate) fn pieces_of(alloc: Global, last: &[Record]) -> Result<Vec<Piece<'_>>
     pieces_cut(alloc, most, last, last)
 }
 
-/// The pieces of a tree that had no view yet, cut at some of these names, which rise. Each name is in exactly one.
+/// The pieces of a tree that had no view yet, cut at some of these names, which rise. Each name is in exactly one
+/// piece.
 pub(crate) fn first_pieces(alloc: Global, names: &[Vec<u8>]) -> Result<Vec<Piece<'_>>, AllocError>
     ensures { IfOk result (λ pieces. IsSharedOut pieces.items) }
 {
     pieces_cut(alloc, MOST_PIECES, names, &[])
 }
 
-/// At most so many pieces, in the order of names, between which as many of these names lie.
+/// At most so many pieces, in the order of names. The cuts have equal numbers of these names between them.
 ///
-/// No cut is made within the directory in which its piece begins, since the directory would be read once more for it; but the one in
-/// the middle always is.
+/// No cut is made within the directory in which its piece begins, because the directory would be read once more for it.
+/// The cut in the middle is made even so.
 fn pieces_cut<'a, T: HasName>(
     alloc: Global,
     most: usize,
@@ -127,7 +129,7 @@ fn pieces_cut<'a, T: HasName>(
     cuts.with_rest(known.get(start..).unwrap_or(&[]))
 }
 
-/// The name at the second of two places, where a piece that begins with the name at the first one ends before it.
+/// The name at the second of two places, if a piece that begins with the name at the first place ends before it.
 fn cut_between<'a, T: HasName>(
     names: &'a [T],
     start: usize,
@@ -139,7 +141,7 @@ fn cut_between<'a, T: HasName>(
     (end > start && is_apart).then_some(name)
 }
 
-/// Whether a name is behind a cut, where there is one.
+/// Whether a name is after a cut. If there is no cut, it is.
 fn is_behind(name: &[u8], cut: Option<&[u8]>) -> bool
     ensures { result ≡ is_behind name.now cut.entry }
 {
@@ -149,7 +151,7 @@ fn is_behind(name: &[u8], cut: Option<&[u8]>) -> bool
     }
 }
 
-/// The name of the directory of a name; nothing at the top.
+/// The name of the directory of a name, or nothing at the top.
 fn directory_of(name: &[u8]) -> Option<&[u8]> {
     name.rsplitn(2, |byte| *byte == b'/').nth(1)
 }

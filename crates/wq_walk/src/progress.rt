@@ -1,4 +1,4 @@
-//! How far the threads are that walk one tree. What they do with a piece is not said here.
+//! The progress of the threads that walk one tree. Another module walks the pieces.
 ghost use Rattle.std.specs.Prelude.{◌≡◌, IfErr};
 ghost use Rattle.wq_crawl.specs.declared.tree.TreeFault.TheVariants.{TooManyRows};
 
@@ -7,23 +7,25 @@ use std::sync::atomic::{AtomicUsize, Ordering};
 use wq_crawl::TreeFault;
 use wq_view::MAX_LISTING_ROWS;
 
-/// How many rows of a piece are counted at once, so that no row costs a step on memory that the other thread writes too. What
-/// does not fill a batch yet is not counted: so a walk may hold up to this many rows more for each piece.
+/// The number of rows of a piece that are counted at once. So no single row costs a write to memory that the other
+/// thread writes too. Rows are not counted before they fill a batch. So a walk may hold up to this many rows more for
+/// each piece.
 const BATCH: usize = 1024;
 
-/// How far the threads are that walk one tree.
+/// The progress of the threads that walk one tree.
 #[derive(Drop)]
 pub(crate) struct Progress {
-    /// How many pieces the tree has.
+    /// The number of pieces of the tree.
     pieces: usize,
-    /// How many of them were taken: all of them, or more, where none is left to be taken.
+    /// The number of pieces that were taken. If no piece is left, it is the number of all pieces, or more.
     taken: AtomicUsize,
-    /// How many rows of all pieces were counted. Names of different pieces are different, so these are rows of the tree.
+    /// The number of rows of all pieces that were counted. Names of different pieces are different, so these are rows
+    /// of the tree.
     counted: AtomicUsize,
 }
 
 impl Progress {
-    /// That of a tree of so many pieces, none of which was taken.
+    /// The progress in a tree of so many pieces, before the first is taken.
     pub(crate) fn new(pieces: usize) -> Progress {
         Progress {
             pieces,
@@ -32,20 +34,20 @@ impl Progress {
         }
     }
 
-    /// Takes a piece. Says whether one was left.
+    /// Takes a piece, and returns whether one was left.
     pub(crate) fn take(&self) -> bool {
         self.taken.fetch_add(1, Ordering::SeqCst) < self.pieces
     }
 
-    /// Leaves no piece to be taken, since the walk of one failed.
+    /// Leaves no piece to be taken, because the walk of one failed.
     pub(crate) fn stop(&self) {
         self.taken.fetch_add(self.pieces, Ordering::SeqCst);
     }
 
     /// Counts the last rows of a piece, each time that they fill a batch.
     ///
-    /// It fails where more rows were counted than a pass takes. So it never does for a tree that has no more: what is counted
-    /// was listed.
+    /// The call fails if more rows were counted than a pass takes. The walk lists each row before it counts it. So the
+    /// call never fails for a tree that has no more rows.
     pub(crate) fn count(&self, rows: &Rows<'_>) -> Result<(), TreeFault>
         ensures { IfErr result (λ fault. fault ≡ TooManyRows) }
     {

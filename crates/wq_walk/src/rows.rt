@@ -1,4 +1,4 @@
-//! The rows of a listing that is being made. Where they come from is not looked at here.
+//! The rows of a listing that is being made. Other modules find the files.
 ghost use Rattle.std.specs.Prelude.{◌≡◌, ◌≤◌, ◌++◌, ◌∷◌, [], length, IfErr, IfOk, OnOk, IsTrue};
 ghost use Rattle.std.specs.List.{list_all};
 ghost use Rattle.wq_crawl.specs.declared.tree.TreeFault.TheVariants.{TooManyRows, Unreadable};
@@ -11,7 +11,7 @@ use std::alloc::{AllocError, Global};
 use wq_crawl::TreeFault;
 use wq_view::{MAX_LISTING_ROWS, Seen};
 
-/// At most 1,000,000 rows of a part, each of which a pass takes.
+/// At most 1,000,000 rows of a part. A pass takes each of them.
 #[derive(Drop)]
 pub(crate) struct Rows<'a> {
     part: Part<'a>,
@@ -22,7 +22,7 @@ pub(crate) struct Rows<'a> {
 }
 
 impl<'a> Rows<'a> {
-    /// No row of a part, with room for so many.
+    /// No row of a part, with room for so many rows.
     pub(crate) fn with_room(
         alloc: Global,
         part: Part<'a>,
@@ -36,19 +36,19 @@ impl<'a> Rows<'a> {
         })
     }
 
-    /// The part whose rows they are.
+    /// The part of the rows.
     pub(crate) fn part(&self) -> Part<'a>
         ensures { result ≡ self.now.part }
     {
         self.part
     }
 
-    /// How many they are.
+    /// The number of rows.
     pub(crate) fn len(&self) -> usize {
         self.rows.len()
     }
 
-    /// Adds a row behind the others.
+    /// Adds a row after the others.
     pub(crate) fn add(&mut self, row: Seen) -> Result<(), TreeFault>
         requires lawful { IsTrue (is_lawful_row row) }
         requires within { IsTrue (is_row_in self.old.part row) }

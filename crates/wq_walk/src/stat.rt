@@ -1,4 +1,5 @@
-//! What the system says of one file, as a row of a listing holds it. Nothing is read here.
+//! The kind, size and time that the system gives for one file, as a row of a listing has them. Another module reads the
+//! disk.
 ghost use Rattle.std.specs.Prelude.{◌≡◌, ◌↔◌, ℤ, IsTrue};
 ghost use Rattle.std.specs.Fs.{file_type, metadata_len};
 ghost use Rattle.wq_view.specs.Seen.{is_count, is_time};
@@ -11,13 +12,13 @@ use std::os::unix::fs::MetadataExt;
 use wq_base::{MAX_NUMBER, MAX_SIGNED};
 use wq_view::Kind;
 
-/// How many milliseconds a second has.
+/// The number of milliseconds in a second.
 const MILLISECONDS: i64 = 1000;
 
-/// How many nanoseconds a millisecond has.
+/// The number of nanoseconds in a millisecond.
 const NANOSECONDS: i64 = 1_000_000;
 
-/// What was seen of a file. Its numbers are in the ranges of a listing.
+/// The kind, size and time of a file. The numbers are in the ranges of a listing.
 #[derive(Drop)]
 pub(crate) struct Stat {
     pub(crate) kind: Kind,
@@ -41,7 +42,7 @@ impl Model for Stat {
 }
 
 impl Stat {
-    /// Whether it is of a directory.
+    /// Whether the file is a directory.
     pub(crate) fn is_directory(&self) -> bool
         ensures { IsTrue result ↔ (self.now.kind ≡ Dir) }
     {
@@ -49,8 +50,7 @@ impl Stat {
     }
 }
 
-/// What a listing says of a file, of which the system says this. A size or a time out of range is brought to the
-/// nearest bound.
+/// The stat of a file for the metadata that the system gives. A size or a time out of range becomes the nearest bound.
 pub(crate) fn stat_of(metadata: &Metadata) -> Stat
     ensures kind { result.kind ≡ kind_of_mode (file_type metadata.now).bits }
     ensures size { result.size ≡ nearest_size (metadata_len metadata.now) }
@@ -61,7 +61,7 @@ pub(crate) fn stat_of(metadata: &Metadata) -> Stat
     stat_from(kind_of(metadata), metadata.len(), seconds, nanoseconds)
 }
 
-/// What a listing says of a file of this kind, of so many bytes, that was modified at this time.
+/// The stat of a file of this kind, of so many bytes, that was modified at this time.
 fn stat_from(kind: Kind, len: u64, seconds: i64, nanoseconds: i64) -> Stat
     ensures { result ≡ record {
       kind = kind;

@@ -1,4 +1,4 @@
-//! The walk over a tree: from directory to directory, a row for each file. What a walk is for is not said here.
+//! The walk over a tree: from directory to directory, with a row for each file. The module of listings uses it.
 ghost use Rattle.std.specs.Prelude.{◌≡◌, ◌⊎◌, ◌++◌, ◌∷◌, [], ℕ, Bool, false, List, MatchOption};
 ghost use Rattle.std.specs.Prelude.{IfErr, IfOk, IsTrue, None, OnOk, Some};
 ghost use Rattle.std.specs.Arc.{arc_slice_items};
@@ -25,28 +25,29 @@ use std::sync::ArcSlice;
 use wq_crawl::TreeFault;
 use wq_view::{Known, Seen};
 
-/// A walk on its way.
+/// A walk that has not ended yet.
 #[derive(Drop)]
 struct Walk<'a, 'p> {
     alloc: Global,
     block: Block,
     path: TreePath,
-    /// From the root down to the directory above the one in which the walk is.
+    /// The directories above the one in which the walk is, from the root down.
     above: Vec<Directory>,
     rows: Rows<'a>,
     known: Known<'a>,
     progress: &'p Progress,
 }
 
-/// The rows of the files below a root whose names are in a piece's part, each of which a pass takes. They share the names of
-/// the piece's records. There is room for as many from the start. The root's path ends in a slash.
+/// The rows of the files below a root whose names are in a piece's part. A pass takes each row. The rows share the
+/// names of the piece's records, and from the start there is room for as many rows. The root's path ends in a slash.
 ///
-/// The walk reads each directory whole, and then looks at its entries. It follows no links, but one that is the root. An entry
-/// that cannot be looked at is left out, as one that goes while the walk is on its way; so is one whose name no pass takes.
-/// Of a directory below the root that cannot be read only its own row is listed; but where no more files can be opened, which
-/// says nothing of the directory, the walk fails. Directories below which no name is in the part are not read.
+/// The walk reads each directory whole, and then looks at its entries. It follows no links, except one that is the
+/// root. It leaves out an entry at which it cannot look, such as one that is deleted meanwhile, and an entry whose name
+/// no pass takes. If a directory below the root cannot be read, the walk lists its own row alone. If no more files can
+/// be opened, the error says nothing of the directory, and the walk fails. The walk does not read directories below
+/// which no name is in the part.
 ///
-/// It fails too as soon as more rows of the whole tree were counted than a pass takes.
+/// The walk also fails as soon as more rows of the whole tree were counted than a pass takes.
 pub(crate) fn rows_in<'a, D: Disk>(
     disk: &D,
     alloc: Global,
@@ -78,7 +79,7 @@ pub(crate) fn rows_in<'a, D: Disk>(
     Ok(walk.rows)
 }
 
-/// The directory of a root, of which nothing was looked at yet.
+/// The directory of a root, before the walk looks at any of its names.
 fn top<D: Disk>(
     disk: &D,
     alloc: Global,
@@ -98,7 +99,7 @@ fn top<D: Disk>(
 }
 
 impl Walk<'_, '_> {
-    /// Goes on from a directory to the end.
+    /// Continues from a directory to the end.
     fn run<D: Disk>(&mut self, disk: &D, mut here: Directory) -> Result<(), TreeFault>
         ensures part { self.new.rows.part ≡ self.old.rows.part }
         ensures ends { OnOk result (Ends (D.says disk.now) (D.has disk.now) self.old.path.root_len
@@ -111,11 +112,11 @@ impl Walk<'_, '_> {
                 return Ok(());
             }
         }
-        // So many steps are those of no tree.
+        // No tree needs so many steps.
         Err(TreeFault::TooManyRows)
     }
 
-    /// Does what comes next in the directory in which the walk is. Says whether something was left to be done.
+    /// Does the next step in the directory in which the walk is, and returns whether there was one.
     fn take<D: Disk>(&mut self, disk: &D, here: &mut Directory) -> Result<bool, TreeFault>
         ensures part { self.new.rows.part ≡ self.old.rows.part }
         ensures root { self.new.path.root_len ≡ self.old.path.root_len }
@@ -165,8 +166,8 @@ impl Walk<'_, '_> {
         Ok(())
     }
 
-    /// Looks at the file at the path, and adds its row if its name is in the part. Says whether it is to be entered: whether it
-    /// is a directory below which names may be in the part.
+    /// Looks at the file at the path, and adds its row if its name is in the part. Returns whether the walk enters the
+    /// file. It does if the file is a directory below which names may be in the part.
     fn list<D: Disk>(&mut self, disk: &D) -> Result<bool, TreeFault>
         ensures part { self.new.rows.part ≡ self.old.rows.part }
         ensures path { self.new.path ≡ self.old.path }
@@ -208,7 +209,7 @@ impl Walk<'_, '_> {
         Ok(())
     }
 
-    /// Goes into the directory of the name at a place in the one in which the walk is.
+    /// Enters the directory of the name at a place in the directory in which the walk is.
     fn enter<D: Disk>(
         &mut self,
         disk: &D,
@@ -234,7 +235,7 @@ impl Walk<'_, '_> {
     }
 }
 
-/// What is seen of the file of a path, if it can be looked at.
+/// The stat of the file of a path, if the disk can look at it.
 fn stat_at<D: Disk>(disk: &D, path: &TreePath) -> Result<Option<Stat>, TreeFault>
     ensures told { IfOk result (λ told. MatchOption told
         ((IsUtf8 path.now.bytes.items → ⊥) ⊎ D.says disk.now path.now.bytes.items None)
@@ -247,7 +248,7 @@ fn stat_at<D: Disk>(disk: &D, path: &TreePath) -> Result<Option<Stat>, TreeFault
     }
 }
 
-/// The names in the directory of a path, and none where it cannot be read.
+/// The names in the directory of a path, or none if it cannot be read.
 fn names_at<D: Disk>(
     disk: &D,
     alloc: Global,

@@ -1,4 +1,4 @@
-//! The tree on disk, for a server that lists roots again and again. It keeps nothing of them.
+//! The tree on disk, for a server that lists roots again and again. The walker keeps nothing of the listings.
 ghost use Rattle.std.specs.Prelude.{◌≡◌, ◌≤◌, length, IfErr, IfOk, IsTrue};
 ghost use Rattle.std.specs.List.{list_all};
 ghost use Rattle.wq_crawl.specs.Tree.{IsCounted};
@@ -12,7 +12,7 @@ use std::thread::Threads;
 use wq_crawl::{Tree, TreeFault};
 use wq_view::{Seen, View};
 
-/// Walks the trees of a disk, a large one on two threads, and counts how often a root could not be read.
+/// Walks the trees of a disk, and counts how often a root could not be read. Two threads walk a large tree.
 #[derive(Drop)]
 pub struct Walker<T: Threads + Drop> {
     disk: FileDisk,
@@ -22,7 +22,7 @@ pub struct Walker<T: Threads + Drop> {
 }
 
 impl<T: Threads + Drop> Walker<T> {
-    /// A walker that has listed nothing yet, and counted no failure. It takes no memory.
+    /// A walker that has listed nothing and counted no failure. It takes no memory.
     pub fn new(files: &HostRuntime, threads: T, alloc: Global) -> Walker<T>
         ensures { result.failures ≡ 0 }
     {
@@ -34,7 +34,7 @@ impl<T: Threads + Drop> Walker<T> {
         }
     }
 
-    /// Counts a listing that failed since its root cannot be read.
+    /// Counts a listing that failed because its root cannot be read.
     fn count(&mut self, listed: &Result<Vec<Seen>, TreeFault>)
         ensures { IfErr listed.now (IsCounted self.old.failures self.new.failures) }
     {
@@ -47,7 +47,8 @@ impl<T: Threads + Drop> Walker<T> {
 impl<T: Threads + Drop> Tree for Walker<T> {
     ghost failed = { λ walker. walker.failures };
 
-    /// The rows of the files below a root, so that names rise as long as the tree holds still. Each is one that a pass takes.
+    /// The rows of the files below a root. Their names rise if the tree does not change meanwhile. A pass takes each
+    /// row.
     fn list(&mut self, root: &str) -> Result<Vec<Seen>, TreeFault>
         ensures counted { IfErr result (IsCounted self.old.failures self.new.failures) }
         ensures lawful { IfOk result (λ rows. IsTrue (list_all is_lawful_row rows.items)) }
@@ -58,7 +59,7 @@ impl<T: Threads + Drop> Tree for Walker<T> {
         listed
     }
 
-    /// The rows of the files below a root, as above, which share the names of the records of its last view.
+    /// The rows of the files below a root, as above. They share the names of the records of its last view.
     fn list_again(&mut self, root: &str, last: &View) -> Result<Vec<Seen>, TreeFault>
         ensures counted { IfErr result (IsCounted self.old.failures self.new.failures) }
         ensures lawful { IfOk result (λ rows. IsTrue (list_all is_lawful_row rows.items)) }

@@ -124,7 +124,7 @@ fn put_depth(
     draft.put(Op::Compare(relation))
 }
 
-/// Puts `dirname` or `idirname`: below the directory at all, and then so deep.
+/// Puts `dirname` or `idirname`: below the directory at all, and then at this depth.
 pub(super) fn put_below(
     alloc: Global,
     draft: &mut Draft,

@@ -7,7 +7,7 @@ use wq_clock::Bound;
 use wq_view::Record;
 
 impl Since {
-    /// Whether what it asks for happened to the file after its point.
+    /// Whether the event that it asks for happened to the file after its point.
     pub(crate) fn holds(self, file: &Record) -> bool
         ensures { result ≡ is_since self file.now }
     {

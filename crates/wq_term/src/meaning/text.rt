@@ -34,7 +34,7 @@ pub(super) fn has_suffix(texts: &[Vec<u8>], file: &Record) -> bool
     false
 }
 
-/// Whether the file lies strictly below the directory, so deep.
+/// Whether the file lies strictly below the directory, at this depth.
 #[tactic(auto, using(crate::proofs::Texts::name_is_short))]
 pub(super) fn is_below(case: Case, dir: &[u8], depth: Depth, file: &Record) -> bool
     ensures { result ≡ lies_below case dir.now depth file.now.name }
@@ -56,7 +56,7 @@ pub(super) fn part_of(scope: Scope, file: &Record) -> &[u8]
     }
 }
 
-/// Whether what follows a directory, a part of a name, has as many slashes as is asked for.
+/// Whether the rest of a name after a directory has as many slashes as the depth asks for.
 fn has_depth(depth: Depth, rest: &[u8]) -> bool
     requires { length rest.now ≤ MAX_NAME }
     ensures { result ≡ has_depth depth rest.now }

@@ -1,5 +1,5 @@
-//! The meaning of one argument of a term, or of a few of them. Which term has which arguments is
-//! not said here.
+//! The meaning of one argument of a term, or of a few of them. The other modules say which term has
+//! which arguments.
 ghost use Rattle.std.specs.Prelude.{◌≡◌, ◌-◌, length, ok_or, option_map};
 ghost use Rattle.std.specs.List.{suffix_len};
 ghost use Rattle.serde_json.specs.View.{view as data_of, items_view};

@@ -1,5 +1,4 @@
-//! Reading the terms over patterns: `match` and `imatch`. How the text of a pattern is read is said
-//! in `wq_glob`.
+//! Reading the terms over patterns: `match` and `imatch`. `wq_glob` reads the text of a pattern.
 ghost use Rattle.std.specs.Prelude.{◌≡◌};
 ghost use Rattle.serde_json.specs.View.{view as data_of, items_view, members_view};
 ghost use Rattle.wq_term.specs.Outcome.{GivesExpr};

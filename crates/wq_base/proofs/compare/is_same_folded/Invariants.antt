@@ -1,4 +1,4 @@
--- what is left of both texts decides
+-- the rests of both texts decide
 use Rattle.std.proofs.Common.{◌≡◌, drop}
 use Rattle.std.specs.Str.{str_eq_ignore_ascii_case}
 use Rattle.wq_base.proofs.compare.is_same_folded.Given as goal

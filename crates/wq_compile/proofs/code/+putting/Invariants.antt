@@ -1,4 +1,4 @@
--- what was put, and the terms that are left, are the whole
+-- the terms that were put, and the terms that are left, are the whole
 use Rattle.std.proofs.Common.{length, map, drop}
 use Rattle.wq_term.specs.Expr.{term_of, terms_of}
 use Rattle.wq_compile.specs.Code.{joined, parts_of}

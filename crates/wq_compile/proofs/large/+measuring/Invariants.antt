@@ -1,4 +1,4 @@
--- what is left decides
+-- the rest decides
 use Rattle.std.proofs.Common.{◌≡◌, map, drop}
 use Rattle.wq_term.specs.Expr.{term_of, terms_of}
 use Rattle.wq_compile.specs.Large.{have_long_list}

@@ -1,4 +1,4 @@
--- One position more.
+-- One more position.
 use Rattle.wq_gen.proofs.Positions.{range_more}
 use Rattle.wq_gen.proofs.candidate.all.Goals as goal
 

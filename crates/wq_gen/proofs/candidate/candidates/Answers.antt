@@ -1,4 +1,4 @@
--- The union of what the generators give.
+-- The union of the positions that the generators give.
 use Rattle.std.proofs.Common.{sym, ◌∙◌, ◌||◌}
 use Rattle.std.proofs.lemmas.Result.{IfOk-weaker}
 use Rattle.wq_gen.specs.Candidate.{gives, suffix_is_among, is_on_path, changed_since}

@@ -1,4 +1,4 @@
--- No paths are there.
+-- There are no paths.
 use Rattle.std.proofs.Common.{None, refl, sym, ap, ◌∙◌}
 use Rattle.wq_view.specs.Position.{positions_of}
 use Rattle.wq_gen.specs.Candidate.{gives, is_on_path}

@@ -1,4 +1,4 @@
--- what is left decides
+-- the rest of the texts decides
 use Rattle.std.proofs.Common.{◌≡◌, drop}
 use Rattle.wq_gen.specs.Candidate.{suffix_is_among}
 use Rattle.wq_gen.proofs.generators.has_suffix.Given as goal

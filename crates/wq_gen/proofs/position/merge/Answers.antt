@@ -1,4 +1,4 @@
--- One of the lists has ended, and what is left of the other is added.
+-- One of the lists has ended, and the rest of the other is added.
 use Rattle.std.proofs.Common.{◌≡◌, ◌++◌, length, ◌⊎◌, inl, inr, ap, sym, ◌∙◌, append_assoc}
 use Rattle.wq_gen.proofs.Unions.{left_over}
 use Rattle.wq_gen.proofs.position.merge.Goals as goal

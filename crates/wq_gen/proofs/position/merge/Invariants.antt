@@ -1,4 +1,4 @@
--- what is merged, and what is left to merge
+-- the merged positions, and the rests of the lists
 use Rattle.std.proofs.Common.{◌≡◌, ◌+◌, ◌++◌, length}
 use Rattle.wq_gen.specs.Union.{union}
 use Rattle.wq_gen.proofs.position.merge.Given as goal

@@ -13,7 +13,7 @@ whole c =
     one_of_some c.args.flags.noescape c.args.text.now c.in-Some.after.now c.in-Some.ensures.0
     (subst (λ (t : List ℕ). class_items c.args.flags.noescape t ≡ Some (c.in-Some.ensures.0, c.in-Some.after.now)) c.items_of.ensures c.in-Some.ensures.1)
 
--- or none, where it has no end
+-- or none, if it has no end
 endless : (c : In-None) → one_of_at c.args.flags.noescape c.args.text.now ≡ (Nothing, [])
 endless c =
     one_of_none c.args.flags.noescape c.args.text.now

@@ -1,4 +1,4 @@
--- what the arguments are and then what is left are all; nothing else changes
+-- the arguments so far and the arguments that are left are all; nothing else changes
 use Rattle.std.proofs.Common.{◌≡◌, ◌++◌, drop}
 use Rattle.std.specs.Process.{SameDir, SameEnv, command_args, command_program}
 use Rattle.wq_launch.proofs.command.put_args.Given as goal

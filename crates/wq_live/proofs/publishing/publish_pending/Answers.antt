@@ -1,4 +1,4 @@
--- the value that is lined up goes on from what is shown
+-- the value that is lined up continues the one that is shown
 use Rattle.wq_live.proofs.Sharing.{turns}
 use Rattle.wq_live.proofs.publishing.publish_pending.Goals as goal
 

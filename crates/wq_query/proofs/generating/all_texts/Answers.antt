@@ -1,4 +1,4 @@
--- Each item is a text, or the first that is none refuses the list.
+-- Each item is a text, or the first item that is no text refuses the list.
 use Rattle.std.proofs.Common.{◌≡◌, ◌+◌, [], drop, refl, sym, ap, ◌∙◌}
 use Rattle.std.proofs.Math.ListN.{drop_of_length-le}
 use Rattle.std.proofs.lemmas.Result.{err_from_is_err_and}

@@ -1,4 +1,4 @@
--- what is kept, and what is kept of the places that are left, is the whole
+-- the places kept so far, and those to be kept of the rest, are the whole
 use Rattle.std.proofs.Common.{◌≡◌, ◌++◌, drop}
 use Rattle.std.specs.Prelude.{filter}
 use Rattle.wq_view.specs.Position.{passes_at}

@@ -1,4 +1,4 @@
--- The places of what matches are places of the view.
+-- The places of the files that match are places of the view.
 use Rattle.std.proofs.Common.{◌<◌, All, length, sym, subst, ◌∙◌}
 use Rattle.wq_query.specs.Listing.{is_match}
 use Rattle.wq_query.specs.Query.{planned}

@@ -1,4 +1,4 @@
--- what is printed and then what is left are the files
+-- the tokens so far and then those of the rest are the tokens of the files
 use Rattle.std.proofs.Common.{◌≡◌, ◌++◌, drop, map}
 use Rattle.json.specs.Tree.{json_tokens, items_tokens}
 use Rattle.serde_json.specs.Data.{array}

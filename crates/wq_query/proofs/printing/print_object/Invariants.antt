@@ -1,4 +1,4 @@
--- what is printed and then what is left are the object
+-- the tokens so far and then those of the rest are the tokens of the object
 use Rattle.std.proofs.Common.{◌≡◌, ◌++◌, drop}
 use Rattle.json.specs.Tree.{json_tokens, members_tokens}
 use Rattle.serde_json.specs.Data.{object}

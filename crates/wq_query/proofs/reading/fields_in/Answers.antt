@@ -1,4 +1,4 @@
--- Each name is a field's, or the first that is none refuses the list.
+-- Each name is a field's, or the first that is no field's refuses the list.
 use Rattle.std.proofs.Common.{◌≡◌, ◌+◌, [], drop, refl, sym, ap, ◌∙◌}
 use Rattle.std.proofs.Math.ListN.{drop_of_length-le}
 use Rattle.serde_json.specs.View.{items_view}

@@ -1,4 +1,4 @@
--- what is left decides
+-- the rest decides
 use Rattle.std.proofs.Common.{◌≡◌, map, drop}
 use Rattle.serde_json.specs.View.{view as data_of}
 use Rattle.wq_query.specs.Reading.{has_key_of}

@@ -1,4 +1,4 @@
--- The text of what is printed.
+-- The text of the printed tokens.
 use Rattle.std.proofs.Common.{◌++◌, ap, ◌∙◌}
 use Rattle.json.specs.Tree.{json_tokens}
 use Rattle.serde_json.specs.Written.{outline}

@@ -1,4 +1,4 @@
--- what is told so far and then what is left is told of the files
+-- the values so far and then those of the rest are the values of the files
 use Rattle.std.proofs.Common.{◌≡◌, ◌++◌, map, drop}
 use Rattle.serde_json.specs.View.{view as data_of}
 use Rattle.wq_clock.specs.Instance.{instance_data}

@@ -1,4 +1,4 @@
--- The events that were told, and those that are left to tell, are the events of all bytes.
+-- The events so far, and the events of the remaining bytes, are the events of all bytes.
 use Rattle.std.proofs.Common.{◌≡◌, ◌++◌, length}
 use Rattle.wq_stream.specs.Stream.{events_of, kept_of}
 use Rattle.wq_stream.proofs.telling.split.Given as goal

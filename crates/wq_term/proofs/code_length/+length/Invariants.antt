@@ -1,4 +1,4 @@
--- what is counted is a word; and with the terms that are left it makes the whole
+-- the count so far is a word, and with the terms that are left it makes the whole
 use Rattle.std.proofs.Common.{◌≡◌, ◌+◌, map, drop}
 use Rattle.wq_term.specs.CodeLength.{at_most_word, others_len, terms_len}
 use Rattle.wq_term.specs.Expr.{term_of, terms_of}

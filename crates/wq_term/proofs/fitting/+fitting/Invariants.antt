@@ -1,4 +1,4 @@
--- what is left decides
+-- the rest decides
 use Rattle.std.proofs.Common.{◌≡◌, ◌&&◌, nat_le, map, drop}
 use Rattle.wq_term.specs.Expr.{greatest_depth, term_of, terms_of}
 use Rattle.wq_term.specs.Fits.{all_keep_limits}

@@ -1,4 +1,4 @@
--- what is left decides
+-- the rest decides
 use Rattle.std.proofs.Common.{◌≡◌, drop}
 use Rattle.std.specs.List.{list_all}
 use Rattle.wq_term.specs.Expr.{texts_in}

@@ -1,4 +1,4 @@
--- what is left decides
+-- the rest decides
 use Rattle.std.proofs.Common.{◌≡◌, map, drop}
 use Rattle.wq_term.specs.Expr.{every, some, term_of, terms_of}
 use Rattle.wq_term.proofs.meaning.+holds.Given as goal

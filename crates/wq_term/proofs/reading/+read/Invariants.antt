@@ -1,4 +1,4 @@
--- each call reads fewer levels, or is a part of what reads this many
+-- each call reads fewer levels, or is a part of a call that reads this many
 use Rattle.std.proofs.Common.{◌≡◌, ◌+◌, ◌*◌, map, drop}
 use Rattle.serde_json.specs.View.{items_view}
 use Rattle.wq_clock.specs.Instance.{instance_data}

@@ -1,4 +1,4 @@
--- The name has ended within the directory.
+-- The name ends within the directory.
 use Rattle.std.proofs.Common.{drop, sym, ◌∙◌}
 use Rattle.wq_view.proofs.NamesBelow.{ended}
 use Rattle.wq_view.proofs.below.order_below.Goals as goal

@@ -1,4 +1,4 @@
--- what is left of the directory and of the name decides
+-- the rests of the directory and of the name decide
 use Rattle.std.proofs.Common.{◌≡◌, drop}
 use Rattle.wq_view.specs.Below.{order_below}
 use Rattle.wq_view.proofs.below.order_below.Given as goal

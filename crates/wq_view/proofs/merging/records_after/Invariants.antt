@@ -1,4 +1,4 @@
--- the records so far, and those of the pairs that are left, whose rows are lawful
+-- the records so far, and those of the rest of the pairs; the rows of these pairs are lawful
 use Rattle.std.proofs.Common.{◌≡◌, ◌++◌, map, IsTrue}
 use Rattle.std.specs.List.{list_all}
 use Rattle.wq_view.specs.Merge.{pair_after, records_after}

@@ -1,4 +1,4 @@
--- The last place of the byte is where the suffix without it begins.
+-- The suffix without the byte begins at its last place.
 use Rattle.std.proofs.Common.{◌≡◌, ℕ, zero, suc, ◌+◌, ◌-◌, ◌<◌, ◌≤◌, Bool, true, false, not, ◌||◌, ◌==◌, List, [], ◌∷◌, length, drop, get_or, refl, sym, ap, ◌∙◌, arith}
 use Rattle.std.specs.List.{after_last, list_any, suffix_len}
 use Rattle.std.proofs.lemmas.List.Sums.{suffix_len_is}
@@ -9,7 +9,7 @@ from_not_true : (b : Bool) → (b ≡ true → ⊥) → b ≡ false
 from_not_true true isnt = absurd (isnt refl)
 from_not_true false isnt = refl
 
--- the bytes from n on fail, and the one before them passes: what follows the last is what follows it
+-- the bytes from n on fail the test, and the one before them passes: they are the part after the last such byte
 module _ (byte : ℕ) (bytes : List ℕ) where
   abbrev is_it : ℕ → Bool
   is_it b = b == byte

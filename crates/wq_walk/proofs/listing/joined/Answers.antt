@@ -1,4 +1,4 @@
--- the rows of one piece more
+-- the rows of one more piece
 use Rattle.std.proofs.Common.{◌≡◌, ◌∷◌, ◌++◌, ap, length, ◌∙◌, arith}
 use Rattle.std.specs.Vec.Iter.{into_iter_items}
 use Rattle.wq_walk.specs.declared.rows.Rows.{Rows}

@@ -1,4 +1,4 @@
--- what is joined so far is the rows of the pieces that were added, and not too many
+-- the joined rows are those of the pieces that were added, and not too many
 use Rattle.std.proofs.Common.{◌≡◌, ◌≤◌, ◌++◌, length, IsTrue}
 use Rattle.std.specs.List.{flat_map, list_all}
 use Rattle.std.specs.Vec.Iter.{into_iter_items, into_iter_len}

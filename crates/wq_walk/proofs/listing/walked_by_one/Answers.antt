@@ -1,4 +1,4 @@
--- the rows of one piece more
+-- the rows of one more piece
 use Rattle.std.proofs.Common.{◌≡◌, ◌∷◌, [], ◌++◌, rules}
 use Rattle.wq_walk.proofs.Walked.{walked_more}
 use Rattle.wq_walk.proofs.listing.walked_by_one.Goals as goal

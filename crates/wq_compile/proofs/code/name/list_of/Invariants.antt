@@ -1,4 +1,4 @@
--- what is made, and the texts that are left, are the whole
+-- the list so far, and the texts that are left, are the whole
 use Rattle.std.proofs.Common.{◌≡◌, ◌++◌, drop}
 use Rattle.wq_term.specs.Expr.{texts_in}
 use Rattle.wq_compile.proofs.code.name.list_of.Given as goal

@@ -1,4 +1,4 @@
--- The root was listed, and started with the pass of what was listed.
+-- The root was listed, and started with the pass of the listing.
 use Rattle.wq_crawl.proofs.Crawling.{began}
 use Rattle.wq_crawl.proofs.crawler.Crawler.begin.Goals as goal
 

@@ -1,4 +1,4 @@
--- The root was listed, and the pass of what was listed was published; or there was no pass, and nothing was added.
+-- The root was listed, and the pass of the listing was published; or there was no pass, and nothing was added.
 use Rattle.std.proofs.lemmas.Result.{err_from_is_err_and}
 use Rattle.wq_crawl.proofs.Crawling.{crawled_at, not_crawled_at}
 use Rattle.wq_crawl.proofs.crawler.Crawler.crawl_at.Goals as goal

@@ -1,4 +1,4 @@
--- Keeping the crawl leaves the crawler as the crawl left it.
+-- The crawler is as after the crawl, because the count of the crawl is kept beside it.
 use Rattle.std.proofs.Common.{Ok, sym, subst}
 use Rattle.wq_crawl.specs.Crawl.{CrawledAt}
 use Rattle.wq_crawl.proofs.shared_crawler.LastCrawls.crawl_at.Goals as goal

@@ -1,4 +1,4 @@
--- both begin what is known of the list
+-- both logs begin the part of the list that is known
 use Rattle.std.proofs.Common.{ap, sym, subst, ◌∙◌}
 use mathlib.Core.List.{IsPrefix}
 use Rattle.wq_live.proofs.Comparing.{compared}

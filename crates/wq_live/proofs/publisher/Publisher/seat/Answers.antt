@@ -1,4 +1,4 @@
--- a new seat knows nothing, and then what the writer knows
+-- a new seat knows nothing, and then all that the writer knows
 use Rattle.wq_live.proofs.Sharing.{admits, forks, merges}
 use Rattle.wq_live.proofs.publisher.Publisher.seat.Goals as goal
 

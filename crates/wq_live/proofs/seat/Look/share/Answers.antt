@@ -1,4 +1,4 @@
--- what the table shares of the text
+-- the table's share for the text
 use Rattle.std.proofs.Common.{◌∙◌}
 use Rattle.wq_live.proofs.Fullness.{number_named, named_shows}
 use Rattle.wq_live.proofs.seat.Look.share.Goals as goal

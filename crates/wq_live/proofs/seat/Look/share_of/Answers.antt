@@ -1,4 +1,4 @@
--- what the table shares of the number
+-- the table's share for the number
 use Rattle.wq_live.proofs.Fullness.{shows}
 use Rattle.wq_live.proofs.seat.Look.share_of.Goals as goal
 

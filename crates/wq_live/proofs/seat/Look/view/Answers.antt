@@ -1,4 +1,4 @@
--- what the table has of the number
+-- the table's view for the number
 use Rattle.wq_live.proofs.Fullness.{shows}
 use Rattle.wq_live.proofs.seat.Look.view.Goals as goal
 

@@ -1,4 +1,4 @@
--- a look keeps what each seat knows
+-- a look keeps the knowledge of each seat
 use Rattle.wq_live.proofs.Sharing.{turns, begins_self}
 use Rattle.wq_live.proofs.seat.Seat.look.Goals as goal
 

@@ -1,4 +1,4 @@
--- by the root that is found, and what its view is after the pass
+-- by the root that is found, and its view after the pass
 use Rattle.std.proofs.Common.{◌≡◌, ◌≢◌, ◌<◌, ◌++◌, ◌∷◌, [], Ok, Err, None, Some, IfSome, option_map, inl, inr, ap, sym, subst, ◌∙◌}
 use Rattle.std.proofs.lemmas.Result.{err_from_is_err_and}
 use Rattle.wq_view.specs.History.{last_stats}

@@ -1,4 +1,4 @@
--- what is kept is no more than there was
+-- the roots that are kept are at most as many as before
 use Rattle.std.proofs.Common.{not, take, length, ap, arith}
 use Rattle.std.proofs.lemmas.List.{length-take}
 use Rattle.std.proofs.lemmas.List.Sums.{length-filter, count_by-le-length}

@@ -1,4 +1,4 @@
--- The program says what the expression means, where the query names none.
+-- The program answers the meaning of the expression, if the query names none.
 use Rattle.std.proofs.Common.{rules}
 use Rattle.wq_verify.specs.Typing.{IsValid}
 use Rattle.wq_term.specs.Expr.{term_of}

@@ -1,4 +1,4 @@
--- Each key says what it says, and the last one decides.
+-- Each key has its value, and the last one decides.
 use Rattle.std.proofs.Common.{rules, ◌≡◌, Err, true, false, sym, ap, subst, ◌∙◌}
 use Rattle.serde_json.specs.View.{view as data_of}
 use Rattle.wq_clock.specs.Instance.{instance_data}

@@ -1,4 +1,4 @@
--- A program that answers what the text of its key says stands for it.
+-- A program that answers the text of its key stands for it.
 use Rattle.std.proofs.Common.{sym, subst}
 use Rattle.wq_code.specs.declared.raw.Raw.{Raw}
 use Rattle.wq_term.specs.Expr.{term_of}

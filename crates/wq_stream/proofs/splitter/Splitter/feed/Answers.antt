@@ -1,4 +1,4 @@
--- The stream has ended, or its rest and the piece tell what is added.
+-- The stream has ended, or its rest and the piece determine the events.
 use Rattle.wq_stream.proofs.Feeding.{none_fed, some_fed}
 use Rattle.wq_stream.proofs.splitter.Splitter.feed.Goals as goal
 

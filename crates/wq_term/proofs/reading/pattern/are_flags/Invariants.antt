@@ -1,4 +1,4 @@
--- what is left decides
+-- the rest decides
 use Rattle.std.proofs.Common.{◌≡◌}
 use Rattle.serde_json.specs.View.{members_view}
 use Rattle.wq_term.specs.PatternArgument.{are_flags}

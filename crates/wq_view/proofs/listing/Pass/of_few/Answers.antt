@@ -1,4 +1,4 @@
--- The rows are lawful here, and sorted: what is left is whether a name is there twice.
+-- The rows are lawful here, and sorted. The remaining question is whether a name comes twice.
 use Rattle.std.proofs.Common.{◌≡◌, ℤ, ◌≤◌, Bool, true, false, List, length, sym, ap, ◌∙◌, arith, w64, IsPermutation, Vec}
 use mir.Val.{to_z, of_z, SFits}
 use Rattle.std.proofs.lemmas.Int.{to_z-of_z}
@@ -14,7 +14,7 @@ use Rattle.wq_view.proofs.Faults.{fault_when_lawful}
 use Rattle.wq_view.proofs.Listings.{sorted_listing, is_pass}
 use Rattle.wq_view.proofs.listing.Pass.of_few.Goals as goal
 
--- the second as it was passed
+-- the second that was passed
 is_second : (second : ℤ) (r : Bool) → SFits w64 second → r ≡ is_count (to_z w64 (of_z w64 second)) → r ≡ true → is_count second ≡ true
 is_second second r fits e is = ap is_count (sym (to_z-of_z w64 second fits)) ∙ sym e ∙ is
 

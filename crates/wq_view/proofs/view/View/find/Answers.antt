@@ -6,7 +6,7 @@ use Rattle.wq_view.specs.RecordData.{RecordData, record_named}
 use Rattle.wq_view.proofs.Lookups.{absent_from, alone, found_from, searched}
 use Rattle.wq_view.proofs.view.View.find.Goals as goal
 
--- what a look-up by name gives
+-- the result of a look-up by name
 abbrev Looked : List ℕ → List RecordData → Option ℕ → Type 0
 Looked name records result =
     MatchOption result (record_named name records ≡ None) (λ i. (i < length records) × (slice_get records i ≡ record_named name records))

@@ -11,7 +11,7 @@ use Rattle.wq_view.proofs.Absorbed.{absorbed_ordered}
 use Rattle.wq_view.proofs.ViewSteps.{view_of_more}
 use Rattle.wq_view.proofs.view.View.moved_by.Goals as goal
 
--- the records after a pass at a second as it was passed
+-- the records after a pass, for the second that was passed
 written : (after base known : List RecordData) (rows : List SeenData) (tick : ℕ) (passed second : ℤ) → after ≡ records_after tick (to_z w64 (of_z w64 passed)) known rows → known ≡ base → SFits w64 passed → passed ≡ second → after ≡ records_after tick second base rows
 written after base known rows tick passed second is known_is fits same =
     is

@@ -1,4 +1,4 @@
--- what is put into order, and is there once, is of entries
+-- the places that are sorted, each once, are those of entries
 use Rattle.std.proofs.Common.{IsTrue, sym, ◌∙◌}
 use Rattle.std.proofs.lemmas.List.Sorted.{All-permutation}
 use Rattle.wq_walk.specs.Entries.{is_entry}

@@ -1,4 +1,4 @@
--- the pieces with what is left
+-- the pieces with the rest of the tree
 use Rattle.wq_walk.proofs.Pieces.{shared_with_rest}
 use Rattle.wq_walk.proofs.piece.Cuts.with_rest.Goals as goal
 

@@ -1,4 +1,4 @@
--- a file that the disk cannot look at, or whose path is no text, is passed over
+-- the walk passes over a file if the disk cannot look at it, or if its path is no text
 use Rattle.std.proofs.Common.{inr, Some}
 use Rattle.wq_walk.proofs.Walking.{passed_over, unseen}
 use Rattle.wq_walk.proofs.walk.Walk.list.Goals as goal

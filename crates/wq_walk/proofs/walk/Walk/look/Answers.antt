@@ -1,4 +1,4 @@
--- what was found at the path of the name
+-- the result at the path of the name
 use Rattle.std.proofs.Common.{false, refl}
 use Rattle.wq_walk.specs.Directory.{entry_at}
 use Rattle.wq_walk.proofs.Walking.{found_at, path_of}

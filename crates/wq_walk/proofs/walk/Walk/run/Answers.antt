@@ -1,4 +1,4 @@
--- a walk that begins, goes a step further, and goes no further
+-- a walk that begins, has a next step, and has none
 use Rattle.std.proofs.Common.{◌∙◌, ap, map, refl}
 use Rattle.wq_walk.specs.Directory.{data_of, walk_of}
 use Rattle.wq_walk.proofs.Walking.{begins, ended, further}

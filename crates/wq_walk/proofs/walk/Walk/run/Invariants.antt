@@ -1,4 +1,4 @@
--- the part that is listed stays the one that was asked for, and so many steps led here
+-- the part that is listed stays the same, and so many steps led here
 use Rattle.std.proofs.Common.{◌≡◌, ℕ}
 use Rattle.wq_walk.specs.Directory.{walk_of}
 use Rattle.wq_walk.specs.Walk.{Leads}

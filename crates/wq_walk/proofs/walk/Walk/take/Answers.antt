@@ -1,4 +1,4 @@
--- a look at a name, and an entering of a directory
+-- the walk looks at a name, or enters a directory
 use Rattle.std.proofs.Common.{inl, inr, ap, ◌∙◌, ◌∷◌, [], map}
 use Rattle.std.proofs.lemmas.List.{map-append}
 use Rattle.wq_walk.specs.Directory.{data_of, entry_at}
