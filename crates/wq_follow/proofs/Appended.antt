@@ -24,7 +24,7 @@ front_is records places i d r h found =
     ∙ ap (λ rs. file_names (records_at records (take i places) ++ rs)) (one_more records (get_or places i d) [] r found)
     ∙ names_of-append (records_at records (take i places)) (r ∷ [])
 
--- what fits from a place on, where the name there does
+-- the names that fit from a place on, if the name there does
 left_is : (records : List RecordData) (places : List ℕ) (i d room : ℕ) (r : RecordData) → i < length places
     → slice_get records (get_or places i d) ≡ Some r → length r.name < room
     → fitting room (file_names (records_at records (drop i places)))

@@ -29,7 +29,7 @@ told_of history (look ∷ looks) f of =
     at true next same = (of.0, next)
     at false next same = same
 
--- what was looked at has reached its last changes
+-- the views that were looked at have reached its last changes
 reached : (history : History) (looks : List LookData) → AreOf history looks → HaveReached looks
 reached history [] of = tt
 reached history (look ∷ looks) of =

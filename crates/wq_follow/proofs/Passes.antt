@@ -24,7 +24,7 @@ greatest_low test (suc n) = at (test (suc n)) (greatest_low test n)
     at true low = omega arith
     at false low = omega (arith, low)
 
--- what a record from so many passes tells of its last change
+-- the tick of a record from so many passes is that of its last change
 changed_in : (name : List ℕ) (stats : ℕ → Option Stat) (seconds : ℕ → ℤ) (n : ℕ) (r : RecordData)
     → record_from name stats seconds n ≡ Some r → r.otick ≡ greatest (has_changed stats) n
 changed_in name stats seconds n r is = at (stats (greatest (is_seen stats) n)) is
@@ -148,7 +148,7 @@ record_stays name stats seconds early (suc more) low =
     at true h low rest = absurd (omega (arith, low, later_by_is more early))
     at false h low rest = stays name stats seconds last h ∙ rest low
 
--- what is read only up to n
+-- observations that agree up to n
 module _ (n : ℕ) where
   greatest_alike : (t u : ℕ → Bool) (m : ℕ) → m ≤ n → ((i : ℕ) → i ≤ n → t i ≡ u i) → greatest t m ≡ greatest u m
   greatest_alike t u zero low same = refl
@@ -162,7 +162,7 @@ module _ (n : ℕ) where
   changed_alike s z same zero low = refl
   changed_alike s z same (suc i) low = rw (same (suc i) low, same i (omega arith)) refl
 
--- a record is made of what was seen up to the last pass
+-- passes that agree up to the last one make the same record
 record_alike : (name : List ℕ) (s z : ℕ → Option Stat) (c d : ℕ → ℤ) (n : ℕ) → ((i : ℕ) → i ≤ n → s i ≡ z i)
     → ((i : ℕ) → i ≤ n → c i ≡ d i) → record_from name s c n ≡ record_from name z d n
 record_alike name s z c d n stats seconds =

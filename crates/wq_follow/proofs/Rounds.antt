@@ -1,4 +1,4 @@
--- A round's work for a trigger agrees with what a launcher shows.
+-- A round's work for a trigger agrees with the facts that a launcher shows.
 use Rattle.std.proofs.Common.{◌≡◌, ◌≢◌, ℕ, Bool, true, false, not, List, [], ◌∷◌, length, Option, Some, None, if◌then◌else◌, refl, sym, ap, subst, ◌∙◌}
 use Rattle.wq_clock.specs.Instance.{InstanceData}
 use Rattle.wq_view.specs.Position.{records_at}
@@ -20,14 +20,14 @@ ends : (b : Bool) → true ≡ not b → b ≡ false
 ends true e = absurd (cc e)
 ends false e = refl
 
--- it is passed over where its command runs
+-- it is passed over if its command runs
 pub agrees_runs : (running : Option ℕ) (before after : Option LauncherData) → AsksRun running false before after
     → (run : ℕ) × (running ≡ Some run) × Agrees (runs run) running before after
 agrees_runs None before after asks = absurd (cc (asks.0))
 agrees_runs (Some run) None after asks = (run, refl, asks)
 agrees_runs (Some run) (Some l) after asks = (run, refl, (goes (goes_on run l) asks.0, asks.1))
 
--- where it does not run, nothing is shown, or that it does not run
+-- if it does not run, the launcher shows nothing, or that it does not run
 free_none : (running : Option ℕ) (after : Option LauncherData) → AsksRun running true None after → after ≡ None
 free_none None after asks = asks.1
 free_none (Some run) after asks = asks
@@ -80,7 +80,7 @@ pub some_files : (records : List RecordData) (said : BatchData) (batch : Batch) 
 some_files records said batch is some none =
     some (sym (length_at records batch.files.items is.1) ∙ ap length (ap (λ b. b.files) is.0 ∙ none))
 
--- a round did something of a trigger that is then so, and that agrees with what is shown
+-- a round had an effect on a trigger that is then so, and agrees with the facts that are shown
 abbrev pub Does : InstanceData → ViewData → TriggerData → TriggerData → Option LauncherData → Option LauncherData → Bool → Type 0
 Does instance view t after before shown errs = (fired : FiredData) × Fires instance view t fired after
     × Agrees fired t.running before shown × (is_short fired ≡ errs)

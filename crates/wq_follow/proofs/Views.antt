@@ -34,7 +34,7 @@ at_head r rs = ap (λ o. cond (is_eq o) (Some r) (record_named r.name rs)) (tied
 above : (a b : List ℕ) → name_cmp a b ≡ Less → eq_by_cmp name_cmp b a ≡ false
 above a b less = ap is_eq (names_total.antisymm b a ∙ ap ordering_reverse less)
 
--- the name of a record among others is none that is below them all
+-- a name below all others is not that of a record among them
 apart : (name : List ℕ) (rs : List RecordData) (r : RecordData) → IsAmong r rs
     → below_all name_cmp name (by_name rs) ≡ true → eq_by_cmp name_cmp r.name name ≡ false
 apart name [] r among below = absurd among
@@ -54,7 +54,7 @@ found (x ∷ rs) r sorted (inr among) =
     ap (λ b. cond b (Some x) (record_named r.name rs)) (apart x.name rs r among parts.0)
     ∙ found rs r parts.1 among
 
--- what a name finds is among the records
+-- a record that is found by a name is among the records
 pub among_by : (rs : List RecordData) (r : RecordData) (name : List ℕ) → record_named name rs ≡ Some r → IsAmong r rs
 among_by [] r name is = absurd (cc is)
 among_by (x ∷ rs) r name is = at (eq_by_cmp name_cmp name x.name) is (among_by rs r name)

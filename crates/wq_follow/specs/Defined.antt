@@ -1,5 +1,5 @@
--- The meaning of what the code reads of the object of a trigger, where the memory may run out.
--- It is this server's own.
+-- The outcome of reading the object of a trigger in the code, in which memory may run out. It is
+-- this server's own.
 use Rattle.std.specs.Prelude.{◌≡◌, Result, Ok, Err}
 use Rattle.serde_json.specs.View.{view as data_of}
 use Rattle.wq_query.specs.Query.{asked_of}
@@ -10,7 +10,7 @@ use Rattle.wq_follow.specs.declared.fault.TriggerFault.{TriggerFault}
 use Rattle.wq_follow.specs.declared.fault.TriggerFault.TheVariants.{NoMemory}
 use Rattle.wq_follow.specs.declared.shape.Shape.{Shape}
 
--- what an object says of a command
+-- the data of a `Shape`
 abbrev pub shape_data : Shape → ShapeData
 shape_data s = record {
   name = s.name;

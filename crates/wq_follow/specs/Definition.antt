@@ -32,7 +32,7 @@ abbrev pub has_bad_length : Option Data → Bool
 has_bad_length (Some (string name)) = not (is_trigger_name name)
 has_bad_length _ = false
 
--- whether an object has a key that would change what is done and is left out
+-- whether an object has a key that would change the effect and is left out
 abbrev pub has_left_out_trigger_key : Data → Bool
 has_left_out_trigger_key d =
     is_some (get (codes "stdout") d) || (is_some (get (codes "stderr") d)
@@ -93,7 +93,7 @@ abbrev pub file_count_of : Data → Option ℕ
 file_count_of (number (unsigned n)) = if nat_le n max_number then Some n else None
 file_count_of _ = None
 
--- the limit of a count; 0 is none
+-- the limit that a count sets; 0 sets none
 abbrev pub limit_from : ℕ → Option ℕ
 limit_from zero = None
 limit_from (suc n) = Some (suc n)
@@ -109,7 +109,7 @@ is_text_or_absent None = true
 is_text_or_absent (Some (string text)) = true
 is_text_or_absent (Some _) = false
 
--- what an object says of a command, beside which files matter
+-- the command that an object describes, apart from the files that matter
 pub record ShapeData : Type 0 where
   pub name : List ℕ
   pub command : List (List ℕ)
@@ -117,7 +117,7 @@ pub record ShapeData : Type 0 where
   pub input : InputData
   pub limit : Option ℕ
 
--- what an object says of a command, if its keys have values of these kinds
+-- the command that an object describes, if its keys have values of these kinds
 abbrev pub shape_of : Data → Result ShapeData TriggerFault
 shape_of d =
     unless_fault BadShape (not (has_left_out_trigger_key d)) (
@@ -162,7 +162,8 @@ pub record DefinitionData : Type 0 where
   pub query : QueryData
   pub object : Data
 
--- what the object of a trigger says at an instance: its faults are looked for in this order
+-- the definition that the object of a trigger gives at an instance: its faults are looked for in
+-- this order
 abbrev pub defines : InstanceData → Data → Result DefinitionData TriggerFault
 defines instance d =
     unless_fault BadName (not (has_bad_length (get (codes "name") d))) (

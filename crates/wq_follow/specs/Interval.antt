@@ -10,12 +10,12 @@ use Rattle.wq_view.specs.RecordData.{RecordData}
 use Rattle.wq_view.specs.View.{ViewData}
 use Rattle.wq_follow.specs.Batch.{BatchData, FollowerData, polled, told_up_to}
 
--- a look at a view, and whether what was polled there was told
+-- a look at a view, and whether the batch that was polled there was told
 pub record LookData : Type 0 where
   pub view : ViewData
   pub tells : Bool
 
--- a batch that was told, and the view at which
+-- a batch that was told, and the view at which it was told
 pub record ToldData : Type 0 where
   pub batch : BatchData
   pub view : ViewData

@@ -1,5 +1,4 @@
--- The launcher of the commands of triggers, and what it shows.
--- It is this server's own.
+-- The launcher of the commands of triggers, and the facts that it shows. It is this server's own.
 use Rattle.std.specs.Prelude.{◌≡◌, ◌<◌, ◌⊎◌, ◌^◌, ◌-◌, ℕ, Bool, true, not, nat_eq}
 use Rattle.std.specs.Prelude.{List, [], ◌∷◌, ◌++◌, Option, Some, None, Result, Ok, Err}
 use Rattle.std.specs.List.{list_any}
@@ -54,8 +53,8 @@ abbrev pub run_of : Result ℕ LaunchFault → Option ℕ
 run_of (Ok run) = Some run
 run_of (Err fault) = None
 
--- a launcher answered a start so: if it shows its answers, by the next one. It may show nothing
--- from then on, if memory ran out for what it shows
+-- the launcher answers a start in this way: by its next answer, if it shows its answers. It may
+-- show nothing from then on, if memory ran out for the facts that it shows
 abbrev pub StartsRun : Option LauncherData → StartData → Option ℕ → Option LauncherData → Type 0
 StartsRun None start run after = after ≡ None
 StartsRun (Some l) start run after =
@@ -65,7 +64,7 @@ StartsRun (Some l) start run after =
 abbrev pub goes_on : ℕ → LauncherData → Bool
 goes_on run l = list_any (λ r. nat_eq run r) l.running
 
--- the launcher told so whether a run has ended
+-- the launcher answers in this way whether a run has ended
 abbrev pub EndsRun : Option LauncherData → ℕ → Bool → Option LauncherData → Type 0
 EndsRun None run ended after = after ≡ None
 EndsRun (Some l) run ended after = (ended ≡ not (goes_on run l)) × (after ≡ Some l)

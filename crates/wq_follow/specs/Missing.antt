@@ -33,22 +33,21 @@ abbrev pub end_of : ℕ → List ToldData → ℕ
 end_of last [] = last
 end_of last (t ∷ later) = end_of (t.batch).now later
 
--- no batch has the file as it is
+-- no batch has the file with this record
 abbrev pub IsNeverTold : RecordData → List ToldData → Type 0
 IsNeverTold r [] = Unit {0}
 IsNeverTold r (t ∷ later) = (IsAmong r (t.batch).files → ⊥) × IsNeverTold r later
 
--- exactly one batch has the file as it is
+-- exactly one batch has the file with this record
 abbrev pub IsToldOnce : RecordData → List ToldData → Type 0
 IsToldOnce r [] = ⊥
 IsToldOnce r (t ∷ later) =
     (IsAmong r (t.batch).files × IsNeverTold r later)
     ⊎ ((IsAmong r (t.batch).files → ⊥) × IsToldOnce r later)
 
--- nothing is missed once a batch was told that ended at a tick. Take each file of the view of the
--- whole history that matches, and whose last change came after that tick and no later than the end of
--- the last batch. It is in exactly one of the batches that were told then, whatever was looked at
--- between
+-- nothing is missed once a batch was told that ended at a tick. Take each file that matches in the
+-- view of the whole history. If it changed last after that tick and by the end of the last batch,
+-- exactly one batch that was told then has it. The looks between do not matter
 abbrev pub NothingIsMissed : Type 0
 NothingIsMissed = (f : FollowerData) (last : ℕ) (history : History) (looks : List LookData)
     (view : ViewData) → HasNoGenerators f.plan → AreOf history looks → IsViewOf history view

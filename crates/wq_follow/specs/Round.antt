@@ -16,7 +16,7 @@ pub record TriggerData : Type 0 where
   pub object : Data
   pub running : Option ℕ
 
--- what a round does for it
+-- the effect of a round on a trigger
 pub data FiredData : Type 0 where
   -- nothing, since its command runs
   runs : (run : ℕ) → FiredData
@@ -47,7 +47,7 @@ abbrev pub stopped : TriggerData → TriggerData
 stopped t =
     record { order = t.order; follower = t.follower; object = t.object; running = None }
 
--- a start of its command tells the files of its batch, of which there are some
+-- a start of its command tells the files of its batch, and there is at least one
 abbrev pub IsStartFor : InstanceData → ViewData → TriggerData → StartData → Type 0
 IsStartFor instance view t start =
     ((batch_of t view).files ≢ []) × (start ≡ start_of t.order instance (batch_of t view))
@@ -71,7 +71,7 @@ abbrev pub is_short : FiredData → Bool
 is_short short = true
 is_short _ = false
 
--- the command of a trigger does not run, as a launcher tells it
+-- a launcher tells that the command of a trigger does not run
 abbrev pub IsFree : Option ℕ → LauncherData → Type 0
 IsFree None l = Unit {0}
 IsFree (Some run) l = goes_on run l ≡ false

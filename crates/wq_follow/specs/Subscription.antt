@@ -46,7 +46,7 @@ abbrev pub text_if_any : List RecordData → Data → Option (List ℕ)
 text_if_any [] list = None
 text_if_any (file ∷ files) list = Some (compact_text list)
 
--- what it sends at an idle moment, at a view: the list of its batch, if that has files
+-- the list that it sends at an idle moment, at a view: that of its batch, if the batch has files
 abbrev pub next_list : InstanceData → ViewData → SubscriptionData → Option (List ℕ)
 next_list instance view s =
     text_if_any (polled s.follower view).files (list_of instance view s)

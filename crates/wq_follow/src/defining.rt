@@ -1,6 +1,7 @@
 //! Making a trigger from its definition.
-ghost use Rattle.std.specs.Prelude.{◌≡◌, None, option_map};
+ghost use Rattle.std.specs.Prelude.{◌≡◌, false, None, option_map};
 ghost use Rattle.serde_json.specs.View.{view as data_of};
+ghost use Rattle.serde_json.specs.Written.{has_float};
 ghost use Rattle.wq_compile.specs.Meaning.{AnswersMeaning};
 ghost use Rattle.wq_query.specs.Query.{asked_of};
 ghost use Rattle.wq_follow.specs.Defined.{definition_data, shape_data};
@@ -23,8 +24,8 @@ impl Trigger {
     /// The trigger of a definition, for the root with this text. It was told nothing yet.
     ///
     /// The program is the one that is kept under the name that the query has for one. Without a
-    /// name, it answers on every record what the query's expression means. A trigger that replaces
-    /// another takes over the run of its command.
+    /// name, it answers the meaning of the query's expression on every record. A trigger that
+    /// replaces another takes over the run of its command.
     pub fn new(
         definition: Definition,
         root: Text,
@@ -53,9 +54,10 @@ impl Trigger {
         self.order.name.as_str()
     }
 
-    /// The object of its definition, with the known keys.
+    /// The object of its definition, with the known keys. It has no float.
     pub fn object(&self) -> &Value
-        ensures { data_of result.now ≡ (trigger_data self.now).object }
+        ensures object { data_of result.now ≡ (trigger_data self.now).object }
+        ensures floats { has_float (data_of result.now) ≡ false }
     {
         &self.object
     }

@@ -1,14 +1,13 @@
 //! Reading the object of a trigger.
-ghost use Rattle.std.specs.Prelude.{◌≡◌, map, IfOk, OnOk};
+ghost use Rattle.std.specs.Prelude.{◌≡◌, false, map, IfOk, OnOk};
 ghost use Rattle.serde_json.specs.Data.{no_members};
 ghost use Rattle.serde_json.specs.Find.{get};
 ghost use Rattle.serde_json.specs.View.{members_view, view as data_of};
-ghost use Rattle.wq_clock.specs.Instance.{instance_data};
-ghost use Rattle.wq_query.specs.Query.{asked_of};
-ghost use Rattle.wq_follow.specs.Defined.{GivesDefinition, definition_data};
-ghost use Rattle.wq_follow.specs.Definition.{defines, known_part, with_key, with_keys};
+ghost use Rattle.serde_json.specs.Written.{has_float};
+ghost use Rattle.wq_follow.specs.Definition.{known_part, with_key, with_keys};
 
 use crate::fault::TriggerFault;
+use crate::law::definitions_have_no_float;
 use crate::shape::{Shape, has_bad_length, read_shape};
 use serde_json::{Map, Value, put};
 use std::alloc::{AllocError, Global};
@@ -20,7 +19,9 @@ use wq_query::{Query, QueryFault};
 pub struct Definition {
     pub(crate) shape: Shape,
     pub(crate) query: Query,
+    /// The object with the known keys, whose text is exact since it has no float.
     pub(crate) object: Value,
+    ghost plain: { has_float (data_of object) ≡ false },
 }
 
 /// The keys that are known, in byte order.
@@ -35,6 +36,11 @@ const KNOWN_KEYS: [&str; 7] = [
 ];
 
 impl Definition {
+    ghost use Rattle.wq_clock.specs.Instance.{instance_data};
+    ghost use Rattle.wq_query.specs.Query.{asked_of};
+    ghost use Rattle.wq_follow.specs.Defined.{GivesDefinition, definition_data};
+    ghost use Rattle.wq_follow.specs.Definition.{defines};
+
     /// The definition that the object of a trigger says, at this instance of the server. The first
     /// fault refuses it: see [`TriggerFault`]. Keys that are not known are ignored.
     pub fn read(
@@ -50,6 +56,7 @@ impl Definition {
         }
         let shape = read_shape(alloc, object)?;
         let object = known_part(alloc, object)?;
+        definitions_have_no_float();
         match Query::read(alloc, &object, instance) {
             Ok(query) => Ok(Definition {
                 shape,
@@ -76,9 +83,10 @@ impl Definition {
     }
 
     /// The object with the known keys, as they were given. Its query is
-    /// [`query`](Definition::query).
+    /// [`query`](Definition::query), and it has no float.
     pub fn object(&self) -> &Value
-        ensures { data_of result.now ≡ (definition_data self.now).object }
+        ensures object { data_of result.now ≡ (definition_data self.now).object }
+        ensures floats { has_float (data_of result.now) ≡ false }
     {
         &self.object
     }

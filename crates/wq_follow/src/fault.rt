@@ -1,4 +1,4 @@
-//! Why a JSON object is no trigger.
+//! The faults of a JSON object as a trigger.
 
 use std::alloc::{AllocError, AllocFailed};
 use thiserror::Error;

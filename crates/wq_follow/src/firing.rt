@@ -13,9 +13,9 @@ use wq_clock::Instance;
 use wq_view::View;
 
 impl Trigger {
-    /// A round: the command is started at a view of its root, if it does not run and files changed.
+    /// A round: starts the command at a view of its root, if it does not run and files changed.
     ///
-    /// It does nothing for want of memory only if it gives an error.
+    /// If want of memory keeps it from that, it gives an error.
     pub fn fire<L: Launch>(
         &mut self,
         alloc: Global,

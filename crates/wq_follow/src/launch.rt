@@ -1,4 +1,4 @@
-//! The launcher: it starts the commands of triggers. How it does that is not said here.
+//! The launcher, which starts the commands of triggers. `wq_launch` implements it.
 ghost use Rattle.std.specs.Prelude.{◌≡◌, IfErr};
 ghost use Rattle.wq_follow.specs.Launcher.{EndsRun, Rose, StartsRun, run_of};
 ghost use Rattle.wq_follow.specs.Started.{start_data};

@@ -1,7 +1,10 @@
-//! Laws of followers, each a function without a body whose contract is the law.
+//! Laws of followers, each a function whose contract is the law.
 ghost use Rattle.wq_follow.specs.Interval.{IntervalsAdjoin};
 ghost use Rattle.wq_follow.specs.Missing.{NothingIsMissed, ViewsAreReached};
+ghost use Rattle.wq_follow.specs.Plain.{DefinitionsHaveNoFloat};
 ghost use Rattle.wq_follow.specs.Start.{LongestFront};
+
+use wq_query::values_ask_what_they_write;
 
 /// The intervals of all batches that are told adjoin. Each batch has the matching files whose last
 /// change lies in its interval.
@@ -28,3 +31,10 @@ pub fn views_are_reached()
 pub fn nothing_is_missed()
     ensures { NothingIsMissed }
 {}
+
+/// The object that a definition of a trigger keeps has no float, so its text is exact.
+pub fn definitions_have_no_float()
+    ensures { DefinitionsHaveNoFloat }
+{
+    values_ask_what_they_write();
+}

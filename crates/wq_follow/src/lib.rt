@@ -1,5 +1,5 @@
 //! Subscriptions and triggers: the changes below a root since each was last told.
-//! How those reach a client or a command is not said here.
+//! Other crates bring them to a client or to a command.
 #![tactic(auto)]
 
 mod batch;
@@ -24,7 +24,10 @@ pub use definition::Definition;
 pub use fault::TriggerFault;
 pub use follower::Follower;
 pub use launch::{Launch, LaunchFault};
-pub use law::{intervals_adjoin, longest_front, nothing_is_missed, views_are_reached};
+pub use law::{
+    definitions_have_no_float, intervals_adjoin, longest_front, nothing_is_missed,
+    views_are_reached,
+};
 pub use order::{Input, Order};
 pub use shape::MAX_TRIGGER_NAME;
 pub use starting::{Env, MAX_APPENDED, Start};

@@ -1,4 +1,4 @@
-//! Reading what the object of a trigger says of its command, one function for each key.
+//! Reads the command in the object of a trigger, by one function for each key.
 ghost use Rattle.std.specs.Prelude.{◌≡◌, option_map, IfOk};
 ghost use Rattle.serde_json.specs.View.{view as data_of, items_view};
 ghost use Rattle.wq_follow.specs.Defined.{GivesShape};
@@ -30,7 +30,7 @@ pub(crate) struct Shape {
     pub(crate) limit: Option<u64>,
 }
 
-/// Reads what an object says of a command.
+/// Reads the command that an object describes.
 pub(crate) fn read_shape(alloc: Global, object: &Value) -> Result<Shape, TriggerFault>
     ensures { GivesShape result (shape_of (data_of object.now)) }
 {
@@ -81,7 +81,7 @@ fn is_trigger_name(name: &str) -> bool
     1 <= name.len() && name.len() <= MAX_TRIGGER_NAME
 }
 
-/// Whether an object has a key that would change what is done and is left out.
+/// Whether an object has a key that would change the effect and is left out.
 fn has_left_out_key(object: &Value) -> bool
     ensures { result ≡ has_left_out_trigger_key (data_of object.now) }
 {
@@ -122,7 +122,7 @@ fn limit(value: Option<&Value>) -> Option<Option<u64>>
     }
 }
 
-/// The limit of a count; 0 is none.
+/// The limit that a count sets; 0 sets none.
 fn limit_from(count: u64) -> Option<u64>
     ensures { result ≡ limit_from count }
 {

@@ -1,4 +1,4 @@
--- Each word is an argument, or the first that is none refuses the list.
+-- Each word is an argument, or the first word that is none refuses the list.
 use Rattle.std.proofs.Common.{◌≡◌, ◌+◌, [], ◌∷◌, ◌++◌, drop, option_map, refl, sym, ap, ◌∙◌}
 use Rattle.std.proofs.Math.ListN.{drop_of_length-le}
 use Rattle.serde_json.specs.View.{items_view}

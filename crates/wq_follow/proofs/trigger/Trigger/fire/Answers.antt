@@ -1,4 +1,4 @@
--- A round's work, and that it agrees with what the launcher shows.
+-- A round's work, and that it agrees with the facts that the launcher shows.
 use Rattle.std.proofs.Common.{◌≡◌, ◌≢◌, length, true, false, is_err, None, rules, ap, subst, ◌∙◌}
 use Rattle.wq_clock.specs.Instance.{instance_data}
 use Rattle.wq_follow.specs.Followed.{follower_data, trigger_data}
