@@ -7,6 +7,7 @@ use Rattle.wq_view.specs.View.{ViewData}
 use Rattle.wq_base.specs.Fault.{or_fault, or_its_fault, or_own_fault, unless_fault}
 use Rattle.wq_code.specs.declared.raw.Raw.{Raw}
 use Rattle.wq_query.specs.Query.{QueryData, PlanData, SinceData, at_bound, at_cursor}
+use Rattle.wq_follow.specs.Definition.{DefinitionData}
 use Rattle.wq_follow.specs.Subscription.{SubscriptionData, subscribed}
 use Rattle.wq_query.specs.Reading.{asks as queries}
 use Rattle.wq_query.specs.Subscribed.{subscribes as subscription_of}
@@ -14,8 +15,9 @@ use Rattle.wq_query.specs.declared.fault.QueryFault.{QueryFault}
 use Rattle.wq_registry.specs.Limit.{max_programs}
 use Rattle.wq_registry.specs.ByName.{has_no_place}
 use Rattle.wq_registry.specs.Shelf.{root_has_no_place}
-use Rattle.wq_registry.specs.History.{after_all}
-use Rattle.wq_session.specs.Accepted.{CallNow, Accepts, AnswersAreCalls, calls_of, cursor_calls, query_calls, shown_calls, unset_calls}
+use Rattle.wq_registry.specs.History.{adds_trigger, after_all, removes_trigger}
+use Rattle.wq_session.specs.Accepted.{CallNow, Accepts, AnswersAreCalls, calls_of, cursor_calls, definition_calls, made_calls, query_calls, shown_calls, unset_calls}
+use Rattle.wq_session.specs.Trigger.{begun_trigger, defined_by, has_no_trigger_place, name_in, put_trigger, trigger_in}
 use Rattle.wq_session.specs.Answer.{AnswerData, finished, without_cursor}
 use Rattle.wq_session.specs.Program.{is_name}
 use Rattle.wq_session.specs.Subscribe.{begun_subscription, first_plan}
@@ -29,10 +31,10 @@ use Rattle.wq_session.specs.declared.ask.Ask.{Ask}
 use Rattle.wq_session.specs.declared.ask.Ask.TheVariants.{Refused, Watch, ListRoots, Unwatch}
 use Rattle.wq_session.specs.declared.ask.Ask.TheVariants.{Query as AsksQuery, Clock, Version}
 use Rattle.wq_session.specs.declared.ask.Ask.TheVariants.{SocketName, ShutDown, AddProgram, ListPrograms}
-use Rattle.wq_session.specs.declared.ask.Ask.TheVariants.{DeleteProgram, Leave, Nothing, Subscribe, Unsubscribe}
+use Rattle.wq_session.specs.declared.ask.Ask.TheVariants.{DeleteProgram, Leave, Nothing, Subscribe, Unsubscribe, AddTrigger, ListTriggers, DeleteTrigger}
 use Rattle.wq_session.specs.declared.cursor.Cursor.{Cursor}
 use Rattle.wq_session.specs.declared.refusal.Refusal.{Refusal}
-use Rattle.wq_session.specs.declared.refusal.Refusal.TheVariants.{NotWatched, Query as BadQuery, ShelfFull, TooManyRoots, BadName}
+use Rattle.wq_session.specs.declared.refusal.Refusal.TheVariants.{NotWatched, Query as BadQuery, ShelfFull, TooManyRoots, BadName, TooManyTriggers}
 
 -- what is begun leaves the shelf to which these calls lead
 abbrev Leads : List CallNow → ShelfNow → Result BegunData Refusal → Type 0
@@ -96,6 +98,21 @@ module _ (shelf : ShelfNow) where
       by true (Err fault) = tt
       by true (Ok q) = found q (program_for q shelf)
 
+  -- what `trigger` comes to leads to the shelf with the trigger
+  with_definition : (root : List ℕ) (number : ℕ) (d : Result DefinitionData Refusal) (view : Option ViewData)
+      → Leads (definition_calls root number d shelf) shelf (or_fault NotWatched view (λ view.
+      or_own_fault d (λ definition. begun_trigger root number definition shelf)))
+  with_definition root number d None = tt
+  with_definition root number (Err refusal) (Some view) = tt
+  with_definition root number (Ok d) (Some view) = found (program_for d.query shelf)
+    where
+      found : (program : Result (Option Raw) Refusal) → Leads (made_calls root number d program shelf) shelf
+          (or_own_fault program (λ program. put_trigger root number d program shelf))
+      found (Err refusal) = tt
+      found (Ok program) =
+          unless TooManyTriggers (not (has_no_trigger_place number (name_in d) shelf))
+          (adds_trigger number (name_in d) (trigger_in root number d program shelf) ∷ []) shelf _ refl
+
   -- what follows where the root is watched
   where_watched : (at : AtData) (test : Bool) (calls : List CallNow) (next : AtData → Result BegunData Refusal)
       → Leads calls shelf (next at) → Leads calls shelf (or_fault NotWatched (if test then Some at else None) next)
@@ -103,24 +120,24 @@ module _ (shelf : ShelfNow) where
   where_watched at true calls next so = so
 
 -- what an ask leaves is what its calls lead to, where it is not refused
-leads : (ask : Ask) (at : Option AtData) (shelf : ShelfNow) → Leads (calls_of ask at) shelf (tried ask at shelf)
+leads : (ask : Ask) (at : Option AtData) (shelf : ShelfNow) → Leads (calls_of ask at shelf) shelf (tried ask at shelf)
 leads (Refused refusal) at shelf = tt
 leads (Watch root) None shelf = tt
 leads (Watch root) (Some at) shelf =
     unless TooManyRoots (not (root_has_no_place root (at.instance).root shelf))
-    (calls_of (Watch root) (Some at)) shelf _ refl
+    (calls_of (Watch root) (Some at) shelf) shelf _ refl
 leads ListRoots None shelf = refl
 leads ListRoots (Some at) shelf = refl
 leads (Unwatch root) None shelf = tt
 leads (Unwatch root) (Some at) shelf =
-    where_watched shelf at (is_watched root at shelf) (calls_of (Unwatch root) (Some at)) _ refl
+    where_watched shelf at (is_watched root at shelf) (calls_of (Unwatch root) (Some at) shelf) _ refl
 leads (AsksQuery root crawl q) None shelf = tt
 leads (AsksQuery root crawl q) (Some at) shelf =
     where_watched shelf at (is_watched root at shelf) (shown_calls at.instance at.view (data_of q)) _
     (with_view shelf at.instance (data_of q) at.view)
 leads (Clock root crawl) None shelf = tt
 leads (Clock root crawl) (Some at) shelf =
-    where_watched shelf at (is_watched root at shelf) (calls_of (Clock root crawl) (Some at)) _
+    where_watched shelf at (is_watched root at shelf) (calls_of (Clock root crawl) (Some at) shelf) _
     (of_view shelf at.view (λ view. replies (clock_data at.instance view)))
 leads Version None shelf = refl
 leads Version (Some at) shelf = refl
@@ -130,7 +147,7 @@ leads ShutDown None shelf = refl
 leads ShutDown (Some at) shelf = refl
 leads (AddProgram name program) at shelf =
     unless ShelfFull (not (has_no_place max_programs name shelf.programs))
-    (calls_of (AddProgram name program) at) shelf _ refl
+    (calls_of (AddProgram name program) at shelf) shelf _ refl
 leads ListPrograms None shelf = refl
 leads ListPrograms (Some at) shelf = refl
 leads (DeleteProgram name) at shelf = refl
@@ -141,6 +158,17 @@ leads (Subscribe root name q) (Some at) shelf =
 leads (Unsubscribe root name) None shelf = tt
 leads (Unsubscribe root name) (Some at) shelf =
     where_watched shelf at (is_watched root at shelf) [] _ (unless BadName (is_name name) [] shelf _ refl)
+leads (AddTrigger root t) None shelf = tt
+leads (AddTrigger root t) (Some at) shelf =
+    where_watched shelf at (is_watched root at shelf)
+    (definition_calls root (at.instance).root (defined_by at.instance (data_of t)) shelf) _
+    (with_definition shelf root (at.instance).root (defined_by at.instance (data_of t)) at.view)
+leads (ListTriggers root) None shelf = tt
+leads (ListTriggers root) (Some at) shelf = where_watched shelf at (is_watched root at shelf) [] _ refl
+leads (DeleteTrigger root name) None shelf = tt
+leads (DeleteTrigger root name) (Some at) shelf =
+    where_watched shelf at (is_watched root at shelf) (removes_trigger (at.instance).root name ∷ []) _
+    (unless BadName (is_name name) (removes_trigger (at.instance).root name ∷ []) shelf _ refl)
 leads Leave None shelf = refl
 leads Leave (Some at) shelf = refl
 leads Nothing None shelf = refl
@@ -155,21 +183,21 @@ one_more (c ∷ cs) cursor shelf = one_more cs cursor _
 
 module _ (ask : Ask) (at : Option AtData) (shelf : ShelfNow) (follows : List SubscriptionData) where
   -- the answer, by what came of the ask
-  whole : (r : Result BegunData Refusal) → tried ask at shelf ≡ r → Leads (calls_of ask at) shelf r
+  whole : (r : Result BegunData Refusal) → tried ask at shelf ≡ r → Leads (calls_of ask at shelf) shelf r
       → (calls : List CallNow) × Accepts ask at shelf follows (finished (or_refused r shelf).work at follows).out calls
       × ((or_refused r shelf).shelf ≡ after_all calls shelf)
-  whole (Ok b) is so = (calls_of ask at, inl (b, is, refl, refl), so)
+  whole (Ok b) is so = (calls_of ask at shelf, inl (b, is, refl, refl), so)
   whole (Err refusal) is so = ([], inr (inl (refusal, is, refl, refl)), refl)
 
   -- memory that ran out over the files
-  unfinished : (r : Result BegunData Refusal) → tried ask at shelf ≡ r → Leads (calls_of ask at) shelf r
+  unfinished : (r : Result BegunData Refusal) → tried ask at shelf ≡ r → Leads (calls_of ask at shelf) shelf r
       → (plan : PlanData) (cursor : Option Cursor) → (or_refused r shelf).work ≡ evaluates plan cursor
       → (calls : List CallNow) × Accepts ask at shelf follows (runs_out None) calls
       × (without_cursor cursor (or_refused r shelf).shelf ≡ after_all calls shelf)
   unfinished (Ok b) is so plan cursor work = (
-    calls_of ask at ++ unset_calls cursor,
+    calls_of ask at shelf ++ unset_calls cursor,
     inr (inr (inr (b, plan, cursor, is, work, refl, refl))),
-    ap (without_cursor cursor) so ∙ sym (one_more (calls_of ask at) cursor shelf),
+    ap (without_cursor cursor) so ∙ sym (one_more (calls_of ask at shelf) cursor shelf),
   )
   unfinished (Err refusal) is so plan cursor work = absurd (cc work)
 

@@ -4,6 +4,7 @@ use Rattle.std.specs.List.{list_any}
 use Rattle.std.specs.Option.{option_map_or}
 use Rattle.std.specs.Str.{bytes_eq}
 use mathlib.Core.Bool.{false≢true}
+use Rattle.wq_follow.specs.Round.{TriggerData}
 use Rattle.wq_registry.specs.Root.{RootData, called, is_newer}
 use Rattle.wq_session.specs.Law.{WatchingAgainChangesNothing}
 
@@ -13,7 +14,7 @@ later true c is = refl
 later false c is = is
 
 -- a root of this text and number says that it is not new
-is_there : (text : List ℕ) (number : ℕ) (rs : List (RootData (Unit {0})))
+is_there : (text : List ℕ) (number : ℕ) (rs : List (RootData TriggerData))
     → option_map_or (λ r. nat_eq number r.number) (called text rs) false ≡ true
     → list_any (is_newer text number) rs ≡ true
 is_there text number [] there = absurd (false≢true there)

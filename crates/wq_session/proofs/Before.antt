@@ -1,10 +1,10 @@
 -- What `query` comes to, of a query that was read before.
 use Rattle.std.proofs.Common.{◌≡◌, ℕ, Bool, true, false, List, Option, Some, None, Result, Ok, Err, IfOk, if◌then◌else◌, refl, sym, ap, subst, ◌∙◌}
 use Rattle.std.specs.Prelude.{codes, not}
-use Rattle.serde_json.specs.Data.{Data}
+use Rattle.serde_json.specs.Data.{Data, null}
 use Rattle.serde_json.specs.Find.{get}
 use Rattle.serde_json.specs.View.{view as data_of}
-use Rattle.wq_base.specs.Fault.{or_fault, or_its_fault, unless_fault}
+use Rattle.wq_base.specs.Fault.{or_fault, or_its_fault, or_own_fault, unless_fault}
 use Rattle.wq_clock.specs.Instance.{InstanceData}
 use Rattle.wq_query.specs.Generator.{suffixes_of, paths_of}
 use Rattle.wq_query.specs.Outcome.{GivesQuery}
@@ -16,6 +16,10 @@ use Rattle.wq_query.specs.Subscribed.{comes_first, has_cursor, has_generator, su
 use Rattle.wq_query.specs.declared.fault.QueryFault.{QueryFault}
 use Rattle.wq_query.specs.declared.fault.QueryFault.TheVariants.{LeftOutKey, ExpressionAndProgram, Expression, UnknownField}
 use Rattle.wq_query.specs.declared.fault.QueryFault.TheVariants.{BadGenerator, BadClockSpec, WrongValue}
+use Rattle.wq_follow.specs.Defined.{definition_data}
+use Rattle.wq_follow.specs.Definition.{DefinitionData, ShapeData, defines, has_bad_length, known_part, shape_of}
+use Rattle.wq_follow.specs.declared.fault.TriggerFault.{TriggerFault}
+use Rattle.wq_follow.specs.declared.fault.TriggerFault.TheVariants.{BadName as BadTriggerName, Query as BadTriggerQuery}
 use Rattle.wq_term.specs.Expr.{ExprData, always}
 use Rattle.wq_term.specs.declared.fault.TermFault.{TermFault}
 use Rattle.wq_view.specs.View.{ViewData}
@@ -23,6 +27,8 @@ use Rattle.wq_session.specs.Answer.{TakesAsk}
 use Rattle.wq_session.specs.At.{AtData, ShelfNow, is_watched, watched}
 use Rattle.wq_session.specs.Prepared.{AreRead, GivesRead, IsRead, IsReadAt, IsReadBy, IsReadFor, IsReadOf}
 use Rattle.wq_session.specs.Prepared.{IsSubscribedAt, Reads}
+use Rattle.wq_session.specs.Prepared.{AreDefined, GivesDefined, IsDefinedAt, IsDefinedFor, IsDefinedOf, IsReadTrigger}
+use Rattle.wq_session.specs.Trigger.{begun_trigger, defined_by, try_trigger}
 use Rattle.wq_session.specs.Program.{is_name}
 use Rattle.wq_session.specs.Query.{begun_query, try_query}
 use Rattle.wq_session.specs.Subscribe.{begun_subscription, try_subscribe}
@@ -31,14 +37,15 @@ use Rattle.wq_session.specs.declared.ask.Ask.{Ask}
 use Rattle.wq_session.specs.declared.ask.Ask.TheVariants.{Refused, Watch, ListRoots, Unwatch}
 use Rattle.wq_session.specs.declared.ask.Ask.TheVariants.{Query as AsksQuery, Clock, Version}
 use Rattle.wq_session.specs.declared.ask.Ask.TheVariants.{SocketName, ShutDown, AddProgram, ListPrograms}
-use Rattle.wq_session.specs.declared.ask.Ask.TheVariants.{DeleteProgram, Leave, Nothing, Subscribe, Unsubscribe}
+use Rattle.wq_session.specs.declared.ask.Ask.TheVariants.{DeleteProgram, Leave, Nothing, Subscribe, Unsubscribe, AddTrigger, ListTriggers, DeleteTrigger}
 use Rattle.wq_session.specs.declared.read_query.ReadQuery.{ReadQuery}
+use Rattle.wq_session.specs.declared.read_trigger.ReadTrigger.{ReadTrigger}
 use Rattle.wq_session.specs.declared.refusal.Refusal.{Refusal}
 use Rattle.wq_session.specs.declared.refusal.Refusal.TheVariants.{NotWatched, Query as BadQuery, BadName, NoMemory}
 use Rattle.wq_session.specs.declared.refusal.Refusal.TheVariants.{LineTooLong, Bser, NotJson, NotACommand, UnknownCommand}
 use Rattle.wq_session.specs.declared.refusal.Refusal.TheVariants.{WrongArguments, RootNotAbsolute, TooManyRoots, TooManySessions}
 use Rattle.wq_session.specs.declared.refusal.Refusal.TheVariants.{UnreadableRoot, TooManyFiles, TicksSpent, NoSuchProgram}
-use Rattle.wq_session.specs.declared.refusal.Refusal.TheVariants.{ProgramTooLarge, TooManySubscriptions, NotBase64, ShelfFull}
+use Rattle.wq_session.specs.declared.refusal.Refusal.TheVariants.{ProgramTooLarge, TooManySubscriptions, NotBase64, ShelfFull, BadTrigger, TooManyTriggers}
 use Rattle.wq_session.specs.declared.refusal.Refusal.TheVariants.{WrongFile, WrongProgram}
 use Rattle.wq_session.specs.declared.work.Work.{Work}
 
@@ -75,8 +82,48 @@ asked_read ShutDown at read is = none_read read is
 asked_read (AddProgram name program) at read is = none_read read is
 asked_read ListPrograms at read is = none_read read is
 asked_read (DeleteProgram name) at read is = none_read read is
+asked_read (AddTrigger root t) at read is = none_read read is
+asked_read (ListTriggers root) at read is = none_read read is
+asked_read (DeleteTrigger root name) at read is = none_read read is
 asked_read Leave at read is = none_read read is
 asked_read Nothing at read is = none_read read is
+
+-- what was read of the object of a trigger is known
+pub are_defined : (d : Data) (at : Option AtData) (read : Option (Result ReadTrigger Refusal)) → IsDefinedAt d at read → AreDefined read
+are_defined d (Some at) (Some (Ok read)) is = of at.view is
+  where
+    of : (view : Option ViewData) → IsDefinedOf d at.instance view (Some (Ok read)) → IsReadTrigger read
+    of (Some view) is = is.1
+    of None is = elim is [ ]
+are_defined d None (Some (Ok read)) is = elim is [ ]
+are_defined d at (Some (Err refusal)) is = tt
+are_defined d at None is = tt
+
+none_defined : (read : Option (Result ReadTrigger Refusal)) → read ≡ None → AreDefined read
+none_defined None is = tt
+none_defined (Some read) is = absurd cc
+
+-- what was read of an ask is known
+pub asked_defined : (ask : Ask) (at : Option AtData) (read : Option (Result ReadTrigger Refusal)) → IsDefinedFor ask at read → AreDefined read
+asked_defined (AddTrigger root t) at read is = are_defined (data_of t) at read is
+asked_defined (AsksQuery root crawl q) at read is = none_defined read is
+asked_defined (Subscribe root name q) at read is = none_defined read is
+asked_defined (Unsubscribe root name) at read is = none_defined read is
+asked_defined (Refused refusal) at read is = none_defined read is
+asked_defined (Watch root) at read is = none_defined read is
+asked_defined ListRoots at read is = none_defined read is
+asked_defined (Unwatch root) at read is = none_defined read is
+asked_defined (Clock root crawl) at read is = none_defined read is
+asked_defined Version at read is = none_defined read is
+asked_defined SocketName at read is = none_defined read is
+asked_defined ShutDown at read is = none_defined read is
+asked_defined (AddProgram name program) at read is = none_defined read is
+asked_defined ListPrograms at read is = none_defined read is
+asked_defined (DeleteProgram name) at read is = none_defined read is
+asked_defined (ListTriggers root) at read is = none_defined read is
+asked_defined (DeleteTrigger root name) at read is = none_defined read is
+asked_defined Leave at read is = none_defined read is
+asked_defined Nothing at read is = none_defined read is
 
 -- what is watched is what is looked at
 there : (root : List ℕ) (at : Option AtData) (shelf : ShelfNow) (a : AtData) → watched root at shelf ≡ Some a → at ≡ Some a
@@ -137,6 +184,8 @@ refused_for asked next shelf TicksSpent said = elim said [ ]
 refused_for asked next shelf NoSuchProgram said = elim said [ ]
 refused_for asked next shelf ProgramTooLarge said = elim said [ ]
 refused_for asked next shelf TooManySubscriptions said = elim said [ ]
+refused_for asked next shelf BadTrigger said = elim said [ ]
+refused_for asked next shelf TooManyTriggers said = elim said [ ]
 refused_for asked next shelf NotBase64 said = elim said [ ]
 refused_for asked next shelf ShelfFull said = elim said [ ]
 refused_for asked next shelf (WrongFile fault) said = elim said [ ]
@@ -181,6 +230,96 @@ module _ (root name : List ℕ) (d : Data) (at : Option AtData) (shelf : ShelfNo
       subst (λ b. Begins b shelf (Err refusal) shelf) (sym (subscribed_at view shown))
       (refused_for (subscribes a.instance d) (λ q. begun_subscription root name (a.instance).root q shelf) shelf refusal
       (object_there view shown (Some (Err refusal)) said))
+
+-- the fault of a trigger that was read is why a line is refused
+refused_defined : (said : Result DefinitionData Refusal) (next : DefinitionData → Result BegunData Refusal) (shelf : ShelfNow) (refusal : Refusal)
+    → GivesDefined (Err refusal) said → Begins (or_own_fault said next) shelf (Err refusal) shelf
+refused_defined said next shelf NoMemory is = refl
+refused_defined said next shelf (BadQuery fault) is = (ap (λ r. or_own_fault r next) is, refl)
+refused_defined said next shelf LineTooLong is = (ap (λ r. or_own_fault r next) is, refl)
+refused_defined said next shelf Bser is = (ap (λ r. or_own_fault r next) is, refl)
+refused_defined said next shelf NotJson is = (ap (λ r. or_own_fault r next) is, refl)
+refused_defined said next shelf NotACommand is = (ap (λ r. or_own_fault r next) is, refl)
+refused_defined said next shelf UnknownCommand is = (ap (λ r. or_own_fault r next) is, refl)
+refused_defined said next shelf WrongArguments is = (ap (λ r. or_own_fault r next) is, refl)
+refused_defined said next shelf RootNotAbsolute is = (ap (λ r. or_own_fault r next) is, refl)
+refused_defined said next shelf NotWatched is = (ap (λ r. or_own_fault r next) is, refl)
+refused_defined said next shelf BadName is = (ap (λ r. or_own_fault r next) is, refl)
+refused_defined said next shelf TooManyRoots is = (ap (λ r. or_own_fault r next) is, refl)
+refused_defined said next shelf TooManySessions is = (ap (λ r. or_own_fault r next) is, refl)
+refused_defined said next shelf UnreadableRoot is = (ap (λ r. or_own_fault r next) is, refl)
+refused_defined said next shelf TooManyFiles is = (ap (λ r. or_own_fault r next) is, refl)
+refused_defined said next shelf TicksSpent is = (ap (λ r. or_own_fault r next) is, refl)
+refused_defined said next shelf NoSuchProgram is = (ap (λ r. or_own_fault r next) is, refl)
+refused_defined said next shelf ProgramTooLarge is = (ap (λ r. or_own_fault r next) is, refl)
+refused_defined said next shelf TooManySubscriptions is = (ap (λ r. or_own_fault r next) is, refl)
+refused_defined said next shelf BadTrigger is = (ap (λ r. or_own_fault r next) is, refl)
+refused_defined said next shelf TooManyTriggers is = (ap (λ r. or_own_fault r next) is, refl)
+refused_defined said next shelf NotBase64 is = (ap (λ r. or_own_fault r next) is, refl)
+refused_defined said next shelf ShelfFull is = (ap (λ r. or_own_fault r next) is, refl)
+refused_defined said next shelf (WrongFile fault) is = (ap (λ r. or_own_fault r next) is, refl)
+refused_defined said next shelf (WrongProgram fault place) is = (ap (λ r. or_own_fault r next) is, refl)
+
+module _ (root : List ℕ) (d : Data) (at : Option AtData) (shelf : ShelfNow) (a : AtData) (is : watched root at shelf ≡ Some a) where
+  -- what `trigger` comes to at a root that is shown
+  triggered_at : (view : ViewData) → a.view ≡ Some view
+      → try_trigger root d at shelf ≡ or_own_fault (defined_by a.instance d) (λ definition. begun_trigger root (a.instance).root definition shelf)
+  triggered_at view shown =
+      ap (λ w. or_fault NotWatched w (λ (at : AtData). or_fault NotWatched at.view (λ view.
+      or_own_fault (defined_by at.instance d) (λ definition. begun_trigger root (at.instance).root definition shelf)))) is
+      ∙ ap (λ v. or_fault NotWatched v (λ (view : ViewData).
+      or_own_fault (defined_by a.instance d) (λ definition. begun_trigger root (a.instance).root definition shelf))) shown
+
+  -- its object was read there
+  trigger_there : (view : ViewData) → a.view ≡ Some view → (read : Option (Result ReadTrigger Refusal)) → IsDefinedAt d at read
+      → IsDefinedOf d a.instance (Some view) read
+  trigger_there view shown read said =
+      subst (λ v. IsDefinedOf d a.instance v read) shown (subst (λ at. IsDefinedAt d at read) (there root at shelf a is) said)
+
+  -- what is begun of the trigger that was read is what `trigger` comes to
+  pub begins_defined : (view : ViewData) → a.view ≡ Some view → (read : ReadTrigger) → IsDefinedAt d at (Some (Ok read))
+      → (result : Result Work Refusal) (after : ShelfNow)
+      → Begins (begun_trigger root (a.instance).root (definition_data read.definition) shelf) shelf result after
+      → Begins (try_trigger root d at shelf) shelf result after
+  begins_defined view shown read said result after begins =
+      subst (λ b. Begins b shelf result after)
+      (sym (triggered_at view shown
+      ∙ ap (λ r. or_own_fault r (λ definition. begun_trigger root (a.instance).root definition shelf))
+      (trigger_there view shown (Some (Ok read)) said).0))
+      begins
+
+  -- and its fault is why `trigger` is refused
+  pub refuses_defined : (view : ViewData) → a.view ≡ Some view → (refusal : Refusal) → IsDefinedAt d at (Some (Err refusal))
+      → Begins (try_trigger root d at shelf) shelf (Err refusal) shelf
+  refuses_defined view shown refusal said =
+      subst (λ b. Begins b shelf (Err refusal) shelf) (sym (triggered_at view shown))
+      (refused_defined (defined_by a.instance d) (λ definition. begun_trigger root (a.instance).root definition shelf) shelf refusal
+      (trigger_there view shown (Some (Err refusal)) said))
+
+-- the object of a definition, and its query
+abbrev object_in : Result DefinitionData TriggerFault → Data
+object_in (Ok definition) = definition.object
+object_in (Err fault) = null
+
+abbrev query_in : QueryData → Result DefinitionData TriggerFault → QueryData
+query_in q (Ok definition) = definition.query
+query_in q (Err fault) = q
+
+-- the query of a definition is what its object asks
+pub definition_asks : (instance : InstanceData) (d : Data) (definition : DefinitionData) → defines instance d ≡ Ok definition
+    → queries instance definition.object ≡ Ok definition.query
+definition_asks instance d definition is =
+    by (not (has_bad_length (get (codes "name") d))) (shape_of d) (queries instance (known_part d)) refl is
+  where
+    by : (test : Bool) (shape : Result ShapeData TriggerFault) (query : Result QueryData QueryFault) → queries instance (known_part d) ≡ query
+        → unless_fault BadTriggerName test (or_own_fault shape (λ shape. or_its_fault BadTriggerQuery query (λ query.
+        Ok (record { shape = shape; query = query; object = known_part d })))) ≡ Ok definition
+        → queries instance definition.object ≡ Ok definition.query
+    by false shape query asked is = absurd cc
+    by true (Err fault) query asked is = absurd cc
+    by true (Ok shape) (Err fault) asked is = absurd cc
+    by true (Ok shape) (Ok query) asked is =
+        ap (queries instance) (sym (ap object_in is)) ∙ asked ∙ ap (λ r. Ok (query_in query r)) is
 
 -- what a subscription asks is asked as a query
 pub asked_plain : (instance : InstanceData) (d : Data) (q : QueryData) → subscribes instance d ≡ Ok q → queries instance d ≡ Ok q

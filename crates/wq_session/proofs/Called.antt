@@ -1,5 +1,5 @@
 -- Lists in which an element is found by a test, or by its place.
-use Rattle.std.proofs.Common.{◌≡◌, ℕ, zero, suc, ◌+◌, ◌≤◌, ◌<◌, Bool, true, false, not, ◌||◌, cond, List, [], ◌∷◌, ◌++◌, length, map, filter, None, Some, Option, is_some, if◌then◌else◌, refl, ap, arith, nat_lt, slice_get, slice_set, take, drop, position, ◌∙◌, sym, subst}
+use Rattle.std.proofs.Common.{◌≡◌, ℕ, zero, suc, ◌+◌, Bool, true, false, not, ◌||◌, cond, List, [], ◌∷◌, ◌++◌, length, map, filter, None, Some, is_some, if◌then◌else◌, refl, ap, arith, nat_lt, slice_get, slice_set, position, ◌∙◌, sym, subst}
 use mathlib.Core.Bool.{false≢true}
 use Rattle.std.specs.List.{list_any, position_or_len, remove}
 use Rattle.std.proofs.lemmas.Bool.Decides.{nat_tests}

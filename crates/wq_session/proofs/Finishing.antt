@@ -5,6 +5,7 @@ use Rattle.serde_json.specs.View.{view as data_of}
 use Rattle.wq_base.specs.Fault.{or_fault, or_its_fault, or_own_fault, unless_fault}
 use Rattle.wq_code.specs.declared.raw.Raw.{Raw}
 use Rattle.wq_query.specs.Query.{QueryData}
+use Rattle.wq_follow.specs.Definition.{DefinitionData}
 use Rattle.wq_follow.specs.Subscription.{subscribed}
 use Rattle.wq_query.specs.Reading.{asks as queries}
 use Rattle.wq_query.specs.Subscribed.{subscribes as subscription_of}
@@ -17,6 +18,7 @@ use Rattle.wq_session.specs.Answer.{CanFinish, TakesAsk}
 use Rattle.wq_session.specs.At.{AtData, ShelfNow, is_watched}
 use Rattle.wq_session.specs.Begun.{or_refused, tried}
 use Rattle.wq_session.specs.Clock.{clock_data}
+use Rattle.wq_session.specs.Trigger.{begun_trigger, defined_by, has_no_trigger_place, name_in, put_trigger}
 use Rattle.wq_session.specs.Out.{OutData, replies}
 use Rattle.wq_session.specs.Program.{is_name}
 use Rattle.wq_session.specs.Subscribe.{begun_subscription, first_plan}
@@ -26,9 +28,9 @@ use Rattle.wq_session.specs.declared.ask.Ask.{Ask}
 use Rattle.wq_session.specs.declared.ask.Ask.TheVariants.{Refused, Watch, ListRoots, Unwatch}
 use Rattle.wq_session.specs.declared.ask.Ask.TheVariants.{Query as AsksQuery, Clock, Version}
 use Rattle.wq_session.specs.declared.ask.Ask.TheVariants.{SocketName, ShutDown, AddProgram, ListPrograms}
-use Rattle.wq_session.specs.declared.ask.Ask.TheVariants.{DeleteProgram, Leave, Nothing, Subscribe, Unsubscribe}
+use Rattle.wq_session.specs.declared.ask.Ask.TheVariants.{DeleteProgram, Leave, Nothing, Subscribe, Unsubscribe, AddTrigger, ListTriggers, DeleteTrigger}
 use Rattle.wq_session.specs.declared.refusal.Refusal.{Refusal}
-use Rattle.wq_session.specs.declared.refusal.Refusal.TheVariants.{NotWatched, Query as BadQuery, ShelfFull, TooManyRoots, BadName}
+use Rattle.wq_session.specs.declared.refusal.Refusal.TheVariants.{NotWatched, Query as BadQuery, ShelfFull, TooManyRoots, BadName, TooManyTriggers}
 
 -- what is begun can be finished at what is looked at
 abbrev Fits : Option AtData → Result BegunData Refusal → Type 0
@@ -101,6 +103,19 @@ module _ (at : AtData) (shelf : ShelfNow) where
       by true (Err fault) = tt
       by true (Ok q) = found q (program_for q shelf)
 
+  -- what `trigger` comes to can be
+  with_definition : (root : List ℕ) (number : ℕ) (d : Result DefinitionData Refusal) (view : Option ViewData)
+      → Fits (Some at) (or_fault NotWatched view (λ view.
+      or_own_fault d (λ definition. begun_trigger root number definition shelf)))
+  with_definition root number d None = tt
+  with_definition root number (Err refusal) (Some view) = tt
+  with_definition root number (Ok d) (Some view) = found (program_for d.query shelf)
+    where
+      found : (program : Result (Option Raw) Refusal)
+          → Fits (Some at) (or_own_fault program (λ program. put_trigger root number d program shelf))
+      found (Err refusal) = tt
+      found (Ok program) = unless_said TooManyTriggers (not (has_no_trigger_place number (name_in d) shelf)) _ _ (Some at)
+
   -- what `unsubscribe` comes to can be
   with_name : (number : ℕ) (name : List ℕ) (test : Bool)
       → Fits (Some at) (unless_fault BadName test (Ok (record { work = drops number name; shelf = shelf })))
@@ -135,6 +150,15 @@ tried_fits (Subscribe root name q) (Some at) shelf =
 tried_fits (Unsubscribe root name) None shelf = tt
 tried_fits (Unsubscribe root name) (Some at) shelf =
     where_watched at shelf (is_watched root at shelf) _ (with_name at shelf (at.instance).root name (is_name name))
+tried_fits (AddTrigger root t) None shelf = tt
+tried_fits (AddTrigger root t) (Some at) shelf =
+    where_watched at shelf (is_watched root at shelf) _
+    (with_definition at shelf root (at.instance).root (defined_by at.instance (data_of t)) at.view)
+tried_fits (ListTriggers root) None shelf = tt
+tried_fits (ListTriggers root) (Some at) shelf = where_watched at shelf (is_watched root at shelf) _ tt
+tried_fits (DeleteTrigger root name) None shelf = tt
+tried_fits (DeleteTrigger root name) (Some at) shelf =
+    where_watched at shelf (is_watched root at shelf) _ (unless_said BadName (is_name name) _ _ (Some at))
 tried_fits Leave at shelf = tt
 tried_fits Nothing at shelf = tt
 

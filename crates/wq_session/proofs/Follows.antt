@@ -6,6 +6,7 @@ use Rattle.serde_json.specs.View.{view as data_of}
 use Rattle.wq_base.specs.Fault.{or_fault, or_its_fault, or_own_fault, unless_fault}
 use Rattle.wq_clock.specs.Instance.{InstanceData}
 use Rattle.wq_code.specs.declared.raw.Raw.{Raw}
+use Rattle.wq_follow.specs.Definition.{DefinitionData}
 use Rattle.wq_follow.specs.Subscription.{subscribed}
 use Rattle.wq_query.specs.Query.{QueryData}
 use Rattle.wq_query.specs.Reading.{asks as queries}
@@ -18,6 +19,7 @@ use Rattle.wq_view.specs.View.{ViewData}
 use Rattle.wq_session.specs.At.{AtData, ShelfNow, is_watched}
 use Rattle.wq_session.specs.Begun.{begun, or_refused, takes_memory, tried}
 use Rattle.wq_session.specs.Clock.{clock_data}
+use Rattle.wq_session.specs.Trigger.{begun_trigger, defined_by, has_no_trigger_place, name_in, put_trigger}
 use Rattle.wq_session.specs.Out.{OutData, replies}
 use Rattle.wq_session.specs.Program.{is_name}
 use Rattle.wq_session.specs.Query.{begun_query, has_place, moved_cursor, plan_at, program_for, used_at}
@@ -27,9 +29,9 @@ use Rattle.wq_session.specs.declared.ask.Ask.{Ask}
 use Rattle.wq_session.specs.declared.ask.Ask.TheVariants.{Refused, Watch, ListRoots, Unwatch}
 use Rattle.wq_session.specs.declared.ask.Ask.TheVariants.{Query as AsksQuery, Clock, Version}
 use Rattle.wq_session.specs.declared.ask.Ask.TheVariants.{SocketName, ShutDown, AddProgram, ListPrograms}
-use Rattle.wq_session.specs.declared.ask.Ask.TheVariants.{DeleteProgram, Leave, Nothing, Subscribe, Unsubscribe}
+use Rattle.wq_session.specs.declared.ask.Ask.TheVariants.{DeleteProgram, Leave, Nothing, Subscribe, Unsubscribe, AddTrigger, ListTriggers, DeleteTrigger}
 use Rattle.wq_session.specs.declared.refusal.Refusal.{Refusal}
-use Rattle.wq_session.specs.declared.refusal.Refusal.TheVariants.{NotWatched, Query as BadQuery, ShelfFull, TooManyRoots, BadName}
+use Rattle.wq_session.specs.declared.refusal.Refusal.TheVariants.{NotWatched, Query as BadQuery, ShelfFull, TooManyRoots, BadName, TooManyTriggers}
 
 -- whether work begins or ends a subscription
 abbrev pub is_followed : WorkData → Bool
@@ -94,6 +96,19 @@ module _ (ask : Ask) (shelf : ShelfNow) where
   with_view instance d None = tt
   with_view instance d (Some view) = with_query instance.root view.tick (queries instance d)
 
+  -- what `trigger` comes to
+  with_definition : (root : List ℕ) (number : ℕ) (d : Result DefinitionData Refusal) (view : Option ViewData)
+      → Stays ask shelf (or_fault NotWatched view (λ view.
+      or_own_fault d (λ definition. begun_trigger root number definition shelf)))
+  with_definition root number d None = tt
+  with_definition root number (Err refusal) (Some view) = tt
+  with_definition root number (Ok d) (Some view) = put (program_for d.query shelf)
+    where
+      put : (program : Result (Option Raw) Refusal)
+          → Stays ask shelf (or_own_fault program (λ program. put_trigger root number d program shelf))
+      put (Err refusal) = tt
+      put (Ok program) = unless_said TooManyTriggers (not (has_no_trigger_place number (name_in d) shelf)) _ _
+
   module _ (takes : takes_memory ask ≡ true) where
     -- what `subscribe` comes to
     found : (root name : List ℕ) (number : ℕ) (q : QueryData) (program : Result (Option Raw) Refusal)
@@ -155,6 +170,17 @@ stays (Unsubscribe root name) None shelf = tt
 stays (Unsubscribe root name) (Some at) shelf =
     if_watched (Unsubscribe root name) shelf at (is_watched root at shelf) _
     (with_name (Unsubscribe root name) shelf refl (at.instance).root name (is_name name))
+stays (AddTrigger root t) None shelf = tt
+stays (AddTrigger root t) (Some at) shelf =
+    if_watched (AddTrigger root t) shelf at (is_watched root at shelf) _
+    (with_definition (AddTrigger root t) shelf root (at.instance).root (defined_by at.instance (data_of t)) at.view)
+stays (ListTriggers root) None shelf = tt
+stays (ListTriggers root) (Some at) shelf =
+    if_watched (ListTriggers root) shelf at (is_watched root at shelf) _ (λ is. absurd (false≢true is))
+stays (DeleteTrigger root name) None shelf = tt
+stays (DeleteTrigger root name) (Some at) shelf =
+    if_watched (DeleteTrigger root name) shelf at (is_watched root at shelf) _
+    (unless_said (DeleteTrigger root name) shelf BadName (is_name name) _ _)
 stays Leave at shelf = λ is. absurd (false≢true is)
 stays Nothing at shelf = λ is. absurd (false≢true is)
 

@@ -2,7 +2,9 @@ mod Behind
 mod Texts
 mod Constants
 mod Rooted
+pub mod Shelves
 mod Strings
+mod Triggers
 pub mod Ending
 mod Again
 mod Accepting
@@ -15,3 +17,4 @@ mod Called
 mod Placed
 mod Polled
 mod Moments
+pub mod Rounds

@@ -1,5 +1,5 @@
 -- The subscriptions of a session, as lists in which one is called by its root and its name.
-use Rattle.std.proofs.Common.{◌≡◌, ℕ, Bool, true, false, List, [], ◌∷◌, ◌++◌, map, None, Some, Option, if◌then◌else◌, refl, ap, slice_set, position, ◌∙◌, sym}
+use Rattle.std.proofs.Common.{◌≡◌, ℕ, Bool, true, false, List, [], ◌∷◌, ◌++◌, map, None, Some, Option, if◌then◌else◌, refl, ap, slice_set, position, ◌∙◌}
 use Rattle.wq_follow.specs.Followed.{subscription_data}
 use Rattle.wq_follow.specs.Subscription.{SubscriptionData}
 use Rattle.wq_follow.specs.declared.subscription.Subscription.{Subscription}

@@ -1,5 +1,5 @@
 -- A batch with files has a list, and is polled at a newer view.
-use Rattle.std.proofs.Common.{◌≡◌, ◌≢◌, ◌<◌, ◌≤◌, ℕ, zero, suc, true, false, Bool, List, [], ◌∷◌, length, slice_get, Option, Some, None, OnErr, Result, Ok, Err, if◌then◌else◌, refl, sym, ap, ◌∙◌, arith}
+use Rattle.std.proofs.Common.{◌≡◌, ◌≢◌, ◌<◌, ℕ, zero, suc, true, false, Bool, List, [], ◌∷◌, length, slice_get, Some, OnErr, Result, Ok, Err, if◌then◌else◌, refl, sym, ap, ◌∙◌, arith}
 use Rattle.std.specs.List.{AllByRecursion, cons_option}
 use Rattle.std.proofs.lemmas.List.Elements.{recursion_from_All}
 use Rattle.serde_json.specs.Data.{Data}
@@ -8,7 +8,6 @@ use Rattle.wq_follow.specs.Batch.{BatchData, FollowerData, is_told, last_or, lis
 use Rattle.wq_follow.specs.Follower.{IsBatch}
 use Rattle.wq_follow.specs.Subscription.{text_if_any}
 use Rattle.wq_follow.specs.declared.batch.Batch.{Batch}
-use Rattle.wq_query.specs.Listing.{AreWithin}
 use Rattle.wq_view.specs.Position.{records_at}
 use Rattle.wq_view.specs.RecordData.{RecordData}
 use Rattle.wq_view.specs.View.{ViewData}

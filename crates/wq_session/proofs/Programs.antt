@@ -4,12 +4,11 @@ use Rattle.std.specs.declared.alloc.Global.{Global}
 use Rattle.std.specs.declared.sync.Arc.{Arc}
 use Rattle.wq_code.specs.declared.raw.Raw.{Raw}
 use Rattle.wq_compile.specs.Meaning.{AnswersMeaning}
-use Rattle.wq_query.specs.Query.{asked_of}
 use Rattle.wq_registry.proofs.Keeping.{stood_for}
 use Rattle.wq_registry.specs.CacheKey.{CacheKeyData, Says}
 use Rattle.wq_term.specs.Expr.{ExprData}
-use Rattle.wq_session.specs.Prepared.{IsFoundFor, IsRead}
-use Rattle.wq_session.specs.declared.read_query.ReadQuery.{ReadQuery}
+use Rattle.wq_session.specs.Prepared.{IsFoundFor, IsLookup}
+use Rattle.wq_session.specs.declared.lookup.Lookup.{Lookup}
 
 -- a program that was found does
 pub found_answers : (t : ExprData) (key : Option CacheKeyData) (program : Arc Raw Global) → IfSome key (λ key. Says key t)
@@ -18,7 +17,7 @@ found_answers t (Some key) program says stands = (stood_for key t program.value 
 found_answers t None program says stands = elim stands [ ]
 
 -- one that is there does
-pub there_answers : (read : ReadQuery) (program : Arc Raw Global) → IsRead read → read.program ≡ Some program
-    → AnswersMeaning program.value (asked_of read.query).expression
-there_answers read program is there =
-    subst (λ (p : Option (Arc Raw Global)). IfSome p (λ program. AnswersMeaning program.value (asked_of read.query).expression)) there is.2
+pub there_answers : (t : ExprData) (lookup : Lookup) (program : Arc Raw Global) → IsLookup t lookup → lookup.program ≡ Some program
+    → AnswersMeaning program.value t
+there_answers t lookup program is there =
+    subst (λ (p : Option (Arc Raw Global)). IfSome p (λ program. AnswersMeaning program.value t)) there is.2

@@ -4,27 +4,34 @@ use Rattle.std.specs.Prelude.{◌≡◌, ◌⊎◌, ℕ, true, List, [], ◌∷�
 use Rattle.serde_json.specs.Data.{Data}
 use Rattle.serde_json.specs.View.{view as data_of}
 use Rattle.wq_clock.specs.Instance.{InstanceData}
+use Rattle.wq_code.specs.declared.raw.Raw.{Raw}
+use Rattle.wq_follow.specs.Definition.{DefinitionData}
+use Rattle.wq_follow.specs.Round.{TriggerData}
 use Rattle.wq_follow.specs.Subscription.{SubscriptionData}
 use Rattle.wq_query.specs.Query.{QueryData, PlanData, SinceData, at_bound, at_cursor}
 use Rattle.wq_query.specs.Reading.{asks as queries}
 use Rattle.wq_query.specs.declared.fault.QueryFault.{QueryFault}
 use Rattle.wq_registry.specs.History.{Call, adds_program, removes_program, adds_root, removes_root}
-use Rattle.wq_registry.specs.History.{uses_cursor, unsets_cursor, after_all}
+use Rattle.wq_registry.specs.History.{uses_cursor, unsets_cursor, adds_trigger, removes_trigger}
+use Rattle.wq_registry.specs.History.{after_all}
 use Rattle.wq_view.specs.View.{ViewData}
 use Rattle.wq_session.specs.Answer.{AnswersAsk, finished}
 use Rattle.wq_session.specs.At.{AtData, ShelfNow}
 use Rattle.wq_session.specs.Begun.{takes_memory, tried}
 use Rattle.wq_session.specs.Out.{OutData, refuses, runs_out}
+use Rattle.wq_session.specs.Query.{program_for}
+use Rattle.wq_session.specs.Trigger.{defined_by, name_in, trigger_in}
 use Rattle.wq_session.specs.Work.{BegunData, evaluates}
 use Rattle.wq_session.specs.declared.ask.Ask.{Ask}
 use Rattle.wq_session.specs.declared.ask.Ask.TheVariants.{Watch, Unwatch, AddProgram, DeleteProgram}
-use Rattle.wq_session.specs.declared.ask.Ask.TheVariants.{Query as AsksQuery}
+use Rattle.wq_session.specs.declared.ask.Ask.TheVariants.{Query as AsksQuery, AddTrigger}
+use Rattle.wq_session.specs.declared.ask.Ask.TheVariants.{DeleteTrigger}
 use Rattle.wq_session.specs.declared.cursor.Cursor.{Cursor}
 use Rattle.wq_session.specs.declared.refusal.Refusal.{Refusal}
 
--- a call of a shelf, on which nothing is kept of triggers yet
+-- a call of a shelf
 abbrev pub CallNow : Type 0
-CallNow = Call (Unit {0})
+CallNow = Call TriggerData
 
 -- the use of a cursor of a root at a tick, if the bound is that of a cursor
 abbrev pub cursor_calls : ℕ → SinceData → ℕ → List CallNow
@@ -41,23 +48,39 @@ abbrev pub shown_calls : InstanceData → Option ViewData → Data → List Call
 shown_calls instance None d = []
 shown_calls instance (Some view) d = query_calls instance.root view.tick (queries instance d)
 
+-- the calls of a definition with its program: that the trigger is put under its name
+abbrev pub made_calls : List ℕ → ℕ → DefinitionData → Result (Option Raw) Refusal → ShelfNow
+    → List CallNow
+made_calls root number d (Ok program) shelf =
+    adds_trigger number (name_in d) (trigger_in root number d program shelf) ∷ []
+made_calls root number d (Err refusal) shelf = []
+
+-- the calls of a definition, of the root with this text and number
+abbrev pub definition_calls : List ℕ → ℕ → Result DefinitionData Refusal → ShelfNow → List CallNow
+definition_calls root number (Ok d) shelf =
+    made_calls root number d (program_for d.query shelf) shelf
+definition_calls root number (Err refusal) shelf = []
+
 -- the calls of an ask at a root that is looked at
-abbrev pub root_calls : Ask → AtData → List CallNow
-root_calls (Watch root) at = adds_root root (at.instance).root ∷ []
-root_calls (Unwatch root) at = removes_root (at.instance).root ∷ []
-root_calls (AsksQuery root crawl q) at = shown_calls at.instance at.view (data_of q)
-root_calls _ at = []
+abbrev pub root_calls : Ask → AtData → ShelfNow → List CallNow
+root_calls (Watch root) at shelf = adds_root root (at.instance).root ∷ []
+root_calls (Unwatch root) at shelf = removes_root (at.instance).root ∷ []
+root_calls (AsksQuery root crawl q) at shelf = shown_calls at.instance at.view (data_of q)
+root_calls (AddTrigger root t) at shelf =
+    definition_calls root (at.instance).root (defined_by at.instance (data_of t)) shelf
+root_calls (DeleteTrigger root name) at shelf = removes_trigger (at.instance).root name ∷ []
+root_calls _ at shelf = []
 
 -- the calls of an ask that needs a root
-abbrev pub looked_calls : Ask → Option AtData → List CallNow
-looked_calls ask None = []
-looked_calls ask (Some at) = root_calls ask at
+abbrev pub looked_calls : Ask → Option AtData → ShelfNow → List CallNow
+looked_calls ask None shelf = []
+looked_calls ask (Some at) shelf = root_calls ask at shelf
 
--- the calls of an ask, each of which is accepted if the ask is
-abbrev pub calls_of : Ask → Option AtData → List CallNow
-calls_of (AddProgram name program) at = adds_program name program ∷ []
-calls_of (DeleteProgram name) at = removes_program name ∷ []
-calls_of ask at = looked_calls ask at
+-- the calls of an ask at a shelf, each of which is accepted if the ask is
+abbrev pub calls_of : Ask → Option AtData → ShelfNow → List CallNow
+calls_of (AddProgram name program) at shelf = adds_program name program ∷ []
+calls_of (DeleteProgram name) at shelf = removes_program name ∷ []
+calls_of ask at shelf = looked_calls ask at shelf
 
 -- that a cursor is unset, if there is one
 abbrev pub unset_calls : Option Cursor → List CallNow
@@ -72,13 +95,13 @@ abbrev pub Accepts : Ask → Option AtData → ShelfNow → List SubscriptionDat
 Accepts ask at shelf follows out calls =
     ((begun : BegunData) × (tried ask at shelf ≡ Ok begun)
     × (out ≡ (finished begun.work at follows).out)
-    × (calls ≡ calls_of ask at))
+    × (calls ≡ calls_of ask at shelf))
     ⊎ ((refusal : Refusal) × (tried ask at shelf ≡ Err refusal) × (out ≡ refuses refusal)
     × (calls ≡ []))
     ⊎ ((takes_memory ask ≡ true) × (out ≡ runs_out None) × (calls ≡ []))
     ⊎ ((begun : BegunData) × (plan : PlanData) × (cursor : Option Cursor)
     × (tried ask at shelf ≡ Ok begun) × (begun.work ≡ evaluates plan cursor)
-    × (out ≡ runs_out None) × (calls ≡ calls_of ask at ++ unset_calls cursor))
+    × (out ≡ runs_out None) × (calls ≡ calls_of ask at shelf ++ unset_calls cursor))
 
 -- what an answer leaves of the shelf is what the calls come to that were accepted of the ask
 abbrev pub AnswersAreCalls : Type 0

@@ -12,6 +12,8 @@ pub data RequestData : Type 0 where
   queries : (root : List ℕ) → (crawl : Bool) → Data → RequestData
   -- that the client is told of the files of a root that an object asks for, under a name
   subscribes : (root : List ℕ) → (name : List ℕ) → Data → RequestData
+  -- that a command is started for the files of a root, as an object says
+  triggers : (root : List ℕ) → Data → RequestData
   -- that the program of a file is kept under a name
   adds : (name : List ℕ) → (file : List ℕ) → RequestData
 

@@ -4,14 +4,15 @@ use Rattle.std.specs.Prelude.{ℕ, Bool, false, nat_eq, if◌then◌else◌, Lis
 use Rattle.std.specs.Prelude.{Option, Some, None, option_map}
 use Rattle.std.specs.Option.{option_map_or}
 use Rattle.wq_clock.specs.Instance.{InstanceData, instance_data}
+use Rattle.wq_follow.specs.Round.{TriggerData}
 use Rattle.wq_registry.specs.Root.{called}
 use Rattle.wq_registry.specs.Shelf.{ShelfData}
 use Rattle.wq_view.specs.View.{ViewData}
 use Rattle.wq_session.specs.declared.at.At.{At}
 
--- a shelf, on which nothing is kept of triggers yet
+-- a shelf, with its triggers
 abbrev pub ShelfNow : Type 0
-ShelfNow = ShelfData (Unit {0})
+ShelfNow = ShelfData TriggerData
 
 -- a root that is looked at: which one of which run of the server, and its view, unless it has ended
 pub record AtData : Type 0 where

@@ -9,6 +9,7 @@ use Rattle.wq_session.specs.Program.{deleting, listing_programs, try_add}
 use Rattle.wq_session.specs.Subscribe.{try_subscribe, try_unsubscribe}
 use Rattle.wq_session.specs.Query.{try_query}
 use Rattle.wq_session.specs.Refusal.{ends_session}
+use Rattle.wq_session.specs.Trigger.{try_delete_trigger, try_list_triggers, try_trigger}
 use Rattle.wq_session.specs.Server.{shutting_down, telling_socket, telling_version}
 use Rattle.wq_session.specs.Watch.{listing_roots, try_unwatch, try_watch}
 use Rattle.wq_session.specs.Work.{BegunData, saying}
@@ -17,7 +18,8 @@ use Rattle.wq_session.specs.declared.ask.Ask.TheVariants.{Refused, Watch, ListRo
 use Rattle.wq_session.specs.declared.ask.Ask.TheVariants.{Query, Clock, Version}
 use Rattle.wq_session.specs.declared.ask.Ask.TheVariants.{SocketName, ShutDown, AddProgram, ListPrograms}
 use Rattle.wq_session.specs.declared.ask.Ask.TheVariants.{DeleteProgram, Leave, Nothing}
-use Rattle.wq_session.specs.declared.ask.Ask.TheVariants.{Subscribe, Unsubscribe}
+use Rattle.wq_session.specs.declared.ask.Ask.TheVariants.{Subscribe, Unsubscribe, AddTrigger}
+use Rattle.wq_session.specs.declared.ask.Ask.TheVariants.{ListTriggers, DeleteTrigger}
 use Rattle.wq_session.specs.declared.refusal.Refusal.{Refusal}
 
 -- what an ask comes to at a root that is looked at and a shelf, or why the line is refused there
@@ -36,6 +38,9 @@ tried ListPrograms at shelf = Ok (listing_programs shelf)
 tried (DeleteProgram name) at shelf = Ok (deleting name shelf)
 tried (Subscribe root name q) at shelf = try_subscribe root name (data_of q) at shelf
 tried (Unsubscribe root name) at shelf = try_unsubscribe root name at shelf
+tried (AddTrigger root trigger) at shelf = try_trigger root (data_of trigger) at shelf
+tried (ListTriggers root) at shelf = try_list_triggers root at shelf
+tried (DeleteTrigger root name) at shelf = try_delete_trigger root name at shelf
 tried Leave at shelf = Ok (saying (silence false) shelf)
 tried Nothing at shelf = Ok (saying (silence true) shelf)
 
@@ -57,7 +62,8 @@ takes_memory Leave = false
 takes_memory Nothing = false
 takes_memory _ = true
 
--- whether an ask hands in a program, which the shelf is to keep
-abbrev pub hands_in_program : Ask → Bool
-hands_in_program (AddProgram name program) = true
-hands_in_program _ = false
+-- whether an ask hands in something that the shelf is to keep
+abbrev pub hands_in : Ask → Bool
+hands_in (AddProgram name program) = true
+hands_in (AddTrigger root trigger) = true
+hands_in _ = false

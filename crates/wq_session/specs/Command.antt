@@ -8,13 +8,15 @@ use Rattle.wq_session.specs.declared.command.Command.TheVariants.{Unwatch}
 use Rattle.wq_session.specs.declared.command.Command.TheVariants.{Query, Clock, Version, SocketName}
 use Rattle.wq_session.specs.declared.command.Command.TheVariants.{ShutDown, AddProgram, ListPrograms}
 use Rattle.wq_session.specs.declared.command.Command.TheVariants.{DeleteProgram, Subscribe}
-use Rattle.wq_session.specs.declared.command.Command.TheVariants.{Unsubscribe}
+use Rattle.wq_session.specs.declared.command.Command.TheVariants.{Unsubscribe, AddTrigger}
+use Rattle.wq_session.specs.declared.command.Command.TheVariants.{ListTriggers, DeleteTrigger}
 
 -- every command
 abbrev pub all_commands : List Command
 all_commands =
     Watch ∷ WatchProject ∷ ListRoots ∷ Unwatch ∷ Query ∷ Clock ∷ Version ∷ SocketName ∷ ShutDown
-    ∷ AddProgram ∷ ListPrograms ∷ DeleteProgram ∷ Subscribe ∷ Unsubscribe ∷ []
+    ∷ AddProgram ∷ ListPrograms ∷ DeleteProgram ∷ Subscribe ∷ Unsubscribe ∷ AddTrigger
+    ∷ ListTriggers ∷ DeleteTrigger ∷ []
 
 -- the name of a command
 abbrev pub command_name : Command → List ℕ
@@ -32,6 +34,9 @@ command_name ListPrograms = codes "program-list"
 command_name DeleteProgram = codes "program-del"
 command_name Subscribe = codes "subscribe"
 command_name Unsubscribe = codes "unsubscribe"
+command_name AddTrigger = codes "trigger"
+command_name ListTriggers = codes "trigger-list"
+command_name DeleteTrigger = codes "trigger-del"
 
 -- the command of a name
 abbrev pub command_named : List ℕ → Option Command

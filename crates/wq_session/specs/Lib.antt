@@ -6,6 +6,7 @@ pub mod Command
 pub mod Argument
 pub mod Words
 pub mod At
+pub mod Shelved
 pub mod Need
 pub mod Needed
 pub mod Reply
@@ -19,11 +20,14 @@ pub mod Watch
 pub mod Program
 pub mod Subscribe
 pub mod Followed
+pub mod Trigger
+pub mod Objects
 pub mod Server
 pub mod Reading
 pub mod Begun
 pub mod Answer
 pub mod Moment
+pub mod Round
 pub mod Taking
 pub mod Law
 pub mod Accepted

@@ -4,7 +4,8 @@
 use Rattle.std.specs.Prelude.{ℕ, Bool, true, false, List}
 use Rattle.wq_session.specs.declared.ask.Ask.{Ask}
 use Rattle.wq_session.specs.declared.ask.Ask.TheVariants.{Watch, Unwatch, Query, Clock}
-use Rattle.wq_session.specs.declared.ask.Ask.TheVariants.{Subscribe, Unsubscribe}
+use Rattle.wq_session.specs.declared.ask.Ask.TheVariants.{Subscribe, Unsubscribe, AddTrigger}
+use Rattle.wq_session.specs.declared.ask.Ask.TheVariants.{ListTriggers, DeleteTrigger}
 
 -- what is needed first
 pub data NeedData : Type 0 where
@@ -32,4 +33,7 @@ need_of (Query root first query) = seen first root
 need_of (Clock root first) = seen first root
 need_of (Subscribe root name query) = look root
 need_of (Unsubscribe root name) = look root
+need_of (AddTrigger root trigger) = look root
+need_of (ListTriggers root) = look root
+need_of (DeleteTrigger root name) = look root
 need_of _ = none

@@ -9,29 +9,43 @@ use Rattle.wq_clock.specs.Instance.{InstanceData}
 use Rattle.wq_code.specs.declared.raw.Raw.{Raw}
 use Rattle.wq_compile.specs.Large.{is_too_large}
 use Rattle.wq_compile.specs.Meaning.{AnswersMeaning}
+use Rattle.wq_follow.specs.Defined.{definition_data}
+use Rattle.wq_follow.specs.Definition.{DefinitionData}
 use Rattle.wq_query.specs.Query.{QueryData, asked_of}
 use Rattle.wq_query.specs.Reading.{asks as queries}
 use Rattle.wq_query.specs.Subscribed.{subscribes}
 use Rattle.wq_query.specs.declared.fault.QueryFault.{QueryFault}
 use Rattle.wq_registry.specs.CacheKey.{CacheKeyData, Says}
 use Rattle.wq_registry.specs.Kept.{StandsFor}
+use Rattle.wq_term.specs.Expr.{ExprData}
 use Rattle.wq_view.specs.View.{ViewData}
 use Rattle.wq_session.specs.At.{AtData, at_data}
 use Rattle.wq_session.specs.declared.ask.Ask.{Ask}
-use Rattle.wq_session.specs.declared.ask.Ask.TheVariants.{Query as AsksQuery, Subscribe}
+use Rattle.wq_session.specs.Trigger.{defined_by}
+use Rattle.wq_session.specs.declared.ask.Ask.TheVariants.{Query as AsksQuery, Subscribe, AddTrigger}
+use Rattle.wq_session.specs.declared.lookup.Lookup.{Lookup}
 use Rattle.wq_session.specs.declared.prepared.Prepared.{Prepared}
 use Rattle.wq_session.specs.declared.read_query.ReadQuery.{ReadQuery}
+use Rattle.wq_session.specs.declared.read_trigger.ReadTrigger.{ReadTrigger}
 use Rattle.wq_session.specs.declared.refusal.Refusal.{Refusal}
 use Rattle.wq_session.specs.declared.refusal.Refusal.TheVariants.{NoMemory, Query}
 
--- what is known of a query that was read: whether its expression is too large, the key that says
--- its expression, and a program that answers what the expression means, as far as they are there
+-- what is known of the program of an expression: whether it would be too large, the key that says
+-- the expression, and a program that answers what the expression means, as far as they are there
+abbrev pub IsLookup : ExprData → Lookup → Type 0
+IsLookup expression lookup =
+    (lookup.is_large ≡ is_too_large expression)
+    × IfSome lookup.key (λ key. Says key expression)
+    × IfSome lookup.program (λ program. AnswersMeaning program.value expression)
+
+-- what is known of the program of a query that was read
 abbrev pub IsRead : ReadQuery → Type 0
-IsRead read =
-    (read.is_large ≡ is_too_large (asked_of read.query).expression)
-    × IfSome read.key (λ key. Says key (asked_of read.query).expression)
-    × IfSome read.program (λ program.
-    AnswersMeaning program.value (asked_of read.query).expression)
+IsRead read = IsLookup (asked_of read.query).expression read.lookup
+
+-- what is known of the program of a trigger that was read
+abbrev pub IsReadTrigger : ReadTrigger → Type 0
+IsReadTrigger read =
+    IsLookup ((definition_data read.definition).query).expression read.lookup
 
 -- a query was read, or its fault was found, or memory ran out
 abbrev pub GivesRead : Result ReadQuery Refusal → Result QueryData QueryFault → Type 0
@@ -71,11 +85,50 @@ abbrev pub AreRead : Option (Result ReadQuery Refusal) → Type 0
 AreRead (Some (Ok read)) = IsRead read
 AreRead _ = Unit {0}
 
+-- a trigger was read, or its fault was found, or memory ran out
+abbrev pub GivesDefined : Result ReadTrigger Refusal → Result DefinitionData Refusal → Type 0
+GivesDefined (Ok read) said = (said ≡ Ok (definition_data read.definition)) × IsReadTrigger read
+GivesDefined (Err NoMemory) said = Unit {0}
+GivesDefined (Err refusal) said = said ≡ Err refusal
+
+-- the trigger of an object was read at an instance, if a view of the root is shown, and else it was
+-- not
+abbrev pub IsDefinedOf : Data → InstanceData → Option ViewData
+    → Option (Result ReadTrigger Refusal) → Type 0
+IsDefinedOf d instance (Some view) (Some read) = GivesDefined read (defined_by instance d)
+IsDefinedOf d instance (Some view) None = ⊥
+IsDefinedOf d instance None (Some read) = ⊥
+IsDefinedOf d instance None None = Unit {0}
+
+-- an object was read so as a trigger at what is looked at, if there is something
+abbrev pub IsDefinedAt : Data → Option AtData → Option (Result ReadTrigger Refusal) → Type 0
+IsDefinedAt d (Some at) read = IsDefinedOf d at.instance at.view read
+IsDefinedAt d None (Some read) = ⊥
+IsDefinedAt d None None = Unit {0}
+
+-- what is known of a trigger, if it was read
+abbrev pub AreDefined : Option (Result ReadTrigger Refusal) → Type 0
+AreDefined (Some (Ok read)) = IsReadTrigger read
+AreDefined _ = Unit {0}
+
 -- the query of an ask was read, if it has one, and else none was
 abbrev pub IsReadFor : Ask → Option AtData → Option (Result ReadQuery Refusal) → Type 0
 IsReadFor (AsksQuery root crawl q) at read = IsReadAt (data_of q) at read
 IsReadFor (Subscribe root name q) at read = IsSubscribedAt (data_of q) at read
 IsReadFor _ at read = read ≡ None
+
+-- a trigger that was read is the same one, of whose program more may be known; nothing else changed
+abbrev pub IsSameDefined : Option (Result ReadTrigger Refusal)
+    → Option (Result ReadTrigger Refusal) → Type 0
+IsSameDefined (Some (Ok read)) (Some (Ok after)) =
+    (definition_data after.definition ≡ definition_data read.definition) × IsReadTrigger after
+IsSameDefined (Some (Ok read)) _ = ⊥
+IsSameDefined before after = after ≡ before
+
+-- the trigger of an ask was read, if it has one, and else none was
+abbrev pub IsDefinedFor : Ask → Option AtData → Option (Result ReadTrigger Refusal) → Type 0
+IsDefinedFor (AddTrigger root t) at read = IsDefinedAt (data_of t) at read
+IsDefinedFor _ at read = read ≡ None
 
 -- the ask that was prepared
 abbrev pub asked : Prepared → Ask
@@ -87,12 +140,24 @@ asked_at prepared = option_map at_data prepared.at
 
 -- an ask was prepared
 abbrev pub IsPrepared : Prepared → Type 0
-IsPrepared prepared = IsReadFor (asked prepared) (asked_at prepared) prepared.query
+IsPrepared prepared =
+    IsReadFor (asked prepared) (asked_at prepared) prepared.query
+    × IsDefinedFor (asked prepared) (asked_at prepared) prepared.trigger
 
--- the key under which the program of a query is kept that was read
-abbrev pub key_in : Option (Result ReadQuery Refusal) → Option CacheKeyData
-key_in (Some (Ok read)) = read.key
-key_in _ = None
+-- the key under which the program of a trigger is kept that was read
+abbrev pub trigger_key : Option (Result ReadTrigger Refusal) → Option CacheKeyData
+trigger_key (Some (Ok read)) = (read.lookup).key
+trigger_key _ = None
+
+-- the key of a query that was read, or else that of a trigger
+abbrev pub key_from : Option (Result ReadQuery Refusal) → Option (Result ReadTrigger Refusal)
+    → Option CacheKeyData
+key_from (Some (Ok read)) trigger = (read.lookup).key
+key_from _ trigger = trigger_key trigger
+
+-- the key of a prepared ask
+abbrev pub key_in : Prepared → Option CacheKeyData
+key_in prepared = key_from prepared.query prepared.trigger
 
 -- a program that was found stands for the text of the key, if there is one
 abbrev pub IsFoundFor : Option CacheKeyData → Option (Arc Raw Global) → Type 0

@@ -14,11 +14,13 @@ use Rattle.wq_code.specs.declared.fault.FileFault.{FileFault}
 use Rattle.wq_stream.specs.declared.event.Event.{Event}
 use Rattle.wq_stream.specs.declared.event.Event.TheVariants.{Line, Long, Binary, Idle, End, Fault}
 use Rattle.wq_verify.specs.Typing.{IsFirstFault, IsValid}
-use Rattle.wq_session.specs.Argument.{RequestData, complete, queries, subscribes, adds}
+use Rattle.wq_session.specs.Argument.{RequestData, complete, queries, subscribes, triggers, adds}
 use Rattle.wq_session.specs.Clock.{clock_request}
 use Rattle.wq_session.specs.Command.{command_named}
 use Rattle.wq_session.specs.Program.{add_request, names_request, delete_request}
 use Rattle.wq_session.specs.Subscribe.{IsSubscribing, subscribe_request, unsubscribe_request}
+use Rattle.wq_session.specs.Trigger.{IsTriggering, trigger_request, list_triggers_request}
+use Rattle.wq_session.specs.Trigger.{delete_trigger_request}
 use Rattle.wq_session.specs.Query.{query_request, IsQuerying}
 use Rattle.wq_session.specs.Server.{version_request, socket_request, shutdown_request}
 use Rattle.wq_session.specs.Watch.{watch_request, list_request, unwatch_request}
@@ -31,7 +33,8 @@ use Rattle.wq_session.specs.declared.command.Command.TheVariants.{Unwatch}
 use Rattle.wq_session.specs.declared.command.Command.TheVariants.{Query, Clock, Version, SocketName}
 use Rattle.wq_session.specs.declared.command.Command.TheVariants.{ShutDown, AddProgram, ListPrograms}
 use Rattle.wq_session.specs.declared.command.Command.TheVariants.{DeleteProgram, Subscribe}
-use Rattle.wq_session.specs.declared.command.Command.TheVariants.{Unsubscribe}
+use Rattle.wq_session.specs.declared.command.Command.TheVariants.{Unsubscribe, AddTrigger}
+use Rattle.wq_session.specs.declared.command.Command.TheVariants.{ListTriggers, DeleteTrigger}
 use Rattle.wq_session.specs.declared.refusal.Refusal.{Refusal}
 use Rattle.wq_session.specs.declared.refusal.Refusal.TheVariants.{LineTooLong, NotJson, NotACommand}
 use Rattle.wq_session.specs.declared.refusal.Refusal.TheVariants.{UnknownCommand, Bser}
@@ -68,6 +71,9 @@ request_of ListPrograms arguments = names_request arguments
 request_of DeleteProgram arguments = delete_request arguments
 request_of Subscribe arguments = subscribe_request arguments
 request_of Unsubscribe arguments = unsubscribe_request arguments
+request_of AddTrigger arguments = trigger_request arguments
+request_of ListTriggers arguments = list_triggers_request arguments
+request_of DeleteTrigger arguments = delete_trigger_request arguments
 
 -- what the value of a line requests
 abbrev pub request_of_value : Data → Result RequestData Refusal
@@ -94,6 +100,7 @@ IsRequested (Err refusal) ask = ask ≡ Refused refusal
 IsRequested (Ok (complete asked)) ask = ask ≡ asked
 IsRequested (Ok (queries root crawl d)) ask = IsQuerying root crawl d ask
 IsRequested (Ok (subscribes root name d)) ask = IsSubscribing root name d ask
+IsRequested (Ok (triggers root d)) ask = IsTriggering root d ask
 IsRequested (Ok (adds name file)) ask = IsAdding name (file_at file) ask
 
 -- the result is what is asked by a request, or memory ran out

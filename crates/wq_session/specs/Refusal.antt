@@ -19,7 +19,8 @@ use Rattle.wq_session.specs.declared.refusal.Refusal.TheVariants.{TooManyRoots, 
 use Rattle.wq_session.specs.declared.refusal.Refusal.TheVariants.{TicksSpent, Query, ProgramTooLarge}
 use Rattle.wq_session.specs.declared.refusal.Refusal.TheVariants.{NotBase64, WrongFile, WrongProgram}
 use Rattle.wq_session.specs.declared.refusal.Refusal.TheVariants.{NoSuchProgram, ShelfFull, BadName, NoMemory}
-use Rattle.wq_session.specs.declared.refusal.Refusal.TheVariants.{TooManySubscriptions}
+use Rattle.wq_session.specs.declared.refusal.Refusal.TheVariants.{TooManySubscriptions, BadTrigger}
+use Rattle.wq_session.specs.declared.refusal.Refusal.TheVariants.{TooManyTriggers}
 
 -- why an expression is refused
 abbrev pub term_text : TermFault → List ℕ
@@ -67,6 +68,8 @@ refusal_text NoSuchProgram = codes "E34: no such program"
 refusal_text ShelfFull = codes "E35: shelf is full"
 refusal_text BadName = codes "E36: bad name"
 refusal_text TooManySubscriptions = codes "E41: too many subscriptions"
+refusal_text TooManyTriggers = codes "E42: too many triggers"
+refusal_text BadTrigger = codes "E43: bad trigger"
 refusal_text NoMemory = codes "E60: no memory"
 
 -- whether a session ends where it refuses a line so, or there is none: nothing of its stream follows

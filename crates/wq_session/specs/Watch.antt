@@ -44,7 +44,7 @@ watch_data root =
     (member (codes "watcher") (string (codes "poll")) no_members)))
 
 -- the texts of roots
-abbrev pub root_texts : List (RootData (Unit {0})) → List (List ℕ)
+abbrev pub root_texts : {T : Type 0} → List (RootData T) → List (List ℕ)
 root_texts roots = map (λ r. r.text) roots
 
 -- the roots that are watched

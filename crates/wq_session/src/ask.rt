@@ -61,6 +61,20 @@ pub enum Ask {
         root: RootText,
         name: Text,
     },
+    /// That a command is started for the files of a root, as the object says.
+    AddTrigger {
+        root: RootText,
+        trigger: Value,
+    },
+    /// The triggers of a root.
+    ListTriggers {
+        root: RootText,
+    },
+    /// That the trigger of a name is no more.
+    DeleteTrigger {
+        root: RootText,
+        name: Text,
+    },
     /// Nothing: the client has gone.
     Leave,
     /// Nothing.

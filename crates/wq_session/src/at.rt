@@ -2,9 +2,11 @@
 ghost use Rattle.std.specs.Prelude.{◌≡◌, false, is_none, option_map, IfSome};
 ghost use Rattle.wq_registry.specs.Root.{numbered};
 ghost use Rattle.wq_session.specs.At.{at_data, watched};
+ghost use Rattle.wq_session.specs.Shelved.{shelf_data};
 
 use crate::root::RootText;
 use wq_clock::Instance;
+use wq_follow::Trigger;
 use wq_registry::Shelf;
 use wq_view::View;
 
@@ -19,9 +21,13 @@ pub struct At<'a> {
 
 /// What is looked at, if it is this root, under its number on the shelf.
 #[tactic(auto, using(crate::proofs::Rooted::number_there))]
-pub(crate) fn watched<'a>(root: &RootText, at: Option<At<'a>>, shelf: &Shelf<()>) -> Option<At<'a>>
+pub(crate) fn watched<'a>(
+    root: &RootText,
+    at: Option<At<'a>>,
+    shelf: &Shelf<Trigger>,
+) -> Option<At<'a>>
     ensures value { option_map at_data result
-        ≡ watched root.now (option_map at_data at.entry) shelf.now }
+        ≡ watched root.now (option_map at_data at.entry) (shelf_data shelf.now) }
     ensures there { IfSome result (λ at.
         is_none (numbered at.instance.root shelf.now.roots) ≡ false) }
 {

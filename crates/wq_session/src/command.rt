@@ -4,13 +4,14 @@ ghost use Rattle.std.specs.Prelude.{◌≡◌, option_map, true, false, IfErr};
 ghost use Rattle.serde_json.specs.View.{items_view};
 ghost use Rattle.wq_session.specs.Argument.{behind};
 ghost use Rattle.wq_session.specs.At.{at_data};
-ghost use Rattle.wq_session.specs.Begun.{hands_in_program, takes_memory, tried};
+ghost use Rattle.wq_session.specs.Begun.{hands_in, takes_memory, tried};
 ghost use Rattle.wq_session.specs.Command.{command_named};
 ghost use Rattle.wq_session.specs.Need.{need_of, seen};
 ghost use Rattle.wq_session.specs.Needed.{need_data};
-ghost use Rattle.wq_session.specs.Prepared.{IsReadFor};
+ghost use Rattle.wq_session.specs.Prepared.{IsDefinedFor, IsReadFor};
 ghost use Rattle.wq_session.specs.Reading.{Requests, request_of};
 ghost use Rattle.wq_session.specs.Refusal.{ends_session};
+ghost use Rattle.wq_session.specs.Shelved.{shelf_data};
 ghost use Rattle.wq_session.specs.Work.{Begins};
 
 mod clock;
@@ -18,6 +19,7 @@ mod program;
 mod query;
 mod server;
 mod subscribe;
+mod trigger;
 mod watch;
 
 use crate::ask::Ask;
@@ -25,6 +27,7 @@ use crate::at::At;
 use crate::need::Need;
 use crate::outcome::Out;
 use crate::read_query::ReadQuery;
+use crate::read_trigger::ReadTrigger;
 use crate::refusal::Refusal;
 use crate::root::RootText;
 use crate::work::Work;
@@ -37,7 +40,12 @@ use server::{ask_shutdown, ask_socket, ask_version, begin_socket};
 use std::alloc::Global;
 use subscribe::{ask_subscribe, ask_unsubscribe, begin_subscribe, begin_unsubscribe};
 pub(crate) use subscribe::{subscribe_reply, unsubscribe_reply};
+use trigger::{
+    ask_delete_trigger, ask_list_triggers, ask_trigger, begin_delete_trigger, begin_list_triggers,
+    begin_trigger,
+};
 use watch::{ask_list, ask_unwatch, ask_watch, begin_list, begin_unwatch, begin_watch};
+use wq_follow::Trigger;
 use wq_registry::Shelf;
 
 /// A command, by its name alone.
@@ -71,6 +79,12 @@ pub(crate) enum Command {
     Subscribe,
     /// It is told no more.
     Unsubscribe,
+    /// A command is started if files changed.
+    AddTrigger,
+    /// The triggers of a root.
+    ListTriggers,
+    /// A command is started no more.
+    DeleteTrigger,
 }
 
 impl Command {
@@ -93,6 +107,9 @@ impl Command {
             "program-del" => Some(Command::DeleteProgram),
             "subscribe" => Some(Command::Subscribe),
             "unsubscribe" => Some(Command::Unsubscribe),
+            "trigger" => Some(Command::AddTrigger),
+            "trigger-list" => Some(Command::ListTriggers),
+            "trigger-del" => Some(Command::DeleteTrigger),
             _ => None,
         }
     }
@@ -115,6 +132,9 @@ impl Command {
             Command::DeleteProgram => ask_delete(words),
             Command::Subscribe => ask_subscribe(alloc, words),
             Command::Unsubscribe => ask_unsubscribe(alloc, words),
+            Command::AddTrigger => ask_trigger(alloc, words),
+            Command::ListTriggers => ask_list_triggers(alloc, words),
+            Command::DeleteTrigger => ask_delete_trigger(alloc, words),
         }
     }
 }
@@ -130,6 +150,9 @@ impl Ask {
             Ask::Clock { root, crawl } => seen(*crawl, root),
             Ask::Subscribe { root, .. } => Need::Look(root.as_str()),
             Ask::Unsubscribe { root, .. } => Need::Look(root.as_str()),
+            Ask::AddTrigger { root, .. } => Need::Look(root.as_str()),
+            Ask::ListTriggers { root } => Need::Look(root.as_str()),
+            Ask::DeleteTrigger { root, .. } => Need::Look(root.as_str()),
             Ask::Watch { root } => Need::Watch(root.as_str()),
             Ask::Unwatch { root } => Need::Unwatch(root.as_str()),
             _ => Need::None,
@@ -154,32 +177,35 @@ pub(crate) fn tried(
     ask: Ask,
     at: Option<At<'_>>,
     read: Option<Result<ReadQuery, Refusal>>,
-    shelf: &mut Shelf<()>,
+    defined: Option<Result<ReadTrigger, Refusal>>,
+    shelf: &mut Shelf<Trigger>,
 ) -> Result<Work, Refusal>
-    requires { IsReadFor ask (option_map at_data at) read }
-    ensures begun { Begins (tried ask (option_map at_data at.entry) shelf.old) shelf.old
-        result shelf.new }
+    requires read { IsReadFor ask (option_map at_data at) read }
+    requires defined { IsDefinedFor ask (option_map at_data at) defined }
+    ensures begun { Begins (tried ask (option_map at_data at.entry) (shelf_data shelf.old)) (shelf_data shelf.old)
+        result (shelf_data shelf.new) }
     ensures memory { IfErr result (λ refusal.
         ends_session refusal ≡ false → takes_memory ask ≡ true) }
 {
     match ask {
         Ask::AddProgram { name, program } => begin_add(alloc, &name, program, shelf),
+        Ask::AddTrigger { root, .. } => begin_trigger(alloc, &root, defined, at, shelf),
         ask => tried_as(alloc, &ask, at, read, shelf),
     }
 }
 
-/// The same of an ask that hands in no program, and so has nothing that the shelf keeps.
+/// The same of an ask that hands in nothing that the shelf is to keep.
 fn tried_as(
     alloc: Global,
     ask: &Ask,
     at: Option<At<'_>>,
     read: Option<Result<ReadQuery, Refusal>>,
-    shelf: &mut Shelf<()>,
+    shelf: &mut Shelf<Trigger>,
 ) -> Result<Work, Refusal>
     requires read { IsReadFor ask.now (option_map at_data at) read }
-    requires plain { hands_in_program ask.now ≡ false }
-    ensures begun { Begins (tried ask.now (option_map at_data at.entry) shelf.old) shelf.old
-        result shelf.new }
+    requires plain { hands_in ask.now ≡ false }
+    ensures begun { Begins (tried ask.now (option_map at_data at.entry) (shelf_data shelf.old)) (shelf_data shelf.old)
+        result (shelf_data shelf.new) }
     ensures memory { IfErr result (λ refusal.
         ends_session refusal ≡ false → takes_memory ask.now ≡ true) }
 {
@@ -198,6 +224,9 @@ fn tried_as(
         Ask::DeleteProgram { name } => begin_delete(alloc, name, shelf),
         Ask::Subscribe { root, name, .. } => begin_subscribe(alloc, root, name, read, at, shelf),
         Ask::Unsubscribe { root, name } => begin_unsubscribe(alloc, root, name, at, shelf),
+        Ask::AddTrigger { .. } => unreachable!(),
+        Ask::ListTriggers { root } => begin_list_triggers(alloc, root, at, shelf),
+        Ask::DeleteTrigger { root, name } => begin_delete_trigger(alloc, root, name, at, shelf),
         Ask::Leave => Ok(Work::Says(Out::silence(false))),
         Ask::Nothing => Ok(Work::Says(Out::silence(true))),
     }

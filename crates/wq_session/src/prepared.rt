@@ -3,12 +3,13 @@
 ghost use Rattle.std.specs.Prelude.{◌≡◌, option_map};
 ghost use Rattle.serde_json.specs.View.{view as data_of};
 ghost use Rattle.wq_session.specs.At.{at_data};
-ghost use Rattle.wq_session.specs.Prepared.{IsFoundFor, IsPrepared, IsReadAt, IsReadFor, IsSubscribedAt};
-ghost use Rattle.wq_session.specs.Prepared.{asked, asked_at, key_in};
+ghost use Rattle.wq_session.specs.Prepared.{AreDefined, IsDefinedAt, IsDefinedFor, IsFoundFor, IsPrepared, IsReadAt, IsReadFor};
+ghost use Rattle.wq_session.specs.Prepared.{IsSameDefined, IsSubscribedAt, asked, asked_at, key_in, trigger_key};
 
 use crate::ask::Ask;
 use crate::at::At;
 use crate::read_query::ReadQuery;
+use crate::read_trigger::ReadTrigger;
 use crate::refusal::Refusal;
 use serde_json::Value;
 use std::alloc::Global;
@@ -16,67 +17,120 @@ use std::sync::Arc;
 use wq_registry::{CacheKey, Compiled};
 use wq_verify::Program;
 
-/// An ask, at the root that is looked at, with its query, if it has one, read there.
+/// An ask, at the root that is looked at, with its query or its trigger, if it has one, read there.
 #[derive(Drop)]
 pub struct Prepared<'a> {
     pub(crate) ask: Ask,
     pub(crate) at: Option<At<'a>>,
-    /// The query, where a view is shown at which it is read.
+    /// The query, if a view is shown at which it is read.
     pub(crate) query: Option<Result<ReadQuery, Refusal>>,
+    /// The trigger, if a view is shown at which it is read.
+    pub(crate) trigger: Option<Result<ReadTrigger, Refusal>>,
 }
 
 impl Ask {
-    /// Reads all of the ask that can be read without the shelf: its query, at the instance that is looked at. If that has
-    /// a fault, or memory runs out, [`take`](crate::Session::take) says so.
+    /// Reads all of the ask that can be read without the shelf: its query or its trigger, at the instance that is looked
+    /// at. If that has a fault, or memory runs out, [`take`](Prepared::take) says so.
     pub fn prepare(self, alloc: Global, at: Option<At<'_>>) -> Prepared<'_>
         ensures prepared { IsPrepared result }
         ensures ask { asked result ≡ self }
         ensures at { asked_at result ≡ option_map at_data at.entry }
     {
         let query = query_of(alloc, &self, at);
+        let trigger = trigger_of(alloc, &self, at);
         Prepared {
             ask: self,
             at,
             query,
+            trigger,
         }
     }
 }
 
 impl<'a> Prepared<'a> {
-    /// The expression that a program has to be found for. There is none if the ask is no query, or the key could not
-    /// be made.
+    /// The expression that a program has to be found for. There is none if the ask has no expression, or the key could
+    /// not be made.
     pub fn key(&self) -> Option<&CacheKey>
-        ensures { option_map (λ key. key.now) result ≡ key_in (self.now).query }
+        ensures { option_map (λ key. key.now) result ≡ key_in self.now }
     {
         match &self.query {
-            Some(Ok(read)) => read.key.as_ref(),
+            Some(Ok(read)) => read.lookup.key.as_ref(),
+            _ => self.trigger_key(),
+        }
+    }
+
+    /// The expression of its trigger.
+    fn trigger_key(&self) -> Option<&CacheKey>
+        ensures { option_map (λ key. key.now) result ≡ trigger_key (self.now).trigger }
+    {
+        match &self.trigger {
+            Some(Ok(read)) => read.lookup.key.as_ref(),
             _ => None,
         }
     }
 
-    /// The ask with the program of its query's expression: the one that was found for its [`key`](Prepared::key), or one
-    /// that is compiled now, which is then given for the cache as well. If memory runs out it has none, and
-    /// [`take`](crate::Session::take) says so.
+    /// The ask with the program of its expression: the one that was found for its [`key`](Prepared::key), or one that
+    /// is compiled now, which is then given for the cache as well. If memory runs out it has none, and
+    /// [`take`](Prepared::take) says so.
     pub fn compiled(
         self,
         alloc: Global,
         found: Option<Arc<Program>>,
     ) -> (Prepared<'a>, Option<Compiled>)
         requires prepared { IsPrepared self }
-        requires found { IsFoundFor (key_in self.query) found }
+        requires found { IsFoundFor (key_in self) found }
         ensures prepared { IsPrepared result.0 }
         ensures ask { asked result.0 ≡ asked self.entry }
         ensures at { asked_at result.0 ≡ asked_at self.entry }
     {
-        let Prepared { ask, at, query } = self;
+        let Prepared {
+            ask,
+            at,
+            query,
+            trigger,
+        } = self;
         match query {
             Some(Ok(read)) => {
                 let (read, compiled) = read.compiled(alloc, found);
                 let query = Some(Ok(read));
-                (Prepared { ask, at, query }, compiled)
+                let prepared = Prepared {
+                    ask,
+                    at,
+                    query,
+                    trigger,
+                };
+                (prepared, compiled)
             }
-            query => (Prepared { ask, at, query }, None),
+            query => {
+                let (trigger, compiled) = compiled_trigger(alloc, trigger, found);
+                let prepared = Prepared {
+                    ask,
+                    at,
+                    query,
+                    trigger,
+                };
+                (prepared, compiled)
+            }
         }
+    }
+}
+
+/// A trigger, if one was read, with the program of its expression, as far as that can be had.
+fn compiled_trigger(
+    alloc: Global,
+    trigger: Option<Result<ReadTrigger, Refusal>>,
+    found: Option<Arc<Program>>,
+) -> (Option<Result<ReadTrigger, Refusal>>, Option<Compiled>)
+    requires defined { AreDefined trigger }
+    requires found { IsFoundFor (trigger_key trigger) found }
+    ensures { IsSameDefined trigger result.0 }
+{
+    match trigger {
+        Some(Ok(read)) => {
+            let (read, compiled) = read.compiled(alloc, found);
+            (Some(Ok(read)), compiled)
+        }
+        trigger => (trigger, None),
     }
 }
 
@@ -115,4 +169,29 @@ fn subscribed_at(
         return None;
     }
     Some(ReadQuery::read_subscription(alloc, object, &at.instance))
+}
+
+/// The trigger of an ask, at what is looked at.
+fn trigger_of(alloc: Global, ask: &Ask, at: Option<At<'_>>) -> Option<Result<ReadTrigger, Refusal>>
+    ensures { IsDefinedFor ask.now (option_map at_data at.entry) result }
+{
+    match ask {
+        Ask::AddTrigger { trigger, .. } => defined_at(alloc, trigger, at),
+        _ => None,
+    }
+}
+
+/// The trigger of an object, at what is looked at.
+fn defined_at(
+    alloc: Global,
+    object: &Value,
+    at: Option<At<'_>>,
+) -> Option<Result<ReadTrigger, Refusal>>
+    ensures { IsDefinedAt (data_of object.now) (option_map at_data at.entry) result }
+{
+    let at = at?;
+    if at.view.is_none() {
+        return None;
+    }
+    Some(ReadTrigger::read(alloc, object, &at.instance))
 }

@@ -30,7 +30,7 @@ pub enum Refusal {
     RootNotAbsolute,
     /// The root is not watched.
     NotWatched,
-    /// The name of a program has not 1 to 255 bytes.
+    /// The name of a program, a subscription or a trigger has not 1 to 255 bytes.
     BadName,
     /// As many roots are watched as may be, or as many were ever watched as there are numbers for.
     TooManyRoots,
@@ -42,6 +42,8 @@ pub enum Refusal {
     TooManyFiles,
     /// The root was crawled 2^62 times with changes.
     TicksSpent,
+    /// The object of a trigger has a key that is left out, no name or command, or a value of another shape.
+    BadTrigger,
     /// The query is refused.
     Query(QueryFault),
     /// No program is kept under this name.
@@ -50,6 +52,8 @@ pub enum Refusal {
     ProgramTooLarge,
     /// The session has as many subscriptions as may be.
     TooManySubscriptions,
+    /// The root has as many triggers as may be.
+    TooManyTriggers,
     /// The text of a program is not base64.
     NotBase64,
     /// The bytes of a program are no program file.
@@ -104,6 +108,8 @@ impl Refusal {
             Refusal::TooManySubscriptions => {
                 String::from_str(alloc, "E41: too many subscriptions")
             }
+            Refusal::TooManyTriggers => String::from_str(alloc, "E42: too many triggers"),
+            Refusal::BadTrigger => String::from_str(alloc, "E43: bad trigger"),
             Refusal::NoMemory => String::from_str(alloc, NO_MEMORY),
         }
     }

@@ -8,6 +8,7 @@ ghost use Rattle.wq_session.specs.Answer.{AnswersAsk, CanFinish, Finishes, Takes
 ghost use Rattle.wq_session.specs.At.{at_data};
 ghost use Rattle.wq_session.specs.Followed.{follows_of};
 ghost use Rattle.wq_session.specs.Prepared.{IsPrepared, asked, asked_at};
+ghost use Rattle.wq_session.specs.Shelved.{shelf_data};
 ghost use Rattle.wq_session.specs.Work.{evaluates, work_data};
 
 use crate::ask::Ask;
@@ -16,10 +17,11 @@ use crate::command::{listed, tried};
 use crate::cursor::Cursor;
 use crate::outcome::Out;
 use crate::prepared::Prepared;
+use crate::shelving::unset_cursor;
 use crate::work::Work;
 use std::alloc::Global;
 use wq_clock::Instance;
-use wq_follow::Subscription;
+use wq_follow::{Subscription, Trigger};
 use wq_query::Plan;
 use wq_registry::Shelf;
 use wq_view::View;
@@ -113,14 +115,20 @@ impl Session {
     /// The answer whole: [`prepare`](Ask::prepare), [`take`](Prepared::take), [`finish`](Session::finish),
     /// [`settle`](Session::settle), and the cursor unset that it names.
     #[tactic(auto, using(crate::proofs::Finishing::can_finish))]
-    pub fn on(&mut self, alloc: Global, ask: Ask, at: Option<At<'_>>, shelf: &mut Shelf<()>) -> Out
-        ensures { AnswersAsk ask (option_map at_data at.entry) shelf.old (follows_of self.old)
-            result shelf.new (follows_of self.new) }
+    pub fn on(
+        &mut self,
+        alloc: Global,
+        ask: Ask,
+        at: Option<At<'_>>,
+        shelf: &mut Shelf<Trigger>,
+    ) -> Out
+        ensures { AnswersAsk ask (option_map at_data at.entry) (shelf_data shelf.old) (follows_of self.old)
+            result (shelf_data shelf.new) (follows_of self.new) }
     {
         let work = prepare_and_take(alloc, ask, at, shelf);
         let mut out = self.finish(alloc, work, at);
         if let Some(cursor) = self.settle(&mut out) {
-            shelf.unset_cursor(cursor.root, cursor.name.as_str());
+            unset_cursor(shelf, cursor.root, cursor.name.as_str());
         }
         out
     }
@@ -133,13 +141,18 @@ impl Prepared<'_> {
     /// at. `watch` puts it there under that number.
     ///
     /// Where memory runs out, that is the answer, and the shelf is as it was.
-    pub fn take(self, alloc: Global, shelf: &mut Shelf<()>) -> Work
+    pub fn take(self, alloc: Global, shelf: &mut Shelf<Trigger>) -> Work
         requires { IsPrepared self }
-        ensures { TakesAsk (asked self.entry) (asked_at self.entry) shelf.old
-            (work_data result) shelf.new }
+        ensures { TakesAsk (asked self.entry) (asked_at self.entry) (shelf_data shelf.old)
+            (work_data result) (shelf_data shelf.new) }
     {
-        let Prepared { ask, at, query } = self;
-        match tried(alloc, ask, at, query, shelf) {
+        let Prepared {
+            ask,
+            at,
+            query,
+            trigger,
+        } = self;
+        match tried(alloc, ask, at, query, trigger, shelf) {
             Ok(work) => work,
             Err(refusal) => Work::Says(Out::refused(alloc, refusal)),
         }
@@ -147,16 +160,21 @@ impl Prepared<'_> {
 }
 
 /// The work of an ask that is prepared first.
-fn prepare_and_take(alloc: Global, ask: Ask, at: Option<At<'_>>, shelf: &mut Shelf<()>) -> Work
-    ensures { TakesAsk ask (option_map at_data at.entry) shelf.old (work_data result)
-        shelf.new }
+fn prepare_and_take(alloc: Global, ask: Ask, at: Option<At<'_>>, shelf: &mut Shelf<Trigger>) -> Work
+    ensures { TakesAsk ask (option_map at_data at.entry) (shelf_data shelf.old) (work_data result)
+        (shelf_data shelf.new) }
 {
     let prepared = prepare(alloc, ask, at, shelf);
     prepared.take(alloc, shelf)
 }
 
 /// An ask with its query read, and the program of that found in the cache of a shelf, or compiled and kept there.
-fn prepare<'a>(alloc: Global, ask: Ask, at: Option<At<'a>>, shelf: &mut Shelf<()>) -> Prepared<'a>
+fn prepare<'a>(
+    alloc: Global,
+    ask: Ask,
+    at: Option<At<'a>>,
+    shelf: &mut Shelf<Trigger>,
+) -> Prepared<'a>
     ensures prepared { IsPrepared result }
     ensures ask { asked result ≡ ask }
     ensures at { asked_at result ≡ option_map at_data at.entry }

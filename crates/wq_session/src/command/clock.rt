@@ -7,6 +7,7 @@ ghost use Rattle.wq_session.specs.At.{at_data};
 ghost use Rattle.wq_session.specs.Clock.{asks_crawl, clock_arguments, clock_data, clock_request, try_clock};
 ghost use Rattle.wq_session.specs.Reading.{Requests};
 ghost use Rattle.wq_session.specs.Reply.{IsReply};
+ghost use Rattle.wq_session.specs.Shelved.{shelf_data};
 ghost use Rattle.wq_session.specs.Work.{Begins};
 
 use crate::ask::Ask;
@@ -20,6 +21,7 @@ use serde_json::{Value, json};
 use std::alloc::{AllocError, Global};
 use wq_base::{Text, VERSION};
 use wq_clock::{Instance, print};
+use wq_follow::Trigger;
 use wq_registry::Shelf;
 use wq_term::whole_number;
 use wq_view::View;
@@ -76,10 +78,10 @@ pub(super) fn begin_clock(
     alloc: Global,
     root: &RootText,
     at: Option<At<'_>>,
-    shelf: &Shelf<()>,
+    shelf: &Shelf<Trigger>,
 ) -> Result<Work, Refusal>
-    ensures { Begins (try_clock root.now (option_map at_data at.entry) shelf.now) shelf.now
-        result shelf.now }
+    ensures { Begins (try_clock root.now (option_map at_data at.entry) (shelf_data shelf.now)) (shelf_data shelf.now)
+        result (shelf_data shelf.now) }
 {
     let Some(at) = watched(root, at, shelf) else {
         return Err(Refusal::NotWatched);

@@ -13,6 +13,7 @@ ghost use Rattle.wq_session.specs.Program.{added_data, deleted_data, programs_da
 ghost use Rattle.wq_session.specs.Program.{deleting, listing_programs, try_add};
 ghost use Rattle.wq_session.specs.Reading.{Requests};
 ghost use Rattle.wq_session.specs.Reply.{IsReply};
+ghost use Rattle.wq_session.specs.Shelved.{shelf_data};
 ghost use Rattle.wq_session.specs.Work.{Begins};
 
 use crate::ask::Ask;
@@ -26,6 +27,7 @@ use serde_json::{Value, json};
 use std::alloc::{AllocError, Global};
 use wq_base::{Text, VERSION};
 use wq_code::{FileFault, decode};
+use wq_follow::Trigger;
 use wq_registry::{Shelf, ShelfFault};
 use wq_verify::{Program, ProgramFault, verify};
 
@@ -139,7 +141,7 @@ fn delete_reply(alloc: Global, name: &str, there: bool) -> Result<Value, AllocEr
 }
 
 /// The names of the programs on a shelf.
-fn names_reply(alloc: Global, shelf: &Shelf<()>) -> Result<Value, AllocError>
+fn names_reply(alloc: Global, shelf: &Shelf<Trigger>) -> Result<Value, AllocError>
     ensures { IfOk result (λ value. data_of value ≡ programs_data (names shelf.now.programs)) }
 {
     let names = Value::Array(names(alloc, shelf)?);
@@ -147,7 +149,7 @@ fn names_reply(alloc: Global, shelf: &Shelf<()>) -> Result<Value, AllocError>
 }
 
 /// The names as values.
-fn names(alloc: Global, shelf: &Shelf<()>) -> Result<Vec<Value>, AllocError>
+fn names(alloc: Global, shelf: &Shelf<Trigger>) -> Result<Vec<Value>, AllocError>
     ensures { IfOk result (λ values. map data_of values.items
         ≡ map string (names shelf.now.programs)) }
 {
@@ -160,8 +162,8 @@ fn names(alloc: Global, shelf: &Shelf<()>) -> Result<Vec<Value>, AllocError>
 
 /// `program-list`
 #[tactic(auto, using(crate::proofs::Strings::plain_named))]
-pub(super) fn begin_names(alloc: Global, shelf: &Shelf<()>) -> Result<Work, Refusal>
-    ensures { Begins (Ok (listing_programs shelf.now)) shelf.now result shelf.now }
+pub(super) fn begin_names(alloc: Global, shelf: &Shelf<Trigger>) -> Result<Work, Refusal>
+    ensures { Begins (Ok (listing_programs (shelf_data shelf.now))) (shelf_data shelf.now) result (shelf_data shelf.now) }
 {
     let reply = names_reply(alloc, shelf)?;
     Ok(saying(alloc, &reply)?)
@@ -172,9 +174,9 @@ pub(super) fn begin_add(
     alloc: Global,
     name: &Text,
     program: Program,
-    shelf: &mut Shelf<()>,
+    shelf: &mut Shelf<Trigger>,
 ) -> Result<Work, Refusal>
-    ensures { Begins (try_add name.now program shelf.old) shelf.old result shelf.new }
+    ensures { Begins (try_add name.now program (shelf_data shelf.old)) (shelf_data shelf.old) result (shelf_data shelf.new) }
 {
     let name = name.as_str();
     let replaced = shelf.get(name).is_some();
@@ -192,9 +194,9 @@ pub(super) fn begin_add(
 pub(super) fn begin_delete(
     alloc: Global,
     name: &Text,
-    shelf: &mut Shelf<()>,
+    shelf: &mut Shelf<Trigger>,
 ) -> Result<Work, Refusal>
-    ensures { Begins (Ok (deleting name.now shelf.old)) shelf.old result shelf.new }
+    ensures { Begins (Ok (deleting name.now (shelf_data shelf.old))) (shelf_data shelf.old) result (shelf_data shelf.new) }
 {
     let name = name.as_str();
     let there = shelf.get(name).is_some();

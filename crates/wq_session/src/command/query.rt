@@ -11,19 +11,22 @@ ghost use Rattle.wq_session.specs.Answer.{Finishes};
 ghost use Rattle.wq_session.specs.Argument.{behind};
 ghost use Rattle.wq_session.specs.At.{at_data};
 ghost use Rattle.wq_session.specs.Query.{begun_query, crawls_first, moved_cursor, query_arguments, query_request};
-ghost use Rattle.wq_session.specs.Prepared.{AreRead, IsRead, IsReadAt};
+ghost use Rattle.wq_session.specs.Prepared.{AreRead, IsLookup, IsRead, IsReadAt};
 ghost use Rattle.wq_session.specs.Query.{synchronises, try_query};
 ghost use Rattle.wq_session.specs.Reading.{Requests};
+ghost use Rattle.wq_session.specs.Shelved.{shelf_data};
 ghost use Rattle.wq_session.specs.Taking.{FindsCompiled, FindsNamed, FindsProgram, MovesCursor};
 ghost use Rattle.wq_session.specs.Work.{Begins, evaluates};
 
 use crate::ask::Ask;
 use crate::at::{At, watched};
 use crate::cursor::Cursor;
+use crate::lookup::Lookup;
 use crate::outcome::Out;
 use crate::read_query::ReadQuery;
 use crate::refusal::Refusal;
 use crate::root::RootText;
+use crate::shelving::swap_cursor;
 use crate::words::{text, two_behind};
 use crate::work::Work;
 use serde_json::Value;
@@ -31,6 +34,7 @@ use std::alloc::{AllocError, Global};
 use std::sync::Arc;
 use wq_base::Text;
 use wq_clock::{Bound, Instance};
+use wq_follow::Trigger;
 use wq_query::{Plan, Query, answer_bytes};
 use wq_registry::{Shelf, ShelfFault};
 use wq_term::whole_number;
@@ -87,12 +91,12 @@ pub(super) fn begin_query(
     root: &RootText,
     read: Option<Result<ReadQuery, Refusal>>,
     at: Option<At<'_>>,
-    shelf: &mut Shelf<()>,
+    shelf: &mut Shelf<Trigger>,
 ) -> Result<Work, Refusal>
     requires { AreRead read }
     ensures { (d : Data) → IsReadAt d (option_map at_data at.entry) read
-        → Begins (try_query root.now d (option_map at_data at.entry) shelf.old)
-        shelf.old result shelf.new }
+        → Begins (try_query root.now d (option_map at_data at.entry) (shelf_data shelf.old))
+        (shelf_data shelf.old) result (shelf_data shelf.new) }
 {
     let Some(at) = watched(root, at, shelf) else {
         return Err(Refusal::NotWatched);
@@ -113,33 +117,37 @@ fn begin_read(
     read: ReadQuery,
     root: u64,
     tick: u64,
-    shelf: &mut Shelf<()>,
+    shelf: &mut Shelf<Trigger>,
 ) -> Result<Work, Refusal>
     requires read { IsRead read }
     requires watched { is_none (numbered root shelf.old.roots) ≡ false }
-    ensures { Begins (begun_query root tick (asked_of read.query) shelf.old) shelf.old result
-        shelf.new }
+    ensures { Begins (begun_query root tick (asked_of read.query) (shelf_data shelf.old)) (shelf_data shelf.old) result
+        (shelf_data shelf.new) }
 {
-    let program = program_for(&read, shelf)?;
+    let program = program_for(&read.query, &read.lookup, shelf)?;
     let cursor = cursor_of(alloc, &read.query, root)?;
     let bound = move_cursor(&read.query, root, tick, shelf)?;
     Ok(Work::Evaluates(read.query.plan(bound, program), cursor))
 }
 
 /// The program that says which files match a query.
-pub(super) fn program_for(read: &ReadQuery, shelf: &Shelf<()>) -> Result<Arc<Program>, Refusal>
-    requires { IsRead read.now }
-    ensures { FindsProgram (asked_of (read.now).query) shelf.now result }
+pub(super) fn program_for(
+    query: &Query,
+    lookup: &Lookup,
+    shelf: &Shelf<Trigger>,
+) -> Result<Arc<Program>, Refusal>
+    requires { IsLookup (asked_of query.now).expression lookup.now }
+    ensures { FindsProgram (asked_of query.now) (shelf_data shelf.now) result }
 {
-    match read.query.program() {
+    match query.program() {
         Some(name) => named(name, shelf),
-        None => compiled(read),
+        None => compiled(query, lookup),
     }
 }
 
 /// The program of a name.
-fn named(name: &str, shelf: &Shelf<()>) -> Result<Arc<Program>, Refusal>
-    ensures { FindsNamed name.now shelf.now result }
+fn named(name: &str, shelf: &Shelf<Trigger>) -> Result<Arc<Program>, Refusal>
+    ensures { FindsNamed name.now (shelf_data shelf.now) result }
 {
     let Some(program) = shelf.get(name) else {
         return Err(Refusal::NoSuchProgram);
@@ -148,14 +156,14 @@ fn named(name: &str, shelf: &Shelf<()>) -> Result<Arc<Program>, Refusal>
 }
 
 /// The program of the expression of a query, which was found or compiled before.
-fn compiled(read: &ReadQuery) -> Result<Arc<Program>, Refusal>
-    requires { IsRead read.now }
-    ensures { FindsCompiled (asked_of (read.now).query) result }
+fn compiled(query: &Query, lookup: &Lookup) -> Result<Arc<Program>, Refusal>
+    requires { IsLookup (asked_of query.now).expression lookup.now }
+    ensures { FindsCompiled (asked_of query.now) result }
 {
-    if read.is_large {
+    if lookup.is_large {
         return Err(Refusal::ProgramTooLarge);
     }
-    match &read.program {
+    match &lookup.program {
         Some(program) => Ok(Arc::try_clone(program)?),
         None => Err(Refusal::NoMemory),
     }
@@ -175,14 +183,19 @@ fn cursor_of(alloc: Global, query: &Query, root: u64) -> Result<Option<Cursor>, 
 }
 
 /// Moves the cursor of a query to this tick of its root, and gives the bound that it sets.
-fn move_cursor(query: &Query, root: u64, tick: u64, shelf: &mut Shelf<()>) -> Result<Bound, Refusal>
+fn move_cursor(
+    query: &Query,
+    root: u64,
+    tick: u64,
+    shelf: &mut Shelf<Trigger>,
+) -> Result<Bound, Refusal>
     requires { is_none (numbered root shelf.old.roots) ≡ false }
-    ensures { MovesCursor (asked_of query.now).since root tick shelf.old result shelf.new }
+    ensures { MovesCursor (asked_of query.now).since root tick (shelf_data shelf.old) result (shelf_data shelf.new) }
 {
     let Some(name) = query.cursor() else {
         return Ok(query.bound().unwrap_or(Bound::Fresh));
     };
-    match shelf.swap_cursor(root, name, tick) {
+    match swap_cursor(shelf, root, name, tick) {
         Ok(None) => Ok(Bound::Fresh),
         Ok(Some(tick)) => Ok(Bound::Tick(tick)),
         Err(ShelfFault::NoMemory) => Err(Refusal::NoMemory),

@@ -7,6 +7,7 @@ ghost use Rattle.wq_session.specs.Reading.{Requests};
 ghost use Rattle.wq_session.specs.Reply.{IsReply};
 ghost use Rattle.wq_session.specs.Server.{shutdown_request, socket_request, version_request};
 ghost use Rattle.wq_session.specs.Server.{socket_data, telling_socket};
+ghost use Rattle.wq_session.specs.Shelved.{shelf_data};
 ghost use Rattle.wq_session.specs.Work.{Begins};
 
 use crate::ask::Ask;
@@ -17,6 +18,7 @@ use crate::work::Work;
 use serde_json::{Value, json};
 use std::alloc::{AllocError, Global};
 use wq_base::VERSION;
+use wq_follow::Trigger;
 use wq_registry::Shelf;
 
 /// What `version` asks with these words.
@@ -57,8 +59,8 @@ fn socket_reply(alloc: Global, name: &str) -> Result<Value, AllocError>
 }
 
 /// `get-sockname`
-pub(super) fn begin_socket(alloc: Global, shelf: &Shelf<()>) -> Result<Work, Refusal>
-    ensures { Begins (Ok (telling_socket shelf.now)) shelf.now result shelf.now }
+pub(super) fn begin_socket(alloc: Global, shelf: &Shelf<Trigger>) -> Result<Work, Refusal>
+    ensures { Begins (Ok (telling_socket (shelf_data shelf.now))) (shelf_data shelf.now) result (shelf_data shelf.now) }
 {
     let reply = socket_reply(alloc, shelf.sockname())?;
     Ok(saying(alloc, &reply)?)

@@ -11,6 +11,7 @@ ghost use Rattle.wq_session.specs.At.{at_data};
 ghost use Rattle.wq_session.specs.Prepared.{AreRead, IsRead, IsSubscribedAt};
 ghost use Rattle.wq_session.specs.Reading.{Requests};
 ghost use Rattle.wq_session.specs.Reply.{IsReply};
+ghost use Rattle.wq_session.specs.Shelved.{shelf_data};
 ghost use Rattle.wq_session.specs.Subscribe.{begun_subscription, subscribe_arguments, subscribe_data, subscribe_request};
 ghost use Rattle.wq_session.specs.Subscribe.{try_subscribe, try_unsubscribe, unsubscribe_data, unsubscribe_request};
 ghost use Rattle.wq_session.specs.Work.{Begins};
@@ -28,7 +29,7 @@ use serde_json::{Value, json};
 use std::alloc::{AllocError, Global};
 use wq_base::{Text, VERSION};
 use wq_clock::{Bound, Instance, print};
-use wq_follow::Subscription;
+use wq_follow::{Subscription, Trigger};
 use wq_registry::Shelf;
 use wq_view::View;
 
@@ -100,12 +101,12 @@ pub(super) fn begin_subscribe(
     name: &Text,
     read: Option<Result<ReadQuery, Refusal>>,
     at: Option<At<'_>>,
-    shelf: &Shelf<()>,
+    shelf: &Shelf<Trigger>,
 ) -> Result<Work, Refusal>
     requires { AreRead read }
     ensures { (d : Data) → IsSubscribedAt d (option_map at_data at.entry) read
-        → Begins (try_subscribe root.now name.now d (option_map at_data at.entry) shelf.now)
-        shelf.now result shelf.now }
+        → Begins (try_subscribe root.now name.now d (option_map at_data at.entry) (shelf_data shelf.now))
+        (shelf_data shelf.now) result (shelf_data shelf.now) }
 {
     let Some(at) = watched(root, at, shelf) else {
         return Err(Refusal::NotWatched);
@@ -130,13 +131,13 @@ fn begin_read(
     name: &Text,
     read: ReadQuery,
     number: u64,
-    shelf: &Shelf<()>,
+    shelf: &Shelf<Trigger>,
 ) -> Result<Work, Refusal>
     requires { IsRead read }
-    ensures { Begins (begun_subscription root.now name.now number (asked_of read.query) shelf.now)
-        shelf.now result shelf.now }
+    ensures { Begins (begun_subscription root.now name.now number (asked_of read.query) (shelf_data shelf.now))
+        (shelf_data shelf.now) result (shelf_data shelf.now) }
 {
-    let program = program_for(&read, shelf)?;
+    let program = program_for(&read.query, &read.lookup, shelf)?;
     let root = copy(alloc, root.as_str())?;
     let name = copy(alloc, name.as_str())?;
     let bound = read.query.bound().unwrap_or(Bound::Fresh);
@@ -145,7 +146,7 @@ fn begin_read(
 }
 
 /// A text of its own with these bytes.
-fn copy(alloc: Global, text: &str) -> Result<Text, AllocError>
+pub(super) fn copy(alloc: Global, text: &str) -> Result<Text, AllocError>
     ensures { IfOk result (λ copy. copy ≡ text.now) }
 {
     Ok(Text::from_string(String::from_str(alloc, text)?))
@@ -157,10 +158,10 @@ pub(super) fn begin_unsubscribe(
     root: &RootText,
     name: &Text,
     at: Option<At<'_>>,
-    shelf: &Shelf<()>,
+    shelf: &Shelf<Trigger>,
 ) -> Result<Work, Refusal>
-    ensures { Begins (try_unsubscribe root.now name.now (option_map at_data at.entry) shelf.now)
-        shelf.now result shelf.now }
+    ensures { Begins (try_unsubscribe root.now name.now (option_map at_data at.entry) (shelf_data shelf.now))
+        (shelf_data shelf.now) result (shelf_data shelf.now) }
 {
     let Some(at) = watched(root, at, shelf) else {
         return Err(Refusal::NotWatched);

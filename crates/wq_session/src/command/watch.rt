@@ -7,6 +7,7 @@ ghost use Rattle.wq_session.specs.Argument.{behind};
 ghost use Rattle.wq_session.specs.At.{at_data};
 ghost use Rattle.wq_session.specs.Reading.{Requests};
 ghost use Rattle.wq_session.specs.Reply.{IsReply};
+ghost use Rattle.wq_session.specs.Shelved.{shelf_data};
 ghost use Rattle.wq_session.specs.Watch.{list_request, unwatch_request, watch_request};
 ghost use Rattle.wq_session.specs.Watch.{root_deleted_data, root_texts, roots_data, watch_data};
 ghost use Rattle.wq_session.specs.Watch.{listing_roots, try_unwatch, try_watch};
@@ -18,11 +19,13 @@ use crate::at::{At, watched};
 use crate::refusal::Refusal;
 use crate::reply::saying;
 use crate::root::{RootText, is_absolute};
+use crate::shelving::{add_root, remove_root};
 use crate::words::{are_none, one_text};
 use crate::work::Work;
 use serde_json::{Value, json};
 use std::alloc::{AllocError, Global};
 use wq_base::VERSION;
+use wq_follow::Trigger;
 use wq_registry::{Root, Shelf, ShelfFault};
 
 /// What `watch` and `watch-project` ask with these words.
@@ -68,15 +71,24 @@ fn watch_reply(alloc: Global, root: &str) -> Result<Value, AllocError>
 }
 
 /// The roots that are watched, by their texts.
-fn list_reply(alloc: Global, roots: &[Root<()>]) -> Result<Value, AllocError>
-    ensures { IfOk result (λ value. data_of value ≡ roots_data (root_texts roots.now)) }
+fn list_reply(alloc: Global, shelf: &Shelf<Trigger>) -> Result<Value, AllocError>
+    ensures { IfOk result (λ value.
+        data_of value ≡ roots_data (root_texts (shelf_data shelf.now).roots)) }
 {
-    let texts = Value::Array(texts(alloc, roots)?);
+    let texts = Value::Array(texts_on(alloc, shelf)?);
     json!(in alloc; { "roots": texts, "version": VERSION })
 }
 
+/// The texts of the roots on a shelf, as values.
+fn texts_on(alloc: Global, shelf: &Shelf<Trigger>) -> Result<Vec<Value>, AllocError>
+    ensures { IfOk result (λ values.
+        map data_of values.items ≡ map string (root_texts (shelf_data shelf.now).roots)) }
+{
+    texts(alloc, shelf.roots())
+}
+
 /// The texts as values.
-fn texts(alloc: Global, roots: &[Root<()>]) -> Result<Vec<Value>, AllocError>
+fn texts(alloc: Global, roots: &[Root<Trigger>]) -> Result<Vec<Value>, AllocError>
     ensures { IfOk result (λ values. map data_of values.items ≡ map string (root_texts roots.now)) }
 {
     let mut values = Vec::new(alloc);
@@ -99,10 +111,10 @@ pub(super) fn begin_watch(
     alloc: Global,
     root: &RootText,
     at: Option<At<'_>>,
-    shelf: &mut Shelf<()>,
+    shelf: &mut Shelf<Trigger>,
 ) -> Result<Work, Refusal>
-    ensures { Begins (try_watch root.now (option_map at_data at.entry) shelf.old) shelf.old
-        result shelf.new }
+    ensures { Begins (try_watch root.now (option_map at_data at.entry) (shelf_data shelf.old)) (shelf_data shelf.old)
+        result (shelf_data shelf.new) }
 {
     let Some(at) = at else {
         return Err(Refusal::NotWatched);
@@ -114,14 +126,14 @@ pub(super) fn begin_watch(
 }
 
 /// Puts a root on the shelf, under this number.
-fn put_root(root: &str, number: u64, shelf: &mut Shelf<()>) -> Result<(), Refusal>
-    ensures put { OnOk result ((root_has_no_place root.now number shelf.old ≡ false)
-        × (shelf.new ≡ root_added root.now number shelf.old)) }
-    ensures kept { OnErr result (shelf.new ≡ shelf.old) }
+fn put_root(root: &str, number: u64, shelf: &mut Shelf<Trigger>) -> Result<(), Refusal>
+    ensures put { OnOk result ((root_has_no_place root.now number (shelf_data shelf.old) ≡ false)
+        × ((shelf_data shelf.new) ≡ root_added root.now number (shelf_data shelf.old))) }
+    ensures kept { OnErr result ((shelf_data shelf.new) ≡ (shelf_data shelf.old)) }
     ensures refused { IfErr result (λ refusal. (refusal ≡ NoMemory)
-        ⊎ ((refusal ≡ TooManyRoots) × (root_has_no_place root.now number shelf.old ≡ true))) }
+        ⊎ ((refusal ≡ TooManyRoots) × (root_has_no_place root.now number (shelf_data shelf.old) ≡ true))) }
 {
-    match shelf.add_root(root, number) {
+    match add_root(shelf, root, number) {
         Ok(()) => Ok(()),
         Err(ShelfFault::NoMemory) => Err(Refusal::NoMemory),
         Err(_) => Err(Refusal::TooManyRoots),
@@ -130,10 +142,10 @@ fn put_root(root: &str, number: u64, shelf: &mut Shelf<()>) -> Result<(), Refusa
 
 /// `watch-list`
 #[tactic(auto, using(crate::proofs::Strings::plain_rooted))]
-pub(super) fn begin_list(alloc: Global, shelf: &Shelf<()>) -> Result<Work, Refusal>
-    ensures { Begins (Ok (listing_roots shelf.now)) shelf.now result shelf.now }
+pub(super) fn begin_list(alloc: Global, shelf: &Shelf<Trigger>) -> Result<Work, Refusal>
+    ensures { Begins (Ok (listing_roots (shelf_data shelf.now))) (shelf_data shelf.now) result (shelf_data shelf.now) }
 {
-    let reply = list_reply(alloc, shelf.roots())?;
+    let reply = list_reply(alloc, shelf)?;
     Ok(saying(alloc, &reply)?)
 }
 
@@ -142,15 +154,15 @@ pub(super) fn begin_unwatch(
     alloc: Global,
     root: &RootText,
     at: Option<At<'_>>,
-    shelf: &mut Shelf<()>,
+    shelf: &mut Shelf<Trigger>,
 ) -> Result<Work, Refusal>
-    ensures { Begins (try_unwatch root.now (option_map at_data at.entry) shelf.old) shelf.old
-        result shelf.new }
+    ensures { Begins (try_unwatch root.now (option_map at_data at.entry) (shelf_data shelf.old)) (shelf_data shelf.old)
+        result (shelf_data shelf.new) }
 {
     let Some(at) = watched(root, at, shelf) else {
         return Err(Refusal::NotWatched);
     };
     let work = saying(alloc, &unwatch_reply(alloc, root.as_str())?)?;
-    shelf.remove_root(at.instance.root);
+    remove_root(shelf, at.instance.root);
     Ok(work)
 }

@@ -1,5 +1,5 @@
 -- The subscription at the place is the one between those before it and those after it.
-use Rattle.std.proofs.Common.{rules, ◌≡◌, ◌+◌, ◌++◌, ◌∷◌, [], length, map, false, Ok, Some, None, ap, refl, sym, subst, ◌∙◌, arith, slice_set}
+use Rattle.std.proofs.Common.{rules, ◌≡◌, ◌+◌, ◌++◌, ◌∷◌, [], map, false, Ok, Some, None, ap, refl, sym, subst, ◌∙◌, arith, slice_set}
 use Rattle.std.proofs.lemmas.List.{append-nil, append_assoc}
 use Rattle.std.specs.List.{remove}
 use Rattle.serde_json.specs.Written.{compact_text}

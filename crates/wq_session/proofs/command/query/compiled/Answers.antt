@@ -8,7 +8,7 @@ use Rattle.wq_session.proofs.command.query.compiled.Goals as goal
 
 pub returns-in_ok-try_clone-in-Some : goal.returns-in_ok-try_clone-in-Some
 returns-in_ok-try_clone-in-Some c = (
-  subst (λ (raw : Raw). AnswersMeaning raw (asked_of c.args.read.now.query).expression) (sym c.in_ok-try_clone-in-Some.ensures)
-      (there_answers c.args.read.now c.in-Some.program c.requires c.in-Some.is),
-  sym c.requires.0 ∙ c.if-read.false,
+  subst (λ (raw : Raw). AnswersMeaning raw (asked_of c.args.query.now).expression) (sym c.in_ok-try_clone-in-Some.ensures)
+      (there_answers (asked_of c.args.query.now).expression c.args.lookup.now c.in-Some.program c.requires c.in-Some.is),
+  sym c.requires.0 ∙ c.if-lookup.false,
 )

@@ -3,12 +3,13 @@ use Rattle.std.proofs.Common.{rules, ◌≡◌, Ok, Err, Some, ap, option_map, s
 use Rattle.wq_session.proofs.Before.{begins_subscribed, refuses_subscribed}
 use Rattle.wq_session.specs.At.{at_data}
 use Rattle.wq_session.specs.Prepared.{IsSubscribedAt}
+use Rattle.wq_session.specs.Shelved.{shelf_data}
 use Rattle.wq_session.proofs.command.subscribe.begin_subscribe.Goals as goal
 
 pub returns-in-Some-Ok : goal.returns-in-Some-Ok
 returns-in-Some-Ok c d said =
     let is : c.args.read ≡ Some (Ok c.in-Some-Ok.read) = search rules in
-    begins_subscribed c.args.root.now c.args.name.now d (option_map at_data c.args.at) c.args.shelf.now (at_data c.in-Some.at)
+    begins_subscribed c.args.root.now c.args.name.now d (option_map at_data c.args.at) (shelf_data c.args.shelf.now) (at_data c.in-Some.at)
     (sym c.in-Some.ensures.value) (sym c.is_name.ensures ∙ c.if-not-is_name.false) c.in-Some-view.field-0.now
     (ap (option_map (λ view. view.now)) c.in-Some-view.is) c.in-Some-Ok.read
     (subst (IsSubscribedAt d (option_map at_data c.args.at)) is said) c.begin_read.result c.begin_read.ensures
@@ -16,7 +17,7 @@ returns-in-Some-Ok c d said =
 pub returns-in-Some-Err : goal.returns-in-Some-Err
 returns-in-Some-Err c d said =
     let is : c.args.read ≡ Some (Err c.in-Some-Err.refusal) = search rules in
-    refuses_subscribed c.args.root.now c.args.name.now d (option_map at_data c.args.at) c.args.shelf.now (at_data c.in-Some.at)
+    refuses_subscribed c.args.root.now c.args.name.now d (option_map at_data c.args.at) (shelf_data c.args.shelf.now) (at_data c.in-Some.at)
     (sym c.in-Some.ensures.value) (sym c.is_name.ensures ∙ c.if-not-is_name.false) c.in-Some-view.field-0.now
     (ap (option_map (λ view. view.now)) c.in-Some-view.is) c.in-Some-Err.refusal
     (subst (IsSubscribedAt d (option_map at_data c.args.at)) is said)

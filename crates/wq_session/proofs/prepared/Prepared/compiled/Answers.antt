@@ -7,4 +7,4 @@ use Rattle.wq_session.proofs.prepared.Prepared.compiled.Goals as goal
 pub compiled-read-requires-clause-read : goal.compiled-read-requires-clause-read
 compiled-read-requires-clause-read c =
     let is : c.args.self.query ≡ Some (Ok c.in-Some-Ok.read) = search rules in
-    subst AreRead is (asked_read c.args.self.ask (asked_at c.args.self) c.args.self.query c.requires.prepared)
+    subst AreRead is (asked_read c.args.self.ask (asked_at c.args.self) c.args.self.query c.requires.prepared.0)

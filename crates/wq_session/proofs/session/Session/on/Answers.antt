@@ -3,6 +3,7 @@ use Rattle.std.proofs.Common.{rules, ◌≡◌, None, ap, sym, ◌∙◌, option
 use Rattle.wq_registry.specs.Shelf.{cursor_unset}
 use Rattle.wq_session.specs.At.{at_data}
 use Rattle.wq_session.specs.Followed.{follows_of}
+use Rattle.wq_session.specs.Shelved.{shelf_data}
 use Rattle.wq_session.specs.Work.{work_data}
 use Rattle.wq_session.proofs.Ending.{answered_plain, answered_with}
 use Rattle.wq_session.proofs.Finishing.{can_finish}
@@ -10,19 +11,19 @@ use Rattle.wq_session.proofs.session.Session.on.Goals as goal
 
 pub returns-in-Some : goal.returns-in-Some
 returns-in-Some c =
-    answered_with c.args.ask (option_map at_data c.args.at) c.args.shelf.now (follows_of c.args.self.now) (work_data c.prepare_and_take-work.result)
-    c.prepare_and_take-work.new.shelf c.finish-out.result c.settle.new.out (follows_of c.finish-out.new.self) c.in-Some.cursor c.unset_cursor.new.self
+    answered_with c.args.ask (option_map at_data c.args.at) (shelf_data c.args.shelf.now) (follows_of c.args.self.now) (work_data c.prepare_and_take-work.result)
+    (shelf_data c.prepare_and_take-work.new.shelf) c.finish-out.result c.settle.new.out (follows_of c.finish-out.new.self) c.in-Some.cursor (shelf_data c.unset_cursor.new.shelf)
     c.prepare_and_take-work.ensures c.finish-out.ensures c.settle.ensures.taken (sym c.in-Some.ensures.named)
-    (c.unset_cursor.ensures ∙ ap (λ name. cursor_unset c.in-Some.cursor.root name c.prepare_and_take-work.new.shelf) c.as_str.ensures)
+    (c.unset_cursor.ensures ∙ ap (λ name. cursor_unset c.in-Some.cursor.root name (shelf_data c.prepare_and_take-work.new.shelf)) c.as_str.ensures)
 
 pub finish-out-requires : goal.finish-out-requires
 finish-out-requires c =
-    can_finish c.args.ask (option_map at_data c.args.at) c.args.shelf.now (work_data c.prepare_and_take-work.result)
-    c.prepare_and_take-work.new.shelf c.prepare_and_take-work.ensures
+    can_finish c.args.ask (option_map at_data c.args.at) (shelf_data c.args.shelf.now) (work_data c.prepare_and_take-work.result)
+    (shelf_data c.prepare_and_take-work.new.shelf) c.prepare_and_take-work.ensures
 
 pub returns-in_default : goal.returns-in_default
 returns-in_default c =
     let none : c.finish-out.result.unset ≡ None = search rules in
-    answered_plain c.args.ask (option_map at_data c.args.at) c.args.shelf.now (follows_of c.args.self.now) (work_data c.prepare_and_take-work.result)
-    c.prepare_and_take-work.new.shelf c.finish-out.result c.settle.new.out (follows_of c.finish-out.new.self)
+    answered_plain c.args.ask (option_map at_data c.args.at) (shelf_data c.args.shelf.now) (follows_of c.args.self.now) (work_data c.prepare_and_take-work.result)
+    (shelf_data c.prepare_and_take-work.new.shelf) c.finish-out.result c.settle.new.out (follows_of c.finish-out.new.self)
     c.prepare_and_take-work.ensures c.finish-out.ensures c.settle.ensures.taken none

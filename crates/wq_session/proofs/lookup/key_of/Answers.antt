@@ -7,7 +7,7 @@ use Rattle.wq_clock.specs.Instance.{instance_data}
 use Rattle.wq_query.specs.Query.{asked_of}
 use Rattle.wq_query.specs.Reading.{expression_of}
 use Rattle.wq_session.proofs.Before.{expression_asked}
-use Rattle.wq_session.proofs.read_query.key_of.Goals as goal
+use Rattle.wq_session.proofs.lookup.key_of.Goals as goal
 
 pub key_at-requires : goal.key_at-requires
 key_at-requires c =

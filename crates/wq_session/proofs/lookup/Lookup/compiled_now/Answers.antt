@@ -1,15 +1,15 @@
 -- The program that is compiled answers what the expression means.
 use Rattle.std.proofs.Common.{sym, subst, ◌∙◌}
 use Rattle.wq_compile.specs.Meaning.{AnswersMeaning}
-use Rattle.wq_session.proofs.read_query.ReadQuery.compiled_now.Goals as goal
+use Rattle.wq_session.proofs.lookup.Lookup.compiled_now.Goals as goal
 
 pub new-compiled-requires-clause-meaning : goal.new-compiled-requires-clause-meaning
 new-compiled-requires-clause-meaning c =
     subst (AnswersMeaning c.in-Ok.program.value) (c.expr.ensures.value ∙ sym c.expr-in-Some.ensures.value) c.in-Ok.ensures.meaning
 
-pub returns-clause-read : goal.returns-clause-read
-returns-clause-read c = (
-  c.requires.read.0,
+pub returns : goal.returns
+returns c = (
+  c.requires.lookup.0,
   tt,
   subst (AnswersMeaning c.in-Ok.program.value) c.expr.ensures.value c.in-Ok.ensures.meaning,
 )

@@ -1,0 +1,141 @@
+-- Replies that tell triggers.
+use Rattle.std.proofs.Common.{◌≡◌, ◌+◌, ◌||◌, ℕ, zero, suc, Bool, true, false, List, [], ◌∷◌, ◌++◌, map, take, not, is_some, Option, Some, None, Result, Ok, refl, ap, sym, subst, ◌∙◌, arith, slice_get}
+use Rattle.std.proofs.lemmas.List.{map-append}
+use Rattle.std.proofs.lemmas.Option.{same_Some}
+use Rattle.serde_json.specs.Data.{Data}
+use Rattle.serde_json.specs.View.{items_of, view as data_of}
+use Rattle.serde_json.specs.Written.{has_float, items_have_float}
+use Rattle.serde_json.specs.declared.value.Value.{Value}
+use Rattle.wq_follow.specs.Followed.{trigger_data}
+use Rattle.wq_follow.specs.declared.trigger.Trigger.{Trigger}
+use Rattle.wq_registry.specs.ByName.{ByName}
+use Rattle.wq_registry.specs.Root.{RootData, numbered, triggers_in}
+use Rattle.wq_registry.specs.Shelf.{ShelfData, triggers_of}
+use Rattle.wq_session.specs.Objects.{AreObjects}
+use Rattle.wq_session.proofs.Shelves.{triggers_now}
+use Rattle.wq_session.specs.Shelved.{each, shelf_data}
+use Rattle.std.specs.declared.alloc.Global.{Global}
+use Rattle.std.specs.declared.sync.Arc.{Arc}
+use Rattle.wq_base.specs.Fault.{unless_fault}
+use Rattle.wq_code.specs.declared.raw.Raw.{Raw}
+use Rattle.wq_compile.specs.Meaning.{AnswersMeaning}
+use Rattle.wq_follow.specs.Definition.{DefinitionData}
+use Rattle.wq_follow.specs.Round.{TriggerData}
+use Rattle.wq_query.specs.Query.{QueryData}
+use Rattle.wq_registry.specs.Shelf.{trigger_added}
+use Rattle.wq_session.specs.At.{ShelfNow}
+use Rattle.wq_session.specs.Out.{replies}
+use Rattle.wq_session.specs.Taking.{FindsProgram}
+use Rattle.wq_session.specs.Trigger.{has_no_trigger_place, name_in, objects_of, put_trigger, trigger_called, trigger_in, trigger_reply, triggers_reply}
+use Rattle.wq_session.specs.Work.{WorkData, says}
+use Rattle.wq_session.specs.declared.refusal.Refusal.{Refusal}
+use Rattle.wq_session.specs.declared.refusal.Refusal.TheVariants.{TooManyTriggers}
+
+-- the objects of triggers have no float, so neither has the reply that tells them
+pub plain_triggers : (d : Data) (objects : List Data) → d ≡ triggers_reply objects → items_have_float (items_of objects) ≡ false → has_float d ≡ false
+plain_triggers d objects is plain = ap has_float is ∙ rw plain refl
+
+module _ {A : Type 0} where
+  -- one more at the end
+  pub take_more : (xs : List A) (k : ℕ) (x : A) → slice_get xs k ≡ Some x → take (k + 1) xs ≡ take k xs ++ x ∷ []
+  take_more xs k x is = subst (λ n. take n xs ≡ take k xs ++ x ∷ []) (one_more k) (by xs k is)
+    where
+      one_more : (k : ℕ) → suc k ≡ k + 1
+      one_more k = omega arith
+
+      by : (xs : List A) (k : ℕ) → slice_get xs k ≡ Some x → take (suc k) xs ≡ take k xs ++ x ∷ []
+      by [] k is = absurd cc
+      by (y ∷ xs) zero is = ap (λ y. y ∷ []) (same_Some y x is)
+      by (y ∷ xs) (suc k) is = ap (λ ys. y ∷ ys) (by xs k is)
+
+  -- or none
+  pub take_past : (xs : List A) (k : ℕ) → slice_get xs k ≡ None → take (k + 1) xs ≡ take k xs
+  take_past xs k is = subst (λ n. take n xs ≡ take k xs) (one_more k) (by xs k is)
+    where
+      one_more : (k : ℕ) → suc k ≡ k + 1
+      one_more k = omega arith
+
+      by : (xs : List A) (k : ℕ) → slice_get xs k ≡ None → take (suc k) xs ≡ take k xs
+      by [] zero is = refl
+      by [] (suc k) is = refl
+      by (y ∷ xs) zero is = absurd cc
+      by (y ∷ xs) (suc k) is = ap (λ ys. y ∷ ys) (by xs k is)
+
+-- the objects of one trigger more
+objects_more : (ts : ByName Trigger) (t : List ℕ × Trigger)
+    → objects_of (each trigger_data (ts ++ t ∷ [])) ≡ objects_of (each trigger_data ts) ++ (trigger_data t.1).object ∷ []
+objects_more [] t = refl
+objects_more (x ∷ ts) t = ap (λ ds. (trigger_data x.1).object ∷ ds) (objects_more ts t)
+
+-- a list to which a value without floats is put
+plain_more : (ds : List Data) (d : Data) → items_have_float (items_of ds) ≡ false → has_float d ≡ false
+    → items_have_float (items_of (ds ++ d ∷ [])) ≡ false
+plain_more [] d plain one = rw one refl
+plain_more (x ∷ ds) d plain one = by (has_float x) plain (λ so. plain_more ds d so one)
+  where
+    by : (b : Bool) → (b || items_have_float (items_of ds)) ≡ false
+        → (items_have_float (items_of ds) ≡ false → items_have_float (items_of (ds ++ d ∷ [])) ≡ false)
+        → (b || items_have_float (items_of (ds ++ d ∷ []))) ≡ false
+    by true plain later = absurd cc
+    by false plain later = later plain
+
+-- the value of one object more
+pub one_object : (ts : ByName Trigger) (k : ℕ) (t : List ℕ × Trigger) (values : List Value) (value : Value)
+    → AreObjects (take k ts) values → slice_get ts k ≡ Some t → data_of value ≡ (trigger_data t.1).object → has_float (data_of value) ≡ false
+    → AreObjects (take (k + 1) ts) (values ++ value ∷ [])
+one_object ts k t values value are there is plain = record {
+  same = map-append data_of values (value ∷ [])
+      ∙ ap (λ ds. ds ++ data_of value ∷ []) are.same
+      ∙ ap (λ d. objects_of (each trigger_data (take k ts)) ++ d ∷ []) is
+      ∙ sym (objects_more (take k ts) t)
+      ∙ ap (λ ts. objects_of (each trigger_data ts)) (sym (take_more ts k t there));
+  plain = subst (λ ds. items_have_float (items_of ds) ≡ false) (sym (map-append data_of values (value ∷ [])))
+      (plain_more (map data_of values) (data_of value) are.plain plain);
+}
+
+-- no object more
+pub no_object : (ts : ByName Trigger) (k : ℕ) (values : List Value) → AreObjects (take k ts) values → slice_get ts k ≡ None
+    → AreObjects (take (k + 1) ts) values
+no_object ts k values are none = subst (λ ts. AreObjects ts values) (sym (take_past ts k none)) are
+
+-- the objects of a root that is there
+pub objects_there : (number : ℕ) (s : ShelfData Trigger) (r : RootData Trigger) → numbered number s.roots ≡ Some r
+    → objects_of (each trigger_data r.triggers) ≡ objects_of (triggers_of number (shelf_data s))
+objects_there number s r there =
+    sym (ap objects_of (triggers_now number s ∙ ap (λ (o : Option (RootData Trigger)). each trigger_data (triggers_in o)) there))
+
+-- and of one that is not
+pub no_objects : (number : ℕ) (s : ShelfData Trigger) (values : List Value) → numbered number s.roots ≡ None → values ≡ []
+    → map data_of values ≡ objects_of (triggers_of number (shelf_data s))
+no_objects number s values none empty =
+    ap (map data_of) empty
+    ∙ sym (ap objects_of (triggers_now number s ∙ ap (λ (o : Option (RootData Trigger)). each trigger_data (triggers_in o)) none))
+
+-- a trigger that was put under its name, part by part
+pub trigger_put : (root : List ℕ) (number : ℕ) (d : DefinitionData) (program : Option Raw) (shelf : ShelfNow) (name : List ℕ) (replaced : Bool)
+    (work : WorkData) (t : TriggerData) (after : ShelfNow) → name ≡ name_in d → has_no_trigger_place number name shelf ≡ false
+    → replaced ≡ is_some (trigger_called number name shelf) → work ≡ says (replies (trigger_reply name replaced))
+    → t ≡ trigger_in root number d program shelf → after ≡ trigger_added number name t shelf
+    → put_trigger root number d program shelf ≡ Ok (record { work = work; shelf = after })
+trigger_put root number d program shelf name replaced work t after named place was said made added =
+    ap (λ b. unless_fault TooManyTriggers (not b) (Ok (record {
+      work = says (replies (trigger_reply (name_in d) (is_some (trigger_called number (name_in d) shelf))));
+      shelf = trigger_added number (name_in d) (trigger_in root number d program shelf) shelf;
+    }))) (ap (λ n. has_no_trigger_place number n shelf) (sym named) ∙ place)
+    ∙ ap (λ n. Ok (record {
+      work = says (replies (trigger_reply n (is_some (trigger_called number n shelf))));
+      shelf = trigger_added number n (trigger_in root number d program shelf) shelf;
+    })) (sym named)
+    ∙ ap (λ b. Ok (record {
+      work = says (replies (trigger_reply name b));
+      shelf = trigger_added number name (trigger_in root number d program shelf) shelf;
+    })) (sym was)
+    ∙ ap (λ w. Ok (record { work = w; shelf = trigger_added number name (trigger_in root number d program shelf) shelf })) (sym said)
+    ∙ ap (λ x. Ok (record { work = work; shelf = trigger_added number name x shelf })) (sym made)
+    ∙ ap (λ s. Ok (record { work = work; shelf = s })) (sym added)
+
+-- the program of a definition that was read answers what its expression means, unless it was named
+pub program_of : (q : QueryData) (shelf : ShelfNow) (found : Result (Arc Raw Global) Refusal) (program : Arc Raw Global) → found ≡ Ok program
+    → FindsProgram q shelf found → q.program ≡ None → AnswersMeaning program.value q.expression
+program_of q shelf found program is finds none =
+    (subst (FindsProgram q shelf) is finds).1 none

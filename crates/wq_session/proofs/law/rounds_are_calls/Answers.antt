@@ -1,0 +1,6 @@
+-- What an answer leaves is what its calls lead to.
+use Rattle.wq_session.proofs.Rounds.{rounds_are_calls}
+use Rattle.wq_session.proofs.law.rounds_are_calls.Goals as goal
+
+pub returns : goal.returns
+returns c = rounds_are_calls

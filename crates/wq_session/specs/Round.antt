@@ -1,0 +1,68 @@
+-- A round of the triggers of a root: each in turn starts its command, if that does not run and files
+-- changed.
+-- From Watchman's documentation of `trigger`; the rounds are this server's own.
+use Rattle.std.specs.Prelude.{◌≡◌, ℕ, List, [], ◌∷◌, ◌++◌, length, Option}
+use Rattle.wq_clock.specs.Instance.{InstanceData}
+use Rattle.wq_follow.specs.Launcher.{LauncherData}
+use Rattle.wq_follow.specs.Round.{Agrees, FiredData, Fires, TriggerData}
+use Rattle.wq_registry.specs.ByName.{ByName}
+use Rattle.wq_registry.specs.History.{adds_trigger, after_all}
+use Rattle.wq_registry.specs.Shelf.{blank, root_changed, triggers_of}
+use Rattle.wq_view.specs.View.{ViewData}
+use Rattle.wq_session.specs.Accepted.{CallNow}
+use Rattle.wq_session.specs.At.{ShelfNow}
+
+-- the part of a round that is for one trigger: its name, what was done, and the trigger then
+pub record TurnData : Type 0 where
+  pub name : List ℕ
+  pub fired : FiredData
+  pub after : TriggerData
+
+-- the shelf with other triggers of a root
+abbrev pub with_triggers : ℕ → ByName TriggerData → ShelfNow → ShelfNow
+with_triggers root ts shelf = root_changed root (λ r. record r { triggers = ts }) shelf
+
+-- the trigger between these others has its turn, on a shelf, at a place; the launcher is then so
+abbrev pub HasTurn : InstanceData → ViewData → ShelfNow → ℕ → Option LauncherData → ShelfNow
+    → Option LauncherData → Type 0
+HasTurn instance view shelf place shown after left =
+    (front : ByName TriggerData) (t : List ℕ × TriggerData) (later : ByName TriggerData)
+    → triggers_of instance.root shelf ≡ front ++ t ∷ later → length front ≡ place
+    → (turn : TurnData) × (turn.name ≡ t.0) × Fires instance view t.1 turn.fired turn.after
+    × Agrees turn.fired (t.1).running shown left
+    × (after ≡ with_triggers instance.root (front ++ (t.0, turn.after) ∷ later) shelf)
+
+-- each trigger had its turn, one after the other, at a view; the launcher, if it is shown, is then so
+abbrev pub HaveTurns : InstanceData → ViewData → ByName TriggerData → Option LauncherData
+    → List TurnData → Option LauncherData → Type 0
+HaveTurns instance view [] shown [] left = left ≡ shown
+HaveTurns instance view (t ∷ later) shown (turn ∷ turns) left =
+    (turn.name ≡ t.0) × Fires instance view t.1 turn.fired turn.after
+    × ((next : Option LauncherData) × Agrees turn.fired (t.1).running shown next
+    × HaveTurns instance view later next turns left)
+HaveTurns instance view _ shown _ left = ⊥
+
+-- the triggers after these turns
+abbrev pub after_turns : List TurnData → ByName TriggerData
+after_turns [] = []
+after_turns (turn ∷ turns) = (turn.name, turn.after) ∷ after_turns turns
+
+-- a round of the root of an instance, at a view of it
+pub record IsRound (instance : InstanceData) (view : ViewData) (shelf : ShelfNow)
+    (shown : Option LauncherData) (after : ShelfNow) (left : Option LauncherData) : Type 0 where
+  pub turns : List TurnData
+  pub had : HaveTurns instance view (triggers_of instance.root shelf) shown turns left
+  pub is : after ≡ with_triggers instance.root (after_turns turns) shelf
+
+-- the calls of turns: each trigger is put under its name again
+abbrev pub turn_calls : ℕ → List TurnData → List CallNow
+turn_calls root [] = []
+turn_calls root (turn ∷ turns) = adds_trigger root turn.name turn.after ∷ turn_calls root turns
+
+-- a round on a shelf to which calls lead is a list of calls: what it leaves is what they come to
+abbrev pub RoundsAreCalls : Type 0
+RoundsAreCalls = (instance : InstanceData) (view : ViewData) (calls : List CallNow)
+    (sockname : List ℕ) (shown : Option LauncherData) (after : ShelfNow)
+    (left : Option LauncherData)
+    → (round : IsRound instance view (after_all calls (blank sockname)) shown after left)
+    → after ≡ after_all (turn_calls instance.root round.turns) (after_all calls (blank sockname))

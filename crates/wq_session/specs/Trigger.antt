@@ -1,0 +1,166 @@
+-- `trigger`, `trigger-list` and `trigger-del`: commands are started for the files of a root, told, and
+-- started no more.
+-- From Watchman's documentation of these commands; programs and the order of faults are this server's own.
+use Rattle.std.specs.Prelude.{◌≡◌, ℕ, Bool, true, false, not, List, codes, map}
+use Rattle.std.specs.Prelude.{Option, Some, None, is_some, Result, Ok}
+use Rattle.std.specs.Option.{option_and_then}
+use Rattle.serde_json.specs.Data.{Data, boolean, string, array, object, Items, no_items, item}
+use Rattle.serde_json.specs.Data.{no_members, member}
+use Rattle.serde_json.specs.View.{items_of, view as data_of}
+use Rattle.wq_base.specs.Fault.{or_fault, or_its_fault, or_own_fault, unless_fault}
+use Rattle.wq_base.specs.Version.{version}
+use Rattle.wq_clock.specs.Instance.{InstanceData}
+use Rattle.wq_code.specs.declared.raw.Raw.{Raw}
+use Rattle.wq_follow.specs.Defining.{triggered}
+use Rattle.wq_follow.specs.Definition.{DefinitionData, defines}
+use Rattle.wq_follow.specs.Round.{TriggerData}
+use Rattle.wq_follow.specs.declared.fault.TriggerFault.{TriggerFault}
+use Rattle.wq_follow.specs.declared.fault.TriggerFault.TheVariants.{BadName as BadTriggerName, BadShape}
+use Rattle.wq_follow.specs.declared.fault.TriggerFault.TheVariants.{Query as BadQuery, NoMemory as NoTriggerMemory}
+use Rattle.wq_registry.specs.ByName.{ByName, has_no_place, under, values}
+use Rattle.wq_registry.specs.Limit.{max_triggers}
+use Rattle.wq_registry.specs.Shelf.{trigger_added, trigger_removed, triggers_of}
+use Rattle.wq_session.specs.Argument.{RequestData, complete, triggers, one_text, two_texts}
+use Rattle.wq_session.specs.At.{AtData, ShelfNow, watched}
+use Rattle.wq_session.specs.Out.{replies}
+use Rattle.wq_session.specs.Program.{is_name}
+use Rattle.wq_session.specs.Query.{program_for}
+use Rattle.wq_session.specs.Root.{root_named}
+use Rattle.wq_session.specs.Work.{BegunData, says, saying}
+use Rattle.wq_session.specs.declared.ask.Ask.{Ask}
+use Rattle.wq_session.specs.declared.ask.Ask.TheVariants.{AddTrigger, ListTriggers, DeleteTrigger}
+use Rattle.wq_session.specs.declared.refusal.Refusal.{Refusal}
+use Rattle.wq_session.specs.declared.refusal.Refusal.TheVariants.{WrongArguments, NotWatched, BadName}
+use Rattle.wq_session.specs.declared.refusal.Refusal.TheVariants.{BadTrigger, Query, TooManyTriggers, NoMemory}
+
+-- the root and the object of `trigger`
+abbrev pub trigger_arguments : Items → Option (List ℕ × Data)
+trigger_arguments (item (string root) (item (object members) no_items)) =
+    Some (root, object members)
+trigger_arguments _ = None
+
+-- `trigger` requests that a command is started for the files of a root, as an object says
+abbrev pub trigger_request : Items → Result RequestData Refusal
+trigger_request arguments =
+    or_fault WrongArguments (trigger_arguments arguments) (λ (root, d).
+    Ok (triggers (root_named root) d))
+
+-- `trigger-list` requests the triggers of a root
+abbrev pub list_triggers_request : Items → Result RequestData Refusal
+list_triggers_request arguments =
+    or_fault WrongArguments (one_text arguments) (λ root.
+    Ok (complete (ListTriggers (root_named root))))
+
+-- `trigger-del` requests that a trigger of a root is no more
+abbrev pub delete_trigger_request : Items → Result RequestData Refusal
+delete_trigger_request arguments =
+    or_fault WrongArguments (two_texts arguments) (λ (root, name).
+    Ok (complete (DeleteTrigger (root_named root) name)))
+
+-- an ask is for the trigger of an object, of a root
+abbrev pub IsTriggering : List ℕ → Data → Ask → Type 0
+IsTriggering root d (AddTrigger r t) = (r ≡ root) × (data_of t ≡ d)
+IsTriggering root d _ = ⊥
+
+-- a line is refused so for the fault of a trigger's object
+abbrev pub trigger_refusal : TriggerFault → Refusal
+trigger_refusal BadTriggerName = BadName
+trigger_refusal BadShape = BadTrigger
+trigger_refusal (BadQuery fault) = Query fault
+trigger_refusal NoTriggerMemory = NoMemory
+
+-- the definition that an object says at an instance, or why the line is refused
+abbrev pub defined_by : InstanceData → Data → Result DefinitionData Refusal
+defined_by instance d = or_its_fault trigger_refusal (defines instance d) Ok
+
+-- the name of a definition
+abbrev pub name_in : DefinitionData → List ℕ
+name_in d = (d.shape).name
+
+-- the trigger of a name, of the root of a number
+abbrev pub trigger_called : ℕ → List ℕ → ShelfNow → Option TriggerData
+trigger_called root name shelf = under name (triggers_of root shelf)
+
+-- whether the root has no place for one more of this name
+abbrev pub has_no_trigger_place : ℕ → List ℕ → ShelfNow → Bool
+has_no_trigger_place root name shelf = has_no_place max_triggers name (triggers_of root shelf)
+
+-- the run of the command of a trigger that is replaced, if there is one and its command runs
+abbrev pub run_in : Option TriggerData → Option ℕ
+run_in replaced = option_and_then (λ t. t.running) replaced
+
+-- the word for what became of the trigger
+abbrev pub disposition : Bool → List ℕ
+disposition false = codes "created"
+disposition true = codes "replaced"
+
+-- that there is a trigger of this name, and whether it replaced one
+abbrev pub trigger_reply : List ℕ → Bool → Data
+trigger_reply name replaced =
+    object (member (codes "disposition") (string (disposition replaced))
+    (member (codes "triggerid") (string name)
+    (member (codes "version") (string version) no_members)))
+
+-- the objects that define triggers, in their order
+abbrev pub objects_of : ByName TriggerData → List Data
+objects_of ts = map (λ t. t.object) (values ts)
+
+-- the triggers of a root, by their objects
+abbrev pub triggers_reply : List Data → Data
+triggers_reply objects =
+    object (member (codes "triggers") (array (items_of objects))
+    (member (codes "version") (string version) no_members))
+
+-- that there is no trigger of this name, and whether there was one
+abbrev pub trigger_deleted_reply : List ℕ → Bool → Data
+trigger_deleted_reply name deleted =
+    object (member (codes "deleted") (boolean deleted)
+    (member (codes "trigger") (string name)
+    (member (codes "version") (string version) no_members)))
+
+-- the trigger of a definition, by its program, which takes over the run of the one that it replaces
+abbrev pub trigger_in : List ℕ → ℕ → DefinitionData → Option Raw → ShelfNow → TriggerData
+trigger_in root number d program shelf =
+    triggered d root program (run_in (trigger_called number (name_in d) shelf))
+
+-- the trigger of a definition, with its program, of a root with this text and number, is put under its
+-- name
+abbrev pub put_trigger : List ℕ → ℕ → DefinitionData → Option Raw → ShelfNow
+    → Result BegunData Refusal
+put_trigger root number d program shelf =
+    unless_fault TooManyTriggers (not (has_no_trigger_place number (name_in d) shelf)) (
+    Ok (record {
+      work = says (replies (trigger_reply (name_in d) (is_some (trigger_called number (name_in d) shelf))));
+      shelf = trigger_added number (name_in d) (trigger_in root number d program shelf) shelf;
+    }))
+
+-- the same with the program that its query asks for
+abbrev pub begun_trigger : List ℕ → ℕ → DefinitionData → ShelfNow → Result BegunData Refusal
+begun_trigger root number d shelf =
+    or_own_fault (program_for d.query shelf) (λ program. put_trigger root number d program shelf)
+
+-- what `trigger` comes to
+abbrev pub try_trigger : List ℕ → Data → Option AtData → ShelfNow → Result BegunData Refusal
+try_trigger root d at shelf =
+    or_fault NotWatched (watched root at shelf) (λ at.
+    or_fault NotWatched at.view (λ view.
+    or_own_fault (defined_by at.instance d) (λ definition.
+    begun_trigger root (at.instance).root definition shelf)))
+
+-- what `trigger-list` comes to
+abbrev pub try_list_triggers : List ℕ → Option AtData → ShelfNow → Result BegunData Refusal
+try_list_triggers root at shelf =
+    or_fault NotWatched (watched root at shelf) (λ at.
+    Ok (saying (replies (triggers_reply (objects_of (triggers_of (at.instance).root shelf)))) shelf))
+
+-- what `trigger-del` comes to
+abbrev pub try_delete_trigger : List ℕ → List ℕ → Option AtData → ShelfNow
+    → Result BegunData Refusal
+try_delete_trigger root name at shelf =
+    or_fault NotWatched (watched root at shelf) (λ at.
+    unless_fault BadName (is_name name) (
+    Ok (record {
+      work = says (replies (trigger_deleted_reply name
+          (is_some (trigger_called (at.instance).root name shelf))));
+      shelf = trigger_removed (at.instance).root name shelf;
+    })))

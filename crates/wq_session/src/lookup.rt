@@ -1,0 +1,129 @@
+//! How far the program of an expression is known before the shelf is held.
+ghost use Rattle.std.specs.Prelude.{◌≡◌, Ok, Some, false, IfSome};
+ghost use Rattle.serde_json.specs.View.{view as data_of};
+ghost use Rattle.wq_clock.specs.Instance.{instance_data};
+ghost use Rattle.wq_query.specs.Query.{asked_of};
+ghost use Rattle.wq_query.specs.Reading.{asks as queries};
+ghost use Rattle.wq_registry.specs.CacheKey.{Says};
+ghost use Rattle.wq_session.specs.Prepared.{IsFoundFor, IsLookup};
+ghost use Rattle.wq_term.specs.Limit.{max_depth};
+ghost use Rattle.wq_term.specs.Reading.{reads_as};
+
+use serde_json::Value;
+use std::alloc::Global;
+use std::sync::Arc;
+use wq_clock::Instance;
+use wq_compile::is_too_large;
+use wq_query::Query;
+use wq_registry::{CacheKey, Compiled, compile_shared};
+use wq_verify::Program;
+
+/// How far the program of an expression is known.
+#[derive(Drop)]
+pub(crate) struct Lookup {
+    /// Whether the expression has no program, since that would be too large.
+    pub(crate) is_large: bool,
+    /// The key under which the program of the expression is kept. There is none if every file is
+    /// asked for, or memory ran out.
+    pub(crate) key: Option<CacheKey>,
+    /// A program that answers what the expression means, once it is found or compiled.
+    pub(crate) program: Option<Arc<Program>>,
+}
+
+impl Lookup {
+    /// Nothing but the key of the expression of a query, which was read from this object.
+    pub(crate) fn of(alloc: Global, object: &Value, instance: &Instance, query: &Query) -> Lookup
+        requires { queries (instance_data instance.now) (data_of object.now)
+            ≡ Ok (asked_of query.now) }
+        ensures { IsLookup (asked_of query.now).expression result }
+    {
+        Lookup {
+            is_large: is_too_large(query.expr()),
+            key: key_of(alloc, object, instance, query),
+            program: None,
+        }
+    }
+
+    /// The program of a query's expression: the one that was found, or one that is compiled now, and
+    /// is then given for the cache as well. There is none if the query names a program, if it would
+    /// be too large, or if memory ran out.
+    pub(crate) fn compiled(
+        self,
+        alloc: Global,
+        query: &Query,
+        found: Option<Arc<Program>>,
+    ) -> (Lookup, Option<Compiled>)
+        requires lookup { IsLookup (asked_of query.now).expression self }
+        requires found { IsFoundFor self.key found }
+        ensures { IsLookup (asked_of query.now).expression result.0 }
+    {
+        if query.program().is_some() || self.is_large {
+            return (self, None);
+        }
+        match found {
+            Some(program) => (self.with(program, query), None),
+            None => self.compiled_now(alloc, query),
+        }
+    }
+
+    /// A program that is compiled now, which is given for the cache as well.
+    fn compiled_now(self, alloc: Global, query: &Query) -> (Lookup, Option<Compiled>)
+        requires lookup { IsLookup (asked_of query.now).expression self }
+        requires small { self.is_large ≡ false }
+        ensures { IsLookup (asked_of query.now).expression result.0 }
+    {
+        let Ok(program) = compile_shared(alloc, query.expr()) else {
+            return (self, None);
+        };
+        let Lookup { is_large, key, .. } = self;
+        let compiled = match key {
+            Some(key) => Compiled::new(key, query.expr(), &program),
+            None => None,
+        };
+        (
+            Lookup {
+                is_large,
+                key: None,
+                program: Some(program),
+            },
+            compiled,
+        )
+    }
+
+    /// This program, which was found under the key.
+    fn with(self, program: Arc<Program>, query: &Query) -> Lookup
+        requires lookup { IsLookup (asked_of query.now).expression self }
+        requires found { IsFoundFor self.key (Some program) }
+        ensures { IsLookup (asked_of query.now).expression result }
+    {
+        Lookup {
+            is_large: self.is_large,
+            key: self.key,
+            program: Some(program),
+        }
+    }
+}
+
+/// The key of the expression of a query that was read from this object, if it has one.
+fn key_of(alloc: Global, object: &Value, instance: &Instance, query: &Query) -> Option<CacheKey>
+    requires { queries (instance_data instance.now) (data_of object.now)
+        ≡ Ok (asked_of query.now) }
+    ensures { IfSome result (λ key. Says key (asked_of query.now).expression) }
+{
+    let Some(value) = object.get("expression") else {
+        return None;
+    };
+    key_at(alloc, value, instance, query)
+}
+
+/// The key of the expression of a query that was read from this value.
+fn key_at(alloc: Global, value: &Value, instance: &Instance, query: &Query) -> Option<CacheKey>
+    requires { reads_as (instance_data instance.now) max_depth (data_of value.now)
+        ≡ Ok (asked_of query.now).expression }
+    ensures { IfSome result (λ key. Says key (asked_of query.now).expression) }
+{
+    let Ok(key) = CacheKey::new(alloc, instance, value) else {
+        return None;
+    };
+    Some(key)
+}

@@ -1,0 +1,61 @@
+//! Rounds of triggers: the command of each trigger of a root is started, if it does not run and files changed.
+ghost use Rattle.std.specs.Prelude.{◌≡◌, ◌<◌, length};
+ghost use Rattle.wq_clock.specs.Instance.{instance_data};
+ghost use Rattle.wq_registry.specs.Shelf.{triggers_of};
+ghost use Rattle.wq_session.specs.Round.{HasTurn, IsRound};
+ghost use Rattle.wq_session.specs.Shelved.{shelf_data};
+
+use std::alloc::Global;
+use wq_clock::Instance;
+use wq_follow::{Launch, Trigger};
+use wq_registry::Shelf;
+use wq_view::View;
+
+/// A round of the triggers of a root, in their order, at a view of it. It does nothing if the root is not on the shelf
+/// under the number of the instance.
+///
+/// If memory runs out for a trigger, that one has not moved, and has its turn again in a later round.
+pub fn round<L: Launch>(
+    alloc: Global,
+    instance: &Instance,
+    view: &View,
+    shelf: &mut Shelf<Trigger>,
+    launcher: &mut L,
+)
+    ensures { IsRound (instance_data instance.now) view.now (shelf_data shelf.old)
+        (L.shown launcher.old) (shelf_data shelf.new) (L.shown launcher.new) }
+{
+    let count = count_of(shelf, instance.root);
+    for k in 0..count {
+        fire_at(alloc, instance, view, shelf, k, launcher);
+    }
+}
+
+/// How many triggers a root has.
+fn count_of(shelf: &Shelf<Trigger>, number: u64) -> usize
+    ensures { result ≡ length (triggers_of number (shelf_data shelf.now)) }
+{
+    match shelf.root(number) {
+        Some(root) => root.trigger_count(),
+        None => 0,
+    }
+}
+
+/// The turn of the trigger at a place.
+fn fire_at<L: Launch>(
+    alloc: Global,
+    instance: &Instance,
+    view: &View,
+    shelf: &mut Shelf<Trigger>,
+    k: usize,
+    launcher: &mut L,
+)
+    requires { k < length (triggers_of instance.now.root (shelf_data shelf.old)) }
+    ensures { HasTurn (instance_data instance.now) view.now (shelf_data shelf.old) k
+        (L.shown launcher.old) (shelf_data shelf.new) (L.shown launcher.new) }
+{
+    if let Some(trigger) = shelf.trigger_mut(instance.root, k) {
+        // Without memory it has not moved, and has its turn in a later round.
+        let _ = trigger.fire(alloc, instance, view, launcher);
+    }
+}
