@@ -10,6 +10,7 @@ mod client;
 mod desk;
 mod idling;
 mod inbox;
+mod kept;
 mod lock_desk;
 mod looking;
 mod memory_desk;
@@ -20,8 +21,9 @@ mod writing;
 
 pub use desk::Desk;
 pub use inbox::{Inbox, MemoryInbox};
+pub use kept::Kept;
 pub use lock_desk::LockDesk;
 pub use memory_desk::MemoryDesk;
 pub use serving::{Ended, MAX_EVENTS, serve};
-pub use shared_shelf::{SharedShelf, reached_by_calls};
+pub use shared_shelf::{ReachedShelf, SharedShelf, reached_by_calls};
 pub use unset::Unset;

@@ -5,6 +5,7 @@ use crate::desk::Desk;
 use crate::unset::Unset;
 use std::alloc::Global;
 use std::sync::Arc;
+use wq_follow::Trigger;
 use wq_registry::{CacheKey, Compiled, Shelf};
 use wq_session::{Cursor, Prepared, Work};
 use wq_verify::Program;
@@ -13,13 +14,14 @@ use wq_verify::Program;
 #[derive(Drop)]
 pub struct MemoryDesk {
     /// The shelf.
-    pub shelf: Shelf<()>,
+    pub shelf: Shelf<Trigger>,
 }
 
 impl Desk for MemoryDesk {
     ghost use Rattle.std.specs.Prelude.{Some};
+    ghost use Rattle.wq_session.specs.Shelved.{shelf_data};
 
-    ghost shelf = { λ d. Some d.shelf };
+    ghost shelf = { λ d. Some (shelf_data d.shelf) };
 
     fn find(&mut self, key: &CacheKey) -> Option<Arc<Program>> {
         self.shelf.cache().get(key)

@@ -1,39 +1,50 @@
 //! A shelf that many sessions share, one at a time.
 ghost use Rattle.std.specs.Prelude.{◌≡◌, IfSome, string_bytes};
+ghost use Rattle.wq_clock.specs.Instance.{instance_data};
 ghost use Rattle.wq_registry.specs.Kept.{StandsFor};
 ghost use Rattle.wq_registry.specs.Shelf.{blank, cursor_unset};
 ghost use Rattle.wq_serve.specs.Reached.{IsReached, ReachedByCalls};
 ghost use Rattle.wq_session.specs.Answer.{TakesAsk};
 ghost use Rattle.wq_session.specs.Prepared.{IsPrepared, asked, asked_at};
+ghost use Rattle.wq_session.specs.Round.{IsRound};
+ghost use Rattle.wq_session.specs.Shelved.{shelf_data};
 ghost use Rattle.wq_session.specs.Work.{work_data};
 
+use crate::kept::Kept;
 use crate::unset::Unset;
 use std::alloc::Global;
 use std::marker::Model;
 use std::sync::Arc;
+use wq_clock::Instance;
+use wq_follow::{Launch, Trigger};
 use wq_registry::{Cache, CacheKey, Compiled, Root, Shelf};
-use wq_session::{Cursor, Prepared, Work, answers_are_calls};
+use wq_session::{Cursor, Prepared, Work, answers_are_calls, round, rounds_are_calls};
 use wq_verify::Program;
+use wq_view::View;
 
-/// A shelf that is changed by what sessions take and unset there, and by nothing else: so that leads to it, from one on which
-/// nothing stands.
+/// A shelf that sessions change, by the asks that they take and the cursors that they unset there, and rounds of triggers;
+/// and nothing else does. So that leads to it, from a shelf with nothing on it.
 #[derive(Drop)]
-pub struct SharedShelf {
-    shelf: Shelf<()>,
+pub struct ReachedShelf<K: Kept + Drop> {
+    shelf: Shelf<K>,
 }
 
-impl Model for SharedShelf {
-    ghost use Rattle.wq_serve.specs.Reached.{IsReached};
-    ghost use Rattle.wq_session.specs.At.{ShelfNow};
+/// The shelf that many sessions share.
+pub type SharedShelf = ReachedShelf<Trigger>;
 
-    ghost Value = { ShelfNow };
+impl<K: Kept + Drop> Model for ReachedShelf<K> {
+    ghost use Rattle.wq_registry.specs.Shelf.{ShelfData};
+    ghost use Rattle.wq_serve.specs.Reached.{IsReached};
+    ghost use Rattle.wq_session.specs.Shelved.{shelf_with};
+
+    ghost Value = { ShelfData K };
 
     ghost view = { λ s. s.shelf };
 
-    ghost invariant = { λ s. IsReached s.shelf };
+    ghost invariant = { λ s. IsReached (shelf_with K.data s.shelf) };
 }
 
-impl SharedShelf {
+impl ReachedShelf<Trigger> {
     /// A shelf with nothing on it but this cache, of a server whose socket has this name.
     pub fn new(alloc: Global, cache: Cache, sockname: String) -> SharedShelf
         ensures { result ≡ blank (string_bytes sockname) }
@@ -51,7 +62,7 @@ impl SharedShelf {
     }
 
     /// The roots, in the order in which they were added.
-    pub fn roots(&self) -> &[Root<()>]
+    pub fn roots(&self) -> &[Root<Trigger>]
         ensures { result.now ≡ self.now.roots }
     {
         self.shelf.roots()
@@ -60,9 +71,9 @@ impl SharedShelf {
     /// Takes an ask of a session ([`Prepared::take`]).
     pub(crate) fn take(&mut self, alloc: Global, prepared: Prepared<'_>) -> Work
         requires { IsPrepared prepared }
-        ensures reached { IsReached self.old }
-        ensures taken { TakesAsk (asked prepared.entry) (asked_at prepared.entry) self.old
-            (work_data result) self.new }
+        ensures reached { IsReached (shelf_data self.old) }
+        ensures taken { TakesAsk (asked prepared.entry) (asked_at prepared.entry)
+            (shelf_data self.old) (work_data result) (shelf_data self.new) }
     {
         prepared.take(alloc, &mut self.shelf)
     }
@@ -85,16 +96,33 @@ impl SharedShelf {
 
     /// Unsets a cursor ([`Shelf::unset_cursor`]).
     pub(crate) fn unset(&mut self, cursor: Cursor) -> Unset
-        ensures unset { self.new ≡ cursor_unset cursor.root cursor.name self.old }
+        ensures unset { shelf_data self.new
+            ≡ cursor_unset cursor.root cursor.name (shelf_data self.old) }
         ensures named { result ≡ cursor }
     {
         Unset::on(&mut self.shelf, cursor)
     }
+
+    /// A round of the triggers of a root, at a view of it ([`round`](wq_session::round)).
+    pub fn round<L: Launch>(
+        &mut self,
+        alloc: Global,
+        instance: &Instance,
+        view: &View,
+        launcher: &mut L,
+    )
+        ensures reached { IsReached (shelf_data self.old) }
+        ensures round { IsRound (instance_data instance.now) view.now (shelf_data self.old)
+            (L.shown launcher.old) (shelf_data self.new) (L.shown launcher.new) }
+    {
+        round(alloc, instance, view, &mut self.shelf, launcher);
+    }
 }
 
-/// To a shelf to which leads what sessions did, accepted calls lead. So the laws of lists of accepted calls hold there.
+/// Accepted calls lead to a shelf to which sessions and rounds led. So the laws of lists of accepted calls hold there.
 pub fn reached_by_calls()
     ensures { ReachedByCalls }
 {
     answers_are_calls();
+    rounds_are_calls();
 }

@@ -1,8 +1,10 @@
 //! That a cursor was unset.
 ghost use Rattle.std.specs.Prelude.{◌≡◌};
 ghost use Rattle.wq_registry.specs.Shelf.{cursor_unset};
+ghost use Rattle.wq_session.specs.Shelved.{shelf_data};
 
 use std::marker::Model;
+use wq_follow::Trigger;
 use wq_registry::Shelf;
 use wq_session::Cursor;
 
@@ -23,8 +25,9 @@ impl Model for Unset {
 
 impl Unset {
     /// Unsets a cursor ([`Shelf::unset_cursor`]).
-    pub fn on(shelf: &mut Shelf<()>, cursor: Cursor) -> Unset
-        ensures unset { shelf.new ≡ cursor_unset cursor.root cursor.name shelf.old }
+    pub fn on(shelf: &mut Shelf<Trigger>, cursor: Cursor) -> Unset
+        ensures unset { shelf_data shelf.new
+            ≡ cursor_unset cursor.root cursor.name (shelf_data shelf.old) }
         ensures named { result ≡ cursor }
     {
         shelf.unset_cursor(cursor.root, cursor.name.as_str());

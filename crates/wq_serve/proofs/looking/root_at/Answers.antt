@@ -1,6 +1,5 @@
 -- The root is the one that was found.
 use Rattle.std.proofs.Common.{refl}
-use Rattle.wq_session.specs.At.{at_data}
 use Rattle.wq_serve.proofs.Shown.{shows_it}
 use Rattle.wq_serve.proofs.looking.root_at.Goals as goal
 

@@ -1,8 +1,0 @@
--- What sessions do leads to the shelf without a cursor.
-use Rattle.std.proofs.Common.{sym, subst}
-use Rattle.wq_serve.specs.Reached.{IsReached}
-use Rattle.wq_serve.proofs.Reaching.{unset_reached}
-use Rattle.wq_serve.proofs.shared_shelf.SharedShelf.unset.Goals as goal
-
-pub invariant_of-self : goal.invariant_of-self
-invariant_of-self c = subst IsReached (sym c.on.ensures.unset) (unset_reached _ _ c.self.inside.shelf c.self.invariant)

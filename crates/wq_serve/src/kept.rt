@@ -1,0 +1,17 @@
+//! The triggers that a shelf keeps, as the definitions see them.
+
+use wq_follow::Trigger;
+
+/// A trigger that a shelf keeps. Contracts see what it means.
+pub trait Kept {
+    ghost use Rattle.wq_follow.specs.Round.{TriggerData};
+
+    // The trigger that it is.
+    ghost data: { Self → TriggerData };
+}
+
+impl Kept for Trigger {
+    ghost use Rattle.wq_follow.specs.Followed.{trigger_data};
+
+    ghost data = { λ t. trigger_data t };
+}
