@@ -1,11 +1,12 @@
 """Counts how often each case came in generated scripts, so that a reader sees that none is missing."""
 
 from collections import Counter
-from typing import Any, Dict, Iterator, List
+from typing import Any, Dict, Iterator, List, Set
 
 from generators import ANY_DEPTH
 from queries import FIELDS, LEFT_OUT_KEYS, Query, listed_records
-from replay import Malformed, Turn, turns
+from replay import EndOfRun, Malformed, Turn, turns
+from triggers import Round, Start, has_input
 from views import View
 from wqprogram import clocks, errors
 from wqprogram.json_values import NotJson, read
@@ -24,6 +25,16 @@ SUBSCRIPTION_CASES = [
     "later list of a program", "deleted file in a later list", "file in a later list that is new",
     "file in a later list that is not new",
 ]
+TRIGGER_CASES = [
+    "trigger created", "trigger replaced", "trigger deleted", "no trigger deleted", "trigger listed",
+    "no trigger listed",
+    "round with several starts", "round of a root that is not watched", "trigger passed over while its command runs",
+    "trigger passed over that was replaced", "trigger without files", "failed start", "start after one that failed",
+    "start of a fresh batch", "start of a later batch", "start with deleted files", "start by a program",
+    "start with names in its arguments", "start without input", "start with names as input",
+    "start with a JSON list of one field", "start with a JSON list of several fields", "start whose input is cut",
+    "end of a run", "end of no run",
+]
 SCRIPT_FAULTS = [
     "not a line", "in a pass", "outside of a pass", "line too long", "second out of range", "name not valid",
     "number out of range", "name twice",
@@ -35,7 +46,7 @@ def expected_cases() -> List[str]:
     cases = ["clock answered", "query answered", "files listed", "no file listed", "deleted file listed"]
     cases += ["empty on fresh instance", "one field", "several fields", "a field twice", "default fields"]
     cases += ["cursor at its first use", "cursor that was used", "query by a program"]
-    cases += SUBSCRIPTION_CASES
+    cases += SUBSCRIPTION_CASES + TRIGGER_CASES
     cases += [f"{kind} since a {bound}" for kind in ("first list", "later list")
               for bound in ("fresh", "tick", "second")]
     cases += ["root watched", "root watched no more", "root listed", "no root listed", "clock id of an earlier root"]
@@ -62,9 +73,15 @@ def answers_of(term: str) -> List[str]:
 
 
 def count_cases(script: bytes, counts: Counter) -> None:
+    failed: Set[str] = set()
     try:
         for turn in turns(script):
-            count_turn(turn, counts)
+            if isinstance(turn, Turn):
+                count_turn(turn, counts)
+            elif isinstance(turn, EndOfRun):
+                counts["end of a run" if turn.ran else "end of no run"] += 1
+            else:
+                count_round(turn, failed, counts)
         counts["script ends well"] += 1
     except Malformed as malformed:
         counts[f"script line: {malformed.reason}"] += 1
@@ -83,6 +100,7 @@ def count_turn(turn: Turn, counts: Counter) -> None:
         if "unsubscribe" in reply:
             counts["subscription deleted" if reply["deleted"] else "no subscription deleted"] += 1
         count_roots(reply, counts)
+        count_triggers(reply, counts)
     else:
         counts["query answered"] += 1
         count_query(read(turn.line)[2], turn.query, turn.view, counts)
@@ -113,6 +131,49 @@ def count_later_list(files: List[Any], query: Query, counts: Counter) -> None:
     counts["deleted file in a later list"] += any(file.get("exists") is False for file in told)
     counts["file in a later list that is new"] += any(file.get("new") is True for file in told)
     counts["file in a later list that is not new"] += any(file.get("new") is False for file in told)
+
+
+def count_triggers(reply: Dict[str, Any], counts: Counter) -> None:
+    if "triggerid" in reply:
+        counts[f"trigger {reply['disposition']}"] += 1
+    if "trigger" in reply:
+        counts["trigger deleted" if reply["deleted"] else "no trigger deleted"] += 1
+    if "triggers" in reply:
+        counts["trigger listed" if reply["triggers"] else "no trigger listed"] += 1
+
+
+def count_round(done: Round, failed: Set[str], counts: Counter) -> None:
+    """Counts a round. `failed` has the names of the triggers whose last start failed."""
+    counts["round of a root that is not watched"] += not done.is_watched
+    counts["round with several starts"] += len(done.starts) > 1
+    counts["trigger passed over while its command runs"] += len(done.passed_over)
+    counts["trigger passed over that was replaced"] += any(trigger.last is None for trigger in done.passed_over)
+    counts["trigger without files"] += len(done.quiet)
+    for start in done.starts:
+        name = start.trigger.name
+        if not start.succeeds:
+            counts["failed start"] += 1
+            failed.add(name)
+            continue
+        counts["start after one that failed"] += name in failed
+        failed.discard(name)
+        count_start(start, counts)
+
+
+def count_start(start: Start, counts: Counter) -> None:
+    trigger = start.trigger
+    counts["start of a fresh batch" if trigger.last is None else "start of a later batch"] += 1
+    counts["start with deleted files"] += any(not record.exists for record in start.files)
+    counts["start by a program"] += trigger.query.program is not None
+    counts["start with names in its arguments"] += len(start.line["args"]) > len(trigger.asked["command"])
+    counts["start whose input is cut"] += "WATCHMAN_FILES_OVERFLOW" in start.line["env"]
+    if not has_input(trigger):
+        counts["start without input"] += 1
+    elif trigger.asked["stdin"] == "NAME_PER_LINE":
+        counts["start with names as input"] += 1
+    else:
+        is_one = len(trigger.query.fields) == 1
+        counts["start with a JSON list of one field" if is_one else "start with a JSON list of several fields"] += 1
 
 
 def count_roots(reply: Dict[str, Any], counts: Counter) -> None:

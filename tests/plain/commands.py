@@ -6,11 +6,12 @@ from followers import Session, Told
 from programs import program_of
 from queries import Query, read_query, reply_to, settled
 from servers import Server
+from triggers import add_trigger, read_trigger
 from wqprogram.clocks import clock_id
 from wqprogram.errors import (BAD_NAME, BINARY, LINE_TOO_LONG, NOT_A_COMMAND, NOT_JSON, ROOT_NOT_ABSOLUTE,
                               UNKNOWN_COMMAND, WRONG_ARGUMENTS, Refused)
 from wqprogram.json_values import NotJson, compact_text, is_whole_number, read
-from wqprogram.limits import MAX_LINE, MAX_PROGRAM_NAME, MAX_ROOT, MAX_SUBSCRIPTION_NAME
+from wqprogram.limits import MAX_LINE, MAX_PROGRAM_NAME, MAX_ROOT, MAX_SUBSCRIPTION_NAME, MAX_TRIGGER_NAME
 
 
 class Answer(NamedTuple):
@@ -150,6 +151,27 @@ def program_del(arguments: List[Any], server: Server) -> Answer:
     return said({"deleted": deleted, "program-del": name})
 
 
+def trigger(arguments: List[Any], server: Server) -> Answer:
+    require(len(arguments) == 2 and isinstance(arguments[0], str) and isinstance(arguments[1], dict))
+    root = root_named(arguments[0])
+    made = read_trigger(arguments[1], root, server.watched(root), server)
+    disposition = "replaced" if add_trigger(made, server) else "created"
+    return said({"disposition": disposition, "triggerid": made.name})
+
+
+def trigger_list(arguments: List[Any], server: Server) -> Answer:
+    server.watched(root_named(one_text(arguments)))
+    return said({"triggers": [one.asked for one in server.triggers.values()]})
+
+
+def trigger_del(arguments: List[Any], server: Server) -> Answer:
+    require(len(arguments) == 2 and all(isinstance(argument, str) for argument in arguments))
+    root, name = arguments
+    server.watched(root_named(root))
+    require_name(name, MAX_TRIGGER_NAME)
+    return said({"deleted": server.triggers.pop(name, None) is not None, "trigger": name})
+
+
 def one_text(arguments: List[Any]) -> str:
     require(len(arguments) == 1 and isinstance(arguments[0], str))
     return arguments[0]
@@ -182,7 +204,7 @@ COMMANDS: Dict[str, Callable[[List[Any], Server], Answer]] = {
     "watch": watch, "watch-project": watch, "watch-list": watch_list, "watch-del": watch_del,
     "query": query, "clock": clock, "version": version, "get-sockname": get_sockname,
     "shutdown-server": shutdown_server, "program-add": program_add, "program-list": program_list,
-    "program-del": program_del,
+    "program-del": program_del, "trigger": trigger, "trigger-list": trigger_list, "trigger-del": trigger_del,
 }
 
 # Those that change what is kept of the client.

@@ -14,6 +14,7 @@ sys.dont_write_bytecode = True
 
 from draws import Draws, array, json_object
 from generate_terms import MAX, WRONG_NUMBERS, World, clock_spec, expression, paths, suffixes
+from generate_triggers import rounds, trigger_command
 from programs import FAULTS, PROGRAMS
 
 NAMES = [
@@ -84,11 +85,12 @@ BAD_SCRIPT_LINES = [
     b"ask 01 []",
     b"ask -1 []", b"end ", b"f 1 1 a", b"tick 1", b"\x00", b"\xff", b"ask 1\t[]", b"pass 1\r", b"idle", b"idle 0",
     b"idle 33", b"idle 1 ", b"idle 01", b"idle x", b"leave 0", b"leave",
+    b"fire", b"fire ", b"fire no", b"fire ok ", b"Fire ok", b"done",
 ]
 BAD_ROWS = [
     b"f", b"f 1", b"f 1 1", b"F 1 1 a", b"ff 1 1 a", b"f 01 1 a", b"f 1 -0 a", b"f +1 1 a", b"f 1.5 1 a",
     b"f  1 1 a", b"",
-    b"ask 1 []", b"idle 1", b"pass 5", b"f 9223372036854775808 1 a", b"f 1 -9223372036854775809 a", b"x 1 1 a",
+    b"ask 1 []", b"idle 1", b"fire ok", b"done t", b"pass 5", b"f 9223372036854775808 1 a", b"f 1 -9223372036854775809 a", b"x 1 1 a",
     b"f 1 x a", b"end ",
 ]
 FAULTY_ROWS = [
@@ -109,8 +111,8 @@ Tree = Dict[str, Tuple[str, int, int]]
 
 
 def script(counter: int) -> bytes:
-    """The script of a counter: passes with questions and idle moments between them, and now and then a malformed
-    line."""
+    """The script of a counter: passes with questions, idle moments and rounds between them, and now and then a
+    malformed line."""
     draws = Draws(counter)
     if counter % CLASS_SCRIPT_EACH == 1:
         return class_script(draws)
@@ -129,13 +131,15 @@ def script(counter: int) -> bytes:
         seconds.append(next_second(draws, seconds[-1]))
         lines += pass_lines(draws, tree, seconds[-1], b"tree" if draws.one_in(4) else b"pass")
         lines += following(draws, World(names, number + 1, seconds, root))
+        lines += rounds(draws, World(names, number + 1, seconds, root), draws.pick(ROOTS))
     lines += questions(draws, World(names, passes, seconds, root), draws.between(6, 30))
     if draws.one_in(6):
         lines += watching_again(draws, World(names, passes, seconds, root), tree)
         lines += following(draws, World(names, passes, seconds, root + 1))
         lines += pass_lines(draws, next_tree(draws, names, tree), next_second(draws, seconds[-1]))
         lines += questions(draws, World(names, passes, seconds, root + 1), draws.between(2, 8))
-        lines += [b"idle 1", b"idle 2"]
+        lines += rounds(draws, World(names, passes, seconds, root + 1), draws.pick(ROOTS))
+        lines += [b"idle 1", b"idle 2", b"fire ok"]
     if draws.one_in(40):
         lines += [b'ask 3 ["shutdown-server"]', b"pass"]
     if draws.one_in(8):
@@ -194,7 +198,7 @@ def malformed_end(draws: Draws, tree: Tree) -> List[bytes]:
     """Lines with which the replay ends, or a pass that is left open."""
     choice = draws.below(6)
     if choice <= 1:
-        return [draws.pick(BAD_SCRIPT_LINES)]
+        return [draws.pick(BAD_SCRIPT_LINES + [b"end", b"f 1 1 a"] * 3)]
     if choice == 2:
         return [b"pass 5", draws.pick(BAD_ROWS), b"end"]
     if choice == 3:
@@ -266,6 +270,9 @@ def question(draws: Draws, world: World) -> bytes:
         return b"idle %d" % draws.between(1, 2)
     if draws.one_in(20):
         return b"ask %d " % client + subscribing(draws, world).encode()
+    if draws.one_in(30):
+        root = draws.pick(OTHER_ROOTS) if draws.one_in(10) else draws.pick(ROOTS)
+        return b"ask %d " % client + trigger_command(draws, world, root).encode()
     return b"ask %d " % client + line(draws, world)
 
 

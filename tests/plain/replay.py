@@ -17,6 +17,7 @@ from commands import answer, text_of
 from followers import Session, Told
 from queries import Query
 from servers import Server
+from triggers import Round, end_run, fire
 from views import ListingFault, Row, Sight, View, pass_of
 from wqprogram.limits import MAX_SCRIPT, MAX_SCRIPT_LINE
 
@@ -47,6 +48,14 @@ class Idle(NamedTuple):
     client: int
 
 
+class Fire(NamedTuple):
+    succeeds: bool
+
+
+class Done(NamedTuple):
+    trigger: bytes
+
+
 class Turn(NamedTuple):
     """A client's line, or an idle moment without one, and the view that it met; the reply, if there is one, the query
     that this answers, if it does, and the lists that are sent then."""
@@ -60,10 +69,20 @@ class Turn(NamedTuple):
 
     def lines(self) -> List[bytes]:
         replies = [] if self.reply is None else [self.reply]
-        return replies + [text_of(told.line) for told in self.told]
+        return [b"%d %s" % (self.client, line) for line in replies + [text_of(told.line) for told in self.told]]
 
 
-Said = Union[ListingBegins, Row, ListingEnds, Ask, Leave, Idle]
+class EndOfRun(NamedTuple):
+    """That the command of a trigger has ended, and whether it ran."""
+
+    ran: bool
+
+    def lines(self) -> List[bytes]:
+        return []
+
+
+Said = Union[ListingBegins, Row, ListingEnds, Ask, Leave, Idle, Fire, Done]
+Played = Union[Turn, Round, EndOfRun]
 
 
 class Malformed(Exception):
@@ -88,7 +107,7 @@ def replay(script: bytes) -> Tuple[bytes, bytes, int]:
     written: List[bytes] = []
     try:
         for turn in turns(script):
-            written += [b"%d %s\n" % (turn.client, line) for line in turn.lines()]
+            written += [line + b"\n" for line in turn.lines()]
     except Malformed as malformed:
         return b"".join(written), b"script line %d\n" % malformed.number, 1
     except TooLong:
@@ -96,8 +115,9 @@ def replay(script: bytes) -> Tuple[bytes, bytes, int]:
     return b"".join(written), b"", 0
 
 
-def turns(script: bytes) -> Iterator[Turn]:
-    """Plays the script, and gives each client's line with its reply, and each idle moment with its lists."""
+def turns(script: bytes) -> Iterator[Played]:
+    """Plays the script, and gives each client's line with its reply, each idle moment with its lists, and each round with
+    its starts."""
     server = Server()
     sessions: Dict[int, Session] = {}
     begun = ListingBegins(0, False)
@@ -132,6 +152,10 @@ def turns(script: bytes) -> Iterator[Turn]:
         elif isinstance(said, Idle):
             told = sessions.setdefault(said.client, Session()).idle(server)
             yield Turn(said.client, None, server.view, None, None, told)
+        elif isinstance(said, Fire):
+            yield fire(said.succeeds, server)
+        elif isinstance(said, Done):
+            yield EndOfRun(end_run(said.trigger, server))
 
 
 def lines_of(script: bytes) -> Iterator[Tuple[int, bytes]]:
@@ -158,7 +182,7 @@ def line_said(number: int, line: bytes) -> Said:
 
 
 def read_line(line: bytes) -> Said:
-    """What a line says. One space separates two words, and the last word of a row and of an ask is the rest."""
+    """What a line says. One space separates two words. The last word of a row, of an ask and of `done` is the rest."""
     if line == b"end":
         return ListingEnds()
     word, rest = split_word(line)
@@ -168,6 +192,10 @@ def read_line(line: bytes) -> Said:
         return Leave(client_of(rest))
     if word == b"idle":
         return Idle(client_of(rest))
+    if word == b"fire" and rest in (b"ok", b"fail"):
+        return Fire(rest == b"ok")
+    if word == b"done":
+        return Done(rest)
     if word == b"ask":
         client, asked = split_word(rest)
         return Ask(client_of(client), asked)

@@ -1,6 +1,6 @@
 """The server that a script plays: one root that can be read, and what all clients share."""
 
-from typing import Dict, List, Optional
+from typing import Any, Dict, List, Optional
 
 from programs import Program
 from views import History, Pass, View
@@ -20,10 +20,11 @@ class Server:
         self.begin_root()
 
     def begin_root(self) -> None:
-        """Nothing was seen of the root, and no cursor was used on it."""
+        """Nothing was seen of the root, no cursor was used on it, and it has no trigger."""
         self.history = History()
         self.view = self.history.view()
         self.cursors: Dict[str, int] = {}
+        self.triggers: Dict[str, Any] = {}
 
     def roots(self) -> List[str]:
         return [] if self.root is None else [READABLE]

@@ -5,7 +5,7 @@ use Rattle.wq_replay.specs.Fault.{step_fault, taking_fault}
 use Rattle.wq_replay.specs.Limit.{max_script, max_script_line}
 use Rattle.wq_replay.specs.Line.{lines_of}
 use Rattle.wq_replay.specs.Replay.{DoesLine, Ends, EndsReading, FirstLines, Shuts, StopsWithin, StopsWriting}
-use Rattle.wq_replay.specs.Stage.{StageData, Turn, drafts, lists, hears, rests, malformed, start, turn_of}
+use Rattle.wq_replay.specs.Stage.{StageData, Turn, drafts, lists, hears, rests, fires, finishes, malformed, start, turn_of}
 use Rattle.wq_replay.specs.Step.{IsAt, TakesTurn}
 use Rattle.wq_replay.specs.Taken.{BeginsWith, TakesLine}
 use Rattle.wq_replay.specs.declared.fault.ReplayFault.TheVariants.{TooLong, Read, Memory as OutOfMemory}
@@ -104,6 +104,8 @@ goes_well at (drafts draft) now later next takes = λ h. cc
 goes_well at (lists crawls tree) now later next takes = λ h. cc
 goes_well at (hears client event) now later next takes = λ h. cc
 goes_well at (rests client) now later next takes = λ h. cc
+goes_well at (fires succeeds) now later next takes = λ h. cc
+goes_well at (finishes name) now later next takes = λ h. cc
 
 -- what ends the server is no malformed line's
 shuts_well : (at : StageData) (turn : Turn) (now later : Option (List ℕ)) → Shuts at turn now later → turn ≢ malformed
@@ -112,6 +114,8 @@ shuts_well at (drafts draft) now later ends = absurd ends
 shuts_well at (lists crawls tree) now later ends = absurd ends
 shuts_well at (hears client event) now later ends = λ h. cc
 shuts_well at (rests client) now later ends = absurd ends
+shuts_well at (fires succeeds) now later ends = absurd ends
+shuts_well at (finishes name) now later ends = absurd ends
 
 -- a step of a taken line, at the place where the script stands
 abbrev pub Stepped : Stage → Option (List ℕ) → Option (List ℕ) → List ℕ → Result Bool StepFault → Stage → Type 0

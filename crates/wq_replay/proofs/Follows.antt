@@ -17,7 +17,7 @@ use Rattle.wq_follow.specs.Followed.{subscription_data}
 use Rattle.wq_follow.specs.declared.subscription.Subscription.{Subscription}
 use Rattle.wq_replay.specs.Client.{follows_in, is_of, numbers_from, others, with_number}
 use Rattle.wq_replay.specs.Clients.{FollowsNow, kept_client, kept_with}
-use Rattle.wq_replay.specs.World.{kept}
+use Rattle.wq_replay.specs.Gets.{kept}
 use Rattle.wq_replay.specs.declared.client.Client.{Client}
 
 -- a number is another's equal both ways

@@ -11,3 +11,9 @@ mod Ending
 mod Sendings
 mod Scripts
 mod Shelves
+mod Launches
+mod StartLines
+mod WorldRounds
+mod KeptRuns
+mod Turns
+mod Overlap

@@ -1,8 +1,9 @@
 -- What the lines of a script do is one run of its world.
 use Rattle.std.proofs.Common.{◌≡◌, ℕ, List, [], ◌∷◌, ◌++◌, refl, sym, ap, subst, ◌∙◌}
-use Rattle.wq_replay.specs.Replay.{DoesLine, Plays, crawled, sent_lines}
-use Rattle.wq_replay.specs.Stage.{StageData, Turn, drafts, lists, hears, rests, malformed, turn_of}
-use Rattle.wq_replay.specs.World.{HappeningData, Runs, SentData}
+use Rattle.wq_replay.specs.Replay.{DoesAll, DoesLine, Plays, crawled, ends_of, moments, rounds, sent_lines}
+use Rattle.wq_replay.specs.Stage.{StageData, Turn, drafts, lists, hears, rests, fires, finishes, malformed, turn_of}
+use Rattle.wq_replay.specs.Playing.{Runs}
+use Rattle.wq_replay.specs.World.{HappeningData, SentData}
 use Rattle.wq_replay.proofs.Sendings.{lines_then}
 use Rattle.wq_replay.proofs.Worlds.{runs_go_on}
 
@@ -11,6 +12,11 @@ abbrev pub RunsTo : StageData → List ℕ → StageData → Type 0
 RunsTo stage written after = (happenings : List HappeningData) × (sent : List SentData)
     × Runs stage.world happenings sent after.world × (written ≡ sent_lines sent)
 
+-- what happens is a run
+all_runs : (stage after : StageData) (happenings : List HappeningData) (written : List ℕ) → DoesAll stage happenings written after → RunsTo stage written after
+all_runs stage after happenings written (sent, world, runs, lines, is) =
+    (happenings, sent, subst (Runs stage.world happenings sent) (sym (ap (λ s. s.world) is)) runs, lines)
+
 -- what a line does is a run
 turn_runs : (stage after : StageData) (turn : Turn) (written : List ℕ) → DoesLine stage turn written after → RunsTo stage written after
 turn_runs stage after (drafts draft) written (none, is) = ([], [], (refl, ap (λ s. s.world) is), none)
@@ -18,8 +24,9 @@ turn_runs stage after (lists crawls tree) written (world, runs, none, is) =
     (crawled crawls tree, [], subst (Runs stage.world (crawled crawls tree) []) (sym (ap (λ s. s.world) is)) runs, none)
 turn_runs stage after (hears client event) written (sent, world, heard, goes_on, lines, is) =
     (_, sent, subst (Runs stage.world _ sent) (sym (ap (λ s. s.world) is)) heard.runs, lines)
-turn_runs stage after (rests client) written (sent, world, runs, lines, is) =
-    (_, sent, subst (Runs stage.world _ sent) (sym (ap (λ s. s.world) is)) runs, lines)
+turn_runs stage after (rests client) written does = all_runs stage after (moments client stage.world) written does
+turn_runs stage after (fires succeeds) written does = all_runs stage after (rounds succeeds) written does
+turn_runs stage after (finishes name) written does = all_runs stage after (ends_of name stage.world) written does
 turn_runs stage after malformed written does = absurd does
 
 -- so are all lines, one after the other

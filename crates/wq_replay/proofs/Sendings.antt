@@ -6,7 +6,9 @@ use Rattle.wq_base.specs.Writing.{WritesFront}
 use Rattle.wq_replay.specs.Replay.{sent_line, sent_lines, shuts}
 use Rattle.wq_replay.specs.Sending.{Sends, SendsAll}
 use Rattle.wq_replay.specs.Stands.{all_sent, sent_of}
-use Rattle.wq_replay.specs.World.{SentData, sent_for, sent_list}
+use Rattle.wq_replay.specs.Playing.{sent_for, sent_list}
+use Rattle.wq_replay.specs.Rounds.{sent_note}
+use Rattle.wq_replay.specs.World.{SentData}
 use Rattle.wq_replay.specs.declared.sent.Sent.{Sent}
 use Rattle.wq_replay.specs.declared.fault.StepFault.{StepFault}
 use Rattle.wq_replay.specs.declared.fault.StepFault.TheVariants.{Malformed, NoMemory, Write}
@@ -104,14 +106,14 @@ next_sent sent i one within is =
     ap all_sent (drop-cons sent i one within) ∙ ap (λ first. sent_of first ++ all_sent (drop (suc i) sent)) (sym is)
     ∙ ap (λ n. sent_of one ++ all_sent (drop n sent)) (sym later)
 
--- what is left of lists begins with the one at its place
-pub next_list : (client : ℤ) (lists : List (List ℕ)) (i : ℕ) (one : List ℕ) → i < length lists → one ≡ get_or lists i one
-    → map (sent_list client) (drop i lists) ≡ sent_list client one ∷ map (sent_list client) (drop (i + 1) lists)
-next_list client lists i one within is =
+-- what is left of texts begins with the one at its place
+pub next_text : (line : List ℕ → SentData) (texts : List (List ℕ)) (i : ℕ) (one : List ℕ) → i < length texts → one ≡ get_or texts i one
+    → map line (drop i texts) ≡ line one ∷ map line (drop (i + 1) texts)
+next_text line texts i one within is =
     let later : i + 1 ≡ suc i = omega arith in
-    ap (map (sent_list client)) (drop-cons lists i one within)
-    ∙ ap (λ first. sent_list client first ∷ map (sent_list client) (drop (suc i) lists)) (sym is)
-    ∙ ap (λ n. sent_list client one ∷ map (sent_list client) (drop n lists)) (sym later)
+    ap (map line) (drop-cons texts i one within)
+    ∙ ap (λ first. line first ∷ map line (drop (suc i) texts)) (sym is)
+    ∙ ap (λ n. line one ∷ map line (drop n texts)) (sym later)
 
 -- what was sent of one thing, where it is handed on
 pub sent_handed : (sent : List SentData) (before after : Option (List ℕ)) (fault : StepFault) (result : Result Bool StepFault)
@@ -159,10 +161,10 @@ reply_none known client shuts (Some text) none = absurd cc
 
 -- a reply was written
 pub reply_whole : (before now : Option (List ℕ)) (client : ℤ) (shuts went : Bool) (reply : Option (List ℕ)) (text : List ℕ) → reply ≡ Some text
-    → went ≡ not shuts → Appends before now (sent_line client text) → Sends (sent_for client shuts reply) before now (Ok went)
+    → went ≡ not shuts → Appends before now (sent_line (Some client) text) → Sends (sent_for client shuts reply) before now (Ok went)
 reply_whole before now client shuts went reply text some says line =
     subst (λ r. Sends (sent_for client shuts r) before now (Ok went)) (sym some)
-    (says ∙ by shuts, subst (Appends before now) (sym (append-nil (sent_line client text))) line)
+    (says ∙ by shuts, subst (Appends before now) (sym (append-nil (sent_line (Some client) text))) line)
   where
     by : (b : Bool) → not b ≡ not (b || false)
     by true = refl
@@ -170,18 +172,37 @@ reply_whole before now client shuts went reply text some says line =
 
 -- the writer failed within a reply
 pub reply_fails : (before now : Option (List ℕ)) (client : ℤ) (shuts : Bool) (reply : Option (List ℕ)) (text : List ℕ)
-    (result : Result Bool StepFault) → reply ≡ Some text → WritesFront before now (sent_line client text)
+    (result : Result Bool StepFault) → reply ≡ Some text → WritesFront before now (sent_line (Some client) text)
     → IsErr result × IsErrAnd result (λ handed. handed ≡ Write) → Sends (sent_for client shuts reply) before now result
 reply_fails before now client shuts reply text (Ok went) some front same = absurd same.1
 reply_fails before now client shuts reply text (Err handed) some front same =
     subst (λ f. Sends (sent_for client shuts reply) before now (Err f)) (sym same.1)
     (subst (λ r. Sends (sent_for client shuts r) before now (Err Write)) (sym some)
-    (subst (WritesFront before now) (sym (append-nil (sent_line client text))) front))
+    (subst (WritesFront before now) (sym (append-nil (sent_line (Some client) text))) front))
 
 -- the server never ends by lists
 lists_stay : (client : ℤ) (lists : List (List ℕ)) → shuts (map (sent_list client) lists) ≡ false
 lists_stay client [] = refl
 lists_stay client (text ∷ lists) = lists_stay client lists
+
+-- nor by the lines of a round
+notes_stay : (lines : List (List ℕ)) → shuts (map sent_note lines) ≡ false
+notes_stay [] = refl
+notes_stay (text ∷ lines) = notes_stay lines
+
+-- the lines of a round were written
+pub notes_whole : (before now : Option (List ℕ)) (lines : List (List ℕ)) → Appends before now (sent_lines (map sent_note lines))
+    → Sends (map sent_note lines) before now (Ok true)
+notes_whole before now lines more = (sym (ap not (notes_stay lines)), more)
+
+-- the writer failed within them
+pub notes_fail : (before now : Option (List ℕ)) (lines : List (List ℕ)) (fault : StepFault) (result : Result Bool StepFault)
+    → SendsAll (map sent_note lines) before now (Err fault) → IsErr result × IsErrAnd result (λ handed. handed ≡ fault)
+    → Sends (map sent_note lines) before now result
+notes_fail before now lines fault (Ok went) sends same = absurd same.1
+notes_fail before now lines Write (Err handed) sends same = subst (λ f. Sends (map sent_note lines) before now (Err f)) (sym same.1) sends
+notes_fail before now lines Malformed (Err handed) sends same = absurd sends
+notes_fail before now lines NoMemory (Err handed) sends same = absurd sends
 
 -- a reply and its lists were written
 pub one_whole : (before now later : Option (List ℕ)) (first : List SentData) (client : ℤ) (lists : List (List ℕ)) (went : Bool)

@@ -1,19 +1,28 @@
 -- The shelf of a world, as the calls that were accepted.
-use Rattle.std.proofs.Common.{◌≡◌, ℕ, ℤ, List, [], ◌∷◌, ◌++◌, Option, Some, None, Result, Ok, Err, inl, inr, refl, sym, ap, ◌∙◌}
+use Rattle.std.proofs.Common.{◌≡◌, ℕ, ℤ, Bool, List, [], ◌∷◌, ◌++◌, Option, Some, None, Result, Ok, Err, inl, inr, refl, sym, ap, subst, ◌∙◌}
+use Rattle.wq_clock.specs.Instance.{InstanceData}
+use Rattle.wq_clock.specs.Run.{instance_of}
+use Rattle.wq_follow.specs.Launcher.{LauncherData}
 use Rattle.wq_live.specs.Event.{number_of}
-use Rattle.wq_live.specs.Table.{TableData}
+use Rattle.wq_live.specs.Table.{RootView, TableData, root_by_text}
 use Rattle.wq_crawl.specs.declared.place.Place.{Place}
 use Rattle.wq_crawl.specs.declared.place.Place.TheVariants.{Shown, Full, Free}
-use Rattle.wq_registry.specs.History.{after_all}
+use Rattle.wq_registry.specs.History.{adds_root, after_all}
+use Rattle.wq_registry.specs.Shelf.{blank}
 use Rattle.wq_session.specs.Accepted.{CallNow, AnswersAreCalls}
 use Rattle.wq_session.specs.Need.{need_of}
 use Rattle.wq_session.specs.Out.{OutData}
+use Rattle.wq_session.specs.Round.{IsRound, RoundsAreCalls, turn_calls}
 use Rattle.wq_session.specs.At.{ShelfNow}
 use Rattle.wq_session.specs.declared.ask.Ask.{Ask}
 use Rattle.wq_crawl.specs.declared.fault.CrawlFault.{CrawlFault}
 use Rattle.wq_view.specs.Listing.{PassData}
-use Rattle.wq_replay.specs.Accepted.{AcceptsAt, AcceptsOf, AcceptsUnless, RunsWith, ShelvesAreCalls}
-use Rattle.wq_replay.specs.World.{Crawls, CrawlsAt, Does, GetsAt, GetsFor, HappeningData, crawl, watching, asked, idle, WatchesAt, Runs, SentData, Starts, WorldData, ending, fault_for, new_world}
+use Rattle.wq_view.specs.View.{ViewData}
+use Rattle.wq_replay.specs.Accepted.{AcceptsAt, AcceptsOf, AcceptsRound, AcceptsUnless, RunsWith, ShelvesAreCalls}
+use Rattle.wq_replay.specs.Gets.{GetsAt, GetsFor, ending, fault_for}
+use Rattle.wq_replay.specs.Playing.{Does, Runs}
+use Rattle.wq_replay.specs.Rounds.{RoundsAt}
+use Rattle.wq_replay.specs.World.{Crawls, CrawlsAt, HappeningData, crawl, watching, asked, idle, round, ended, WatchesAt, SentData, Starts, WorldData, new_world, root_text}
 
 -- a crawl leaves the shelf
 at_number : (number : Option ℕ) (world : WorldData) (root : List ℕ) (pass : PassData) (after : WorldData)
@@ -39,7 +48,12 @@ watches (Shown number) world root seen after is = ap (λ w. w.shelf) is
 watches Full world root seen after is = ap (λ w. w.shelf) is
 watches Free world root seen after goes = starts world root seen after goes
 
-module _ (answers_are_calls : AnswersAreCalls) where
+-- calls, one list after another
+pub after_both : (first later : List CallNow) (shelf : ShelfNow) → after_all (first ++ later) shelf ≡ after_all later (after_all first shelf)
+after_both [] later shelf = refl
+after_both (c ∷ cs) later shelf = after_both cs later _
+
+module _ (answers_are_calls : AnswersAreCalls) (rounds_are_calls : RoundsAreCalls) where
   -- what an ask gets
   ends : (number : Option ℕ) (table : TableData) (client : ℤ) (world : WorldData) (ask : Ask) (out : OutData) (after : WorldData)
       → GetsAt number table client world ask out after
@@ -58,27 +72,49 @@ module _ (answers_are_calls : AnswersAreCalls) where
   gets_for None table client world ask out after gets = ends (ending (need_of ask) table) table client world ask out after gets
   gets_for (Some fault) table client world ask out after (may, is) = ([], (may, refl), ap (λ w. w.shelf) is)
 
-  -- what happens
-  does : (world : WorldData) (happening : HappeningData) (sent : List SentData) (after : WorldData) → Does world happening sent after
+  -- what a round leaves on a shelf to which calls lead
+  pub round_calls : (instance : InstanceData) (view : ViewData) (shelf : ShelfNow) (earlier : List CallNow) (sockname : List ℕ) (shown : Option LauncherData)
+      (after : ShelfNow) (left : Option LauncherData) → shelf ≡ after_all earlier (blank sockname) → (had : IsRound instance view shelf shown after left)
+      → after ≡ after_all (turn_calls instance.root had.turns) shelf
+  round_calls instance view shelf earlier sockname shown after left leads had =
+      subst (λ (s : ShelfNow). (had : IsRound instance view s shown after left) → after ≡ after_all (turn_calls instance.root had.turns) s) (sym leads)
+      (λ had. rounds_are_calls instance view earlier sockname shown after left had) had
+
+  -- a round
+  rounds_at : (root : Option RootView) (succeeds : Bool) (world : WorldData) (sent : List SentData) (after : WorldData) (earlier : List CallNow) (sockname : List ℕ)
+      → world.shelf ≡ after_all earlier (blank sockname) → RoundsAt root succeeds world sent after
+      → (calls : List CallNow) × AcceptsRound root succeeds world sent calls × (after.shelf ≡ after_all calls world.shelf)
+  rounds_at None succeeds world sent after earlier sockname leads (none, is) = ([], refl, ap (λ w. w.shelf) is)
+  rounds_at (Some root) succeeds world sent after earlier sockname leads had = (
+    turn_calls root.number (had.round).turns,
+    (after, had, refl),
+    ap (λ w. w.shelf) had.is ∙ round_calls (instance_of world.run root.number) root.view world.shelf earlier sockname _ had.shelf _ leads had.round,
+  )
+
+  -- what happens, on a shelf to which calls lead
+  pub does : (world : WorldData) (happening : HappeningData) (sent : List SentData) (after : WorldData) (earlier : List CallNow) (sockname : List ℕ)
+      → world.shelf ≡ after_all earlier (blank sockname) → Does world happening sent after
       → (calls : List CallNow) × AcceptsOf world happening sent calls × (after.shelf ≡ after_all calls world.shelf)
-  does world (crawl root seen) sent after (none, goes) = ([], refl, crawls world root seen after goes)
-  does world (watching root seen) sent after (none, (place, is, goes)) = ([], refl, watches place world root seen after goes)
-  does world (asked client ask) sent after (out, (table, is, gets), same) =
+  does world (crawl root seen) sent after earlier sockname leads (none, goes) = ([], refl, crawls world root seen after goes)
+  does world (watching root seen) sent after earlier sockname leads (none, (place, is, goes)) = ([], refl, watches place world root seen after goes)
+  does world (asked client ask) sent after earlier sockname leads (out, (table, is, gets), same) =
       let it = gets_for (fault_for (need_of ask) table world.refused) table client world ask out after gets in
       (it.0, (out, (table, is, it.1), same), it.2)
-  does world (idle client root) sent after (out, (table, left, is, idles, same), lines) = ([], refl, ap (λ w. w.shelf) same)
-
-  after_both : (first later : List CallNow) (shelf : ShelfNow) → after_all (first ++ later) shelf ≡ after_all later (after_all first shelf)
-  after_both [] later shelf = refl
-  after_both (c ∷ cs) later shelf = after_both cs later _
+  does world (idle client root) sent after earlier sockname leads (out, (table, left, is, idles, same), lines) = ([], refl, ap (λ w. w.shelf) same)
+  does world (round root succeeds) sent after earlier sockname leads (table, is, goes) =
+      let it = rounds_at (root_by_text root table) succeeds world sent after earlier sockname leads goes in
+      (it.0, (table, is, it.1), it.2)
+  does world (ended run) sent after earlier sockname leads (none, is) = ([], refl, ap (λ w. w.shelf) is)
 
   -- what happens one after the other
-  runs : (world : WorldData) (happenings : List HappeningData) (sent : List SentData) (after : WorldData) → Runs world happenings sent after
+  runs : (world : WorldData) (happenings : List HappeningData) (sent : List SentData) (after : WorldData) (earlier : List CallNow) (sockname : List ℕ)
+      → world.shelf ≡ after_all earlier (blank sockname) → Runs world happenings sent after
       → (calls : List CallNow) × RunsWith world happenings sent after calls × (after.shelf ≡ after_all calls world.shelf)
-  runs world [] sent after (none, is) = ([], (none, is, refl), ap (λ w. w.shelf) is)
-  runs world (happening ∷ later) sent after (next, first, rest, now, is, goes) =
-      let one = does world happening first next now in
-      let more = runs next later rest after goes in (
+  runs world [] sent after earlier sockname leads (none, is) = ([], (none, is, refl), ap (λ w. w.shelf) is)
+  runs world (happening ∷ later) sent after earlier sockname leads (next, first, rest, now, is, goes) =
+      let one = does world happening first next earlier sockname leads now in
+      let more = runs next later rest after (earlier ++ one.0) sockname
+      (one.2 ∙ ap (after_all one.0) leads ∙ sym (after_both earlier one.0 (blank sockname))) goes in (
         one.0 ++ more.0,
         (next, first, rest, one.0, more.0, now, one.1, one.2, is, refl, more.1),
         more.2 ∙ ap (after_all more.0) one.2 ∙ sym (after_both one.0 more.0 world.shelf),
@@ -86,4 +122,5 @@ module _ (answers_are_calls : AnswersAreCalls) where
 
   -- the law
   pub shelves_are_calls : ShelvesAreCalls
-  shelves_are_calls run sockname happenings sent after goes = runs (new_world run sockname) happenings sent after goes
+  shelves_are_calls run sockname happenings sent after goes =
+      runs (new_world run sockname) happenings sent after (adds_root root_text 1 ∷ []) sockname refl goes

@@ -9,12 +9,13 @@ use Rattle.wq_crawl.specs.declared.fault.CrawlFault.{CrawlFault}
 use Rattle.wq_view.specs.Seen.{SeenData}
 use Rattle.wq_view.specs.Listing.{PassData, listing_fault, listing_of}
 use Rattle.wq_view.specs.declared.listing.PassFault.{PassFault}
-use Rattle.wq_replay.specs.Replay.{IsHeard, crawled, moments, needed, sent_lines, shuts}
+use Rattle.wq_replay.specs.Replay.{DoesAll, DoesLine, IsHeard, StopsAll, StopsWriting, crawled, ends_of, moments, needed, rounds, sent_lines, shuts}
 use Rattle.wq_replay.specs.Sending.{Sends}
-use Rattle.wq_replay.specs.Stage.{DraftData, StageData, drafts, lists, hears, rests, malformed, turn_at_end}
+use Rattle.wq_replay.specs.Stage.{DraftData, StageData, Turn, drafts, lists, hears, rests, fires, finishes, malformed, turn_at_end}
 use Rattle.wq_replay.specs.Stands.{Stands}
-use Rattle.wq_replay.specs.Step.{IsAt, TakesTurn, draft_data}
-use Rattle.wq_replay.specs.World.{WorldData, HappeningData, SentData, Runs, asked, crawl, root_text}
+use Rattle.wq_replay.specs.Step.{IsAt, TakesAll, TakesTurn, draft_data}
+use Rattle.wq_replay.specs.Playing.{Runs}
+use Rattle.wq_replay.specs.World.{WorldData, HappeningData, SentData, asked, crawl, root_text}
 use Rattle.wq_replay.specs.declared.fault.StepFault.{StepFault}
 use Rattle.wq_replay.specs.declared.fault.StepFault.TheVariants.{Malformed, Write, NoMemory}
 use Rattle.wq_replay.specs.declared.stage.Stage.{Stage}
@@ -128,34 +129,79 @@ heard at client event sent world before after (Err Malformed) code heard_so is s
 heard at client event sent world before after (Err Write) code heard_so is sends = (sent, world, heard_so, sends)
 heard at client event sent world before after (Err NoMemory) code heard_so is sends = absurd sends
 
--- memory ran out before a client had idle moments
-pub unrested : (at : StageData) (client : ℤ) (known : Option (List ℕ)) (result : Result Bool StepFault) (code : Stage)
-    → IsErr result × IsErrAnd result (λ fault. fault ≡ NoMemory) → TakesTurn at (rests client) known known result code
-unrested at client known (Ok goes_on) code hands = absurd hands.1
-unrested at client known (Err fault) code hands =
-    subst (λ f. TakesTurn at (rests client) known known (Err f) code) (sym hands.1) ((λ h. cc), appends_none known)
+-- memory ran out before anything happened
+pub unhappened : (at : StageData) (happenings : List HappeningData) (known : Option (List ℕ)) (result : Result Bool StepFault) (code : Stage)
+    → IsErr result × IsErrAnd result (λ fault. fault ≡ NoMemory) → TakesAll at happenings known known result code
+unhappened at happenings known (Ok goes_on) code hands = absurd hands.1
+unhappened at happenings known (Err fault) code hands =
+    subst (λ f. TakesAll at happenings known known (Err f) code) (sym hands.1) (appends_none known)
+
+-- all happened
+pub happened : (at : StageData) (happenings : List HappeningData) (sent : List SentData) (world : WorldData)
+    (before after : Option (List ℕ)) (went : Bool) (code : Stage) → Runs at.world happenings sent world
+    → IsAt code (record at { world = world }) → Sends sent before after (Ok went) → TakesAll at happenings before after (Ok true) code
+happened at happenings sent world before after went code runs stands (said, appends) =
+    (sent_lines sent, record at { world = world }, appends, (sent, world, runs, refl, refl), stands)
+
+-- all happened, and the writer failed
+pub happened_front : (at : StageData) (happenings : List HappeningData) (sent : List SentData) (world : WorldData)
+    (before after : Option (List ℕ)) (fault : StepFault) (result : Result Bool StepFault) (code : Stage)
+    → Runs at.world happenings sent world → Sends sent before after (Err fault)
+    → IsErr result × IsErrAnd result (λ handed. handed ≡ fault) → TakesAll at happenings before after result code
+happened_front at happenings sent world before after fault (Ok goes_on) code runs sends hands = absurd hands.1
+happened_front at happenings sent world before after Write (Err handed) code runs sends hands =
+    subst (λ f. TakesAll at happenings before after (Err f) code) (sym hands.1) (sent, world, runs, sends)
+happened_front at happenings sent world before after Malformed (Err handed) code runs sends hands = absurd sends
+happened_front at happenings sent world before after NoMemory (Err handed) code runs sends hands = absurd sends
+
+-- a line that lets all of this happen
+takes_all : (at : StageData) (turn : Turn) (happenings : List HappeningData) (before after : Option (List ℕ)) (result : Result Bool StepFault) (code : Stage)
+    → ((written : List ℕ) (next : StageData) → DoesAll at happenings written next → DoesLine at turn written next)
+    → (StopsAll at happenings before after → StopsWriting at turn before after)
+    → turn ≢ malformed → TakesAll at happenings before after result code → TakesTurn at turn before after result code
+takes_all at turn happenings before after (Ok true) code does stops well (written, next, appends, all, is) =
+    (written, next, appends, does written next all, is)
+takes_all at turn happenings before after (Ok false) code does stops well takes = absurd takes
+takes_all at turn happenings before after (Err Malformed) code does stops well takes = absurd takes
+takes_all at turn happenings before after (Err Write) code does stops well takes = stops takes
+takes_all at turn happenings before after (Err NoMemory) code does stops well takes = (well, takes)
 
 -- a client had idle moments
-pub rested : (at : StageData) (client : ℤ) (happenings : List HappeningData) (sent : List SentData) (world : WorldData)
-    (before after : Option (List ℕ)) (went : Bool) (code : Stage) → happenings ≡ moments client at.world
-    → Runs at.world happenings sent world → IsAt code (record at { world = world }) → Sends sent before after (Ok went)
-    → TakesTurn at (rests client) before after (Ok true) code
-rested at client happenings sent world before after went code is runs stands (said, appends) = (
-  sent_lines sent,
-  record at { world = world },
-  appends,
-  (sent, world, subst (λ all. Runs at.world all sent world) is runs, refl, refl),
-  stands,
-)
+pub rested : (at : StageData) (client : ℤ) (happenings : List HappeningData) (before after : Option (List ℕ)) (result : Result Bool StepFault) (code : Stage)
+    → happenings ≡ moments client at.world → TakesAll at happenings before after result code → TakesTurn at (rests client) before after result code
+rested at client happenings before after result code is takes =
+    takes_all at (rests client) (moments client at.world) before after result code (λ written next all. all) (λ stops. stops) (λ h. cc)
+    (subst (λ all. TakesAll at all before after result code) is takes)
 
--- a client had idle moments, and the writer failed
-pub rested_front : (at : StageData) (client : ℤ) (happenings : List HappeningData) (sent : List SentData) (world : WorldData)
-    (before after : Option (List ℕ)) (fault : StepFault) (result : Result Bool StepFault) (code : Stage)
-    → happenings ≡ moments client at.world → Runs at.world happenings sent world → Sends sent before after (Err fault)
-    → IsErr result × IsErrAnd result (λ handed. handed ≡ fault) → TakesTurn at (rests client) before after result code
-rested_front at client happenings sent world before after fault (Ok goes_on) code is runs sends hands = absurd hands.1
-rested_front at client happenings sent world before after Write (Err handed) code is runs sends hands =
-    subst (λ f. TakesTurn at (rests client) before after (Err f) code) (sym hands.1)
-    (sent, world, subst (λ all. Runs at.world all sent world) is runs, sends)
-rested_front at client happenings sent world before after Malformed (Err handed) code is runs sends hands = absurd sends
-rested_front at client happenings sent world before after NoMemory (Err handed) code is runs sends hands = absurd sends
+-- triggers had a round
+pub fired_round : (at : StageData) (succeeds : Bool) (happenings : List HappeningData) (before after : Option (List ℕ)) (result : Result Bool StepFault) (code : Stage)
+    → happenings ≡ rounds succeeds → TakesAll at happenings before after result code → TakesTurn at (fires succeeds) before after result code
+fired_round at succeeds happenings before after result code is takes =
+    takes_all at (fires succeeds) (rounds succeeds) before after result code (λ written next all. all) (λ stops. stops) (λ h. cc)
+    (subst (λ all. TakesAll at all before after result code) is takes)
+
+-- a command has ended
+pub finished_run : (at : StageData) (name : List ℕ) (happenings : List HappeningData) (before after : Option (List ℕ)) (result : Result Bool StepFault) (code : Stage)
+    → happenings ≡ ends_of name at.world → TakesAll at happenings before after result code → TakesTurn at (finishes name) before after result code
+finished_run at name happenings before after result code is takes =
+    takes_all at (finishes name) (ends_of name at.world) before after result code (λ written next all. all) (λ stops. stops) (λ h. cc)
+    (subst (λ all. TakesAll at all before after result code) is takes)
+
+-- memory ran out before such a line
+pub unready_line : (at : StageData) (turn : Turn) (known : Option (List ℕ)) (result : Result Bool StepFault) (code : Stage) → turn ≢ malformed
+    → IsErr result × IsErrAnd result (λ fault. fault ≡ NoMemory) → TakesTurn at turn known known result code
+unready_line at turn known (Ok goes_on) code well hands = absurd hands.1
+unready_line at turn known (Err fault) code well hands =
+    subst (λ f. TakesTurn at turn known known (Err f) code) (sym hands.1) (well, appends_none known)
+
+pub unrested : (at : StageData) (client : ℤ) (known : Option (List ℕ)) (result : Result Bool StepFault) (code : Stage)
+    → IsErr result × IsErrAnd result (λ fault. fault ≡ NoMemory) → TakesTurn at (rests client) known known result code
+unrested at client known result code hands = unready_line at (rests client) known result code (λ h. cc) hands
+
+pub unfired : (at : StageData) (succeeds : Bool) (known : Option (List ℕ)) (result : Result Bool StepFault) (code : Stage)
+    → IsErr result × IsErrAnd result (λ fault. fault ≡ NoMemory) → TakesTurn at (fires succeeds) known known result code
+unfired at succeeds known result code hands = unready_line at (fires succeeds) known result code (λ h. cc) hands
+
+pub unfinished : (at : StageData) (name : List ℕ) (known : Option (List ℕ)) (result : Result Bool StepFault) (code : Stage)
+    → IsErr result × IsErrAnd result (λ fault. fault ≡ NoMemory) → TakesTurn at (finishes name) known known result code
+unfinished at name known result code hands = unready_line at (finishes name) known result code (λ h. cc) hands

@@ -14,7 +14,8 @@ use Rattle.wq_view.specs.Seen.{Stat}
 use Rattle.wq_view.specs.Listing.{PassData, listing_of, name_cmp}
 use Rattle.wq_view.specs.View.{ViewData}
 use Rattle.wq_clock.specs.Run.{RunData, instance_of}
-use Rattle.wq_replay.specs.World.{at_root, root_text}
+use Rattle.wq_replay.specs.Gets.{at_root}
+use Rattle.wq_replay.specs.World.{root_text}
 
 -- what is looked at, of its parts
 abbrev pub at_data_of : InstanceData → Option ViewData → AtData

@@ -12,6 +12,7 @@ use Rattle.wq_session.specs.Moment.{Idles}
 use Rattle.wq_session.specs.Need.{NeedData, need_of}
 use Rattle.wq_session.specs.Out.{OutData}
 use Rattle.wq_session.specs.At.{AtData, ShelfNow}
+use Rattle.wq_session.specs.Shelved.{shelf_data}
 use Rattle.wq_session.specs.declared.ask.Ask.{Ask}
 use Rattle.wq_crawl.specs.Publish.{IsPlace}
 use Rattle.wq_crawl.specs.declared.fault.CrawlFault.{CrawlFault}
@@ -23,6 +24,7 @@ use Rattle.std.specs.declared.alloc.Global.{Global}
 use Rattle.std.specs.declared.alloc.AllocError.{AllocError}
 use Rattle.wq_replay.specs.Client.{follows_in}
 use Rattle.wq_replay.specs.Clients.{FollowsNow}
+use Rattle.wq_replay.specs.Launched.{runs_data}
 use Rattle.wq_replay.specs.Stands.{Leads, Stands, all_sent, happening_data, refused_data, sent_if, sent_of}
 use Rattle.wq_replay.proofs.Tables.{at_data_of}
 use Rattle.wq_replay.specs.declared.client.Client.{Client}
@@ -30,7 +32,9 @@ use Rattle.wq_replay.specs.declared.happening.Happening.{Happening}
 use Rattle.wq_replay.specs.declared.sent.Sent.{Sent}
 use Rattle.wq_replay.specs.declared.world.World.{World}
 use Rattle.wq_clock.specs.Run.{RunData, instance_of, run_data}
-use Rattle.wq_replay.specs.World.{AnswersInWorld, Crawls, CrawlsAt, Does, EndsAt, Gets, GetsAt, GetsFor, HappeningData, RefusedData, Runs, Rests, SentData, Starts, Watches, WatchesAt, WorldData, answered, at_end, ending, fault_for, kept, looked, numbered, unrefused, with_follows}
+use Rattle.wq_replay.specs.Gets.{AnswersInWorld, EndsAt, Gets, GetsAt, GetsFor, Rests, answered, at_end, ending, fault_for, kept, looked, numbered, with_follows}
+use Rattle.wq_replay.specs.Playing.{Does, Runs}
+use Rattle.wq_replay.specs.World.{Crawls, CrawlsAt, HappeningData, RefusedData, SentData, Starts, Watches, WatchesAt, WorldData, unrefused}
 
 some_same : {X : Type 0} {x y : X} → Some x ≡ Some y → x ≡ y
 some_same h = cc h
@@ -150,12 +154,12 @@ follows_still client left world code next stands now other =
 pub answers_well : (before : WorldData) (client : ℤ) (ask : Ask) (at said : Option AtData) (from shelf : ShelfNow) (had : List Client)
     (code : World) (result : Result OutData AllocError) → at ≡ said → before.shelf ≡ from
     → ((other : ℤ) → before.follows other ≡ follows_in other had) → before.run ≡ run_data code.run
-    → IsTableOf before.events code.table → shelf ≡ code.shelf → None ≡ option_map refused_data code.refused → code.spent ≡ false
+    → IsTableOf before.events code.table → shelf ≡ shelf_data code.shelf → before.runs ≡ runs_data code.runs → None ≡ option_map refused_data code.refused → code.spent ≡ false
     → IfOk result (λ out. (left : List SubscriptionData) × AnswersAsk ask at from (follows_in client had) out shelf left
     × FollowsNow client (kept out.goes_on left) had code.clients.items)
     → IfOk result (λ out. (after : WorldData) × AnswersInWorld client said before ask out after × Stands after code)
-answers_well before client ask at said from shelf had code (Err error) same stands follows run roots held refused whole answers = tt
-answers_well before client ask at said from shelf had code (Ok out) same stands follows run roots held refused whole (left, answers, now) = (
+answers_well before client ask at said from shelf had code (Err error) same stands follows run roots held runs refused whole answers = tt
+answers_well before client ask at said from shelf had code (Ok out) same stands follows run roots held runs refused whole (left, answers, now) = (
   answered client shelf (kept out.goes_on left) before,
   (shelf, left, answers_at ask out at said from before.shelf shelf (follows_in client had) (before.follows client) left same stands (follows client) answers, refl),
   record {
@@ -163,6 +167,7 @@ answers_well before client ask at said from shelf had code (Ok out) same stands 
     roots = roots;
     shelf = held;
     follows = follows_still client (kept out.goes_on left) before.follows (λ other. follows_in other had) (λ other. follows_in other code.clients.items) follows now;
+    runs = runs;
     refused = refused;
     whole = whole;
   },
@@ -172,12 +177,12 @@ answers_well before client ask at said from shelf had code (Ok out) same stands 
 pub rests_well : (before : WorldData) (client : ℤ) (root : ℕ) (at : Option AtData) (had : List Client) (code : World)
     (result : Result OutData AllocError) → at ≡ numbered root before.run code.table
     → ((other : ℤ) → before.follows other ≡ follows_in other had) → before.run ≡ run_data code.run
-    → IsTableOf before.events code.table → before.shelf ≡ code.shelf → None ≡ option_map refused_data code.refused → code.spent ≡ false
+    → IsTableOf before.events code.table → before.shelf ≡ shelf_data code.shelf → before.runs ≡ runs_data code.runs → None ≡ option_map refused_data code.refused → code.spent ≡ false
     → IfOk result (λ out. (left : List SubscriptionData) × Idles root at (follows_in client had) out left
     × FollowsNow client left had code.clients.items)
     → IfOk result (λ out. (after : WorldData) × Rests client root before out after × Stands after code)
-rests_well before client root at had code (Err error) same follows run roots held refused whole idles = tt
-rests_well before client root at had code (Ok out) same follows run roots held refused whole (left, idles, now) = (
+rests_well before client root at had code (Err error) same follows run roots held runs refused whole idles = tt
+rests_well before client root at had code (Ok out) same follows run roots held runs refused whole (left, idles, now) = (
   answered client before.shelf left before,
   (
     code.table,
@@ -192,6 +197,7 @@ rests_well before client root at had code (Ok out) same follows run roots held r
     roots = roots;
     shelf = held;
     follows = follows_still client left before.follows (λ other. follows_in other had) (λ other. follows_in other code.clients.items) follows now;
+    runs = runs;
     refused = refused;
     whole = whole;
   },

@@ -1,9 +1,9 @@
 -- The calls of the shelf that were accepted of what happened in a world, and that its shelf is what
 -- they come to.
 -- No public document is behind it.
-use Rattle.std.specs.Prelude.{◌≡◌, ◌⊎◌, List, [], ◌∷◌, ◌++◌, Option, Some, None, ℕ, ℤ}
-use Rattle.wq_clock.specs.Run.{RunData}
-use Rattle.wq_live.specs.Table.{TableData, IsTableOf}
+use Rattle.std.specs.Prelude.{◌≡◌, ◌⊎◌, Bool, List, [], ◌∷◌, ◌++◌, Option, Some, None, ℕ, ℤ}
+use Rattle.wq_clock.specs.Run.{RunData, instance_of}
+use Rattle.wq_live.specs.Table.{RootView, TableData, IsTableOf, root_by_text}
 use Rattle.wq_registry.specs.History.{adds_root, after_all}
 use Rattle.wq_registry.specs.Shelf.{blank}
 use Rattle.wq_session.specs.Accepted.{CallNow, Accepts}
@@ -11,12 +11,15 @@ use Rattle.wq_session.specs.Answer.{MayRefuse}
 use Rattle.wq_session.specs.Crawl.{crawl_refusal}
 use Rattle.wq_session.specs.Need.{need_of}
 use Rattle.wq_session.specs.Out.{OutData}
+use Rattle.wq_session.specs.Round.{turn_calls}
 use Rattle.wq_session.specs.declared.ask.Ask.{Ask}
 use Rattle.wq_crawl.specs.declared.fault.CrawlFault.{CrawlFault}
 use Rattle.wq_session.specs.declared.refusal.Refusal.TheVariants.{NoMemory}
-use Rattle.wq_replay.specs.World.{WorldData, HappeningData, crawl, watching, asked, idle, SentData}
-use Rattle.wq_replay.specs.World.{Does, Runs, at_end, ending, fault_for, looked, new_world, root_text}
-use Rattle.wq_replay.specs.World.{sent_to}
+use Rattle.wq_replay.specs.Gets.{at_end, ending, fault_for, looked}
+use Rattle.wq_replay.specs.Playing.{Does, Runs, sent_to}
+use Rattle.wq_replay.specs.Rounds.{HasRound}
+use Rattle.wq_replay.specs.World.{WorldData, HappeningData, crawl, watching, asked, idle, round}
+use Rattle.wq_replay.specs.World.{ended, SentData, new_world, root_text}
 
 -- these calls were accepted of a client's ask that ends the root of this number, or none: those of
 -- its answer, at the root that it names, or at the end of the one that it ends; or none, if memory
@@ -41,6 +44,14 @@ abbrev pub AcceptsFor : ℤ → WorldData → Ask → OutData → List CallNow �
 AcceptsFor client world ask out calls = (table : TableData) × IsTableOf world.events table
     × AcceptsUnless (fault_for (need_of ask) table world.refused) table client world ask out calls
 
+-- these calls were accepted of a round of a root, if it is shown: each trigger that had a turn is put
+-- under its name again
+abbrev pub AcceptsRound : Option RootView → Bool → WorldData → List SentData → List CallNow → Type 0
+AcceptsRound None succeeds world sent calls = calls ≡ []
+AcceptsRound (Some root) succeeds world sent calls = (after : WorldData)
+    × (had : HasRound (instance_of world.run root.number) root.view succeeds world sent after)
+    × (calls ≡ turn_calls root.number (had.round).turns)
+
 -- these calls were accepted of what happened
 abbrev pub AcceptsOf : WorldData → HappeningData → List SentData → List CallNow → Type 0
 AcceptsOf world (crawl root seen) sent calls = calls ≡ []
@@ -48,6 +59,9 @@ AcceptsOf world (watching root seen) sent calls = calls ≡ []
 AcceptsOf world (asked client ask) sent calls =
     (out : OutData) × AcceptsFor client world ask out calls × (sent ≡ sent_to client out)
 AcceptsOf world (idle client root) sent calls = calls ≡ []
+AcceptsOf world (round root succeeds) sent calls = (table : TableData)
+    × IsTableOf world.events table × AcceptsRound (root_by_text root table) succeeds world sent calls
+AcceptsOf world (ended run) sent calls = calls ≡ []
 
 -- one after the other happens, and of all together these calls were accepted: those of each lead from
 -- the shelf before it to the one after it

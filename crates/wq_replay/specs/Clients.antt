@@ -5,7 +5,7 @@ use Rattle.wq_follow.specs.Subscription.{SubscriptionData}
 use Rattle.wq_session.specs.Followed.{follows_of}
 use Rattle.wq_session.specs.declared.session.Session.{Session}
 use Rattle.wq_replay.specs.Client.{follows_in}
-use Rattle.wq_replay.specs.World.{with_follows}
+use Rattle.wq_replay.specs.Gets.{with_follows}
 use Rattle.wq_replay.specs.declared.client.Client.{Client}
 
 -- the subscriptions of a client are these now, and those of others are as they were

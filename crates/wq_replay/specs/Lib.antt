@@ -1,8 +1,14 @@
 pub mod Limit
+pub mod Runs
+pub mod StartLine
 pub mod World
+pub mod Gets
+pub mod Rounds
+pub mod Playing
 pub mod Client
 pub mod Clients
 pub mod Accepted
+pub mod Launched
 pub mod Stands
 pub mod Fault
 pub mod Script
@@ -12,4 +18,5 @@ pub mod Stage
 pub mod Replay
 pub mod Sending
 pub mod Step
+pub mod Overlap
 pub mod Taken

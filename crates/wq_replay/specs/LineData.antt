@@ -1,10 +1,11 @@
 -- What a `Line` of the code stands for.
 -- No public document is behind it.
-use Rattle.wq_replay.specs.Script.{LineData, pass, tree, row, end, ask, leave, idle}
+use Rattle.wq_replay.specs.Script.{LineData, pass, tree, row, end, ask, leave, idle, fire, done}
 use Rattle.wq_view.specs.Seen.{SeenData}
 use Rattle.wq_replay.specs.declared.script.Line.{Line}
 use Rattle.wq_replay.specs.declared.script.RowLine.{RowLine}
 use Rattle.wq_replay.specs.declared.script.Line.TheVariants.{Pass, Tree, Row, End, Ask, Leave, Idle}
+use Rattle.wq_replay.specs.declared.script.Line.TheVariants.{Fire, Done}
 
 -- what a row says was seen
 abbrev pub seen_data : RowLine → SeenData
@@ -19,3 +20,5 @@ line_data End = end
 line_data (Ask client line) = ask client line.now
 line_data (Leave client) = leave client
 line_data (Idle client) = idle client
+line_data (Fire succeeds) = fire succeeds
+line_data (Done name) = done name.now

@@ -5,6 +5,7 @@ use Rattle.std.specs.Prelude.{length, map, codes, bytes_eq, All, if◌then◌els
 use Rattle.std.specs.Fmt.{signed_decimal}
 use Rattle.std.specs.List.{list_any}
 use Rattle.std.specs.Io.KnownBytes.{Appends}
+use Rattle.std.specs.Str.{is_utf8}
 use Rattle.wq_base.specs.Byte.{newline}
 use Rattle.wq_base.specs.Writing.{WritesFront}
 use Rattle.wq_stream.specs.declared.event.Event.{Event}
@@ -18,16 +19,21 @@ use Rattle.wq_view.specs.Listing.{PassData}
 use Rattle.wq_replay.specs.Limit.{max_script}
 use Rattle.wq_replay.specs.Line.{lines_of}
 use Rattle.wq_replay.specs.Client.{numbers_of}
-use Rattle.wq_replay.specs.Stage.{StageData, Turn, drafts, lists, hears, rests, malformed, start}
-use Rattle.wq_replay.specs.Stage.{turn_of}
-use Rattle.wq_replay.specs.World.{WorldData, HappeningData, crawl, watching, asked, idle, SentData}
-use Rattle.wq_replay.specs.World.{Runs, root_text}
+use Rattle.wq_replay.specs.Rounds.{run_of}
+use Rattle.wq_replay.specs.Stage.{StageData, Turn, drafts, lists, hears, rests, fires, finishes}
+use Rattle.wq_replay.specs.Stage.{malformed, start, turn_of}
+use Rattle.wq_replay.specs.World.{WorldData, HappeningData, crawl, watching, asked, idle, round}
+use Rattle.wq_replay.specs.World.{ended, SentData}
+use Rattle.wq_replay.specs.Playing.{Runs}
+use Rattle.wq_replay.specs.World.{root_text}
 use Rattle.wq_replay.specs.declared.fault.ReplayFault.{ReplayFault}
 use Rattle.wq_replay.specs.declared.fault.ReplayFault.TheVariants.{Line, TooLong, Read, Write, Memory}
 
--- the line that is written for what is sent: the client's number, a space and the text
-abbrev pub sent_line : ℤ → List ℕ → List ℕ
-sent_line client text = signed_decimal client ++ (codes " " ++ (text ++ codes "\n"))
+-- the line that is written for what is sent: the client's number, if there is one, with a space, and
+-- the text
+abbrev pub sent_line : Option ℤ → List ℕ → List ℕ
+sent_line (Some client) text = signed_decimal client ++ (codes " " ++ (text ++ codes "\n"))
+sent_line None text = text ++ codes "\n"
 
 -- the lines that are written for what is sent
 abbrev pub sent_lines : List SentData → List ℕ
@@ -63,6 +69,26 @@ pub record IsHeard (stage : StageData) (client : ℤ) (event : Event) (sent : Li
 abbrev pub moments : ℤ → WorldData → List HappeningData
 moments client world = map (idle client) (numbers_of (world.follows client))
 
+-- what happens if the triggers of `/r` have a round
+abbrev pub rounds : Bool → List HappeningData
+rounds succeeds = round root_text succeeds ∷ []
+
+-- that a run has ended, if there is one
+abbrev pub end_of : Option ℕ → List HappeningData
+end_of None = []
+end_of (Some run) = ended run ∷ []
+
+-- what happens if the command of the trigger of `/r` of this name has ended: nothing, if the name is
+-- no text, or if there is no run
+abbrev pub ends_of : List ℕ → WorldData → List HappeningData
+ends_of name world = if is_utf8 name then end_of (run_of root_text name world) else []
+
+-- all of this happens at a stage: this is written of it, and the stage is another then
+abbrev pub DoesAll : StageData → List HappeningData → List ℕ → StageData → Type 0
+DoesAll stage happenings written after = (sent : List SentData) × (world : WorldData)
+    × Runs stage.world happenings sent world
+    × (written ≡ sent_lines sent) × (after ≡ record stage { world = world })
+
 -- what a line does takes the script from a stage to the next, with this written, and the server
 -- goes on; a malformed line leads nowhere
 abbrev pub DoesLine : StageData → Turn → List ℕ → StageData → Type 0
@@ -75,9 +101,10 @@ DoesLine stage (hears client event) written after =
     (sent : List SentData) × (world : WorldData) × IsHeard stage client event sent world
     × (shuts sent ≡ false) × (written ≡ sent_lines sent) × (after ≡ record stage { world = world })
 DoesLine stage (rests client) written after =
-    (sent : List SentData) × (world : WorldData)
-    × Runs stage.world (moments client stage.world) sent world
-    × (written ≡ sent_lines sent) × (after ≡ record stage { world = world })
+    DoesAll stage (moments client stage.world) written after
+DoesLine stage (fires succeeds) written after = DoesAll stage (rounds succeeds) written after
+DoesLine stage (finishes name) written after =
+    DoesAll stage (ends_of name stage.world) written after
 DoesLine stage malformed written after = ⊥
 
 -- these lines take the script in turn from a stage to another, with this written
@@ -117,15 +144,21 @@ Shuts stage (hears client event) before after =
     × (shuts sent ≡ true) × Appends before after (sent_lines sent)
 Shuts _ _ _ _ = ⊥
 
--- a client was heard or had idle moments, and of what was sent a front was written, but not all
+-- all of this happened at a stage, and of what was sent a front was written, but not all
+abbrev pub StopsAll : StageData → List HappeningData → Option (List ℕ) → Option (List ℕ) → Type 0
+StopsAll stage happenings before after = (sent : List SentData) × (world : WorldData)
+    × Runs stage.world happenings sent world × WritesFront before after (sent_lines sent)
+
+-- a line did what it does, and of what was sent a front was written, but not all
 abbrev pub StopsWriting : StageData → Turn → Option (List ℕ) → Option (List ℕ) → Type 0
 StopsWriting stage (hears client event) before after =
     (sent : List SentData) × (world : WorldData) × IsHeard stage client event sent world
     × WritesFront before after (sent_lines sent)
 StopsWriting stage (rests client) before after =
-    (sent : List SentData) × (world : WorldData)
-    × Runs stage.world (moments client stage.world) sent world
-    × WritesFront before after (sent_lines sent)
+    StopsAll stage (moments client stage.world) before after
+StopsWriting stage (fires succeeds) before after = StopsAll stage (rounds succeeds) before after
+StopsWriting stage (finishes name) before after =
+    StopsAll stage (ends_of name stage.world) before after
 StopsWriting _ _ _ _ = ⊥
 
 -- all lines were played, the script is within its limit, and was read to its end

@@ -1,6 +1,6 @@
 -- What a line of a script says: words between single spaces, of which the last may have spaces.
 -- The letters of kinds are those of Watchman's field `type`; the rest is this server's own.
-use Rattle.std.specs.Prelude.{ℕ, ℤ, pos, Bool, ◌&&◌, ◌==◌, int_le, List, [], ◌∷◌, codes, bytes_eq, if◌then◌else◌, Option, Some, None, option_map, option_and_then}
+use Rattle.std.specs.Prelude.{ℕ, ℤ, pos, Bool, true, false, ◌&&◌, ◌==◌, int_le, List, [], ◌∷◌, codes, bytes_eq, if◌then◌else◌, Option, Some, None, option_map, option_and_then}
 use Rattle.std.specs.Str.{byte}
 use Rattle.wq_base.specs.Decimal.{signed_of}
 use Rattle.wq_view.specs.Kind.{kind_with}
@@ -23,6 +23,10 @@ pub data LineData : Type 0 where
   leave : ℤ → LineData
   -- nothing else happens for a while, and a client is told of what changed
   idle : ℤ → LineData
+  -- a round of the triggers of the root, in which each start succeeds, or each fails
+  fire : (succeeds : Bool) → LineData
+  -- the command of the trigger of this name has ended
+  done : (name : List ℕ) → LineData
 
 -- the byte between words
 abbrev pub is_space : ℕ → Bool
@@ -84,6 +88,13 @@ leave_from client = if is_client client then Some (leave client) else None
 abbrev pub idle_from : ℤ → Option LineData
 idle_from client = if is_client client then Some (idle client) else None
 
+-- a round in which each start succeeds, or each fails
+abbrev pub fire_of : List ℕ → Option LineData
+fire_of word =
+    if bytes_eq word (codes "ok") then Some (fire true)
+    else if bytes_eq word (codes "fail") then Some (fire false)
+    else None
+
 -- a line by its first word and what follows
 abbrev pub line_worded : List ℕ × List ℕ → Option LineData
 line_worded (word, rest) =
@@ -92,6 +103,8 @@ line_worded (word, rest) =
     else if bytes_eq word (codes "ask") then ask_of rest
     else if bytes_eq word (codes "leave") then option_and_then leave_from (signed_of rest)
     else if bytes_eq word (codes "idle") then option_and_then idle_from (signed_of rest)
+    else if bytes_eq word (codes "fire") then fire_of rest
+    else if bytes_eq word (codes "done") then Some (done rest)
     else option_and_then (λ kind. row_of kind rest) (kind_of_word word)
 
 -- what a line says, unless it is malformed

@@ -7,7 +7,8 @@ use Rattle.wq_stream.specs.declared.event.Event.TheVariants.{End}
 use Rattle.wq_view.specs.Seen.{SeenData}
 use Rattle.wq_view.specs.Listing.{PassData, listing_of, listing_fault}
 use Rattle.wq_replay.specs.Limit.{max_script_line}
-use Rattle.wq_replay.specs.Script.{LineData, pass, tree, row, end, ask, leave, idle, line_of}
+use Rattle.wq_replay.specs.Script.{LineData, pass, tree, row, end, ask, leave, idle, fire, done}
+use Rattle.wq_replay.specs.Script.{line_of}
 use Rattle.wq_replay.specs.World.{WorldData, new_world}
 
 -- a listing of `/r` that is open, and whether the root is crawled at its end
@@ -32,6 +33,10 @@ pub data Turn : Type 0 where
   hears : (client : ℤ) → Event → Turn
   -- a client has an idle moment of each root that it is subscribed to
   rests : (client : ℤ) → Turn
+  -- the triggers of `/r` have a round, in which each start succeeds, or each fails
+  fires : (succeeds : Bool) → Turn
+  -- the command of the trigger of `/r` of this name has ended
+  finishes : (name : List ℕ) → Turn
   -- the line is malformed, and leads nowhere
   malformed : Turn
 
@@ -58,6 +63,8 @@ turn_outside (tree second) = drafts (empty_draft false second)
 turn_outside (ask client line) = hears client (event_of line)
 turn_outside (leave client) = hears client End
 turn_outside (idle client) = rests client
+turn_outside (fire succeeds) = fires succeeds
+turn_outside (done name) = finishes name
 turn_outside _ = malformed
 
 -- the end of a listing, which is what `/r` lists unless it has a fault

@@ -2,9 +2,10 @@
 -- It is this server's own.
 use Rattle.std.specs.Prelude.{◌≡◌, ◌≢◌, ℕ, Bool, true, false, List, [], Option, option_map, Result, Ok, Err}
 use Rattle.std.specs.Io.KnownBytes.{Appends}
-use Rattle.wq_replay.specs.Replay.{DoesLine, Shuts, StopsWriting}
+use Rattle.wq_replay.specs.Replay.{DoesAll, DoesLine, Shuts, StopsAll, StopsWriting}
 use Rattle.wq_replay.specs.Stage.{DraftData, StageData, Turn, malformed}
 use Rattle.wq_replay.specs.Stands.{Stands}
+use Rattle.wq_replay.specs.World.{HappeningData}
 use Rattle.wq_replay.specs.declared.fault.StepFault.{StepFault}
 use Rattle.wq_replay.specs.declared.fault.StepFault.TheVariants.{Malformed, Write, NoMemory}
 use Rattle.wq_replay.specs.declared.stage.Draft.{Draft}
@@ -32,3 +33,13 @@ TakesTurn at turn before after (Ok false) code = Shuts at turn before after
 TakesTurn at turn before after (Err Malformed) code = (turn ≡ malformed) × Appends before after []
 TakesTurn at turn before after (Err Write) code = StopsWriting at turn before after
 TakesTurn at turn before after (Err NoMemory) code = (turn ≢ malformed) × Appends before after []
+
+-- the same of what happens at a stage, by which the server never ends
+abbrev pub TakesAll : StageData → List HappeningData → Option (List ℕ) → Option (List ℕ)
+    → Result Bool StepFault → Stage → Type 0
+TakesAll at happenings before after (Ok true) code = (written : List ℕ) × (next : StageData)
+    × Appends before after written × DoesAll at happenings written next × IsAt code next
+TakesAll at happenings before after (Ok false) code = ⊥
+TakesAll at happenings before after (Err Malformed) code = ⊥
+TakesAll at happenings before after (Err Write) code = StopsAll at happenings before after
+TakesAll at happenings before after (Err NoMemory) code = Appends before after []

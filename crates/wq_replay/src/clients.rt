@@ -8,13 +8,14 @@ ghost use Rattle.wq_session.specs.Answer.{AnswersAsk};
 ghost use Rattle.wq_session.specs.At.{at_data};
 ghost use Rattle.wq_session.specs.Followed.{follows_of};
 ghost use Rattle.wq_session.specs.Moment.{Idles};
+ghost use Rattle.wq_session.specs.Shelved.{shelf_data};
 ghost use Rattle.wq_replay.specs.Client.{follows_in, is_of, numbers_of, others, with_number};
 ghost use Rattle.wq_replay.specs.Clients.{FollowsNow, kept_client};
-ghost use Rattle.wq_replay.specs.World.{kept};
+ghost use Rattle.wq_replay.specs.Gets.{kept};
 
 use crate::client::Client;
 use std::alloc::{AllocError, Global};
-use wq_follow::Subscription;
+use wq_follow::{Subscription, Trigger};
 use wq_registry::Shelf;
 use wq_session::{Ask, At, Out, Session};
 
@@ -25,11 +26,11 @@ pub(crate) fn answer(
     number: i64,
     ask: Ask,
     at: Option<At<'_>>,
-    shelf: &mut Shelf<()>,
+    shelf: &mut Shelf<Trigger>,
 ) -> Result<Out, AllocError>
     ensures { IfOk result (λ out. (left : List SubscriptionData)
-        × AnswersAsk ask (option_map at_data at.entry) shelf.old
-        (follows_in number clients.old.items) out shelf.new left
+        × AnswersAsk ask (option_map at_data at.entry) (shelf_data shelf.old)
+        (follows_in number clients.old.items) out (shelf_data shelf.new) left
         × FollowsNow number (kept out.goes_on left) clients.old.items clients.new.items) }
 {
     clients.reserve(1)?;

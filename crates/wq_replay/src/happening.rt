@@ -28,4 +28,14 @@ pub enum Happening<'a> {
         client: i64,
         root: u64,
     },
+    /// The triggers of a root have a round, in which each start succeeds, or each fails. It does nothing if the root is
+    /// not shown.
+    Round {
+        root: Text,
+        succeeds: bool,
+    },
+    /// The run of this number has ended.
+    Ended {
+        run: u32,
+    },
 }

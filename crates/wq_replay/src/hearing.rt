@@ -1,9 +1,9 @@
-//! What happens if a client of a script asks, or has idle moments: what its ask needs first, and the ask; or a moment
-//! of each root. `playing` says what comes of it.
+//! What happens by a line of a script: what an ask of a client needs first, and the ask; idle moments; a round of triggers;
+//! or the end of a run. `playing` and `rounds` have the effect of it.
 ghost use Rattle.std.specs.Prelude.{◌≡◌, ◌++◌, ◌∷◌, [], IfOk, map, option_to_list};
 ghost use Rattle.wq_session.specs.Need.{need_of};
 ghost use Rattle.wq_session.specs.Needed.{need_data};
-ghost use Rattle.wq_replay.specs.Replay.{listed_root, needed};
+ghost use Rattle.wq_replay.specs.Replay.{end_of, listed_root, needed, rounds};
 ghost use Rattle.wq_replay.specs.Stands.{crawl_data, happening_data};
 ghost use Rattle.wq_replay.specs.World.{asked, idle};
 
@@ -46,6 +46,27 @@ pub(crate) fn moments<'a>(
         moments.push(Happening::Idle { client, root })?;
     }
     Ok(moments)
+}
+
+/// A round of the triggers of `/r`, in which each start succeeds, or each fails.
+pub(crate) fn rounds<'a>(alloc: Global, succeeds: bool) -> Result<Vec<Happening<'a>>, AllocError>
+    ensures { IfOk result (λ all. map happening_data all.items ≡ rounds succeeds) }
+{
+    let root = text(alloc, ROOT)?;
+    let mut rounds = Vec::with_capacity(alloc, 1)?;
+    rounds.push(Happening::Round { root, succeeds })?;
+    Ok(rounds)
+}
+
+/// The end of a run, if there is one.
+pub(crate) fn end_of<'a>(alloc: Global, run: Option<u32>) -> Result<Vec<Happening<'a>>, AllocError>
+    ensures { IfOk result (λ all. map happening_data all.items ≡ end_of run) }
+{
+    let mut ends = Vec::new(alloc);
+    if let Some(run) = run {
+        ends.push(Happening::Ended { run })?;
+    }
+    Ok(ends)
 }
 
 /// The crawl or the watching that an ask needs, if it needs one.

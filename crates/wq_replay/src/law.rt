@@ -1,10 +1,11 @@
 //! Laws about worlds and scripts, each a function without a body whose contract is the law.
 //! A proof of another crate gets a law by a call, which costs nothing.
 ghost use Rattle.wq_replay.specs.Accepted.{ShelvesAreCalls};
+ghost use Rattle.wq_replay.specs.Overlap.{RunsDoNotOverlap};
 ghost use Rattle.wq_replay.specs.Replay.{ScriptsAreRuns};
-ghost use Rattle.wq_replay.specs.World.{RunsGoOn};
+ghost use Rattle.wq_replay.specs.Playing.{RunsGoOn};
 
-use wq_session::answers_are_calls;
+use wq_session::{answers_are_calls, rounds_are_calls};
 
 /// What happens first, and what happens then, are one run.
 pub fn runs_go_on()
@@ -22,4 +23,14 @@ pub fn shelves_are_calls()
     ensures { ShelvesAreCalls }
 {
     answers_are_calls();
+    rounds_are_calls();
+}
+
+/// Between a start of a trigger and the end of that run, which the launcher told, there is no other start of it, over its
+/// replacements too, as long as it is not deleted.
+pub fn runs_do_not_overlap()
+    ensures { RunsDoNotOverlap }
+{
+    answers_are_calls();
+    rounds_are_calls();
 }

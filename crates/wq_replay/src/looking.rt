@@ -7,7 +7,8 @@ ghost use Rattle.wq_session.specs.Needed.{need_data};
 ghost use Rattle.wq_session.specs.At.{at_data};
 ghost use Rattle.wq_clock.specs.Run.{instance_of, run_data};
 ghost use Rattle.wq_replay.specs.Stands.{refused_data};
-ghost use Rattle.wq_replay.specs.World.{at_root, ending, fault_for, looked, numbered, refused_fault, shows};
+ghost use Rattle.wq_replay.specs.Gets.{at_root, ending, fault_for, looked, numbered, refused_fault};
+ghost use Rattle.wq_replay.specs.World.{shows};
 
 use crate::refused::Refused;
 use wq_clock::{Instance, Run};

@@ -1,5 +1,5 @@
-//! What happens in a world: crawls and openings of roots, the answers to what clients ask, and idle moments. What a
-//! session gives out is not said here.
+//! What happens in a world: crawls and openings of roots, the answers to what clients ask, and idle moments. Rounds of
+//! triggers are in `rounds`.
 ghost use Rattle.std.specs.Prelude.{◌≡◌, ◌+◌, ◌++◌, ◌∷◌, List, Ok, [], false, map, string_bytes, true};
 ghost use Rattle.std.specs.Prelude.{IfOk, IsErr, OnErr, OnOk};
 ghost use Rattle.std.specs.Prelude.{None, pos};
@@ -11,14 +11,18 @@ ghost use Rattle.wq_view.specs.Listing.{listing_of};
 ghost use Rattle.wq_clock.specs.Run.{instance_of, run_data};
 ghost use Rattle.wq_replay.specs.Client.{numbers_of};
 ghost use Rattle.wq_replay.specs.Stands.{Leads, Stands, all_sent, crawl_data, happening_data, sent_if};
-ghost use Rattle.wq_replay.specs.World.{AnswersInWorld, Crawls, Does, EndsAt, Gets, HappeningData, Rests, Runs, SentData};
-ghost use Rattle.wq_replay.specs.World.{Starts, Watches, WorldData, looked, new_world, root_text};
+ghost use Rattle.wq_replay.specs.Gets.{AnswersInWorld, EndsAt, Gets, Rests};
+ghost use Rattle.wq_replay.specs.Playing.{Does, Runs};
+ghost use Rattle.wq_replay.specs.World.{Crawls, HappeningData, SentData};
+ghost use Rattle.wq_replay.specs.Gets.{looked};
+ghost use Rattle.wq_replay.specs.World.{Starts, Watches, WorldData, new_world, root_text};
 
 use crate::clients;
 use crate::happening::Happening;
 use crate::looking::{ending, fault_for, looked, numbered};
 use crate::refused::Refused;
-use crate::sent::Sent;
+use crate::runs::RunSet;
+use crate::sent::{Sent, Told};
 use crate::world::World;
 use std::alloc::{AllocError, Global};
 use wq_base::Text;
@@ -47,6 +51,7 @@ impl World {
                 table,
                 shelf,
                 clients: Vec::new(alloc),
+                runs: RunSet::new(alloc),
                 refused: None,
                 spent: false,
             }),
@@ -129,11 +134,19 @@ impl World {
             }
             Happening::Asked { client, ask } => {
                 let out = self.answer(alloc, client, ask)?;
-                Ok(Some(Sent { client, out }))
+                Ok(Some(Sent::ToClient(Told { client, out })))
             }
             Happening::Idle { client, root } => {
                 let out = self.rest(alloc, client, root)?;
-                Ok(Some(Sent { client, out }))
+                Ok(Some(Sent::ToClient(Told { client, out })))
+            }
+            Happening::Round { root, succeeds } => {
+                let lines = self.round(alloc, &root, succeeds)?;
+                Ok(Some(Sent::OfRound(lines)))
+            }
+            Happening::Ended { run } => {
+                self.end_run(run);
+                Ok(None)
             }
         }
     }

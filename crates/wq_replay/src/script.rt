@@ -1,7 +1,7 @@
 //! The lines of a script, each as what it says. What they do is left to `step`.
 ghost use Rattle.std.specs.Prelude.{◌≡◌, option_map};
-ghost use Rattle.wq_replay.specs.Script.{ask_of, first_word, idle_from, is_client, kind_of_word, leave_from, line_of};
-ghost use Rattle.wq_replay.specs.Script.{number_then, row_of};
+ghost use Rattle.wq_replay.specs.Script.{ask_of, fire_of, first_word, idle_from, is_client, kind_of_word, leave_from};
+ghost use Rattle.wq_replay.specs.Script.{line_of, number_then, row_of};
 ghost use Rattle.wq_replay.specs.LineData.{line_data};
 
 use memchr::memchr;
@@ -25,6 +25,10 @@ pub(crate) enum Line<'a> {
     Leave(i64),
     /// Nothing else happens for a while, and a client is told of what changed.
     Idle(i64),
+    /// The triggers of the root have a round, in which each start succeeds, or each fails.
+    Fire(bool),
+    /// The command of the trigger of this name has ended.
+    Done(&'a [u8]),
 }
 
 /// A row of a listing: nothing of it is tested yet.
@@ -49,6 +53,10 @@ const LEAVE: &[u8] = b"leave";
 
 const IDLE: &[u8] = b"idle";
 
+const FIRE: &[u8] = b"fire";
+
+const DONE: &[u8] = b"done";
+
 const END: &[u8] = b"end";
 
 /// The greatest number of a client.
@@ -72,6 +80,10 @@ pub(crate) fn read_line(text: &[u8]) -> Option<Line<'_>>
         leave(signed_number(rest)?)
     } else if word == IDLE {
         idle(signed_number(rest)?)
+    } else if word == FIRE {
+        fire(rest)
+    } else if word == DONE {
+        Some(Line::Done(rest))
     } else {
         row(kind(word)?, rest)
     }
@@ -108,6 +120,17 @@ fn idle<'a>(client: i64) -> Option<Line<'a>>
         Some(Line::Idle(client))
     } else {
         None
+    }
+}
+
+/// A round, by the word that says whether each start succeeds.
+fn fire<'a>(word: &[u8]) -> Option<Line<'a>>
+    ensures { option_map line_data result ≡ fire_of word.now }
+{
+    match word {
+        b"ok" => Some(Line::Fire(true)),
+        b"fail" => Some(Line::Fire(false)),
+        _ => None,
     }
 }
 

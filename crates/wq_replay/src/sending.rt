@@ -1,18 +1,19 @@
 //! The lines that are sent to clients. Where a writer fails, what was written of a line is a front of it.
-ghost use Rattle.std.specs.Prelude.{◌≡◌, ◌++◌, ◌&&◌, codes, map, List, OnErr, OnOk, ℕ};
+ghost use Rattle.std.specs.Prelude.{◌≡◌, ◌++◌, ◌&&◌, None, Some, codes, map, List, OnErr, OnOk, ℕ};
 ghost use Rattle.std.specs.Io.KnownBytes.{Appends};
 ghost use Rattle.wq_base.specs.Writing.{WritesFront};
 ghost use Rattle.wq_replay.specs.Replay.{sent_line};
 ghost use Rattle.wq_replay.specs.Sending.{Sends, SendsAll};
 ghost use Rattle.wq_replay.specs.Stands.{all_sent, sent_of};
-ghost use Rattle.wq_replay.specs.World.{sent_for, sent_list};
+ghost use Rattle.wq_replay.specs.Playing.{sent_for, sent_list, sent_to};
+ghost use Rattle.wq_replay.specs.Rounds.{sent_note};
 
 use crate::fault::StepFault;
-use crate::sent::Sent;
+use crate::sent::{Sent, Told};
 use itoa::Buffer;
 use std::io;
 use std::io::Write;
-use wq_base::write_all;
+use wq_base::{Table, write_all};
 use wq_session::Line;
 
 /// Sends what is sent to clients, and tells whether the server goes on.
@@ -34,34 +35,70 @@ fn both(first: bool, second: bool) -> bool
     first && second
 }
 
-/// Sends a reply, if there is one, and the lists that follow it, and tells whether the server goes on.
+/// Sends what is sent of one thing that happened, and tells whether the server goes on.
 fn send_one<W: Write>(writer: &mut W, sent: &Sent) -> Result<bool, StepFault>
     ensures { Sends (sent_of sent.now) (W.contents writer.old) (W.contents writer.new) result }
 {
-    let goes_on = send_reply(writer, sent)?;
-    send_lists(writer, sent, sent.out.lists())?;
+    match sent {
+        Sent::ToClient(told) => send_told(writer, told),
+        Sent::OfRound(lines) => {
+            send_notes(writer, lines.as_slice())?;
+            Ok(true)
+        }
+    }
+}
+
+/// Sends the lines of a round.
+fn send_notes<W: Write>(writer: &mut W, lines: &[Table<u8>]) -> Result<(), StepFault>
+    ensures { SendsAll (map sent_note lines.now)
+        (W.contents writer.old) (W.contents writer.new) result }
+{
+    for line in lines {
+        send_note(writer, line.as_slice())?;
+    }
+    Ok(())
+}
+
+/// Writes a line about a start: a text with its newline.
+fn send_note<W: Write>(writer: &mut W, text: &[u8]) -> io::Result<()>
+    ensures done { OnOk result
+        (Appends (W.contents writer.old) (W.contents writer.new) (sent_line None text.now)) }
+    ensures front { OnErr result
+        (WritesFront (W.contents writer.old) (W.contents writer.new) (sent_line None text.now)) }
+{
+    write_all(writer, text)?;
+    write_all(writer, b"\n")
+}
+
+/// Sends a reply, if there is one, and the lists that follow it, and tells whether the server goes on.
+fn send_told<W: Write>(writer: &mut W, told: &Told) -> Result<bool, StepFault>
+    ensures { Sends (sent_to told.now.client told.now.out)
+        (W.contents writer.old) (W.contents writer.new) result }
+{
+    let goes_on = send_reply(writer, told)?;
+    send_lists(writer, told, told.out.lists())?;
     Ok(goes_on)
 }
 
 /// Sends a reply, if there is one, and tells whether the server goes on.
-fn send_reply<W: Write>(writer: &mut W, sent: &Sent) -> Result<bool, StepFault>
-    ensures { Sends (sent_for sent.now.client sent.now.out.shuts sent.now.out.reply)
+fn send_reply<W: Write>(writer: &mut W, told: &Told) -> Result<bool, StepFault>
+    ensures { Sends (sent_for told.now.client told.now.out.shuts told.now.out.reply)
         (W.contents writer.old) (W.contents writer.new) result }
 {
-    let Some(line) = sent.out.line() else {
+    let Some(line) = told.out.line() else {
         return Ok(true);
     };
-    send_line(writer, sent.client, line)?;
-    Ok(!sent.out.shuts())
+    send_line(writer, told.client, line)?;
+    Ok(!told.out.shuts())
 }
 
-/// Sends these lists to the client of what is sent.
-fn send_lists<W: Write>(writer: &mut W, sent: &Sent, lists: &[Line]) -> Result<(), StepFault>
-    ensures { SendsAll (map (sent_list sent.now.client) lists.now)
+/// Sends these lists to a client.
+fn send_lists<W: Write>(writer: &mut W, told: &Told, lists: &[Line]) -> Result<(), StepFault>
+    ensures { SendsAll (map (sent_list told.now.client) lists.now)
         (W.contents writer.old) (W.contents writer.new) result }
 {
     for list in lists {
-        send_line(writer, sent.client, list.as_bytes())?;
+        send_line(writer, told.client, list.as_bytes())?;
     }
     Ok(())
 }
@@ -69,9 +106,9 @@ fn send_lists<W: Write>(writer: &mut W, sent: &Sent, lists: &[Line]) -> Result<(
 /// Writes a line to a client: its number, a space, and a text with its newline.
 fn send_line<W: Write>(writer: &mut W, client: i64, line: &[u8]) -> io::Result<()>
     ensures done { (text : List ℕ) → line.now ≡ text ++ codes "\n" → OnOk result
-        (Appends (W.contents writer.old) (W.contents writer.new) (sent_line client text)) }
+        (Appends (W.contents writer.old) (W.contents writer.new) (sent_line (Some client) text)) }
     ensures front { (text : List ℕ) → line.now ≡ text ++ codes "\n" → OnErr result
-        (WritesFront (W.contents writer.old) (W.contents writer.new) (sent_line client text)) }
+        (WritesFront (W.contents writer.old) (W.contents writer.new) (sent_line (Some client) text)) }
 {
     write_all(writer, Buffer::new().format(client).as_bytes())?;
     write_all(writer, b" ")?;

@@ -1,17 +1,26 @@
-//! What is sent to clients.
+//! What is sent.
 ghost use Rattle.std.specs.Prelude.{◌≡◌};
 
+use wq_base::Table;
 use wq_session::Out;
 
-/// What is sent to a client of one thing that happened: a reply, or none, and the lists of subscriptions that follow
-/// it.
+/// What is sent of one thing that happened.
 #[derive(Drop)]
-pub struct Sent {
+pub enum Sent {
+    /// A client is told something.
+    ToClient(Told),
+    /// A line, without its newline, about each start of a round, in the order of the triggers.
+    OfRound(Table<Table<u8>>),
+}
+
+/// What a client is told: a reply, or none, and the lists of subscriptions that follow it.
+#[derive(Drop)]
+pub struct Told {
     pub(crate) client: i64,
     pub(crate) out: Out,
 }
 
-impl Sent {
+impl Told {
     /// The number of the client.
     pub fn client(&self) -> i64
         ensures { result ≡ self.now.client }

@@ -1,19 +1,20 @@
 //! One line of a script: what it does at the stage where the script stands.
-ghost use Rattle.std.specs.Prelude.{◌≡◌, ℕ, ℤ, [], List, Option, None, Some, IfOk, Ok, OnOk, true};
+ghost use Rattle.std.specs.Prelude.{◌≡◌, ℕ, ℤ, [], List, Option, None, Some, IfOk, Ok, OnOk, map, true};
 ghost use Rattle.wq_stream.specs.Stream.{event_of, is_binary};
 ghost use Rattle.wq_stream.specs.declared.event.Event.{Event};
 ghost use Rattle.wq_session.specs.Reading.{Asks};
 ghost use Rattle.wq_replay.specs.LineData.{line_data, seen_data};
-ghost use Rattle.wq_replay.specs.Replay.{crawled};
-ghost use Rattle.wq_replay.specs.Stage.{StageData, drafts, empty_draft, hears, rests, turn_at_end, turn_inside, turn_of};
-ghost use Rattle.wq_replay.specs.Stage.{turn_outside};
-ghost use Rattle.wq_replay.specs.Stands.{Stands};
-ghost use Rattle.wq_replay.specs.Step.{IsAt, TakesTurn, draft_data};
-ghost use Rattle.wq_replay.specs.World.{Runs, WorldData};
+ghost use Rattle.wq_replay.specs.Replay.{crawled, ends_of};
+ghost use Rattle.wq_replay.specs.Stage.{StageData, drafts, empty_draft, finishes, fires, hears, rests, turn_at_end};
+ghost use Rattle.wq_replay.specs.Stage.{turn_inside, turn_of, turn_outside};
+ghost use Rattle.wq_replay.specs.Stands.{Stands, happening_data};
+ghost use Rattle.wq_replay.specs.Step.{IsAt, TakesAll, TakesTurn, draft_data};
+ghost use Rattle.wq_replay.specs.Playing.{Runs};
+ghost use Rattle.wq_replay.specs.World.{WorldData};
 
 use crate::fault::StepFault;
 use crate::happening::Happening;
-use crate::hearing::{happenings, moments, text};
+use crate::hearing::{end_of, happenings, moments, rounds, text};
 use crate::playing::ROOT;
 use crate::script::{Line, RowLine, read_line};
 use crate::sending::send;
@@ -72,6 +73,8 @@ fn step_outside<W: Write>(
         }
         Line::Leave(client) => hear(alloc, stage, writer, client, Ask::Leave),
         Line::Idle(client) => rest(alloc, stage, writer, client),
+        Line::Fire(succeeds) => fire(alloc, stage, writer, succeeds),
+        Line::Done(name) => finish(alloc, stage, writer, name),
         Line::Row(_) | Line::End => Err(StepFault::Malformed),
     }
 }
@@ -212,7 +215,62 @@ fn rest<W: Write>(
 {
     let numbers = stage.world.numbers(alloc, client)?;
     let moments = moments(alloc, client, &numbers)?;
-    let sent = stage.world.play(alloc, moments)?;
+    happen(alloc, stage, writer, moments)
+}
+
+/// Lets the triggers of `/r` have a round; the server goes on.
+fn fire<W: Write>(
+    alloc: Global,
+    stage: &mut Stage,
+    writer: &mut W,
+    succeeds: bool,
+) -> Result<bool, StepFault>
+    ensures { (at : StageData) → IsAt stage.old at
+        → TakesTurn at (fires succeeds)
+        (W.contents writer.old) (W.contents writer.new) result stage.new }
+{
+    let rounds = rounds(alloc, succeeds)?;
+    happen(alloc, stage, writer, rounds)
+}
+
+/// Ends the run of the command of the trigger of `/r` of this name, if there is one; the server goes on.
+fn finish<W: Write>(
+    alloc: Global,
+    stage: &mut Stage,
+    writer: &mut W,
+    name: &[u8],
+) -> Result<bool, StepFault>
+    ensures { (at : StageData) → IsAt stage.old at
+        → TakesTurn at (finishes name.now)
+        (W.contents writer.old) (W.contents writer.new) result stage.new }
+{
+    let ends = ends_of(alloc, &stage.world, name)?;
+    happen(alloc, stage, writer, ends)
+}
+
+/// The end of the run of the command of the trigger of `/r` of this name, if there is one.
+fn ends_of<'a>(alloc: Global, world: &World, name: &[u8]) -> Result<Vec<Happening<'a>>, AllocError>
+    ensures { (before : WorldData) → Stands before world.now → IfOk result (λ all.
+        map happening_data all.items ≡ ends_of name.now before) }
+{
+    match str::from_utf8(name) {
+        Ok(name) => end_of(alloc, world.run_of(ROOT, name)),
+        Err(_) => Ok(Vec::new(alloc)),
+    }
+}
+
+/// Lets all of this happen, and sends what comes of it; the server goes on.
+fn happen<W: Write>(
+    alloc: Global,
+    stage: &mut Stage,
+    writer: &mut W,
+    happenings: Vec<Happening<'_>>,
+) -> Result<bool, StepFault>
+    ensures { (at : StageData) → IsAt stage.old at
+        → TakesAll at (map happening_data happenings.entry.items)
+        (W.contents writer.old) (W.contents writer.new) result stage.new }
+{
+    let sent = stage.world.play(alloc, happenings)?;
     send(writer, &sent)?;
     Ok(true)
 }

@@ -3,7 +3,9 @@
 
 use crate::client::Client;
 use crate::refused::Refused;
+use crate::runs::RunSet;
 use wq_clock::Run;
+use wq_follow::Trigger;
 use wq_live::RootTable;
 use wq_registry::Shelf;
 
@@ -13,9 +15,11 @@ pub struct World {
     pub(crate) run: Run,
     /// The roots that are shown, with their views.
     pub(crate) table: RootTable,
-    pub(crate) shelf: Shelf<()>,
+    pub(crate) shelf: Shelf<Trigger>,
     /// The clients that have subscriptions.
     pub(crate) clients: Vec<Client>,
+    /// The commands of triggers that run.
+    pub(crate) runs: RunSet,
     /// The crawl or the watching that came last, if it was refused and nothing followed it.
     pub(crate) refused: Option<Refused>,
     /// Whether memory ran out over a list of what was sent.

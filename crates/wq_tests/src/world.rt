@@ -1,4 +1,5 @@
-//! Worlds that are played: crawls and openings of roots, lines of clients and idle moments, one after the other.
+//! Worlds that are played: crawls and openings of roots, lines of clients, idle moments, rounds of triggers and ends of
+//! their commands, one after the other.
 
 use crate::tree::pass;
 use itoa::Buffer;
@@ -8,7 +9,7 @@ use std::test::Fail;
 use wq_base::{Table, Text};
 use wq_clock::Run;
 use wq_crawl::CrawlFault;
-use wq_replay::{Happening, Sent, World};
+use wq_replay::{Happening, Sent, Told, World};
 use wq_session::Ask;
 use wq_stream::Event;
 use wq_view::Pass;
@@ -26,6 +27,10 @@ enum Step {
     End(i64),
     /// The client has an idle moment of the root of this number.
     Idle(i64, u64),
+    /// The triggers of the root have a round, in which each start succeeds, or each fails.
+    Round(&'static str, bool),
+    /// The run of this number has ended.
+    Ended(u32),
 }
 
 /// The trees that are listed: none of the files, and one.
@@ -90,6 +95,8 @@ fn happening<'a>(
         Step::Long(client) => Ok(asked(alloc, client, Event::Long)),
         Step::End(client) => Ok(asked(alloc, client, Event::End)),
         Step::Idle(client, root) => Ok(Happening::Idle { client, root }),
+        Step::Round(root, succeeds) => round(alloc, root, succeeds),
+        Step::Ended(run) => Ok(Happening::Ended { run }),
     }
 }
 
@@ -111,6 +118,11 @@ fn watch<'a>(
     Ok(Happening::Watch { root, seen })
 }
 
+fn round<'a>(alloc: Global, root: &str, succeeds: bool) -> Result<Happening<'a>, AllocError> {
+    let root = Text::from_string(String::from_str(alloc, root)?);
+    Ok(Happening::Round { root, succeeds })
+}
+
 fn asked<'a>(alloc: Global, client: i64, event: Event) -> Happening<'a> {
     let ask = Ask::read(alloc, event);
     Happening::Asked { client, ask }
@@ -128,22 +140,40 @@ fn seen(trees: &[Pass], tree: Result<usize, CrawlFault>) -> Result<&Pass, CrawlF
     }
 }
 
-/// Of each reply and each list the client's number, a space, the text and a newline, with `!` before a
-/// reply by which the server ends.
+/// What was sent, as lines.
 fn shown(alloc: Global, sent: &[Sent]) -> Result<Vec<u8>, AllocError> {
     let mut written = Vec::new(alloc);
     for one in sent {
-        if one.out().shuts() {
-            written.push(b'!')?;
-        }
-        if let Some(line) = one.out().line() {
-            show(one.client(), line, &mut written)?;
-        }
-        for list in one.out().lists() {
-            show(one.client(), list.as_bytes(), &mut written)?;
+        match one {
+            Sent::ToClient(told) => show_told(told, &mut written)?,
+            Sent::OfRound(lines) => show_round(lines.as_slice(), &mut written)?,
         }
     }
     Ok(written)
+}
+
+/// Of the reply and of each list the client's number, a space, the text and a newline, with `!` before a reply by which
+/// the server ends.
+fn show_told(told: &Told, written: &mut Vec<u8>) -> Result<(), AllocError> {
+    if told.out().shuts() {
+        written.push(b'!')?;
+    }
+    if let Some(line) = told.out().line() {
+        show(told.client(), line, written)?;
+    }
+    for list in told.out().lists() {
+        show(told.client(), list.as_bytes(), written)?;
+    }
+    Ok(())
+}
+
+/// Each line of a round, with a newline.
+fn show_round(lines: &[Table<u8>], written: &mut Vec<u8>) -> Result<(), AllocError> {
+    for line in lines {
+        written.extend_from_slice(line.as_slice())?;
+        written.push(b'\n')?;
+    }
+    Ok(())
 }
 
 fn show(client: i64, line: &[u8], written: &mut Vec<u8>) -> Result<(), AllocError> {
@@ -430,5 +460,77 @@ fn a_session_ends_with_its_subscriptions(rt: HostRuntime) -> Result<(), Fail> {
             "1 {\"error\":\"E1: line too long\",\"version\":\"wq-1\"}\n",
             "1 {\"deleted\":false,\"unsubscribe\":\"s\",\"version\":\"wq-1\"}\n",
         ),
+    )
+}
+
+const TRIGGERS: &str = r#"["trigger","/r",{"name":"t","command":["r"],"append_files":true}]"#;
+
+const TRIGGERS_AT_Q: &str = r#"["trigger","/q",{"name":"t","command":["q"],"append_files":true}]"#;
+
+/// A round is one of a root: the triggers of another one have no turn, nor is there a round of a root that was never
+/// there. A trigger whose command runs is passed over, until that run has ended; a start that failed has no number.
+#[test]
+fn a_round_is_one_of_a_root(rt: HostRuntime) -> Result<(), Fail> {
+    check(
+        &rt,
+        rt.alloc(),
+        &[
+            Step::Watch("/q", Ok(NONE)),
+            Step::Line(1, r#"["watch","/q"]"#),
+            Step::Line(1, TRIGGERS),
+            Step::Line(2, TRIGGERS_AT_Q),
+            Step::Crawl("/r", Ok(A)),
+            Step::Crawl("/q", Ok(B)),
+            Step::Round("/x", true),
+            Step::Round("/r", false),
+            Step::Round("/q", true),
+            Step::Round("/r", true),
+            Step::Crawl("/r", Ok(B)),
+            Step::Crawl("/q", Ok(A)),
+            Step::Ended(1),
+            Step::Ended(7),
+            Step::Round("/r", true),
+            Step::Round("/q", true),
+            Step::Ended(2),
+            Step::Ended(2),
+            Step::Round("/r", true),
+        ],
+        concat!(
+            "1 {\"version\":\"wq-1\",\"watch\":\"/q\",\"watcher\":\"poll\"}\n",
+            "1 {\"disposition\":\"created\",\"triggerid\":\"t\",\"version\":\"wq-1\"}\n",
+            "2 {\"disposition\":\"created\",\"triggerid\":\"t\",\"version\":\"wq-1\"}\n",
+            "failed t\n",
+            "start {\"args\":[\"q\",\"b\"],\"env\":{\"WATCHMAN_CLOCK\":\"c:7:9:2:1\",\"WATCHMAN_ROOT\":\"/q\",\"WATCHMAN_TRIGGER\":\"t\"},\"name\":\"t\",\"stdin\":\"\"}\n",
+            "start {\"args\":[\"r\",\"a\"],\"env\":{\"WATCHMAN_CLOCK\":\"c:7:9:1:1\",\"WATCHMAN_ROOT\":\"/r\",\"WATCHMAN_TRIGGER\":\"t\"},\"name\":\"t\",\"stdin\":\"\"}\n",
+            "start {\"args\":[\"q\",\"a\",\"b\"],\"env\":{\"WATCHMAN_CLOCK\":\"c:7:9:2:2\",\"WATCHMAN_ROOT\":\"/q\",\"WATCHMAN_SINCE\":\"c:7:9:2:1\",\"WATCHMAN_TRIGGER\":\"t\"},\"name\":\"t\",\"stdin\":\"\"}\n",
+            "start {\"args\":[\"r\",\"a\",\"b\"],\"env\":{\"WATCHMAN_CLOCK\":\"c:7:9:1:2\",\"WATCHMAN_ROOT\":\"/r\",\"WATCHMAN_SINCE\":\"c:7:9:1:1\",\"WATCHMAN_TRIGGER\":\"t\"},\"name\":\"t\",\"stdin\":\"\"}\n",
+        ),
+    )
+}
+
+/// A crawl that was refused is that of the line directly behind it: a round, or the end of a run, stands between.
+#[test]
+fn a_round_follows_a_refused_crawl(rt: HostRuntime) -> Result<(), Fail> {
+    let answer =
+        "1 {\"clock\":\"c:7:9:1:0\",\"files\":[],\"is_fresh_instance\":true,\"version\":\"wq-1\"}\n";
+    check(
+        &rt,
+        rt.alloc(),
+        &[
+            Step::Crawl("/r", Err(CrawlFault::Unreadable)),
+            Step::Round("/r", true),
+            Step::Line(1, NAMES),
+        ],
+        answer,
+    )?;
+    check(
+        &rt,
+        rt.alloc(),
+        &[
+            Step::Crawl("/r", Err(CrawlFault::Unreadable)),
+            Step::Ended(1),
+            Step::Line(1, NAMES),
+        ],
+        answer,
     )
 }

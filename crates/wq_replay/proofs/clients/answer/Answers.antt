@@ -5,6 +5,7 @@ use Rattle.wq_follow.specs.Subscription.{SubscriptionData}
 use Rattle.wq_session.specs.Answer.{AnswersAsk}
 use Rattle.wq_session.specs.At.{at_data}
 use Rattle.wq_session.specs.Followed.{follows_of}
+use Rattle.wq_session.specs.Shelved.{shelf_data}
 use Rattle.wq_replay.specs.Client.{follows_in, others}
 use Rattle.wq_replay.specs.Clients.{kept_client}
 use Rattle.wq_replay.proofs.Follows.{answer_dropped, answer_kept}
@@ -23,7 +24,7 @@ returns c =
     ∙ ap (others c.args.number) room in
     let says : c.goes_on.result ≡ c.on-out.result.goes_on = c.goes_on.ensures in (
       follows_of session,
-      subst (λ (f : List SubscriptionData). AnswersAsk c.args.ask (option_map at_data c.args.at) c.args.shelf.now f c.on-out.result c.on-out.new.shelf (follows_of session))
+      subst (λ (f : List SubscriptionData). AnswersAsk c.args.ask (option_map at_data c.args.at) (shelf_data c.args.shelf.now) f c.on-out.result (shelf_data c.on-out.new.shelf) (follows_of session))
           had c.on-out.ensures,
       elim c.if-goes_on.branch [
         | then-goes_on w ↦

@@ -6,7 +6,8 @@ use Rattle.wq_session.specs.Need.{need_of}
 use Rattle.wq_session.specs.Needed.{need_data}
 use Rattle.wq_clock.specs.Run.{instance_of, run_data}
 use Rattle.wq_replay.specs.Stands.{Stands, refused_data}
-use Rattle.wq_replay.specs.World.{AnswersInWorld, EndsAt, WorldData, looked, unrefused}
+use Rattle.wq_replay.specs.Gets.{AnswersInWorld, EndsAt, looked}
+use Rattle.wq_replay.specs.World.{WorldData, unrefused}
 use Rattle.wq_replay.proofs.Worlds.{ended_gets, ends_none, ends_some, fault_is, gets_refused, looked_gets}
 use Rattle.wq_replay.proofs.world.World.answer.Goals as goal
 
@@ -16,14 +17,14 @@ returns-in-Some c = λ before stands.
     c.fault_for.ensures c.need.ensures (stands.refused ∙ ap (option_map refused_data) (sym c.take-refused.ensures.value)) in (
       unrefused before,
       gets_refused before c.args.client c.args.ask c.refused.result c.args.self.now.table c.in-Some.fault c.from.result stands.roots (fault ∙ c.in-Some.is) c.from.ensures c.refused.ensures,
-      record { run = stands.run; roots = stands.roots; shelf = stands.shelf; follows = stands.follows; refused = sym (ap (option_map refused_data) c.take-refused.ensures.after); whole = stands.whole },
+      record { run = stands.run; roots = stands.roots; shelf = stands.shelf; follows = stands.follows; runs = stands.runs; refused = sym (ap (option_map refused_data) c.take-refused.ensures.after); whole = stands.whole },
     )
 
 pub returns-in-Some-ending : goal.returns-in-Some-ending
 returns-in-Some-ending c = λ before stands.
     let fault = fault_is (need_data c.need.result) (need_of c.args.ask) c.args.self.now.table (option_map refused_data c.take-refused.result) before.refused c.fault_for.result
     c.fault_for.ensures c.need.ensures (stands.refused ∙ ap (option_map refused_data) (sym c.take-refused.ensures.value)) in
-    let mid : Stands (unrefused before) (record c.args.self.now { refused = c.take-refused.new.self }) = record { run = stands.run; roots = stands.roots; shelf = stands.shelf; follows = stands.follows; refused = sym (ap (option_map refused_data) c.take-refused.ensures.after); whole = stands.whole } in
+    let mid : Stands (unrefused before) (record c.args.self.now { refused = c.take-refused.new.self }) = record { run = stands.run; roots = stands.roots; shelf = stands.shelf; follows = stands.follows; runs = stands.runs; refused = sym (ap (option_map refused_data) c.take-refused.ensures.after); whole = stands.whole } in
     let instance = c.in-Some-ending.instance in
     let found = ends_some (run_data c.args.self.now.run) (need_data c.need-2.result) (need_of c.args.ask) c.args.self.now.table (instance_data instance)
     (sym (ap (option_map instance_data) c.in-Some-ending.is) ∙ c.ending.ensures) c.need-2.ensures in
@@ -37,7 +38,7 @@ pub returns-in-None : goal.returns-in-None
 returns-in-None c = λ before stands.
     let fault = fault_is (need_data c.need.result) (need_of c.args.ask) c.args.self.now.table (option_map refused_data c.take-refused.result) before.refused c.fault_for.result
     c.fault_for.ensures c.need.ensures (stands.refused ∙ ap (option_map refused_data) (sym c.take-refused.ensures.value)) in
-    let mid : Stands (unrefused before) (record c.args.self.now { refused = c.take-refused.new.self }) = record { run = stands.run; roots = stands.roots; shelf = stands.shelf; follows = stands.follows; refused = sym (ap (option_map refused_data) c.take-refused.ensures.after); whole = stands.whole } in
+    let mid : Stands (unrefused before) (record c.args.self.now { refused = c.take-refused.new.self }) = record { run = stands.run; roots = stands.roots; shelf = stands.shelf; follows = stands.follows; runs = stands.runs; refused = sym (ap (option_map refused_data) c.take-refused.ensures.after); whole = stands.whole } in
     let none = ends_none (run_data c.args.self.now.run) (need_data c.need-2.result) (need_of c.args.ask) c.args.self.now.table
     (sym (ap (option_map instance_data) c.in-None.is) ∙ c.ending.ensures) c.need-2.ensures in
     looked_gets before c.args.client c.args.ask c.args.self.now.table c.answer_at.new.self c.answer_at.result

@@ -13,5 +13,5 @@ pub returns-in-Err : goal.returns-in-Err
 returns-in-Err c = λ before stands. (
   refusing c.args.root c.in-Err.fault before,
   subst (λ seen. Crawls before c.args.root seen (refusing c.args.root c.in-Err.fault before)) (sym (ap crawl_data c.in-Err.is)) refl,
-  record { run = stands.run; roots = stands.roots; shelf = stands.shelf; follows = stands.follows; refused = refl; whole = stands.whole },
+  record { run = stands.run; roots = stands.roots; shelf = stands.shelf; follows = stands.follows; runs = stands.runs; refused = refl; whole = stands.whole },
 )

@@ -1,8 +1,11 @@
 -- What happens is what the arm says.
-use Rattle.std.proofs.Common.{ℤ, FitsSigned, w64, rules, [], refl, sym, subst}
+use Rattle.std.proofs.Common.{ℤ, FitsSigned, w64, rules, [], map, refl, sym, subst}
 use mir.Facts.{to_z-of_z}
 use Rattle.wq_replay.specs.Stands.{Stands, happening_data}
-use Rattle.wq_replay.specs.World.{Does, Gets, Rests, WorldData, sent_to}
+use Rattle.wq_replay.specs.Gets.{Gets, Rests}
+use Rattle.wq_replay.specs.Playing.{Does, sent_to}
+use Rattle.wq_replay.specs.Rounds.{sent_note}
+use Rattle.wq_replay.specs.World.{WorldData}
 use Rattle.wq_replay.proofs.world.World.happen.Goals as goal
 
 pub returns-in_ok-crawl-in-Crawl : goal.returns-in_ok-crawl-in-Crawl
@@ -31,5 +34,13 @@ returns-in_ok-out-in-Idle c = λ before stands.
       got.0,
       subst (λ (client : ℤ). Does before (happening_data c.args.happening) (sent_to client out) got.0) (sym (to_z-of_z fits))
           (subst (λ happening. Does before (happening_data happening) (sent_to c.in-Idle.client out) got.0) (sym c.in-Idle.is) (out, got.1, refl)),
+      got.2,
+    )
+
+pub returns-in_ok-lines-in-Round : goal.returns-in_ok-lines-in-Round
+returns-in_ok-lines-in-Round c = λ before stands.
+    let got = c.in_ok-lines-in-Round.ensures before stands in (
+      got.0,
+      subst (λ happening. Does before (happening_data happening) (map sent_note c.in_ok-lines-in-Round.lines) got.0) (sym c.in-Round.is) got.1,
       got.2,
     )

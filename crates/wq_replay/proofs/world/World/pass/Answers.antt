@@ -14,7 +14,7 @@ returns-in_default c = λ before stands.
     let none : number_of c.args.root before.events ≡ None = subst (λ text. number_of text before.events ≡ None) c.as_str.ensures (sym (c.number_of.ensures.list before.events stands.roots) ∙ c.in_default.is) in (
       unrefused before,
       crawls_none before c.args.root c.args.pass.now none,
-      record { run = stands.run; roots = stands.roots; shelf = stands.shelf; follows = stands.follows; refused = refl; whole = stands.whole },
+      record { run = stands.run; roots = stands.roots; shelf = stands.shelf; follows = stands.follows; runs = stands.runs; refused = refl; whole = stands.whole },
     )
 
 pub returns-in-Ok-None : goal.returns-in-Ok-None
@@ -24,7 +24,7 @@ returns-in-Ok-None c = λ before stands.
     let same = given_none (IsNoNews before.events c.in-Some.number c.args.pass.now) (λ table. IsNews before.events c.in-Some.number c.args.pass.now × IsTableOf (before.events ++ Passed c.in-Some.number c.args.pass.now ∷ []) table) c.with_pass.result c.in-Ok-None.field-0 c.in-Ok-None.is c.in-Ok-None.field-0-is (c.with_pass.ensures.passed before.events stands.roots) in (
       unrefused before,
       crawls_shown before (unrefused before) c.args.root c.args.pass.now number some (inl (before.events, inl (same, refl), refl)),
-      record { run = stands.run; roots = stands.roots; shelf = stands.shelf; follows = stands.follows; refused = refl; whole = stands.whole },
+      record { run = stands.run; roots = stands.roots; shelf = stands.shelf; follows = stands.follows; runs = stands.runs; refused = refl; whole = stands.whole },
     )
 
 pub returns-in-Ok-Some : goal.returns-in-Ok-Some
@@ -36,7 +36,7 @@ returns-in-Ok-Some c = λ before stands.
     let room = some_holds (λ _. length (passes_over number before.events) < max_tick) c.with_pass.result c.in-Ok-Some.field-0 c.in-Ok-Some.table c.in-Ok-Some.is c.in-Ok-Some.field-0-is (c.with_pass.ensures.room before.events stands.roots) in (
       unrefused (at_events events before),
       crawls_shown before (unrefused (at_events events before)) c.args.root c.args.pass.now number some (inl (events, inr (news.0, room, refl), refl)),
-      record { run = stands.run; roots = news.1; shelf = stands.shelf; follows = stands.follows; refused = refl; whole = stands.whole },
+      record { run = stands.run; roots = news.1; shelf = stands.shelf; follows = stands.follows; runs = stands.runs; refused = refl; whole = stands.whole },
     )
 
 pub returns-in-Err-TicksSpent : goal.returns-in-Err-TicksSpent
@@ -46,5 +46,5 @@ returns-in-Err-TicksSpent c = λ before stands.
     let spent = (c.with_pass.ensures.spent before.events stands.roots).0 (c.in-Err-TicksSpent.is ∙ ap Err c.in-Err-TicksSpent.field-0-is) in (
       refusing c.args.root TicksSpent before,
       crawls_shown before (refusing c.args.root TicksSpent before) c.args.root c.args.pass.now number some (inr (inl (refl, spent), refl)),
-      record { run = stands.run; roots = stands.roots; shelf = stands.shelf; follows = stands.follows; refused = refl; whole = stands.whole },
+      record { run = stands.run; roots = stands.roots; shelf = stands.shelf; follows = stands.follows; runs = stands.runs; refused = refl; whole = stands.whole },
     )

@@ -6,7 +6,7 @@ use Rattle.wq_session.specs.At.{at_data}
 use Rattle.wq_session.specs.Moment.{Idles}
 use Rattle.wq_replay.specs.Client.{follows_in}
 use Rattle.wq_replay.specs.Clients.{FollowsNow}
-use Rattle.wq_replay.specs.World.{numbered}
+use Rattle.wq_replay.specs.Gets.{numbered}
 use Rattle.wq_replay.proofs.Worlds.{rests_well}
 use Rattle.wq_replay.proofs.world.World.rest.Goals as goal
 
@@ -19,4 +19,4 @@ returns c = λ before stands.
     rests_well before c.args.client c.args.root (option_map at_data c.numbered-at.result) had
     (record c.args.self.now { clients = c.idle.new.clients; refused = None }) c.idle.result
     (c.numbered-at.ensures before.events stands.roots ∙ ap (λ run. numbered c.args.root run c.args.self.now.table) (sym stands.run))
-    stands.follows stands.run stands.roots stands.shelf refl stands.whole idles
+    stands.follows stands.run stands.roots stands.shelf stands.runs refl stands.whole idles

@@ -16,6 +16,7 @@ returns-in-Ok c = λ before stands.
         roots = subst (λ given. IsTableOf (before.events ++ start_events (given + 1) c.args.root c.args.pass.now) c.in-Ok.table) (stands.roots).given text;
         shelf = stands.shelf;
         follows = stands.follows;
+        runs = stands.runs;
         refused = refl;
         whole = stands.whole;
       },

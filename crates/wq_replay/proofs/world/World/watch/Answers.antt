@@ -12,7 +12,7 @@ returns-in-Shown c = λ before stands.
     let found = subst (λ text. IsPlace text before.events c.place_for.result) c.as_str.ensures (c.place_for.ensures.place before.events stands.roots) in (
       unrefused before,
       (c.place_for.result, found, subst (λ p. WatchesAt p before c.args.root (crawl_data c.args.seen) (unrefused before)) (sym c.in-Shown.is) refl),
-      record { run = stands.run; roots = stands.roots; shelf = stands.shelf; follows = stands.follows; refused = refl; whole = stands.whole },
+      record { run = stands.run; roots = stands.roots; shelf = stands.shelf; follows = stands.follows; runs = stands.runs; refused = refl; whole = stands.whole },
     )
 
 pub returns-in-Full : goal.returns-in-Full
@@ -24,7 +24,7 @@ returns-in-Full c = λ before stands.
         found,
         subst (λ p. WatchesAt p before c.args.root (crawl_data c.args.seen) (refusing c.args.root TooManyRoots before)) (sym c.in-Full.is) refl,
       ),
-      record { run = stands.run; roots = stands.roots; shelf = stands.shelf; follows = stands.follows; refused = refl; whole = stands.whole },
+      record { run = stands.run; roots = stands.roots; shelf = stands.shelf; follows = stands.follows; runs = stands.runs; refused = refl; whole = stands.whole },
     )
 
 pub returns-in-Free : goal.returns-in-Free

@@ -1,0 +1,39 @@
+-- What the code's types of runs and of the launcher in memory stand for.
+-- No public document is behind it.
+use Rattle.std.specs.Prelude.{ℕ, Bool, true, false, List, [], ◌∷◌, ◌++◌, map, Option, Some, None}
+use Rattle.wq_follow.specs.Launcher.{LauncherData, TriedData}
+use Rattle.wq_follow.specs.Started.{start_data}
+use Rattle.wq_follow.specs.declared.starting.Start.{Start}
+use Rattle.wq_replay.specs.Runs.{RunsData, launcher_with}
+use Rattle.wq_replay.specs.declared.launcher.MemoryLauncher.{MemoryLauncher}
+use Rattle.wq_replay.specs.declared.launcher.Tried.{Tried}
+use Rattle.wq_replay.specs.declared.runs.RunSet.{RunSet}
+
+-- runs
+abbrev pub runs_data : RunSet → RunsData
+runs_data runs = record { running = runs.running.items; next = runs.next }
+
+-- a start that was tried
+abbrev pub tried_data : Tried → TriedData
+tried_data tried = record { start = start_data tried.start; run = tried.run }
+
+-- starts that were tried
+abbrev pub all_tried : List Tried → List TriedData
+all_tried tried = map tried_data tried
+
+-- starts that were tried, and one more
+abbrev pub with_tried : Start → Option ℕ → List Tried → List Tried
+with_tried start run tried = tried ++ record { start = start; run = run } ∷ []
+
+-- the launcher
+abbrev pub launcher_data : MemoryLauncher → LauncherData
+launcher_data l = launcher_with (runs_data l.runs) (all_tried l.tried.items)
+
+-- the same, unless memory ran out for a start
+abbrev pub shown_unless : Bool → LauncherData → Option LauncherData
+shown_unless true l = None
+shown_unless false l = Some l
+
+-- the launcher that it shows
+abbrev pub launcher_shown : MemoryLauncher → Option LauncherData
+launcher_shown l = shown_unless l.spent (launcher_data l)

@@ -1,0 +1,48 @@
+-- The runs of a trigger do not overlap: it is not started again before its run has ended.
+-- It is this server's own.
+use Rattle.std.specs.Prelude.{◌≡◌, ◌≢◌, ℕ, Bool, true, List, [], ◌∷◌, Option, Some, None, is_some}
+use Rattle.std.specs.Prelude.{if◌then◌else◌}
+use Rattle.std.specs.Str.{bytes_eq}
+use Rattle.wq_clock.specs.Run.{RunData, instance_of}
+use Rattle.wq_follow.specs.Round.{FiredData, started}
+use Rattle.wq_follow.specs.Start.{StartData}
+use Rattle.wq_session.specs.Round.{TurnData}
+use Rattle.wq_session.specs.Trigger.{trigger_called}
+use Rattle.wq_view.specs.View.{ViewData}
+use Rattle.wq_replay.specs.Playing.{Does, Runs}
+use Rattle.wq_replay.specs.Rounds.{HasRound}
+use Rattle.wq_replay.specs.World.{WorldData, HappeningData, ended, SentData, new_world}
+
+-- what a round did for the trigger of a name, if there is one
+abbrev pub fired_for : List ℕ → List TurnData → Option FiredData
+fired_for name [] = None
+fired_for name (turn ∷ turns) =
+    if bytes_eq name turn.name then Some turn.fired else fired_for name turns
+
+-- a round of the root of a number starts the trigger of a name, under this number of a run
+abbrev pub StartsTrigger : ℕ → List ℕ → ℕ → WorldData → WorldData → Type 0
+StartsTrigger root name run world after =
+    (view : ViewData) × (succeeds : Bool) × (sent : List SentData) × (start : StartData)
+    × (had : HasRound (instance_of world.run root) view succeeds world sent after)
+    × (fired_for name (had.round).turns ≡ Some (started run start))
+
+-- the trigger is on the shelf
+abbrev pub IsThere : ℕ → List ℕ → WorldData → Type 0
+IsThere root name world = is_some (trigger_called root name world.shelf) ≡ true
+
+-- this happens, one thing after the other, and the trigger is never deleted, nor is it the end of
+-- the run
+abbrev pub GoesOn : ℕ → List ℕ → ℕ → WorldData → List HappeningData → WorldData → Type 0
+GoesOn root name run world [] after = after ≡ world
+GoesOn root name run world (happening ∷ later) after =
+    (sent : List SentData) × (next : WorldData) × Does world happening sent next
+    × (happening ≢ ended run) × IsThere root name next × GoesOn root name run next later after
+
+-- once a trigger was started, no round starts it before its run has ended, as long as it is not
+-- deleted. A trigger that is replaced is not deleted
+abbrev pub RunsDoNotOverlap : Type 0
+RunsDoNotOverlap = (server : RunData) (sockname : List ℕ) (earlier later : List HappeningData)
+    (sent : List SentData) (world first last after : WorldData) (root : ℕ) (name : List ℕ)
+    (run other : ℕ) → Runs (new_world server sockname) earlier sent world
+    → StartsTrigger root name run world first → GoesOn root name run first later last
+    → StartsTrigger root name other last after → ⊥

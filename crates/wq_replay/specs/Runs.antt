@@ -1,0 +1,66 @@
+-- The runs of the commands of triggers in a world, and the launcher that answers a round there.
+-- It is this server's own.
+use Rattle.std.specs.Prelude.{◌≡◌, ◌<◌, ℕ, zero, suc, ◌-◌, Bool, true, false, not, nat_eq}
+use Rattle.std.specs.Prelude.{List, [], ◌∷◌, filter, Option, Some, None}
+use Rattle.wq_follow.specs.Launcher.{LauncherData, TriedData}
+
+-- the runs that go on, and the number of the next run
+pub record RunsData : Type 0 where
+  pub running : List ℕ
+  pub next : ℕ
+
+-- no run has this number or a greater one
+abbrev pub max_run : ℕ
+max_run = 4294967295
+
+-- nothing was started yet
+abbrev pub no_runs : RunsData
+no_runs = record { running = []; next = 1 }
+
+-- so many answers by which a start succeeds: the numbers from this one on
+abbrev pub answers_from : ℕ → ℕ → List (Option ℕ)
+answers_from zero next = []
+answers_from (suc count) next = Some next ∷ answers_from count (suc next)
+
+-- the answers by which each start succeeds: all numbers from this one on
+abbrev pub numbers_after : ℕ → List (Option ℕ)
+numbers_after next = answers_from (max_run - next) next
+
+-- a launcher with these runs and starts, by which each start succeeds
+abbrev pub launcher_with : RunsData → List TriedData → LauncherData
+launcher_with runs tried =
+    record { answers = numbers_after runs.next; running = runs.running; tried = tried }
+
+-- the number that a launcher gives next, at the begin of a round: if each start is to fail, there
+-- is none
+abbrev pub first_number : Bool → ℕ → ℕ
+first_number true next = next
+first_number false next = max_run
+
+-- the number that is given next, after a round that ended at this one: if each start failed, none
+-- was given
+abbrev pub number_after : Bool → ℕ → ℕ → ℕ
+number_after true next left = left
+number_after false next left = next
+
+-- the launcher at the begin of a round in which each start succeeds or each fails, by the runs so far
+abbrev pub launcher_at : Bool → RunsData → LauncherData
+launcher_at succeeds runs = launcher_with (record runs { next = first_number succeeds runs.next }) []
+
+-- the runs after such a round, by those before it and those of the launcher then
+abbrev pub runs_after : Bool → RunsData → RunsData → RunsData
+runs_after succeeds runs left = record left { next = number_after succeeds runs.next left.next }
+
+-- the runs that go on, without one
+abbrev pub without_run : ℕ → List ℕ → List ℕ
+without_run run running = filter (λ r. not (nat_eq run r)) running
+
+-- the runs once one has ended
+abbrev pub run_ended : ℕ → RunsData → RunsData
+run_ended run runs = record runs { running = without_run run runs.running }
+
+-- a run is given its number, if there is one
+abbrev pub GivesNumber : RunsData → Option ℕ → RunsData → Type 0
+GivesNumber old None new = (old.next ≡ max_run) × (new ≡ old)
+GivesNumber old (Some run) new =
+    (old.next < max_run) × (run ≡ old.next) × (new ≡ record old { next = suc old.next })
