@@ -120,7 +120,8 @@ class Server:
         if is_plain:
             through = [sys.executable, str(PLAIN)]
         command = [*through, str(built.program_path()), *words]
-        self.process = subprocess.Popen(command, stderr=self.said, env=ENVIRONMENT)
+        # A command of a trigger writes where the server does, and may outlive it.
+        self.process = subprocess.Popen(command, stdout=self.said, stderr=self.said, env=ENVIRONMENT)
         if not self.says(f"listening on {self.sockname}\n".encode()):
             self.kill()
             raise ValueError(f"the server does not listen: {self.errors()!r}")

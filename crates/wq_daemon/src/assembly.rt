@@ -12,16 +12,18 @@ use std::thread::Threads;
 use std::time::{Clock, Duration};
 use wq_clock::Run;
 use wq_crawl::{Crawler, Seconds, Tree};
+use wq_follow::Trigger;
+use wq_launch::Spawn;
 use wq_live::{Blank, Named};
 use wq_registry::Cache;
 use wq_serve::SharedShelf;
 
-/// How many seats a server has: one for each session, one for idle moments, and some to spare.
+/// How many seats a server has: one for each session, one for idle moments, one for rounds of triggers, and some to spare.
 pub const SEATS: usize = 48;
 
 /// What a server works with.
 #[derive(Drop)]
-pub struct Parts<T: Tree + Drop, S: Seconds + Drop, O: Notices + Drop> {
+pub struct Parts<T: Tree + Drop, S: Seconds + Drop, O: Notices + Drop, P: Spawn + Drop> {
     /// Which run of the server it is.
     pub run: Run,
     /// What lists roots.
@@ -30,6 +32,8 @@ pub struct Parts<T: Tree + Drop, S: Seconds + Drop, O: Notices + Drop> {
     pub seconds: S,
     /// Where the operator is told of what went wrong.
     pub notices: O,
+    /// What starts the commands of triggers.
+    pub spawn: P,
     /// The name of the socket, as clients are told it.
     pub sockname: String,
     /// How long the server waits between two rounds of crawls. Sessions get idle moments after each.
@@ -41,12 +45,12 @@ pub struct Parts<T: Tree + Drop, S: Seconds + Drop, O: Notices + Drop> {
 ///
 /// # Errors
 /// What the server needs could not be made, and nothing was served.
-pub fn serve_clients<N, R, T, S, O>(
+pub fn serve_clients<N, R, T, S, O, P>(
     rt: R,
     alloc: Global,
     listening: &Listening,
     blank: Blank,
-    parts: Parts<T, S, O>,
+    parts: Parts<T, S, O, P>,
 ) -> io::Result<()>
 where
     N: Named + Send + Sync + 'static,
@@ -54,11 +58,39 @@ where
     T: Tree + Drop + Send + 'static,
     S: Seconds + Drop + Send + 'static,
     O: Notices + Drop + Send + Sync + 'static,
+    P: Spawn + Drop + Send + 'static,
     requires { blank.book ≡ N.book }
 {
     let crawler = Crawler::new(blank.open::<N, R>(rt), parts.tree, parts.seconds);
     let cache = Cache::new(alloc, parts.run.start, parts.run.pid)?;
     let shelf = SharedShelf::new(alloc, cache, parts.sockname);
-    let host = LockHost::new(rt, alloc, parts.run, crawler, shelf, parts.notices)?;
-    run(rt, alloc, listening, host, parts.interval)
+    let host = LockHost::new(
+        rt,
+        alloc,
+        parts.run,
+        crawler,
+        shelf,
+        parts.notices,
+        parts.spawn,
+    )?;
+    run_host(rt, alloc, listening, host, parts.interval)
+}
+
+/// Has a host run on the threads of the server.
+fn run_host<N, R, T, S, O, P>(
+    rt: R,
+    alloc: Global,
+    listening: &Listening,
+    host: LockHost<N, R, T, S, O, P, Trigger>,
+    interval: Duration,
+) -> io::Result<()>
+where
+    N: Named + Send + Sync + 'static,
+    R: Threads + Wait + Clock + Copy + Drop + Send + Sync + 'static,
+    T: Tree + Drop + Send + 'static,
+    S: Seconds + Drop + Send + 'static,
+    O: Notices + Drop + Send + Sync + 'static,
+    P: Spawn + Drop + Send + 'static,
+{
+    run(rt, alloc, listening, host, interval)
 }

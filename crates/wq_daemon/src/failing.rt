@@ -1,7 +1,7 @@
-//! The roots that could not be crawled when they were last crawled, and why, so that each fault is
-//! told of once.
+//! The roots that could not be crawled in this round and in the one before, and why, so that each fault is told of once.
 
 use std::alloc::Global;
+use std::mem;
 use wq_crawl::CrawlFault;
 
 /// A root that could not be crawled.
@@ -14,26 +14,38 @@ struct Failed {
 /// Roots that could not be crawled.
 #[derive(Drop)]
 pub(crate) struct Failing {
-    roots: Vec<Failed>,
+    alloc: Global,
+    /// In the round before.
+    before: Vec<Failed>,
+    /// In this round.
+    found: Vec<Failed>,
 }
 
 impl Failing {
     /// No root. It takes no memory.
     pub(crate) fn new(alloc: Global) -> Failing {
         Failing {
-            roots: Vec::new(alloc),
+            alloc,
+            before: Vec::new(alloc),
+            found: Vec::new(alloc),
         }
     }
 
-    /// Adds a root and its fault. Where memory is wanted for it, the root is told of again after
-    /// the next crawl.
-    pub(crate) fn add(&mut self, root: String, fault: CrawlFault) {
-        let _ = self.roots.push(Failed { root, fault });
+    /// A round of crawls begins.
+    pub(crate) fn begin_round(&mut self) {
+        self.before = mem::replace(&mut self.found, Vec::new(self.alloc));
     }
 
-    /// Whether a root is one of these, with this fault.
-    pub(crate) fn has(&self, root: &str, fault: CrawlFault) -> bool {
-        self.roots
+    /// Adds a root and its fault. If memory runs out for that, the root is told of again after the next crawl.
+    pub(crate) fn add(&mut self, root: &str, fault: CrawlFault) {
+        if let Ok(root) = String::from_str(self.alloc, root) {
+            let _ = self.found.push(Failed { root, fault });
+        }
+    }
+
+    /// Whether a root had this fault in the round before.
+    pub(crate) fn had(&self, root: &str, fault: CrawlFault) -> bool {
+        self.before
             .iter()
             .any(|it| it.root.as_str() == root && it.fault == fault)
     }

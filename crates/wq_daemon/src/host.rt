@@ -1,10 +1,12 @@
-//! What the server runs: sessions and crawls, from its threads, and what its operator is told.
+//! What the server runs: sessions, crawls and rounds of triggers, from its threads, and what its operator is told.
 
 use crate::moments::RootNumbers;
 use std::io::Write;
+use std::sync::Arc;
+use wq_launch::{Run, Runs};
 use wq_serve::Inbox;
 
-/// What serves clients and crawls roots, from many threads at once.
+/// What serves clients, crawls roots and starts the commands of triggers, from many threads at once.
 pub trait Host {
     /// Tells the operator that clients are served from now on.
     fn greet(&self);
@@ -12,11 +14,20 @@ pub trait Host {
     /// Runs a session over all its events, and says whether it asked that the server ends.
     fn serve<I: Inbox, W: Write>(&self, inbox: &mut I, writer: &mut W) -> bool;
 
-    /// Crawls each root that is watched, once.
-    fn crawl(&self);
+    /// Begins a round of crawls, and gives the roots that are watched; none if memory is refused for them.
+    fn roots(&self) -> Option<Vec<String>>;
 
-    /// Has a round of crawls end with the crawl that goes on, since the server ends.
-    fn end(&self);
+    /// Crawls a root once, and then has a round of its triggers. Whoever calls this takes the commands that were started.
+    fn crawl(&self, root: &str);
+
+    /// Takes the first command that was started and that nobody attends yet.
+    fn take_run(&self) -> Option<Run>;
+
+    /// Keeps a command that could not be attended, until it is taken again.
+    fn give_back(&self, run: Run);
+
+    /// The commands that run.
+    fn runs(&self) -> &Arc<Runs>;
 
     /// The roots as they are shown now; none where memory is refused for them.
     fn numbers(&self) -> Option<RootNumbers>;

@@ -1,5 +1,6 @@
-//! What runs behind the server's socket: the threads, the queues between them, the socket, and how
-//! all of it ends. What a session answers is not said here, nor how a tree is walked.
+//! What runs behind the server's socket: the threads, the queues between them, rounds of triggers,
+//! the socket, and how all of it ends. Others say what a session answers, walk trees, and start
+//! commands.
 #![tactic(auto)]
 
 mod assembly;
@@ -14,6 +15,7 @@ mod moments;
 mod pulse;
 mod queue;
 mod refusal;
+mod rounds;
 mod running;
 mod server;
 mod socket;

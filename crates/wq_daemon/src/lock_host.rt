@@ -1,31 +1,35 @@
-//! What the threads of the server share: the shelf, the seats, and what crawls. Each stands under a
-//! lock of its own. Looking at files and listing them takes none.
+//! What the threads of the server share: the shelf, the seats, the launcher, and what crawls. Each is under a lock of its
+//! own. Looking at files and listing them takes none.
 
 use crate::clients::MAX_SESSIONS;
 use crate::failing::Failing;
 use crate::host::{Host, Notices};
 use crate::moments::RootNumbers;
 use crate::refusal::refuse;
+use crate::rounds::Rounds;
 use serde_json::Value;
 use std::alloc::{AllocError, Global};
 use std::io::Write;
-use std::sync::atomic::{AtomicBool, Ordering};
 use std::sync::{Arc, Mutex, Wait};
 use wq_clock::Run;
 use wq_crawl::{CrawlFault, Crawler, LockRoots, Seconds, SharedCrawler, Tree};
+use wq_follow::Trigger;
+use wq_launch::{MAX_RUNS, Run as StartedRun, Runs, Spawn};
 use wq_live::{Named, RootTable, Seat};
-use wq_serve::{Inbox, LockDesk, SharedShelf, serve};
+use wq_serve::{Inbox, Kept, LockDesk, ReachedShelf, SharedShelf, serve};
 use wq_session::Refusal;
 
 /// A server's parts. It serves a client for each seat that is free.
 #[derive(Drop)]
-pub struct LockHost<N, R, T, S, O>
+pub struct LockHost<N, R, T, S, O, P, K>
 where
     N: Named,
     R: Wait + Copy + Drop,
     T: Tree + Drop,
     S: Seconds + Drop,
     O: Notices + Drop,
+    P: Spawn + Drop,
+    K: Kept + Drop,
 {
     rt: R,
     alloc: Global,
@@ -34,24 +38,36 @@ where
     /// What idle moments are looked at from. It is there whenever it is not locked.
     idle_seat: Mutex<Option<Seat<N>>>,
     crawler: Arc<SharedCrawler<N, R, T, S>>,
-    shelf: Arc<Mutex<SharedShelf>>,
+    shelf: Arc<Mutex<ReachedShelf<K>>>,
+    rounds: Rounds<N, P, R>,
     failing: Mutex<Failing>,
-    ends: AtomicBool,
     /// What the operator is told once clients are served.
     greeting: String,
     notices: O,
 }
 
-impl<N, R, T, S, O> LockHost<N, R, T, S, O>
+/// The seats of a server.
+#[derive(Drop)]
+struct Seats<N: Named> {
+    /// One for each session that may be.
+    sessions: Vec<Seat<N>>,
+    /// One for idle moments.
+    idle: Seat<N>,
+    /// One for rounds of triggers.
+    rounds: Seat<N>,
+}
+
+impl<N, R, T, S, O, P> LockHost<N, R, T, S, O, P, Trigger>
 where
     N: Named,
     R: Wait + Copy + Drop,
     T: Tree + Drop,
     S: Seconds + Drop,
     O: Notices + Drop,
+    P: Spawn + Drop,
 {
-    /// A server over this crawler and this shelf, with a seat for each session that may be and one
-    /// for idle moments.
+    /// A server over this crawler and this shelf, with a seat for each session that may be, one for idle moments and one for
+    /// rounds of triggers. Commands are started by the last part.
     pub fn new(
         rt: R,
         alloc: Global,
@@ -59,20 +75,21 @@ where
         crawler: Crawler<N, R, T, S>,
         shelf: SharedShelf,
         notices: O,
-    ) -> Result<LockHost<N, R, T, S, O>, AllocError> {
+        spawn: P,
+    ) -> Result<LockHost<N, R, T, S, O, P, Trigger>, AllocError> {
         let greeting = format!(in alloc; "listening on {}", shelf.sockname())?;
         let shelf = Arc::new(alloc, Mutex::new(shelf))?;
-        let (seats, idle_seat, crawler) = shared(alloc, crawler)?;
+        let (seats, crawler) = shared(alloc, crawler)?;
         Ok(LockHost {
             rt,
             alloc,
             run,
-            seats: Mutex::new(seats),
-            idle_seat: Mutex::new(Some(idle_seat)),
+            seats: Mutex::new(seats.sessions),
+            idle_seat: Mutex::new(Some(seats.idle)),
             crawler,
             shelf,
+            rounds: Rounds::new(rt, alloc, run, seats.rounds, spawn)?,
             failing: Mutex::new(Failing::new(alloc)),
-            ends: AtomicBool::new(false),
             greeting,
             notices,
         })
@@ -100,7 +117,7 @@ where
     }
 
     /// The texts of the roots that are watched.
-    fn roots(&self) -> Result<Vec<String>, AllocError> {
+    fn root_texts(&self) -> Result<Vec<String>, AllocError> {
         let mut texts = Vec::new(self.alloc);
         for root in self.shelf.lock(&self.rt).roots() {
             texts.push(String::from_str(self.alloc, root.text())?)?;
@@ -108,28 +125,31 @@ where
         Ok(texts)
     }
 
-    /// Crawls these roots, and tells which can no longer be crawled.
-    fn crawl_all(&self, roots: Vec<String>) {
-        let mut failing = Failing::new(self.alloc);
-        for root in roots {
-            if self.ends.load(Ordering::SeqCst) {
-                return;
-            }
-            if let Err(fault) = self.crawler.crawl(&self.rt, &root) {
-                self.tell_once(&root, fault);
-                failing.add(root, fault);
-            }
+    /// Crawls a root, and tells if it can no longer be crawled.
+    fn crawl_root(&self, root: &str) {
+        if let Err(fault) = self.crawler.crawl(&self.rt, root) {
+            self.tell_once(root, fault);
+            self.failing.lock(&self.rt).add(root, fault);
         }
-        *self.failing.lock(&self.rt) = failing;
     }
 
     /// Tells that a root cannot be crawled, unless that was so in the last round already.
     fn tell_once(&self, root: &str, fault: CrawlFault) {
-        if self.failing.lock(&self.rt).has(root, fault) {
+        if self.failing.lock(&self.rt).had(root, fault) {
             return;
         }
         if let Ok(line) = fault_line(self.alloc, root, fault) {
             self.notices.tell(&line);
+        }
+    }
+
+    /// Tells of the triggers whose commands could not be started, of each once.
+    fn tell_of_starts(&self) {
+        for _ in 0..MAX_RUNS {
+            let Some(line) = self.rounds.next_line() else {
+                return;
+            };
+            self.notices.tell(line.as_str());
         }
     }
 }
@@ -141,25 +161,28 @@ fn fault_line(alloc: Global, root: &str, fault: CrawlFault) -> Result<String, Al
     Ok(format!(in alloc; "{root}: {fault}")?)
 }
 
-/// A seat for each session that may be, one for idle moments, and the crawler, as threads share it.
+/// The seats of a server, and the crawler, as threads share it.
 fn shared<N, R, T, S>(
     alloc: Global,
     mut crawler: Crawler<N, R, T, S>,
-) -> Result<(Vec<Seat<N>>, Seat<N>, Arc<SharedCrawler<N, R, T, S>>), AllocError>
+) -> Result<(Seats<N>, Arc<SharedCrawler<N, R, T, S>>), AllocError>
 where
     N: Named,
     R: Wait + Copy + Drop,
     T: Tree + Drop,
     S: Seconds + Drop,
 {
-    let seats = seats(alloc, &mut crawler)?;
-    let idle_seat = crawler.seat()?;
+    let seats = Seats {
+        sessions: session_seats(alloc, &mut crawler)?,
+        idle: crawler.seat()?,
+        rounds: crawler.seat()?,
+    };
     let crawler = SharedCrawler::new(alloc, crawler)?;
-    Ok((seats, idle_seat, Arc::new(alloc, crawler)?))
+    Ok((seats, Arc::new(alloc, crawler)?))
 }
 
 /// A seat for each session that may be.
-fn seats<N, R, T, S>(
+fn session_seats<N, R, T, S>(
     alloc: Global,
     crawler: &mut Crawler<N, R, T, S>,
 ) -> Result<Vec<Seat<N>>, AllocError>
@@ -195,13 +218,14 @@ fn numbers_in(table: &RootTable) -> Option<RootNumbers> {
     })
 }
 
-impl<N, R, T, S, O> Host for LockHost<N, R, T, S, O>
+impl<N, R, T, S, O, P> Host for LockHost<N, R, T, S, O, P, Trigger>
 where
     N: Named,
     R: Wait + Copy + Drop,
     T: Tree + Drop,
     S: Seconds + Drop,
     O: Notices + Drop,
+    P: Spawn + Drop,
 {
     fn greet(&self) {
         self.notices.tell(&self.greeting);
@@ -223,17 +247,30 @@ where
         ended.shut
     }
 
-    fn crawl(&self) {
+    fn roots(&self) -> Option<Vec<String>> {
         // A root that is watched no more leaves its view in memory until then.
         self.crawler.let_go(&self.rt);
-        // Where memory is wanted for the texts of the roots, they are crawled in the next round.
-        if let Ok(roots) = self.roots() {
-            self.crawl_all(roots);
-        }
+        let roots = self.root_texts().ok()?;
+        self.failing.lock(&self.rt).begin_round();
+        Some(roots)
     }
 
-    fn end(&self) {
-        self.ends.store(true, Ordering::SeqCst);
+    fn crawl(&self, root: &str) {
+        self.crawl_root(root);
+        self.rounds.fire(root, &*self.shelf);
+        self.tell_of_starts();
+    }
+
+    fn take_run(&self) -> Option<StartedRun> {
+        self.rounds.take_run()
+    }
+
+    fn give_back(&self, run: StartedRun) {
+        self.rounds.give_back(run);
+    }
+
+    fn runs(&self) -> &Arc<Runs> {
+        self.rounds.runs()
     }
 
     fn numbers(&self) -> Option<RootNumbers> {

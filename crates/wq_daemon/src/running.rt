@@ -1,4 +1,4 @@
-//! The server as it runs: it accepts clients, and crawls beside them, until it is asked to end.
+//! The server as it runs: it accepts clients, and crawls and starts commands beside them, until it is asked to end.
 
 use crate::clients::Clients;
 use crate::host::Host;
@@ -11,13 +11,15 @@ use std::io;
 use std::sync::{Arc, Wait};
 use std::thread::{self, JoinHandle, Threads};
 use std::time::{Clock, Duration};
+use wq_launch::{MAX_RUNS, attend};
 
 /// How many milliseconds are waited after a connection that could not be accepted.
 const PAUSE: u64 = 100;
 
 /// Serves clients, and crawls the roots that are watched with a pause of the interval between two
-/// rounds. A session gets idle moments after each round. It returns when a client asked that the
-/// server ends: all sessions have ended then, and all threads.
+/// rounds. After the crawl of a root it starts the commands of its triggers, and a session gets idle
+/// moments after each round. It returns when a client asked that the server ends: all sessions have
+/// ended then, and all threads but those that attend commands, which go on.
 ///
 /// # Errors
 /// What the server needs could not be made, and nothing was served.
@@ -43,7 +45,7 @@ where
         },
     )?;
     let mut clients = Clients::new(alloc)?;
-    let crawling = begin_crawling(rt, &server)?;
+    let crawling = begin_crawling(rt, alloc, &server)?;
     server.host.greet();
     for stream in &listening.listener {
         if server.stop.is_asked(&rt) {
@@ -63,25 +65,63 @@ where
 }
 
 /// Starts the thread that crawls.
-fn begin_crawling<R, H>(rt: R, server: &Arc<Server<H>>) -> io::Result<JoinHandle<()>>
+fn begin_crawling<R, H>(rt: R, alloc: Global, server: &Arc<Server<H>>) -> io::Result<JoinHandle<()>>
 where
     R: Threads + Wait + Clock + Copy + Drop + Send + Sync + 'static,
     H: Host + Drop + Send + Sync + 'static,
 {
     let server = server.clone()?;
-    Ok(thread::spawn(&rt, move || crawl_always(rt, &*server))?)
+    Ok(thread::spawn(&rt, move || { crawl_always(rt, alloc, &*server) })?)
 }
 
-/// Crawls until the server ends.
-fn crawl_always<R, H>(rt: R, server: &Server<H>)
+/// Crawls, and has commands of triggers started and attended, until the server ends.
+fn crawl_always<R, H>(rt: R, alloc: Global, server: &Server<H>)
 where
-    R: Wait + Clock + Drop,
+    R: Threads + Wait + Clock + Copy + Drop + Send + Sync + 'static,
     H: Host + Drop,
 {
     for _ in rt.forever() {
-        server.host.crawl();
+        crawl_all(rt, alloc, server);
         server.pulse.beat(&rt);
         if server.stop.wait(&rt, server.interval) {
+            return;
+        }
+    }
+}
+
+/// Crawls each root that is watched, with a round of its triggers after it. It goes no further once the server is to end.
+fn crawl_all<R, H>(rt: R, alloc: Global, server: &Server<H>)
+where
+    R: Threads + Wait + Copy + Drop + Send + Sync + 'static,
+    H: Host + Drop,
+{
+    // Commands that could not be attended before are tried again, whether or not a root is watched.
+    attend_all(rt, alloc, &server.host);
+    // If memory is refused for the roots, they are crawled in the next round.
+    let Some(roots) = server.host.roots() else {
+        return;
+    };
+    for root in roots {
+        if server.stop.is_asked(&rt) {
+            return;
+        }
+        server.host.crawl(&root);
+        attend_all(rt, alloc, &server.host);
+    }
+}
+
+/// Has a thread of its own attend each command that was started. If no thread can be made, the commands wait.
+fn attend_all<R, H>(rt: R, alloc: Global, host: &H)
+where
+    R: Threads + Wait + Copy + Drop + Send + Sync + 'static,
+    H: Host,
+{
+    for _ in 0..MAX_RUNS {
+        let Some(run) = host.take_run() else {
+            return;
+        };
+        if let Some(run) = attend(rt, alloc, host.runs(), run) {
+            host.give_back(run);
             return;
         }
     }

@@ -20,7 +20,6 @@ pub(crate) struct Server<H: Host + Drop> {
 impl<H: Host + Drop> Server<H> {
     /// Has the server end: no more roots are crawled and no more connections accepted.
     pub(crate) fn end<R: Wait>(&self, rt: &R) {
-        self.host.end();
         self.stop.ask(rt);
     }
 }

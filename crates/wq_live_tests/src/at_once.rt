@@ -12,8 +12,9 @@ use std::{io, thread};
 use wq_base::Table;
 use wq_clock::Run;
 use wq_crawl::{Crawler, LockRoots, SharedCrawler};
+use wq_follow::Trigger;
 use wq_live::{Blank, Named, Seat};
-use wq_serve::{Inbox, LockDesk, SharedShelf, serve};
+use wq_serve::{Inbox, Kept, LockDesk, ReachedShelf, SharedShelf, serve};
 use wq_stream::Event;
 
 /// How often it is looked whether the other client got its reply.
@@ -83,7 +84,7 @@ fn line(alloc: Global, text: &str) -> Result<Event, AllocError> {
 fn write_client<N: Named, R: Wait + Copy + Drop>(
     rt: R,
     alloc: Global,
-    client: Talker<N, R>,
+    client: Talker<N, R, Trigger>,
 ) -> Option<Vec<u8>> {
     let mut inbox = client.inbox;
     let mut writer = client.writer;
@@ -108,12 +109,12 @@ fn write_client<N: Named, R: Wait + Copy + Drop>(
 
 /// A client with its own ends and with what all clients share.
 #[derive(Drop)]
-struct Talker<N: Named, R: Wait + Drop> {
+struct Talker<N: Named, R: Wait + Drop, K: Kept + Drop> {
     inbox: Waiting,
     writer: Telling,
     seat: Seat<N>,
     crawler: Arc<SharedCrawler<N, R, SameFiles, Still>>,
-    shelf: Arc<Mutex<SharedShelf>>,
+    shelf: Arc<Mutex<ReachedShelf<K>>>,
 }
 
 /// What all clients share.
@@ -138,7 +139,7 @@ fn make_client<N: Named, R: Wait + Drop>(
     writer: Telling,
     seat: Seat<N>,
     shared: &Shared<N, R>,
-) -> Option<Talker<N, R>> {
+) -> Option<Talker<N, R, Trigger>> {
     Some(Talker {
         inbox,
         writer,
@@ -164,7 +165,7 @@ fn two_talkers<N: Named, R: Wait + Drop>(
     alloc: Global,
     seats: (Seat<N>, Seat<N>),
     shared: &Shared<N, R>,
-) -> Option<(Talker<N, R>, Talker<N, R>)> {
+) -> Option<(Talker<N, R, Trigger>, Talker<N, R, Trigger>)> {
     let first_told = Arc::new(alloc, AtomicU64::new(0)).ok()?;
     let second_told = Arc::new(alloc, AtomicU64::new(0)).ok()?;
     let first_inbox = make_inbox(alloc, ADD_YES, &second_told)?;
@@ -201,6 +202,19 @@ fn talk<N: Named + Send + Sync + 'static, R: Threads + Wait + Copy + Drop + Send
     let second_seat = crawler.seat().ok()?;
     let shared = share(alloc, crawler)?;
     let (first, second) = two_talkers(alloc, (first_seat, second_seat), &shared)?;
+    talk_both(rt, alloc, first, second)
+}
+
+/// What two clients are written that talk on a thread each.
+fn talk_both<
+    N: Named + Send + Sync + 'static,
+    R: Threads + Wait + Copy + Drop + Send + Sync + 'static,
+>(
+    rt: R,
+    alloc: Global,
+    first: Talker<N, R, Trigger>,
+    second: Talker<N, R, Trigger>,
+) -> Option<(Vec<u8>, Vec<u8>)> {
     let (first, second) = thread::join(
         &rt,
         move || write_client(rt, alloc, first),

@@ -4,11 +4,13 @@ use crate::server::make_room;
 use std::alloc::Global;
 use std::io::{Read, Write};
 use std::os::unix::net::UnixStream;
+use std::sync::Arc;
 use std::sync::atomic::{AtomicU64, Ordering};
 use std::test::Fail;
 use std::time::Duration;
 use std::{fs, io};
 use wq_daemon::{Host, RootNumbers, listen, remove, run};
+use wq_launch::{Run, Runs};
 use wq_serve::Inbox;
 use wq_stream::Event;
 
@@ -20,6 +22,7 @@ const NUMBERS: &[u8] = b"1234525";
 struct Teller {
     alloc: Global,
     looks: AtomicU64,
+    runs: Arc<Runs>,
 }
 
 impl Host for Teller {
@@ -37,9 +40,21 @@ impl Host for Teller {
         true
     }
 
-    fn crawl(&self) {}
+    fn roots(&self) -> Option<Vec<String>> {
+        None
+    }
 
-    fn end(&self) {}
+    fn crawl(&self, _root: &str) {}
+
+    fn take_run(&self) -> Option<Run> {
+        None
+    }
+
+    fn give_back(&self, _run: Run) {}
+
+    fn runs(&self) -> &Arc<Runs> {
+        &self.runs
+    }
 
     /// Roots 1 and 2 at the first look, and 2 and 5 from then on. Roots 3 and 4 have come and gone between.
     fn numbers(&self) -> Option<RootNumbers> {
@@ -61,6 +76,7 @@ fn a_session_gets_idle_moments(rt: HostRuntime) -> Result<(), Fail> {
     let host = Teller {
         alloc: rt.alloc(),
         looks: AtomicU64::new(0),
+        runs: Arc::new(rt.alloc(), Runs::new(rt.alloc())?)?,
     };
     run(rt, rt.alloc(), &listening, host, Duration::from_millis(10))?;
     let mut written = Vec::new(rt.alloc());

@@ -1,6 +1,7 @@
 //! Tests of the shared view, of sessions over it, and of a server: what no contract of `wq_live`, `wq_serve` and
 //! `wq_daemon` says. Calls succeed while there is memory, a look finds what was published last, looks wait for nobody,
-//! sessions share one shelf, a server answers on its socket and ends, and its sessions get idle moments.
+//! sessions share one shelf, a server answers on its socket and ends, and its sessions get idle moments. Rounds start the
+//! commands of triggers, and real commands are started, get their input and end.
 #![tactic(auto)]
 
 #[cfg(test)]
@@ -12,7 +13,11 @@ mod following;
 #[cfg(test)]
 mod idle;
 #[cfg(test)]
+mod launching;
+#[cfg(test)]
 mod publishing;
+#[cfg(test)]
+mod rounds;
 #[cfg(test)]
 mod running;
 #[cfg(test)]

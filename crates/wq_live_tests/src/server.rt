@@ -8,6 +8,7 @@ use std::io::{self, Error, ErrorKind, Read, Write};
 use std::marker::Brand;
 use std::net::Net;
 use std::os::unix::net::UnixStream;
+use std::process::Child;
 use std::sync::atomic::{AtomicU64, Ordering};
 use std::sync::{Arc, Wait};
 use std::test::Fail;
@@ -16,6 +17,8 @@ use std::time::{Clock, Duration};
 use std::{env, fs, process};
 use wq_clock::Run;
 use wq_daemon::{Listening, Notices, Parts, SEATS, listen, remove, serve_clients};
+use wq_follow::Start;
+use wq_launch::Spawn;
 use wq_live::{Blank, Named};
 
 /// How many directories are tried that may stand already.
@@ -52,6 +55,16 @@ impl Notices for Operator {
     }
 }
 
+/// A system that starts no command.
+#[derive(Drop)]
+struct NoCommands;
+
+impl Spawn for NoCommands {
+    fn spawn(&self, _alloc: Global, _start: &Start) -> io::Result<Child> {
+        Err(Error::from(ErrorKind::NotFound))
+    }
+}
+
 /// Makes a directory that stood nowhere before, and gives its path.
 pub(crate) fn make_room(rt: &HostRuntime) -> io::Result<String> {
     let above = env::temp_dir(rt)?;
@@ -71,7 +84,7 @@ pub(crate) fn make_room(rt: &HostRuntime) -> io::Result<String> {
 fn make_parts(
     alloc: Global,
     told: Arc<AtomicU64>,
-) -> Result<Parts<SameFiles, Still, Operator>, AllocError> {
+) -> Result<Parts<SameFiles, Still, Operator, NoCommands>, AllocError> {
     Ok(Parts {
         run: Run::new(7, 9),
         tree: SameFiles {
@@ -80,6 +93,7 @@ fn make_parts(
         },
         seconds: Still(100),
         notices: Operator { told },
+        spawn: NoCommands,
         sockname: String::from_str(alloc, "the socket")?,
         interval: Duration::from_millis(10),
     })
@@ -100,7 +114,7 @@ fn serve_one<N, R>(
     alloc: Global,
     blank: Blank,
     listening: &Listening,
-    parts: Parts<SameFiles, Still, Operator>,
+    parts: Parts<SameFiles, Still, Operator, NoCommands>,
     stream: UnixStream,
 ) -> Option<Vec<u8>>
 where
@@ -109,7 +123,7 @@ where
     requires { blank.book ≡ N.book }
 {
     let talking = thread::spawn(&rt, move || talk(alloc, stream).ok());
-    let served = serve_clients::<N, R, SameFiles, Still, Operator>(
+    let served = serve_clients::<N, R, SameFiles, Still, Operator, NoCommands>(
         rt, alloc, listening, blank, parts,
     );
     let replies = talking.ok()?.join(&rt);

@@ -11,6 +11,7 @@ use std::sync::{Arc, Mutex, Wait};
 use std::test::Fail;
 use wq_clock::Run;
 use wq_crawl::{Crawler, MemoryRoots, Roots, Seconds, Tree, TreeFault};
+use wq_follow::Trigger;
 use wq_live::{Blank, Named, Seat};
 use wq_registry::{Cache, Shelf};
 use wq_serve::{Desk, LockDesk, MemoryDesk, MemoryInbox, SharedShelf, serve};
@@ -91,7 +92,7 @@ impl Seconds for Still {
 }
 
 /// The shelf of a server at its start; none where memory ran out.
-pub(crate) fn new_shelf(alloc: Global) -> Option<Shelf<()>> {
+pub(crate) fn new_shelf(alloc: Global) -> Option<Shelf<Trigger>> {
     let sockname = String::from_str(alloc, "s").ok()?;
     Some(Shelf::new(alloc, Cache::new(alloc, 7, 9).ok()?, sockname))
 }
@@ -104,7 +105,7 @@ pub(crate) fn shared_shelf(alloc: Global) -> Option<Arc<Mutex<SharedShelf>>> {
 }
 
 /// What a session writes whose client sends these bytes, and its seat; none where the writer failed.
-fn write_session<N: Named, R: Roots<N>, D: Desk>(
+pub(crate) fn write_lines<N: Named, R: Roots<N>, D: Desk>(
     alloc: Global,
     stream: &[u8],
     seat: Seat<N>,
@@ -173,7 +174,7 @@ fn talk_at<N: Named, R: Wait + Drop, D: Desk>(
     talk: &Talk<'_>,
 ) -> Option<(Ends<N, R>, bool)> {
     let Ends { seat, mut roots } = ends;
-    let (seat, written) = write_session(alloc, talk.0, seat, &mut roots, desk)?;
+    let (seat, written) = write_lines(alloc, talk.0, seat, &mut roots, desk)?;
     Some((Ends { seat, roots }, written.as_slice() == talk.1))
 }
 

@@ -10,6 +10,7 @@ use std::time::{Clock, Duration};
 use wq_clock::Run;
 use wq_crawl::{Seconds, Tree};
 use wq_daemon::{Listening, Notices, Parts, SEATS, listen, remove, serve_clients};
+use wq_launch::Spawn;
 use wq_live::Blank;
 
 /// The settings of the server that the command line gives.
@@ -40,18 +41,19 @@ impl<R: Eprint + Drop> Notices for StandardError<R> {
 
 /// The parts of this machine with which the server works.
 #[derive(Drop)]
-pub(crate) struct Machine<T: Tree + Drop, S: Seconds + Drop, O: Notices + Drop> {
+pub(crate) struct Machine<T: Tree + Drop, S: Seconds + Drop, O: Notices + Drop, P: Spawn + Drop> {
     pub(crate) tree: T,
     pub(crate) seconds: S,
     pub(crate) notices: O,
+    pub(crate) spawn: P,
 }
 
 /// Serves clients until one of them asks that the server ends, and gives the exit status. Threads
 /// wait by the second handle.
-pub(crate) fn serve<R, T, S, O>(
+pub(crate) fn serve<R, T, S, O, P>(
     rt: &HostRuntime,
     threads: R,
-    machine: Machine<T, S, O>,
+    machine: Machine<T, S, O, P>,
     settings: Settings,
 ) -> ExitCode
 where
@@ -59,6 +61,7 @@ where
     T: Tree + Drop + Send + 'static,
     S: Seconds + Drop + Send + 'static,
     O: Notices + Drop + Send + Sync + 'static,
+    P: Spawn + Drop + Send + 'static,
 {
     let Ok(listening) = listen(rt, rt.alloc(), &settings.sockname) else {
         return cannot_listen(rt);
@@ -76,11 +79,11 @@ fn cannot_listen(rt: &HostRuntime) -> ExitCode {
     ExitCode::FAILURE
 }
 
-fn serve_socket<R, T, S, O>(
+fn serve_socket<R, T, S, O, P>(
     rt: R,
     alloc: Global,
     listening: &Listening,
-    machine: Machine<T, S, O>,
+    machine: Machine<T, S, O, P>,
     settings: Settings,
 ) -> io::Result<()>
 where
@@ -88,15 +91,17 @@ where
     T: Tree + Drop + Send + 'static,
     S: Seconds + Drop + Send + 'static,
     O: Notices + Drop + Send + Sync + 'static,
+    P: Spawn + Drop + Send + 'static,
 {
     let parts = Parts {
         run: settings.run,
         tree: machine.tree,
         seconds: machine.seconds,
         notices: machine.notices,
+        spawn: machine.spawn,
         sockname: settings.sockname,
         interval: Duration::from_millis(settings.interval),
     };
     let blank = Blank::new(alloc, &rt, SEATS)?;
-    serve_clients::<Brand, R, T, S, O>(rt, alloc, listening, blank, parts)
+    serve_clients::<Brand, R, T, S, O, P>(rt, alloc, listening, blank, parts)
 }

@@ -1,6 +1,6 @@
 //! The file watch server's program: the command line, files, standard streams and exit statuses.
-//! `wq_daemon` has the server and `wq_walk` walks trees for it; `wq_replay` replays a script, and
-//! `wq_check` says what program files are.
+//! `wq_daemon` has the server, `wq_walk` walks trees for it and `wq_launch` starts commands for it;
+//! `wq_replay` replays a script, and `wq_check` says what program files are.
 #![tactic(auto)]
 
 mod command_line;
@@ -14,6 +14,7 @@ use std::io::{self, BufReader, BufWriter, ErrorKind, Read, Write};
 use std::process::ExitCode;
 use wq_check::{FAULT, MAX_FILE, check};
 use wq_crawl::MachineClock;
+use wq_launch::System;
 use wq_replay::{ReplayFault, replay};
 use wq_walk::Walker;
 
@@ -29,6 +30,7 @@ fn main(rt: HostRuntime) -> ExitCode {
                 tree: Walker::new(&rt, rt, rt.alloc()),
                 seconds: MachineClock::new(rt),
                 notices: StandardError { rt },
+                spawn: System::new(rt),
             };
             serve(&rt, rt, machine, settings)
         }

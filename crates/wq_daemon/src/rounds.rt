@@ -1,0 +1,157 @@
+//! Rounds of triggers: the root is looked at, and then the shelf is held while the commands of its triggers are started.
+
+use std::alloc::{AllocError, Global};
+use std::sync::{Arc, Mutex, Wait};
+use wq_base::Text;
+use wq_clock::{Instance, Run};
+use wq_launch::{Launcher, Run as StartedRun, Runs, Spawn};
+use wq_live::{Look, Named, Seat};
+use wq_serve::SharedShelf;
+use wq_view::View;
+
+/// A root that was looked at, with a share of its view, so that no look is open while its triggers are told of it.
+#[derive(Drop)]
+struct RoundAt {
+    instance: Instance,
+    view: Arc<View>,
+}
+
+/// What rounds of triggers work with. Its locks are taken while the shelf is held, and never the other way round.
+#[derive(Drop)]
+pub(crate) struct Rounds<N, P, R>
+where
+    N: Named,
+    P: Spawn + Drop,
+    R: Wait + Copy + Drop,
+{
+    rt: R,
+    alloc: Global,
+    run: Run,
+    /// What a round looks from. It is there whenever it is not locked.
+    seat: Mutex<Option<Seat<N>>>,
+    launcher: Mutex<Launcher<P, R>>,
+    runs: Arc<Runs>,
+}
+
+impl<N, P, R> Rounds<N, P, R>
+where
+    N: Named,
+    P: Spawn + Drop,
+    R: Wait + Copy + Drop,
+{
+    /// Rounds in which no command was started yet, in this run of the server.
+    pub(crate) fn new(
+        rt: R,
+        alloc: Global,
+        run: Run,
+        seat: Seat<N>,
+        spawn: P,
+    ) -> Result<Rounds<N, P, R>, AllocError> {
+        let runs = Arc::new(alloc, Runs::new(alloc)?)?;
+        let launcher = Launcher::new(spawn, rt, alloc, runs.clone()?)?;
+        Ok(Rounds {
+            rt,
+            alloc,
+            run,
+            seat: Mutex::new(Some(seat)),
+            launcher: Mutex::new(launcher),
+            runs,
+        })
+    }
+
+    /// The commands that run.
+    pub(crate) fn runs(&self) -> &Arc<Runs> {
+        &self.runs
+    }
+
+    /// Takes the first command that was started and that nobody attends yet.
+    pub(crate) fn take_run(&self) -> Option<StartedRun> {
+        self.launcher.lock(&self.rt).take()
+    }
+
+    /// Keeps a command that could not be attended, until it is taken again.
+    pub(crate) fn give_back(&self, run: StartedRun) {
+        self.launcher.lock(&self.rt).give_back(run);
+    }
+
+    /// The line for the first start that failed and of which the operator was not told yet; none if memory ran out.
+    pub(crate) fn next_line(&self) -> Option<Text> {
+        self.launcher.lock(&self.rt).next_line().ok()?
+    }
+
+    /// Has a round of the triggers of a root on this shelf. A root without triggers is not looked at.
+    pub(crate) fn fire(&self, root: &str, shelf: &Mutex<SharedShelf>) {
+        let number = number_with_triggers(&*shelf.lock(&self.rt), root);
+        let Some(number) = number else {
+            return;
+        };
+        let mut place = self.seat.lock(&self.rt);
+        let Some(seat) = place.take() else {
+            return;
+        };
+        *place = Some(self.look_and_fire(seat, number, shelf));
+    }
+
+    /// Looks at the root of this number, and has a round of its triggers. If the look is refused, there is no round.
+    ///
+    /// The look is left first, so that no publish waits for the round. If no share of the view can be had, the look is
+    /// open for as long as the round takes.
+    fn look_and_fire(&self, seat: Seat<N>, number: u64, shelf: &Mutex<SharedShelf>) -> Seat<N> {
+        match seat.look() {
+            Ok(look) => match self.share(number, &look) {
+                Ok(shared) => {
+                    let seat = look.leave();
+                    self.fire_shared(shared, shelf);
+                    seat
+                }
+                Err(_) => {
+                    self.fire_lent(number, &look, shelf);
+                    look.leave()
+                }
+            },
+            Err(seat) => seat,
+        }
+    }
+
+    /// The root of this number with a share of its view, if it is shown. It is refused if no share can be had.
+    fn share(&self, number: u64, look: &Look<N>) -> Result<Option<RoundAt>, AllocError> {
+        match look.share_of(number)? {
+            Some(view) => Ok(Some(RoundAt {
+                instance: self.run.instance(number),
+                view,
+            })),
+            None => Ok(None),
+        }
+    }
+
+    /// Has a round of the triggers of a root with a share of its view, if there is one.
+    fn fire_shared(&self, shared: Option<RoundAt>, shelf: &Mutex<SharedShelf>) {
+        if let Some(at) = shared {
+            self.fire_at(&at.instance, &at.view, shelf);
+        }
+    }
+
+    /// Has a round of the triggers of the root of this number, at the view that a look lends, if it does.
+    fn fire_lent(&self, number: u64, look: &Look<N>, shelf: &Mutex<SharedShelf>) {
+        if let Some(view) = look.view(number) {
+            self.fire_at(&self.run.instance(number), view, shelf);
+        }
+    }
+
+    /// Has a round of the triggers of a root at a view of it. The shelf is held meanwhile, and then the launcher.
+    fn fire_at(&self, instance: &Instance, view: &View, shelf: &Mutex<SharedShelf>) {
+        let mut shelf = shelf.lock(&self.rt);
+        let mut launcher = self.launcher.lock(&self.rt);
+        shelf.round(self.alloc, instance, view, &mut *launcher);
+    }
+}
+
+/// The number of the root of this text, if it is on the shelf and has triggers.
+fn number_with_triggers(shelf: &SharedShelf, text: &str) -> Option<u64> {
+    for root in shelf.roots() {
+        if root.text() == text && root.trigger_count() > 0 {
+            return Some(root.number());
+        }
+    }
+    None
+}

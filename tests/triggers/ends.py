@@ -1,0 +1,68 @@
+"""How commands end: by a signal, after the server, and with a child of theirs that keeps their input."""
+
+import os
+import time
+from pathlib import Path
+
+import built
+from client import same
+from scene import Scene, wait_until
+
+# How many seconds a command stays, and how much sooner the server has to end.
+STAYS = 2.0
+SOON = 1.5
+# More names than go into a pipe.
+NAMES = 3_000
+
+
+def check_a_command_that_ends_by_a_signal(tally: built.Tally, room: Path) -> None:
+    """A command that kills itself has ended as any other, and is started again."""
+    with Scene(room) as scene:
+        scene.make("a")
+        scene.trigger("t", scene.log("ran") + "; kill -9 $$", append_files=True)
+        tally.check("the first start", scene.has_lines(1))
+        scene.make("b")
+        tally.check("the second start", scene.has_lines(2))
+        same(tally, "the starts", scene.lines(), ["ran a", "ran b"])
+        tally.check("nobody is left to be waited for", wait_until(lambda: not scene.children()))
+
+
+def check_a_command_that_outlives_the_server(tally: built.Tally, room: Path) -> None:
+    """The server ends at once, and the command goes on."""
+    with Scene(room) as scene:
+        scene.make("a")
+        scene.trigger("t", f"{scene.log('begun')}; sleep {STAYS}; {scene.log('over')}")
+        tally.check("it begins", scene.has_lines(1))
+        began = time.monotonic()
+        same(tally, "the status of a server whose command runs", scene.server.shut_down(scene.client), 0)
+        took = time.monotonic() - began
+        tally.check("it ends at once", took < SOON, [f"{took:.3f} seconds"])
+        same(tally, "the socket of a server whose command runs", os.path.exists(scene.server.sockname), False)
+        tally.check("the command goes on", scene.has_lines(2))
+        same(tally, "its lines", scene.lines(), ["begun", "over"])
+
+
+def check_a_grandchild(tally: built.Tally, room: Path) -> None:
+    """A child of the command keeps its input open. If that was not written whole, the end comes with that of the child."""
+    with Scene(room) as scene:
+        scene.make("a")
+        took = time_to_the_second_start(tally, scene, "short", "b")
+        tally.check("a short input does not wait for the child", took < SOON, [f"{took:.3f} seconds"])
+        scene.client.ask("trigger-del", str(scene.root), "short")
+        scene.make(*(f"a-file-of-a-long-name-{number}" for number in range(NAMES)))
+        took = time_to_the_second_start(tally, scene, "long", "c")
+        tally.check("a long input waits for the child", took > STAYS / 2, [f"{took:.3f} seconds"])
+
+
+def time_to_the_second_start(tally: built.Tally, scene: Scene, name: str, file: str) -> float:
+    """Starts a command that ends at once, with a child that has its input open. Gives the seconds from a change, just after
+    that, to its second start."""
+    before = len(scene.lines())
+    # A shell gives /dev/null to what it starts in the background, unless it is told otherwise.
+    script = f"{scene.log(name)}; exec 3<&0; sleep {STAYS} <&3 > /dev/null 2>&1 & exit 0"
+    scene.trigger(name, script, stdin="NAME_PER_LINE")
+    tally.check(f"a start with a {name} input", scene.has_lines(before + 1))
+    began = time.monotonic()
+    scene.make(file)
+    tally.check(f"a second start with a {name} input", scene.has_lines(before + 2))
+    return time.monotonic() - began

@@ -1,0 +1,69 @@
+"""Commands that cannot be started. The operator is told of each once, and it is tried again at each round."""
+
+import time
+from pathlib import Path
+
+import built
+from client import same
+from scene import QUIET, Scene, wait_until
+
+
+def told_of(scene: Scene, name: str) -> bytes:
+    """How the line begins that tells of a trigger."""
+    return f'"{scene.root}": trigger "{name}" could not be started: '.encode()
+
+
+def is_told_once(tally: built.Tally, scene: Scene, name: str) -> None:
+    """A trigger cannot be started, and in many rounds that is told once."""
+    line = told_of(scene, name)
+    tally.check(f"the operator is told of {name}", wait_until(lambda: line in scene.server.errors()))
+    time.sleep(QUIET)
+    same(tally, f"how often the operator is told of {name}", scene.server.errors().count(line), 1)
+
+
+def check_a_command_that_is_not_there(tally: built.Tally, room: Path) -> None:
+    """Beside it another trigger goes on, and it leaves no handle and no child."""
+    with Scene(room) as scene:
+        scene.make("a")
+        handles = count_of_handles(scene)
+        scene.register("missing", ["no-such-command-at-all"])
+        scene.trigger("beside", scene.log("beside"), append_files=True)
+        is_told_once(tally, scene, "missing")
+        scene.make("b")
+        tally.check("a trigger beside it", scene.has_lines(2))
+        same(tally, "the starts beside it", scene.lines(), ["beside a", "beside b"])
+        tally.check("no child is left", wait_until(lambda: not scene.children()))
+        tally.check("no handle is left", wait_until(lambda: count_of_handles(scene) == handles))
+
+
+def count_of_handles(scene: Scene) -> int:
+    return len(list(Path(f"/proc/{scene.server.process.pid}/fd").iterdir()))
+
+
+def check_a_script_that_may_not_be_run(tally: built.Tally, room: Path) -> None:
+    """Once it may be run, it is given the files of all starts that failed."""
+    with Scene(room) as scene:
+        script = scene.out / "script"
+        script.write_text("#!/bin/sh\n" + scene.log("ran") + "\n")
+        scene.make("a")
+        scene.register("t", [str(script)], append_files=True)
+        is_told_once(tally, scene, "t")
+        scene.make("b")
+        time.sleep(QUIET)
+        same(tally, "no start before it may be run", scene.lines(), [])
+        script.chmod(0o755)
+        tally.check("it runs once it may", scene.has_lines(1))
+        same(tally, "the files of all starts that failed", scene.lines(), ["ran a b"])
+        script.chmod(0o644)
+        scene.make("c")
+        tally.check("it is told anew", wait_until(lambda: scene.server.errors().count(told_of(scene, "t")) == 2))
+
+
+def check_names_that_no_variable_holds(tally: built.Tally, room: Path) -> None:
+    """A name with a byte 0 can be registered, and never starts."""
+    with Scene(room) as scene:
+        scene.make("a")
+        scene.trigger("t\0u", scene.log("ran"))
+        line = f'"{scene.root}": trigger "t\\u0000u" could not be started: '.encode()
+        tally.check("the operator is told of a byte 0", wait_until(lambda: line in scene.server.errors()))
+        same(tally, "no start under a byte 0", scene.lines(), [])

@@ -1,0 +1,114 @@
+"""What a command is given: its arguments, environment, directory, input and handles."""
+
+import json
+import os
+from pathlib import Path
+
+import built
+from client import ENVIRONMENT, VERSION, same
+from scene import Run, Scene
+
+# The variables that sh sets itself.
+OF_THE_SHELL = ("PWD", "OLDPWD", "SHLVL", "_")
+OF_C_FILES = {"expression": ["suffix", "c"]}
+
+
+def check_starts(tally: built.Tally, room: Path) -> None:
+    """A start with all files, one with a file that came, and one with a file that went."""
+    with Scene(room) as scene:
+        scene.make("a.c", "b.c", "b.h")
+        more = {"append_files": True, "stdin": "NAME_PER_LINE", **OF_C_FILES}
+        reply = scene.trigger("t", scene.recorder(), **more)
+        same(tally, "a trigger", reply, {"disposition": "created", "triggerid": "t", **VERSION})
+        first = scene.run(1)
+        check_files(tally, "the first start", first, ["a.c", "b.c"])
+        check_surroundings(tally, scene, first)
+        same(tally, "no clock before the first start", "WATCHMAN_SINCE" in first.env, False)
+        scene.make("c.c")
+        second = scene.run(2)
+        check_files(tally, "a file that came", second, ["c.c"])
+        check_clocks(tally, "the second start", second, first)
+        (scene.root / "a.c").unlink()
+        third = scene.run(3)
+        check_files(tally, "a file that went", third, ["a.c"])
+        check_clocks(tally, "the third start", third, second)
+
+
+def check_files(tally: built.Tally, name: str, run: Run, names: list) -> None:
+    same(tally, f"the arguments: {name}", run.args, names)
+    same(tally, f"the input: {name}", run.input, "".join(f"{each}\n" for each in names).encode())
+
+
+def check_clocks(tally: built.Tally, name: str, run: Run, before: Run) -> None:
+    """A start has the clock of the one before."""
+    same(tally, f"{name} is since the one before", run.env.get("WATCHMAN_SINCE"), before.env["WATCHMAN_CLOCK"])
+    tally.check(f"the clock of {name} is another", run.env["WATCHMAN_CLOCK"] != before.env["WATCHMAN_CLOCK"])
+
+
+def check_surroundings(tally: built.Tally, scene: Scene, run: Run) -> None:
+    """The directory is the root. The environment is the server's with some variables. No handle of the server is there."""
+    clock = run.env.get("WATCHMAN_CLOCK", "")
+    tally.check("the clock is of the root", clock.startswith("c:7:9:1:"), [clock])
+    expected = {"WATCHMAN_CLOCK": clock, "WATCHMAN_ROOT": str(scene.root), "WATCHMAN_TRIGGER": "t"}
+    same(tally, "the variables that the server sets", run.watchman(), expected)
+    same(tally, "the directory", run.directory, str(scene.root))
+    found = {name: value for name, value in run.env.items() if name not in OF_THE_SHELL and name not in expected}
+    servers = {name: value for name, value in ENVIRONMENT.items() if name not in OF_THE_SHELL}
+    same(tally, "the environment of the server", found, servers)
+    # ls itself has opened the directory that it lists.
+    same(tally, "the handles of a command", run.handles, ["0", "1", "2", "3"])
+
+
+def check_inputs(tally: built.Tally, room: Path) -> None:
+    """Each form of input, with a limit and without."""
+    objects = [{"exists": True, "name": "a.c"}, {"exists": True, "name": "b.c"}]
+    text = json.dumps(objects, separators=(",", ":")).encode() + b"\n"
+    for place, (more, data, is_cut) in enumerate((
+        ({}, b"", False),
+        ({"stdin": "/dev/null"}, b"", False),
+        ({"stdin": "NAME_PER_LINE"}, b"a.c\nb.c\n", False),
+        ({"stdin": "NAME_PER_LINE", "max_files_stdin": 2}, b"a.c\nb.c\n", False),
+        ({"stdin": "NAME_PER_LINE", "max_files_stdin": 1}, b"a.c\n", True),
+        ({"stdin": ["name"], "max_files_stdin": 1}, b'["a.c"]\n', True),
+        ({"stdin": ["name", "exists"]}, text, False),
+        ({"max_files_stdin": 1}, b"", False),
+    )):
+        part = room / str(place)
+        part.mkdir()
+        with Scene(part) as scene:
+            scene.make("a.c", "b.c")
+            scene.trigger("t", scene.recorder(), **more, **OF_C_FILES)
+            run = scene.run(1)
+            same(tally, f"the input with {more}", run.input, data)
+            overflow = "true" if is_cut else None
+            same(tally, f"whether it is cut with {more}", run.env.get("WATCHMAN_FILES_OVERFLOW"), overflow)
+            same(tally, f"no names appended with {more}", run.args, [])
+
+
+def check_output(tally: built.Tally, room: Path) -> None:
+    """What a command writes comes to where the server's own lines go. Its input is /dev/null if there is none."""
+    with Scene(room) as scene:
+        scene.make("a")
+        scene.trigger("t", "readlink /proc/self/fd/0; echo said by a command >&2")
+        tally.check("the output of a command", scene.server.says(b"/dev/null\nsaid by a command\n"))
+
+
+def check_lists(tally: built.Tally, room: Path) -> None:
+    """Triggers are listed as they were given, replaced at their place, and deleted."""
+    with Scene(room) as scene:
+        root = str(scene.root)
+        given = {"name": "t", "command": ["true"], "append_files": True, "frob": 7, **OF_C_FILES}
+        scene.client.ask("trigger", root, given)
+        scene.register("u", ["true"])
+        kept = {name: value for name, value in given.items() if name != "frob"}
+        listed = [kept, {"command": ["true"], "name": "u"}]
+        same(tally, "a list", scene.client.ask("trigger-list", root), {"triggers": listed, **VERSION})
+        reply = scene.client.ask("trigger", root, given)
+        same(tally, "a replacement", reply, {"disposition": "replaced", "triggerid": "t", **VERSION})
+        with scene.server.client() as other:
+            same(tally, "a list of another client", other.ask("trigger-list", root)["triggers"], listed)
+        for is_there in (True, False):
+            reply = scene.client.ask("trigger-del", root, "t")
+            same(tally, f"a deletion, {is_there}", reply, {"deleted": is_there, "trigger": "t", **VERSION})
+        same(tally, "a list after it", scene.client.ask("trigger-list", root)["triggers"], listed[1:])
+        same(tally, "no trigger ran in the tree", os.listdir(scene.root), [])
