@@ -42,7 +42,7 @@ def list_capabilities(session: Session, _: Command) -> Reply:
 
 
 def abilities(session: Session) -> List[str]:
-    return abilities_of((name for name in COMMANDS if name not in AWAITED), session.has_bser)
+    return abilities_of(COMMANDS, session.has_bser)
 
 
 def get_sockname(session: Session, _: Command) -> Reply:
@@ -194,8 +194,6 @@ def passed(session: Session, command: Command) -> Reply:
 
 
 MANY = 1_000_000
-# The server does not have these yet, and refuses them. They are no capabilities.
-AWAITED = ("trigger", "trigger-del", "trigger-list")
 Handler = Callable[[Session, Command], Reply]
 # The handler of each command, and how many arguments it takes at least and at most.
 COMMANDS: Dict[str, Tuple[Handler, int, int]] = {

@@ -28,14 +28,16 @@ SHELF_FULL = "E35: shelf is full"
 BAD_NAME = "E36: bad name"
 WRONG_QUERY_VALUE = "E37: wrong query value"
 TOO_MANY_SUBSCRIPTIONS = "E41: too many subscriptions"
+TOO_MANY_TRIGGERS = "E42: too many triggers"
+BAD_TRIGGER = "E43: bad trigger"
 
-# All but those for expressions that are too long to be drawn, which tests/size has, and for a shelf that is full or a
-# client with as many subscriptions as may be, which tests/scripts has.
+# All but those for expressions that are too long to be drawn, which tests/size has, and for a shelf that is full, or a
+# client with as many subscriptions or a root with as many triggers as may be, which tests/scripts has.
 ALL = [
     LINE_TOO_LONG, NOT_JSON, NOT_A_COMMAND, UNKNOWN_COMMAND, WRONG_ARGUMENTS, BINARY, ROOT_NOT_ABSOLUTE,
     UNREADABLE_ROOT, NOT_WATCHED, LEFT_OUT_KEY, UNKNOWN_FIELD, BAD_GENERATOR, BAD_CLOCK_SPEC, UNKNOWN_TERM,
     WRONG_TERM_ARGUMENTS, TOO_DEEP, CURSOR_IN_TERM, PATTERN_TOO_LONG, EXPRESSION_AND_PROGRAM, NOT_BASE64, WRONG_FILE,
-    WRONG_PROGRAM, NO_SUCH_PROGRAM, BAD_NAME, WRONG_QUERY_VALUE,
+    WRONG_PROGRAM, NO_SUCH_PROGRAM, BAD_NAME, WRONG_QUERY_VALUE, BAD_TRIGGER,
 ]
 
 

@@ -66,7 +66,8 @@ class Asking:
         """A call, whose two streams are one, so that their order shows."""
         command = [str(self.top / "ask"), str(self.root), *lines]
         environment = {**self.environment, **environment}
-        return subprocess.Popen(command, stdout=subprocess.PIPE, stderr=subprocess.STDOUT, env=environment)
+        return subprocess.Popen(
+            command, stdout=subprocess.PIPE, stderr=subprocess.STDOUT, env=environment, preexec_fn=hear_interrupts)
 
     def ask(self, *lines: str, **environment: str) -> built.Ended:
         return ended(self.start(*lines, **environment))
@@ -85,6 +86,11 @@ class Asking:
 
     def watched(self) -> bytes:
         return f'{{"version":"wq-1","watch":"{self.root}","watcher":"poll"}}\n'.encode()
+
+
+def hear_interrupts() -> None:
+    """A job in the background ignores SIGINT, and so would what it starts."""
+    signal.signal(signal.SIGINT, signal.SIG_DFL)
 
 
 def ended(process: subprocess.Popen) -> built.Ended:
