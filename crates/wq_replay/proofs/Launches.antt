@@ -6,7 +6,7 @@ use Rattle.wq_follow.specs.Start.{StartData}
 use Rattle.wq_follow.specs.Started.{start_data}
 use Rattle.wq_follow.specs.declared.starting.Start.{Start}
 use Rattle.wq_replay.specs.Launched.{all_tried, launcher_data, launcher_shown, runs_data, shown_unless, tried_data, with_tried}
-use Rattle.wq_replay.specs.Runs.{GivesNumber, RunsData, answers_from, launcher_with, max_run, numbers_after}
+use Rattle.wq_replay.specs.Runs.{TakesNumber, RunSetData, answers_from, launcher_with, max_run, numbers_after}
 use Rattle.wq_replay.specs.declared.launcher.MemoryLauncher.{MemoryLauncher}
 use Rattle.wq_replay.specs.declared.launcher.Tried.{Tried}
 use Rattle.wq_replay.specs.declared.runs.RunSet.{RunSet}
@@ -38,7 +38,7 @@ tried_more [] t = refl
 tried_more (first ∷ tried) t = ap (λ all. tried_data first ∷ all) (tried_more tried t)
 
 -- a start had this answer, and was kept
-answered : (start : StartData) (run : Option ℕ) (answers : List (Option ℕ)) (old new : RunsData) (had has : List TriedData) → numbers_after old.next ≡ answers
+answered : (start : StartData) (run : Option ℕ) (answers : List (Option ℕ)) (old new : RunSetData) (had has : List TriedData) → numbers_after old.next ≡ answers
     → run ≡ next_answer answers → numbers_after new.next ≡ later_answers answers → new.running ≡ with_run run old.running
     → has ≡ had ++ record { start = start; run = run } ∷ []
     → StartsRun (Some (launcher_with old had)) start run (Some (launcher_with new has))
@@ -51,7 +51,7 @@ answered start run answers old new had has from is left running tried =
     ))
 
 -- a start was given its number, and was kept
-starts_next : (start : StartData) (run : Option ℕ) (old mid new : RunsData) (had has : List TriedData) → GivesNumber old run mid
+starts_next : (start : StartData) (run : Option ℕ) (old mid new : RunSetData) (had has : List TriedData) → TakesNumber old run mid
     → new.running ≡ with_run run mid.running → new.next ≡ mid.next → has ≡ had ++ record { start = start; run = run } ∷ []
     → StartsRun (Some (launcher_with old had)) start run (Some (launcher_with new has))
 starts_next start None old mid new had has (none, same) running next tried =
@@ -76,7 +76,7 @@ abbrev pub IsKept : Result (Unit {0}) AllocError → MemoryLauncher → MemoryLa
 IsKept keeps kept now = ((is_err keeps ≡ true) × (now.spent ≡ true)) ⊎ ((is_err keeps ≡ false) × (launcher_shown now ≡ launcher_shown kept))
 
 pub start_told : (old kept now : MemoryLauncher) (start : Start) (run : Option ℕ) (mid : RunSet) (keeps : Result (Unit {0}) AllocError)
-    → GivesNumber (runs_data old.runs) run (runs_data mid) → OnOk keeps (kept.tried.items ≡ with_tried start run old.tried.items)
+    → TakesNumber (runs_data old.runs) run (runs_data mid) → OnOk keeps (kept.tried.items ≡ with_tried start run old.tried.items)
     → OnOk keeps (kept.runs.running.items ≡ with_run run mid.running.items) → kept.runs.next ≡ mid.next → kept.spent ≡ old.spent
     → IsKept keeps kept now → StartsRun (launcher_shown old) (start_data start) run (launcher_shown now)
 start_told old kept now start run mid keeps gives tried running next spent (inl (fails, is)) =

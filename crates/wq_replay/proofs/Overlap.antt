@@ -21,10 +21,10 @@ use Rattle.wq_session.specs.declared.ask.Ask.{Ask}
 use Rattle.wq_view.specs.Listing.{PassData}
 use Rattle.wq_replay.specs.Accepted.{AcceptsAt, AcceptsFor, AcceptsUnless}
 use Rattle.wq_replay.specs.Gets.{GetsAt, GetsFor, ending, fault_for}
-use Rattle.wq_replay.specs.Overlap.{GoesOn, IsThere, RunsDoNotOverlap, StartsTrigger}
+use Rattle.wq_replay.specs.Overlap.{Meanwhile, HasTrigger, RunsDoNotOverlap, StartsTrigger}
 use Rattle.wq_replay.specs.Playing.{Does}
 use Rattle.wq_replay.specs.Rounds.{HasRound, RoundsAt}
-use Rattle.wq_replay.specs.Runs.{without_run}
+use Rattle.wq_replay.specs.Runs.{other_runs}
 use Rattle.wq_replay.specs.World.{Crawls, CrawlsAt, HappeningData, crawl, watching, asked, idle, round, ended, SentData, Starts, WatchesAt, WorldData, root_text}
 use Rattle.wq_replay.proofs.Shelves.{after_both, does, round_calls, shelves_are_calls}
 use Rattle.wq_replay.proofs.KeptRuns.{accepted_keep, run_at}
@@ -64,17 +64,17 @@ gets_for (Some fault) table client world ask out after (may, is) = ap (λ w. w.r
 
 -- a run goes on when another one has ended
 other_ended : (run other : ℕ) (running : List ℕ) → other ≢ run → list_any (λ r. nat_eq run r) running ≡ true
-    → list_any (λ r. nat_eq run r) (without_run other running) ≡ true
+    → list_any (λ r. nat_eq run r) (other_runs other running) ≡ true
 other_ended run other [] differ goes = goes
 other_ended run other (r ∷ running) differ goes = by (nat_eq run r) (nat_eq other r) refl refl goes (other_ended run other running differ)
   where
     by : (b o : Bool) → nat_eq run r ≡ b → nat_eq other r ≡ o → (b || list_any (λ r. nat_eq run r) running) ≡ true
-        → (list_any (λ r. nat_eq run r) running ≡ true → list_any (λ r. nat_eq run r) (without_run other running) ≡ true)
-        → list_any (λ r. nat_eq run r) (if not o then r ∷ without_run other running else without_run other running) ≡ true
+        → (list_any (λ r. nat_eq run r) running ≡ true → list_any (λ r. nat_eq run r) (other_runs other running) ≡ true)
+        → list_any (λ r. nat_eq run r) (if not o then r ∷ other_runs other running else other_runs other running) ≡ true
     by true true is too goes rest = absurd (differ (eqb-true other r too ∙ sym (eqb-true run r is)))
-    by true false is too goes rest = ap (λ b. b || list_any (λ r. nat_eq run r) (without_run other running)) is
+    by true false is too goes rest = ap (λ b. b || list_any (λ r. nat_eq run r) (other_runs other running)) is
     by false true is too goes rest = rest goes
-    by false false is too goes rest = ap (λ b. b || list_any (λ r. nat_eq run r) (without_run other running)) is ∙ rest goes
+    by false false is too goes rest = ap (λ b. b || list_any (λ r. nat_eq run r) (other_runs other running)) is ∙ rest goes
 
 -- the command of a trigger runs: calls led to the shelf, on which the trigger has this run, and the run goes on
 record IsRunning (root : ℕ) (name : List ℕ) (run : ℕ) (sockname : List ℕ) (world : WorldData) : Type 0 where
@@ -128,7 +128,7 @@ module _ (answers_are_calls : AnswersAreCalls) (rounds_are_calls : RoundsAreCall
 
   -- what happens, but the end of the run
   step_keeps : (world : WorldData) (happening : HappeningData) (sent : List SentData) (next : WorldData) → IsRunning root name run sockname world
-      → Does world happening sent next → happening ≢ ended run → IsThere root name next
+      → Does world happening sent next → happening ≢ ended run → HasTrigger root name next
       → (run_at root name next.shelf ≡ Some run) × (list_any (λ r. nat_eq run r) (next.runs).running ≡ true)
   step_keeps world (crawl at seen) sent next is (none, goes) other there =
       let same = (does answers_are_calls rounds_are_calls world (crawl at seen) sent next is.calls sockname is.leads (none, goes)) in
@@ -160,7 +160,7 @@ module _ (answers_are_calls : AnswersAreCalls) (rounds_are_calls : RoundsAreCall
 
   -- one thing after the other
   goes_keep : (world : WorldData) (happenings : List HappeningData) (after : WorldData) → IsRunning root name run sockname world
-      → GoesOn root name run world happenings after → IsRunning root name run sockname after
+      → Meanwhile root name run world happenings after → IsRunning root name run sockname after
   goes_keep world [] after is same = subst (IsRunning root name run sockname) (sym same) is
   goes_keep world (happening ∷ happenings) after is (sent, next, now, other, there, later) =
       let kept = step_keeps world happening sent next is now other there in

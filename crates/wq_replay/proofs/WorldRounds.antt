@@ -20,9 +20,9 @@ use Rattle.wq_session.specs.Shelved.{shelf_data}
 use Rattle.wq_session.specs.Trigger.{run_in, trigger_called}
 use Rattle.wq_view.specs.View.{ViewData}
 use Rattle.wq_replay.specs.Launched.{all_tried, launcher_data, launcher_shown, runs_data, shown_unless}
-use Rattle.wq_replay.specs.Replay.{end_of, ends_of}
-use Rattle.wq_replay.specs.Rounds.{HasRound, RoundsAt, fired, run_of, sent_note}
-use Rattle.wq_replay.specs.Runs.{RunsData, launcher_at, runs_after}
+use Rattle.wq_replay.specs.Replay.{end_if, ends_of}
+use Rattle.wq_replay.specs.Rounds.{HasRound, RoundsAt, fired, trigger_run, sent_note}
+use Rattle.wq_replay.specs.Runs.{RunSetData, launcher_at, runs_after}
 use Rattle.wq_replay.specs.StartLine.{tried_text}
 use Rattle.wq_replay.specs.World.{SentData, WorldData, root_text, unrefused}
 use Rattle.wq_replay.specs.declared.launcher.MemoryLauncher.{MemoryLauncher}
@@ -36,7 +36,7 @@ notes_of [] = refl
 notes_of (t ∷ tried) = ap (λ notes. sent_note (tried_text t) ∷ notes) (notes_of tried)
 
 -- the parts of a round that the code did
-pub has_round : (before : WorldData) (instance : InstanceData) (view : ViewData) (succeeds : Bool) (shelf left : ShelfNow) (mine : RunsData)
+pub has_round : (before : WorldData) (instance : InstanceData) (view : ViewData) (succeeds : Bool) (shelf left : ShelfNow) (mine : RunSetData)
     (launcher : MemoryLauncher) (shown : Option LauncherData) (lines : List (List ℕ)) → before.shelf ≡ shelf → before.runs ≡ mine
     → IsRound instance view shelf shown left (launcher_shown launcher) → shown ≡ Some (launcher_at succeeds mine) → launcher.spent ≡ false
     → lines ≡ map tried_text (all_tried launcher.tried.items)
@@ -47,7 +47,7 @@ has_round before instance view succeeds shelf left mine launcher shown lines hel
   tried = all_tried launcher.tried.items;
   round = subst (λ (o : Option LauncherData). IsRound instance view before.shelf (Some (launcher_at succeeds before.runs)) left o)
       (ap (λ b. shown_unless b (launcher_data launcher)) whole)
-      (subst (λ (r : RunsData). IsRound instance view before.shelf (Some (launcher_at succeeds r)) left (launcher_shown launcher)) (sym runs)
+      (subst (λ (r : RunSetData). IsRound instance view before.shelf (Some (launcher_at succeeds r)) left (launcher_shown launcher)) (sym runs)
       (subst (λ (o : Option LauncherData). IsRound instance view before.shelf o left (launcher_shown launcher)) begins
       (subst (λ (s : ShelfNow). IsRound instance view s shown left (launcher_shown launcher)) (sym held) had)));
   tells = ap (map sent_note) about ∙ notes_of (all_tried launcher.tried.items);
@@ -65,11 +65,11 @@ rounds_found (Some r) number view instance succeeds before sent after numbered v
     (subst (λ (i : InstanceData). HasRound i view succeeds before sent after) (is ∙ ap (instance_of before.run) (some_same numbered)) had)
 
 -- runs of these parts
-abbrev runs_with : List ℕ → ℕ → RunsData
+abbrev runs_with : List ℕ → ℕ → RunSetData
 runs_with running next = record { running = running; next = next }
 
 -- the runs after a round, with the next number of those before it if each start failed
-pub runs_kept : (succeeds : Bool) (before mine left now : RunsData) → before ≡ mine → now.running ≡ left.running
+pub runs_kept : (succeeds : Bool) (before mine left now : RunSetData) → before ≡ mine → now.running ≡ left.running
     → (succeeds ≡ true → now.next ≡ left.next) → (succeeds ≡ false → now.next ≡ mine.next) → runs_after succeeds before left ≡ now
 runs_kept true before mine left now is running goes stays =
     ap (λ r. runs_with r left.next) (sym running) ∙ ap (runs_with now.running) (sym (goes refl))
@@ -85,20 +85,20 @@ rounds_none (Some r) succeeds before lines none empty = absurd cc
 -- the run of a trigger, by what is found on the code's shelf
 pub run_found : (before : WorldData) (shelf : ShelfData Trigger) (root name : List ℕ) (number : ℕ) (o : Option (RootData Trigger)) (t : Option Trigger)
     → before.shelf ≡ shelf_data shelf → number_of root before.events ≡ Some number → numbered number shelf.roots ≡ o → under name (triggers_in o) ≡ t
-    → run_of root name before ≡ run_in (option_map trigger_data t)
+    → trigger_run root name before ≡ run_in (option_map trigger_data t)
 run_found before shelf root name number o t held shown found is =
     ap (λ (s : ShelfNow). option_and_then (λ n. run_in (trigger_called n name s)) (number_of root before.events)) held
     ∙ ap (λ (n : Option ℕ). option_and_then (λ n. run_in (trigger_called n name (shelf_data shelf))) n) shown
     ∙ ap run_in (called_now_at number name shelf o found ∙ ap (option_map trigger_data) is)
 
 -- the end of a run, if the name is a text, and if it is none
-pub ends_text : (name : List ℕ) (before : WorldData) → IsUtf8 name → ends_of name before ≡ end_of (run_of root_text name before)
+pub ends_text : (name : List ℕ) (before : WorldData) → IsUtf8 name → ends_of name before ≡ end_if (trigger_run root_text name before)
 ends_text name before text =
-    ap (λ b. if b then end_of (run_of root_text name before) else []) (is_utf8-from_IsUtf8 name text)
+    ap (λ b. if b then end_if (trigger_run root_text name before) else []) (is_utf8-from_IsUtf8 name text)
 
 pub ends_no_text : (name : List ℕ) (before : WorldData) → (IsUtf8 name → ⊥) → ends_of name before ≡ []
 ends_no_text name before none = by (is_utf8 name) refl
   where
-    by : (b : Bool) → is_utf8 name ≡ b → (if b then end_of (run_of root_text name before) else []) ≡ []
+    by : (b : Bool) → is_utf8 name ≡ b → (if b then end_if (trigger_run root_text name before) else []) ≡ []
     by true is = absurd (none (IsUtf8-from_is_utf8 name is))
     by false is = refl

@@ -1,16 +1,16 @@
--- What the code's types of runs and of the launcher in memory stand for.
+-- The meaning of the code's types of runs and of the launcher in memory.
 -- No public document is behind it.
 use Rattle.std.specs.Prelude.{ℕ, Bool, true, false, List, [], ◌∷◌, ◌++◌, map, Option, Some, None}
 use Rattle.wq_follow.specs.Launcher.{LauncherData, TriedData}
 use Rattle.wq_follow.specs.Started.{start_data}
 use Rattle.wq_follow.specs.declared.starting.Start.{Start}
-use Rattle.wq_replay.specs.Runs.{RunsData, launcher_with}
+use Rattle.wq_replay.specs.Runs.{RunSetData, launcher_with}
 use Rattle.wq_replay.specs.declared.launcher.MemoryLauncher.{MemoryLauncher}
 use Rattle.wq_replay.specs.declared.launcher.Tried.{Tried}
 use Rattle.wq_replay.specs.declared.runs.RunSet.{RunSet}
 
 -- runs
-abbrev pub runs_data : RunSet → RunsData
+abbrev pub runs_data : RunSet → RunSetData
 runs_data runs = record { running = runs.running.items; next = runs.next }
 
 -- a start that was tried

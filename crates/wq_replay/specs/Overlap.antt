@@ -27,16 +27,16 @@ StartsTrigger root name run world after =
     × (fired_for name (had.round).turns ≡ Some (started run start))
 
 -- the trigger is on the shelf
-abbrev pub IsThere : ℕ → List ℕ → WorldData → Type 0
-IsThere root name world = is_some (trigger_called root name world.shelf) ≡ true
+abbrev pub HasTrigger : ℕ → List ℕ → WorldData → Type 0
+HasTrigger root name world = is_some (trigger_called root name world.shelf) ≡ true
 
--- this happens, one thing after the other, and the trigger is never deleted, nor is it the end of
+-- one thing after the other happens. The trigger is never deleted, and none of them is the end of
 -- the run
-abbrev pub GoesOn : ℕ → List ℕ → ℕ → WorldData → List HappeningData → WorldData → Type 0
-GoesOn root name run world [] after = after ≡ world
-GoesOn root name run world (happening ∷ later) after =
+abbrev pub Meanwhile : ℕ → List ℕ → ℕ → WorldData → List HappeningData → WorldData → Type 0
+Meanwhile root name run world [] after = after ≡ world
+Meanwhile root name run world (happening ∷ later) after =
     (sent : List SentData) × (next : WorldData) × Does world happening sent next
-    × (happening ≢ ended run) × IsThere root name next × GoesOn root name run next later after
+    × (happening ≢ ended run) × HasTrigger root name next × Meanwhile root name run next later after
 
 -- once a trigger was started, no round starts it before its run has ended, as long as it is not
 -- deleted. A trigger that is replaced is not deleted
@@ -44,5 +44,5 @@ abbrev pub RunsDoNotOverlap : Type 0
 RunsDoNotOverlap = (server : RunData) (sockname : List ℕ) (earlier later : List HappeningData)
     (sent : List SentData) (world first last after : WorldData) (root : ℕ) (name : List ℕ)
     (run other : ℕ) → Runs (new_world server sockname) earlier sent world
-    → StartsTrigger root name run world first → GoesOn root name run first later last
+    → StartsTrigger root name run world first → Meanwhile root name run first later last
     → StartsTrigger root name other last after → ⊥

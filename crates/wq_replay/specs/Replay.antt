@@ -19,7 +19,7 @@ use Rattle.wq_view.specs.Listing.{PassData}
 use Rattle.wq_replay.specs.Limit.{max_script}
 use Rattle.wq_replay.specs.Line.{lines_of}
 use Rattle.wq_replay.specs.Client.{numbers_of}
-use Rattle.wq_replay.specs.Rounds.{run_of}
+use Rattle.wq_replay.specs.Rounds.{trigger_run}
 use Rattle.wq_replay.specs.Stage.{StageData, Turn, drafts, lists, hears, rests, fires, finishes}
 use Rattle.wq_replay.specs.Stage.{malformed, start, turn_of}
 use Rattle.wq_replay.specs.World.{WorldData, HappeningData, crawl, watching, asked, idle, round}
@@ -29,8 +29,8 @@ use Rattle.wq_replay.specs.World.{root_text}
 use Rattle.wq_replay.specs.declared.fault.ReplayFault.{ReplayFault}
 use Rattle.wq_replay.specs.declared.fault.ReplayFault.TheVariants.{Line, TooLong, Read, Write, Memory}
 
--- the line that is written for what is sent: the client's number, if there is one, with a space, and
--- the text
+-- the line that is written for what is sent: the client's number, if there is one, with a space,
+-- and the text
 abbrev pub sent_line : Option ℤ → List ℕ → List ℕ
 sent_line (Some client) text = signed_decimal client ++ (codes " " ++ (text ++ codes "\n"))
 sent_line None text = text ++ codes "\n"
@@ -74,14 +74,14 @@ abbrev pub rounds : Bool → List HappeningData
 rounds succeeds = round root_text succeeds ∷ []
 
 -- that a run has ended, if there is one
-abbrev pub end_of : Option ℕ → List HappeningData
-end_of None = []
-end_of (Some run) = ended run ∷ []
+abbrev pub end_if : Option ℕ → List HappeningData
+end_if None = []
+end_if (Some run) = ended run ∷ []
 
--- what happens if the command of the trigger of `/r` of this name has ended: nothing, if the name is
--- no text, or if there is no run
+-- what happens if the command of the trigger of `/r` of this name has ended: nothing, if the name
+-- is no text, or if there is no run
 abbrev pub ends_of : List ℕ → WorldData → List HappeningData
-ends_of name world = if is_utf8 name then end_of (run_of root_text name world) else []
+ends_of name world = if is_utf8 name then end_if (trigger_run root_text name world) else []
 
 -- all of this happens at a stage: this is written of it, and the stage is another then
 abbrev pub DoesAll : StageData → List HappeningData → List ℕ → StageData → Type 0

@@ -11,7 +11,7 @@ use Rattle.wq_session.specs.At.{ShelfNow}
 use Rattle.wq_session.specs.Round.{IsRound}
 use Rattle.wq_session.specs.Trigger.{run_in, trigger_called}
 use Rattle.wq_view.specs.View.{ViewData}
-use Rattle.wq_replay.specs.Runs.{RunsData, launcher_at, launcher_with, run_ended, runs_after}
+use Rattle.wq_replay.specs.Runs.{RunSetData, launcher_at, launcher_with, run_ended, runs_after}
 use Rattle.wq_replay.specs.StartLine.{tried_text}
 use Rattle.wq_replay.specs.World.{WorldData, SentData, unrefused}
 
@@ -20,15 +20,15 @@ abbrev pub sent_note : List ℕ → SentData
 sent_note text = record { client = None; text = text; shuts = false }
 
 -- the world with this shelf and these runs
-abbrev pub fired : ShelfNow → RunsData → WorldData → WorldData
+abbrev pub fired : ShelfNow → RunSetData → WorldData → WorldData
 fired shelf runs world = record world { shelf = shelf; runs = runs; refused = None }
 
--- a round of a root at a view of it: the triggers have their turns, the launcher answers each start,
--- and a line is sent about each
+-- a round of a root at a view of it: the triggers have their turns, the launcher answers each
+-- start, and a line is sent about each
 pub record HasRound (instance : InstanceData) (view : ViewData) (succeeds : Bool)
     (world : WorldData) (sent : List SentData) (after : WorldData) : Type 0 where
   pub shelf : ShelfNow
-  pub runs : RunsData
+  pub runs : RunSetData
   pub tried : List TriedData
   pub round : IsRound instance view world.shelf (Some (launcher_at succeeds world.runs)) shelf
       (Some (launcher_with runs tried))
@@ -50,9 +50,9 @@ Rounds root succeeds world sent after = (table : TableData) × IsTableOf world.e
 abbrev pub without_running : ℕ → WorldData → WorldData
 without_running run world = record world { runs = run_ended run world.runs; refused = None }
 
--- the run of the command of a trigger of a root, if the root is shown, the trigger is there, and its
--- command was started
-abbrev pub run_of : List ℕ → List ℕ → WorldData → Option ℕ
-run_of root name world =
+-- the run of the command of a trigger of a root, if the root is shown, the trigger is there, and
+-- its command was started
+abbrev pub trigger_run : List ℕ → List ℕ → WorldData → Option ℕ
+trigger_run root name world =
     option_and_then (λ number. run_in (trigger_called number name world.shelf))
     (number_of root world.events)

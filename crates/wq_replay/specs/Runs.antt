@@ -5,7 +5,7 @@ use Rattle.std.specs.Prelude.{List, [], ◌∷◌, filter, Option, Some, None}
 use Rattle.wq_follow.specs.Launcher.{LauncherData, TriedData}
 
 -- the runs that go on, and the number of the next run
-pub record RunsData : Type 0 where
+pub record RunSetData : Type 0 where
   pub running : List ℕ
   pub next : ℕ
 
@@ -14,7 +14,7 @@ abbrev pub max_run : ℕ
 max_run = 4294967295
 
 -- nothing was started yet
-abbrev pub no_runs : RunsData
+abbrev pub no_runs : RunSetData
 no_runs = record { running = []; next = 1 }
 
 -- so many answers by which a start succeeds: the numbers from this one on
@@ -27,7 +27,7 @@ abbrev pub numbers_after : ℕ → List (Option ℕ)
 numbers_after next = answers_from (max_run - next) next
 
 -- a launcher with these runs and starts, by which each start succeeds
-abbrev pub launcher_with : RunsData → List TriedData → LauncherData
+abbrev pub launcher_with : RunSetData → List TriedData → LauncherData
 launcher_with runs tried =
     record { answers = numbers_after runs.next; running = runs.running; tried = tried }
 
@@ -39,28 +39,30 @@ first_number false next = max_run
 
 -- the number that is given next, after a round that ended at this one: if each start failed, none
 -- was given
-abbrev pub number_after : Bool → ℕ → ℕ → ℕ
-number_after true next left = left
-number_after false next left = next
+abbrev pub next_after : Bool → ℕ → ℕ → ℕ
+next_after true next left = left
+next_after false next left = next
 
--- the launcher at the begin of a round in which each start succeeds or each fails, by the runs so far
-abbrev pub launcher_at : Bool → RunsData → LauncherData
-launcher_at succeeds runs = launcher_with (record runs { next = first_number succeeds runs.next }) []
+-- the launcher at the begin of a round in which each start succeeds or each fails, by the runs so
+-- far
+abbrev pub launcher_at : Bool → RunSetData → LauncherData
+launcher_at succeeds runs =
+    launcher_with (record runs { next = first_number succeeds runs.next }) []
 
 -- the runs after such a round, by those before it and those of the launcher then
-abbrev pub runs_after : Bool → RunsData → RunsData → RunsData
-runs_after succeeds runs left = record left { next = number_after succeeds runs.next left.next }
+abbrev pub runs_after : Bool → RunSetData → RunSetData → RunSetData
+runs_after succeeds runs left = record left { next = next_after succeeds runs.next left.next }
 
 -- the runs that go on, without one
-abbrev pub without_run : ℕ → List ℕ → List ℕ
-without_run run running = filter (λ r. not (nat_eq run r)) running
+abbrev pub other_runs : ℕ → List ℕ → List ℕ
+other_runs run running = filter (λ r. not (nat_eq run r)) running
 
 -- the runs once one has ended
-abbrev pub run_ended : ℕ → RunsData → RunsData
-run_ended run runs = record runs { running = without_run run runs.running }
+abbrev pub run_ended : ℕ → RunSetData → RunSetData
+run_ended run runs = record runs { running = other_runs run runs.running }
 
 -- a run is given its number, if there is one
-abbrev pub GivesNumber : RunsData → Option ℕ → RunsData → Type 0
-GivesNumber old None new = (old.next ≡ max_run) × (new ≡ old)
-GivesNumber old (Some run) new =
+abbrev pub TakesNumber : RunSetData → Option ℕ → RunSetData → Type 0
+TakesNumber old None new = (old.next ≡ max_run) × (new ≡ old)
+TakesNumber old (Some run) new =
     (old.next < max_run) × (run ≡ old.next) × (new ≡ record old { next = suc old.next })

@@ -19,7 +19,7 @@ use Rattle.wq_crawl.specs.Publish.{IsNotTakenIn, IsPlace, Passes, with_start}
 use Rattle.wq_crawl.specs.declared.place.Place.{Place}
 use Rattle.wq_crawl.specs.declared.place.Place.TheVariants.{Shown, Full, Free}
 use Rattle.wq_view.specs.Listing.{PassData}
-use Rattle.wq_replay.specs.Runs.{RunsData, no_runs}
+use Rattle.wq_replay.specs.Runs.{RunSetData, no_runs}
 
 -- a crawl or a watching of a root that was refused
 pub record RefusedData : Type 0 where
@@ -27,14 +27,14 @@ pub record RefusedData : Type 0 where
   pub fault : CrawlFault
 
 -- a world: the run of the server, what happened to roots, what all clients share, the subscriptions
--- of each client, the runs of commands, and the crawl or opening that came last, if it was refused and
--- nothing followed it
+-- of each client, the runs of commands, and the crawl or opening that came last, if it was refused
+-- and nothing followed it
 pub record WorldData : Type 0 where
   pub run : RunData
   pub events : List RootEvent
   pub shelf : ShelfNow
   pub follows : ℤ → List SubscriptionData
-  pub runs : RunsData
+  pub runs : RunSetData
   pub refused : Option RefusedData
 
 -- what may happen
@@ -52,7 +52,8 @@ pub data HappeningData : Type 0 where
   -- the run of this number has ended
   ended : (run : ℕ) → HappeningData
 
--- a line that is sent: to a client a reply, or a list of a subscription; to none, a line about a start
+-- a line that is sent: to a client a reply, or a list of a subscription; to none, a line about a
+-- start
 pub record SentData : Type 0 where
   pub client : Option ℤ
   -- without a newline

@@ -1,9 +1,9 @@
-//! What happens by a line of a script: what an ask of a client needs first, and the ask; idle moments; a round of triggers;
-//! or the end of a run. `playing` and `rounds` have the effect of it.
+//! The happenings that a line of a script brings: the crawl or the watching that an ask needs, and the ask; idle
+//! moments; a round of triggers; or the end of a run. `playing` and `rounds` let them happen.
 ghost use Rattle.std.specs.Prelude.{◌≡◌, ◌++◌, ◌∷◌, [], IfOk, map, option_to_list};
 ghost use Rattle.wq_session.specs.Need.{need_of};
 ghost use Rattle.wq_session.specs.Needed.{need_data};
-ghost use Rattle.wq_replay.specs.Replay.{end_of, listed_root, needed, rounds};
+ghost use Rattle.wq_replay.specs.Replay.{end_if, listed_root, needed, rounds};
 ghost use Rattle.wq_replay.specs.Stands.{crawl_data, happening_data};
 ghost use Rattle.wq_replay.specs.World.{asked, idle};
 
@@ -59,8 +59,8 @@ pub(crate) fn rounds<'a>(alloc: Global, succeeds: bool) -> Result<Vec<Happening<
 }
 
 /// The end of a run, if there is one.
-pub(crate) fn end_of<'a>(alloc: Global, run: Option<u32>) -> Result<Vec<Happening<'a>>, AllocError>
-    ensures { IfOk result (λ all. map happening_data all.items ≡ end_of run) }
+pub(crate) fn end_if<'a>(alloc: Global, run: Option<u32>) -> Result<Vec<Happening<'a>>, AllocError>
+    ensures { IfOk result (λ all. map happening_data all.items ≡ end_if run) }
 {
     let mut ends = Vec::new(alloc);
     if let Some(run) = run {

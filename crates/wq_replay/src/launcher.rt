@@ -11,10 +11,10 @@ pub(crate) struct Tried {
     pub(crate) run: Option<u32>,
 }
 
-/// A launcher in memory. What it does is in `launching`.
+/// A launcher in memory. Its functions are in `launching`.
 #[derive(Drop)]
 pub(crate) struct MemoryLauncher {
-    /// The runs. A start gets the next number, and fails when there is none any more.
+    /// The runs. A start gets the next number, and fails if none is left.
     pub(crate) runs: RunSet,
     /// The starts that it was given.
     pub(crate) tried: Vec<Tried>,

@@ -3,7 +3,7 @@ ghost use Rattle.std.specs.Prelude.{◌≡◌, OnOk, Some, nat_eq};
 ghost use Rattle.std.specs.List.{list_any};
 ghost use Rattle.wq_follow.specs.Launcher.{with_run};
 ghost use Rattle.wq_replay.specs.Launched.{launcher_shown, runs_data, with_tried};
-ghost use Rattle.wq_replay.specs.Runs.{GivesNumber, launcher_at, no_runs, run_ended};
+ghost use Rattle.wq_replay.specs.Runs.{TakesNumber, launcher_at, no_runs, run_ended};
 
 use crate::launcher::{MemoryLauncher, Tried};
 use crate::runs::RunSet;
@@ -26,7 +26,7 @@ impl RunSet {
 
     /// Gives the number of a run, unless none is left.
     fn give(&mut self) -> Option<u32>
-        ensures { GivesNumber (runs_data self.old) result (runs_data self.new) }
+        ensures { TakesNumber (runs_data self.old) result (runs_data self.new) }
     {
         if self.next == MAX_RUN {
             return None;

@@ -26,8 +26,8 @@ pub fn shelves_are_calls()
     rounds_are_calls();
 }
 
-/// Between a start of a trigger and the end of that run, which the launcher told, there is no other start of it, over its
-/// replacements too, as long as it is not deleted.
+/// Between a start of a trigger and the end of that run, as the launcher told it, no round starts the trigger. It may
+/// be replaced meanwhile, but not deleted.
 pub fn runs_do_not_overlap()
     ensures { RunsDoNotOverlap }
 {

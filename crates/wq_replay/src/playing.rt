@@ -1,5 +1,5 @@
 //! What happens in a world: crawls and openings of roots, the answers to what clients ask, and idle moments. Rounds of
-//! triggers are in `rounds`.
+//! triggers and ends of runs are in `rounds`.
 ghost use Rattle.std.specs.Prelude.{◌≡◌, ◌+◌, ◌++◌, ◌∷◌, List, Ok, [], false, map, string_bytes, true};
 ghost use Rattle.std.specs.Prelude.{IfOk, IsErr, OnErr, OnOk};
 ghost use Rattle.std.specs.Prelude.{None, pos};

@@ -1,6 +1,6 @@
 //! Rounds of triggers in a world, and the ends of runs.
 ghost use Rattle.std.specs.Prelude.{◌≡◌, IfOk, map};
-ghost use Rattle.wq_replay.specs.Rounds.{Rounds, run_of, sent_note, without_running};
+ghost use Rattle.wq_replay.specs.Rounds.{Rounds, trigger_run, sent_note, without_running};
 ghost use Rattle.wq_replay.specs.Stands.{Stands};
 ghost use Rattle.wq_replay.specs.World.{WorldData};
 
@@ -14,7 +14,9 @@ use wq_base::{Table, Text};
 use wq_session::round;
 
 impl World {
-    /// A round of the triggers of a root, in which each start succeeds, or each fails. It gives a line about each start.
+    /// A round of the triggers of a root, in which each start succeeds, or each fails.
+    ///
+    /// It gives a line about each start, without its newline.
     pub(crate) fn round(
         &mut self,
         alloc: Global,
@@ -56,9 +58,9 @@ impl World {
 
     /// The run of the command of a trigger of a root, if the root is shown, the trigger is there, and its command was
     /// started. It may have ended.
-    pub fn run_of(&self, root: &str, trigger: &str) -> Option<u32>
+    pub fn trigger_run(&self, root: &str, trigger: &str) -> Option<u32>
         ensures { (before : WorldData) → Stands before self.now
-            → result ≡ run_of root.now trigger.now before }
+            → result ≡ trigger_run root.now trigger.now before }
     {
         let number = self.table.number_of(root)?;
         self.shelf.root(number)?.trigger(trigger)?.running()

@@ -14,7 +14,7 @@ ghost use Rattle.wq_replay.specs.World.{WorldData};
 
 use crate::fault::StepFault;
 use crate::happening::Happening;
-use crate::hearing::{end_of, happenings, moments, rounds, text};
+use crate::hearing::{end_if, happenings, moments, rounds, text};
 use crate::playing::ROOT;
 use crate::script::{Line, RowLine, read_line};
 use crate::sending::send;
@@ -254,7 +254,7 @@ fn ends_of<'a>(alloc: Global, world: &World, name: &[u8]) -> Result<Vec<Happenin
         map happening_data all.items ≡ ends_of name.now before) }
 {
     match str::from_utf8(name) {
-        Ok(name) => end_of(alloc, world.run_of(ROOT, name)),
+        Ok(name) => end_if(alloc, world.trigger_run(ROOT, name)),
         Err(_) => Ok(Vec::new(alloc)),
     }
 }

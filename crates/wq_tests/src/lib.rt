@@ -16,6 +16,8 @@ mod program;
 #[cfg(test)]
 mod query;
 #[cfg(test)]
+mod round;
+#[cfg(test)]
 mod term;
 #[cfg(test)]
 mod tree;

@@ -1,5 +1,5 @@
 //! Worlds that are played: crawls and openings of roots, lines of clients, idle moments, rounds of triggers and ends of
-//! their commands, one after the other.
+//! their commands, one after the other. The tests of rounds are in `round`.
 
 use crate::tree::pass;
 use itoa::Buffer;
@@ -17,7 +17,7 @@ use wq_view::Pass;
 /// Something that happens. A root and a client's line are texts, and what a root lists is one of
 /// the trees below.
 #[derive(Clone, Copy)]
-enum Step {
+pub(crate) enum Step {
     Crawl(&'static str, Result<usize, CrawlFault>),
     Watch(&'static str, Result<usize, CrawlFault>),
     Line(i64, &'static str),
@@ -34,11 +34,11 @@ enum Step {
 }
 
 /// The trees that are listed: none of the files, and one.
-const NONE: usize = 0;
+pub(crate) const NONE: usize = 0;
 
-const A: usize = 1;
+pub(crate) const A: usize = 1;
 
-const B: usize = 2;
+pub(crate) const B: usize = 2;
 
 fn trees(alloc: Global) -> Result<Vec<Pass>, Fail> {
     let mut trees = Vec::new(alloc);
@@ -48,7 +48,7 @@ fn trees(alloc: Global) -> Result<Vec<Pass>, Fail> {
     Ok(trees)
 }
 
-const NAMES: &str = r#"["query","/r",{"fields":["name"]}]"#;
+pub(crate) const NAMES: &str = r#"["query","/r",{"fields":["name"]}]"#;
 
 const NAMES_AT_ONCE: &str = r#"["query","/r",{"fields":["name"],"sync_timeout":0}]"#;
 
@@ -185,7 +185,12 @@ fn show(client: i64, line: &[u8], written: &mut Vec<u8>) -> Result<(), AllocErro
 }
 
 /// Asserts what a world sends while this happens.
-fn check(rt: &impl Abort, alloc: Global, steps: &[Step], want: &str) -> Result<(), Fail> {
+pub(crate) fn check(
+    rt: &impl Abort,
+    alloc: Global,
+    steps: &[Step],
+    want: &str,
+) -> Result<(), Fail> {
     let written = shown(alloc, &played(alloc, steps)?)?;
     assert!(rt; written.as_slice() == want.as_bytes());
     Ok(())
@@ -460,77 +465,5 @@ fn a_session_ends_with_its_subscriptions(rt: HostRuntime) -> Result<(), Fail> {
             "1 {\"error\":\"E1: line too long\",\"version\":\"wq-1\"}\n",
             "1 {\"deleted\":false,\"unsubscribe\":\"s\",\"version\":\"wq-1\"}\n",
         ),
-    )
-}
-
-const TRIGGERS: &str = r#"["trigger","/r",{"name":"t","command":["r"],"append_files":true}]"#;
-
-const TRIGGERS_AT_Q: &str = r#"["trigger","/q",{"name":"t","command":["q"],"append_files":true}]"#;
-
-/// A round is one of a root: the triggers of another one have no turn, nor is there a round of a root that was never
-/// there. A trigger whose command runs is passed over, until that run has ended; a start that failed has no number.
-#[test]
-fn a_round_is_one_of_a_root(rt: HostRuntime) -> Result<(), Fail> {
-    check(
-        &rt,
-        rt.alloc(),
-        &[
-            Step::Watch("/q", Ok(NONE)),
-            Step::Line(1, r#"["watch","/q"]"#),
-            Step::Line(1, TRIGGERS),
-            Step::Line(2, TRIGGERS_AT_Q),
-            Step::Crawl("/r", Ok(A)),
-            Step::Crawl("/q", Ok(B)),
-            Step::Round("/x", true),
-            Step::Round("/r", false),
-            Step::Round("/q", true),
-            Step::Round("/r", true),
-            Step::Crawl("/r", Ok(B)),
-            Step::Crawl("/q", Ok(A)),
-            Step::Ended(1),
-            Step::Ended(7),
-            Step::Round("/r", true),
-            Step::Round("/q", true),
-            Step::Ended(2),
-            Step::Ended(2),
-            Step::Round("/r", true),
-        ],
-        concat!(
-            "1 {\"version\":\"wq-1\",\"watch\":\"/q\",\"watcher\":\"poll\"}\n",
-            "1 {\"disposition\":\"created\",\"triggerid\":\"t\",\"version\":\"wq-1\"}\n",
-            "2 {\"disposition\":\"created\",\"triggerid\":\"t\",\"version\":\"wq-1\"}\n",
-            "failed t\n",
-            "start {\"args\":[\"q\",\"b\"],\"env\":{\"WATCHMAN_CLOCK\":\"c:7:9:2:1\",\"WATCHMAN_ROOT\":\"/q\",\"WATCHMAN_TRIGGER\":\"t\"},\"name\":\"t\",\"stdin\":\"\"}\n",
-            "start {\"args\":[\"r\",\"a\"],\"env\":{\"WATCHMAN_CLOCK\":\"c:7:9:1:1\",\"WATCHMAN_ROOT\":\"/r\",\"WATCHMAN_TRIGGER\":\"t\"},\"name\":\"t\",\"stdin\":\"\"}\n",
-            "start {\"args\":[\"q\",\"a\",\"b\"],\"env\":{\"WATCHMAN_CLOCK\":\"c:7:9:2:2\",\"WATCHMAN_ROOT\":\"/q\",\"WATCHMAN_SINCE\":\"c:7:9:2:1\",\"WATCHMAN_TRIGGER\":\"t\"},\"name\":\"t\",\"stdin\":\"\"}\n",
-            "start {\"args\":[\"r\",\"a\",\"b\"],\"env\":{\"WATCHMAN_CLOCK\":\"c:7:9:1:2\",\"WATCHMAN_ROOT\":\"/r\",\"WATCHMAN_SINCE\":\"c:7:9:1:1\",\"WATCHMAN_TRIGGER\":\"t\"},\"name\":\"t\",\"stdin\":\"\"}\n",
-        ),
-    )
-}
-
-/// A crawl that was refused is that of the line directly behind it: a round, or the end of a run, stands between.
-#[test]
-fn a_round_follows_a_refused_crawl(rt: HostRuntime) -> Result<(), Fail> {
-    let answer =
-        "1 {\"clock\":\"c:7:9:1:0\",\"files\":[],\"is_fresh_instance\":true,\"version\":\"wq-1\"}\n";
-    check(
-        &rt,
-        rt.alloc(),
-        &[
-            Step::Crawl("/r", Err(CrawlFault::Unreadable)),
-            Step::Round("/r", true),
-            Step::Line(1, NAMES),
-        ],
-        answer,
-    )?;
-    check(
-        &rt,
-        rt.alloc(),
-        &[
-            Step::Crawl("/r", Err(CrawlFault::Unreadable)),
-            Step::Ended(1),
-            Step::Line(1, NAMES),
-        ],
-        answer,
     )
 }

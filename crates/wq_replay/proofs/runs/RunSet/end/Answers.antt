@@ -1,10 +1,10 @@
 -- The other runs are left.
 use Rattle.std.proofs.Common.{ℕ, List, rules, not, nat_eq, ap}
 use Rattle.std.proofs.lemmas.Fn.{filter_same}
-use Rattle.wq_replay.specs.Runs.{RunsData}
+use Rattle.wq_replay.specs.Runs.{RunSetData}
 use Rattle.wq_replay.proofs.runs.RunSet.end.Goals as goal
 
-abbrev runs_with : ℕ → List ℕ → RunsData
+abbrev runs_with : ℕ → List ℕ → RunSetData
 runs_with next running = record { running = running; next = next }
 
 pub returns : goal.returns

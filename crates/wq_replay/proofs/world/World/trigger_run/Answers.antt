@@ -2,7 +2,7 @@
 use Rattle.std.proofs.Common.{◌≡◌, Some, None, refl, sym, ◌∙◌}
 use Rattle.wq_live.specs.Event.{number_of}
 use Rattle.wq_replay.proofs.WorldRounds.{run_found}
-use Rattle.wq_replay.proofs.world.World.run_of.Goals as goal
+use Rattle.wq_replay.proofs.world.World.trigger_run.Goals as goal
 
 pub returns-in_err-root : goal.returns-in_err-root
 returns-in_err-root c = λ before stands.
