@@ -19,7 +19,7 @@ pub(crate) fn name_case(alloc: Global, words: &[Vec<u8>]) -> Result<String> {
 /// `parts NAME`: the basename and the suffix of a record.
 pub(crate) fn parts_case(alloc: Global, words: &[Vec<u8>]) -> Result<String> {
     let view = view_of_one(alloc, bytes(words, 1)?)?;
-    let record = view.records().first().context("no record")?;
+    let record = view.records().next().context("no record")?;
     let basename = str::from_utf8(record.basename())?;
     let suffix = str::from_utf8(record.suffix())?;
     Ok(format!(in alloc; "basename {basename}, suffix {suffix}")?)

@@ -22,7 +22,8 @@ pub(crate) fn candidates_case(alloc: Global, words: &[Vec<u8>]) -> Result<String
     let found = candidates(alloc, &view, &generators)?;
     let mut answer = format!(in alloc; "{} found", found.len())?;
     for position in found {
-        let file = view.records().get(position as usize).context("no record")?;
+        let mut files = view.records_from(position as usize);
+        let file = files.next().context("no record")?;
         answer.push_str(format!(in alloc; "; {position} {}", file.name.as_str())?.as_str())?;
     }
     Ok(answer)

@@ -51,10 +51,11 @@ pub(crate) fn fitting(view: &View, places: &[u32]) -> usize
         ≡ fitting max_appended (file_names (records_at view.now.records places.now)) }
     ensures within { result ≤ length places.now }
 {
+    let mut reader = view.reader();
     let mut room = MAX_APPENDED;
     let mut count = 0usize;
     for place in places {
-        let length = view.get(*place as usize).name.as_bytes().len();
+        let length = reader.get(*place as usize).name.as_bytes().len();
         if length >= room {
             return count;
         }
@@ -96,8 +97,9 @@ fn put_names(
     ensures { OnOk result (args.new
         ≡ args.old ++ file_names (records_at view.now.records places.now)) }
 {
+    let mut reader = view.reader();
     for place in places {
-        let name = view.get(*place as usize).name.as_str();
+        let name = reader.get(*place as usize).name.as_str();
         args.push(copy(alloc, name)?)?;
     }
     Ok(())
@@ -191,9 +193,10 @@ fn names(alloc: Global, view: &View, places: &[u32]) -> Result<Table<u8>, AllocE
     requires { AreWithin view.now.records places.now }
     ensures { IfOk result (λ text. text ≡ name_lines (records_at view.now.records places.now)) }
 {
+    let mut reader = view.reader();
     let mut text = Vec::new(alloc);
     for place in places {
-        text.extend_from_slice(view.get(*place as usize).name.as_bytes())?;
+        text.extend_from_slice(reader.get(*place as usize).name.as_bytes())?;
         text.push(b'\n')?;
     }
     Ok(Table::from_vec(text))

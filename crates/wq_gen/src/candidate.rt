@@ -56,8 +56,9 @@ fn changed_since(alloc: Global, view: &View, since: Option<Bound>) -> Result<Vec
     if let Bound::Fresh = bound {
         return Ok(found);
     }
+    let mut reader = view.reader();
     for i in 0..view.len() {
-        keep_if(is_since(bound, view.get(i)), &mut found, i)?;
+        keep_if(is_since(bound, reader.get(i)), &mut found, i)?;
     }
     Ok(found)
 }
@@ -76,8 +77,9 @@ fn with_suffix(
         return Ok(found);
     };
     let texts = suffixes.as_slice();
+    let mut reader = view.reader();
     for i in 0..view.len() {
-        keep_if(has_suffix(texts, view.get(i)), &mut found, i)?;
+        keep_if(has_suffix(texts, reader.get(i)), &mut found, i)?;
     }
     Ok(found)
 }

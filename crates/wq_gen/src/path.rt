@@ -60,8 +60,9 @@ fn under(alloc: Global, view: &View, path: &PathGen) -> Result<Vec<u32>, AllocEr
 {
     let mut found = Vec::new(alloc);
     let (start, end) = view.below(path.path.as_str());
+    let mut reader = view.reader();
     for i in start..end {
-        keep_if(path.is_under(view.get(i)), &mut found, i)?;
+        keep_if(path.is_under(reader.get(i)), &mut found, i)?;
     }
     Ok(found)
 }

@@ -68,9 +68,10 @@ fn existing(alloc: Global, view: &View, places: &[u32]) -> Result<Vec<u32>, Allo
     ensures { IfOk result (λ kept. kept.items
         ≡ filter (passes_at (λ r. r.exists) view.now.records) places.now) }
 {
+    let mut reader = view.reader();
     let mut kept = Vec::new(alloc);
     for place in places {
-        if view.get(*place as usize).exists {
+        if reader.get(*place as usize).exists {
             kept.push(*place)?;
         }
     }

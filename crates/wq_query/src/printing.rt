@@ -97,9 +97,10 @@ pub(crate) fn print_files(
         (map (told form.now (instance_data instance.now) bound)
         (records_at view.now.records places.now)))) }
 {
+    let mut reader = view.reader();
     out.begin_array()?;
     for place in places {
-        print_file(out, form, instance, bound, view.get(*place as usize))?;
+        print_file(out, form, instance, bound, reader.get(*place as usize))?;
     }
     out.end_array()
 }

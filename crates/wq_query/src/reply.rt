@@ -89,9 +89,10 @@ fn files(
         ≡ map (file_data (planned plan.now).query.fields (instance_data instance.now)
         (planned plan.now).bound) (records_at view.now.records places.now)) }
 {
+    let mut reader = view.reader();
     let mut files = Vec::with_capacity(alloc, places.len())?;
     for place in places {
-        let file = view.get(*place as usize);
+        let file = reader.get(*place as usize);
         files.push(file_value(alloc, &plan.query.fields, instance, plan.bound, file)?)?;
     }
     Ok(files)

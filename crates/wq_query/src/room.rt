@@ -43,6 +43,7 @@ pub(crate) fn room_of(instance: &Instance, view: &View, places: &[u32], form: &F
 fn usual_name(view: &View, places: &[u32]) -> usize
     requires { AreWithin view.now.records places.now }
 {
+    let mut reader = view.reader();
     let step = places.len() / SAMPLES + 1;
     let mut bytes: usize = 0;
     let mut names: usize = 0;
@@ -50,7 +51,7 @@ fn usual_name(view: &View, places: &[u32]) -> usize
         let Some(place) = places.get(sample.saturating_mul(step)) else {
             break;
         };
-        bytes = bytes.saturating_add(view.get(*place as usize).name.as_bytes().len());
+        bytes = bytes.saturating_add(reader.get(*place as usize).name.as_bytes().len());
         names = names.saturating_add(1);
     }
     bytes.saturating_add(bytes / 8) / names.max(1)

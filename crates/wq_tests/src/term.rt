@@ -70,7 +70,7 @@ fn match_keeps_its_pattern_and_flags(rt: HostRuntime) -> Result<(), Fail> {
 fn check_seconds(rt: &impl Abort, alloc: Global, rows: &[(i64, i64, i64)]) -> Result<(), Fail> {
     for (mtime_ms, before, second) in rows {
         let view = view_of_one(alloc, *mtime_ms)?;
-        let record = view.records().first().ok_or("no record")?;
+        let record = view.records().next().ok_or("no record")?;
         let is_after_before = holds(&Expr::Since(Since::Modified(*before)), record);
         let is_after_second = holds(&Expr::Since(Since::Modified(*second)), record);
         assert!(rt; is_after_before && !is_after_second, "at {mtime_ms} ms");

@@ -2,13 +2,16 @@ mod NameOrder
 mod Sorting
 mod Faults
 mod Listings
-mod Pairs
+mod Runs
+mod Slots
+mod Passing
 mod Absorbed
 mod Stats
 mod Histories
 mod Showing
 mod ViewSteps
 mod Lookups
+mod Located
 mod Suffixes
 mod Positions
 mod NamesBelow

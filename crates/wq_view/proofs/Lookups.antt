@@ -1,12 +1,14 @@
 -- The place of a name among records in order.
-use Rattle.std.proofs.Common.{Option, ◌⊎◌, ◌==◌, ◌≤◌, IfNone, IfSome, ◌≡◌, ℕ, zero, suc, ◌<◌, ◌≢◌, true, false, cond, List, [], ◌∷◌, length, get_or, slice_get, Some, None, Result, Ok, Err, MatchOption, inl, inr, sym, refl, ap, subst, ◌∙◌, arith}
+use Rattle.std.proofs.Common.{Bool, Option, ◌⊎◌, ◌==◌, ◌≤◌, IfNone, IfSome, ◌≡◌, ℕ, zero, suc, ◌<◌, ◌≢◌, true, false, cond, List, [], ◌∷◌, length, get_or, slice_get, Some, None, Result, Ok, Err, MatchOption, inl, inr, sym, refl, ap, subst, ◌∙◌, arith}
 use mathlib.Core.Bool.{false≢true}
 use Rattle.std.specs.declared.cmp.Ordering.{Ordering}
 use Rattle.std.specs.declared.cmp.Ordering.TheVariants.{Less, Equal, Greater}
 use Rattle.std.specs.Ordering.{is_lt, is_eq, eq_by_cmp, ordering_reverse}
 use Rattle.std.specs.FinMap.{is_sorted}
 use Rattle.std.specs.FinMap.Entries.{below_all}
-use Rattle.std.specs.List.Sorted.{IsBinarySearchResult, IsPartitionPoint, IsSearchInRange, IsSortedBy}
+use Rattle.std.specs.List.Sorted.{IsBinarySearchResult, IsPartitionedBy, IsPartitionPoint, IsSearchInRange, IsSortedBy}
+use Rattle.std.specs.Bool.{then_some}
+use Rattle.std.specs.Option.{option_map_or}
 use Rattle.std.specs.Result.{result_ok}
 use Rattle.std.proofs.lemmas.Bool.{cases_lt, cases_order, ne_eqb, eq-eqb}
 use Rattle.std.proofs.lemmas.Map.Text.{is_eq-slice_cmp}
@@ -16,7 +18,7 @@ use Rattle.std.proofs.lemmas.List.Sorted.{searchable_from_sorted}
 use Rattle.wq_view.specs.Listing.{name_cmp}
 use Rattle.wq_view.specs.RecordData.{RecordData, blank_record, by_name, record_named}
 use Rattle.wq_view.specs.Position.{has_name, passes_at}
-use Rattle.wq_view.proofs.NameOrder.{names_total, names_exact, both_true, less_from_lt}
+use Rattle.wq_view.proofs.NameOrder.{names_total, names_exact, order_of_same, both_true, less_from_lt}
 use Rattle.wq_view.proofs.Listings.{tie_is_same, name_ties_itself}
 
 -- a record past the end
@@ -113,3 +115,61 @@ absent_from P Q (Some a) holds = tt
 pub found_from : {A : Type 0} (P : Type 0) (Q : A → Type 0) (o : Option A) → MatchOption o P Q → IfSome o Q
 found_from P Q None holds = tt
 found_from P Q (Some a) holds = holds
+
+-- where the names before one end, the record there has it, or none does
+module _ (q : List ℕ) (rs : List RecordData) (at : ℕ) (sorted : is_sorted name_cmp (by_name rs) ≡ true) (bound : at ≤ length rs) (parted : IsPartitionPoint (λ (r : RecordData). is_lt (name_cmp r.name q) ≡ true) (λ (r : RecordData). is_lt (name_cmp r.name q) ≡ false) rs at) where
+  -- the record there has the name, or is none or has another
+  abbrev IsThere : Bool → Type 0
+  IsThere true = (at < length rs) × ((d : RecordData) → name_cmp (get_or rs at d).name q ≡ Equal)
+  IsThere false = at < length rs → (d : RecordData) → name_cmp (get_or rs at d).name q ≡ Equal → ⊥
+
+  others : IsThere false → IsPartitionPoint (λ (r : RecordData). name_cmp r.name q ≡ Less) (λ (r : RecordData). name_cmp r.name q ≡ Greater) rs at
+  others absent = (λ k d low less. less_from_lt _ (parted.0 k d low less), λ k d high less. by k d high less (name_cmp (get_or rs k d).name q) refl (cases_lt at k))
+    where
+      by : (k : ℕ) (d : RecordData) → at ≤ k → k < length rs → (o : Ordering) → name_cmp (get_or rs k d).name q ≡ o → (at < k) ⊎ (k ≤ at) → name_cmp (get_or rs k d).name q ≡ Greater
+      by k d high less Less is _ = absurd (false≢true (sym (parted.1 k d high less) ∙ ap is_lt is))
+      by k d high less Greater is _ = is
+      by k d high less Equal is (inr same) =
+          let here : k ≡ at = omega (arith, high, same) in
+          absurd (absent (omega (arith, less, here)) d (ap (λ n. name_cmp (get_or rs n d).name q) (sym here) ∙ is))
+      by k d high less Equal is (inl before) =
+          let under : name_cmp (get_or rs at d).name q ≡ Less = subst (λ n. name_cmp (get_or rs at d).name n ≡ Less) (names_exact _ _ is) (rise_at rs at k d sorted before less) in
+          absurd (false≢true (sym (parted.1 at d (omega arith) (omega (arith, before, less))) ∙ ap is_lt under))
+
+  there : (here : Bool) → passes_at (has_name q) rs at ≡ here → IsThere here
+  there true passes = by (cases_lt at (length rs))
+    where
+      by : (at < length rs) ⊎ (length rs ≤ at) → IsThere true
+      by (inr past) = absurd (false≢true (sym (ap (λ o. option_map_or (has_name q) o false) (slice_get_past rs at past)) ∙ passes))
+      by (inl h) = (h, λ d. order_of_same (get_or rs at d).name q (sym (ap (λ o. option_map_or (has_name q) o false) (slice_get-get_or rs at d h)) ∙ passes))
+  there false passes = λ h d same. false≢true (sym passes ∙ ap (λ o. option_map_or (has_name q) o false) (slice_get-get_or rs at d h) ∙ sym (is_eq-slice_cmp (get_or rs at d).name q) ∙ ap is_eq same)
+
+  by_result : (here : Bool) → IsThere here → MatchOption (then_some here at) (record_named q rs ≡ None) (λ i. (i < length rs) × (slice_get rs i ≡ record_named q rs))
+  by_result true is = searched q rs (Ok at) sorted is.0 is.1
+  by_result false absent = searched q rs (Err at) sorted bound (λ _. others absent)
+
+  alone_by_result : (here : Bool) → IsThere here → MatchOption (then_some here at) ((j : ℕ) → passes_at (has_name q) rs j ≡ false) (λ i. (j : ℕ) → passes_at (has_name q) rs j ≡ (j == i))
+  alone_by_result true is = alone q rs (Ok at) sorted is.0 is.1
+  alone_by_result false absent = alone q rs (Err at) sorted bound (λ _. others absent)
+
+  -- what a look-up there gives
+  pub looked : MatchOption (then_some (passes_at (has_name q) rs at) at) (record_named q rs ≡ None) (λ i. (i < length rs) × (slice_get rs i ≡ record_named q rs))
+  looked = by_result (passes_at (has_name q) rs at) (there (passes_at (has_name q) rs at) refl)
+
+  -- and of all positions it gives the only one
+  pub looked_alone : MatchOption (then_some (passes_at (has_name q) rs at) at) ((j : ℕ) → passes_at (has_name q) rs j ≡ false) (λ i. (j : ℕ) → passes_at (has_name q) rs j ≡ (j == i))
+  looked_alone = alone_by_result (passes_at (has_name q) rs at) (there (passes_at (has_name q) rs at) refl)
+
+-- the records whose names are below one come first
+pub names_parted : (q : List ℕ) (rs : List RecordData) → is_sorted name_cmp (by_name rs) ≡ true → IsPartitionedBy (λ (r : RecordData). is_lt (name_cmp r.name q)) rs
+names_parted q rs sorted i j d le h below = at (cases_order i j)
+  where
+    at : (i ≡ j) ⊎ ((i < j) ⊎ (j < i)) → is_lt (name_cmp (get_or rs i d).name q) ≡ true
+    at (inl same) = ap (λ n. is_lt (name_cmp (get_or rs n d).name q)) same ∙ below
+    at (inr (inl less)) = ap is_lt (names_total.trans (get_or rs i d).name (get_or rs j d).name q (rise_at rs i j d sorted less h) (less_from_lt _ below))
+    at (inr (inr more)) = absurd (omega (arith, le, more))
+
+-- a place that is given where a test holds
+pub given_if : (P : ℕ → Type 0) (b : Bool) (at : ℕ) (o : Option ℕ) → o ≡ then_some b at → (b ≡ true → P at) → IfSome o P
+given_if P true at o is holds = subst (λ o. IfSome o P) (sym is) (holds refl)
+given_if P false at o is holds = subst (λ o. IfSome o P) (sym is) tt

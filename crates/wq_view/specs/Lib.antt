@@ -10,4 +10,9 @@ pub mod View
 pub mod Merge
 pub mod Pair
 pub mod Position
+pub mod Run
+pub mod Chunk
+pub mod Change
+pub mod Filling
+pub mod Records
 pub mod Below

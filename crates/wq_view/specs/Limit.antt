@@ -18,3 +18,7 @@ max_tick = max_number
 -- the most records of a view, so that a position fits 32 bits
 abbrev pub max_records : ℕ
 max_records = 4294967295
+
+-- the most records of a chunk, so that a place in it fits 12 bits
+abbrev pub max_chunk : ℕ
+max_chunk = 4096

@@ -6,6 +6,7 @@ ghost use Rattle.wq_view.specs.Name.{is_valid_name};
 
 use crate::file_record::Record;
 use crate::name::{Name, is_valid_name};
+use crate::records::Records;
 use std::alloc::{AllocError, Global};
 use std::cmp::Ordering;
 use std::sync::ArcSlice;
@@ -13,11 +14,26 @@ use std::sync::ArcSlice;
 /// Records with rising names. The records below the last name that was asked for are passed.
 #[derive(Clone, Copy)]
 pub struct Known<'a> {
-    /// The records that are not passed yet.
-    pub records: &'a [Record],
+    /// The first record that is not passed yet.
+    next: Option<&'a Record>,
+    /// The records after it.
+    later: Records<'a>,
 }
 
 impl<'a> Known<'a> {
+    /// No records.
+    pub fn none() -> Known<'a> {
+        Known::of(Records::of(&[]))
+    }
+
+    /// These records.
+    pub fn of(mut records: Records<'a>) -> Known<'a> {
+        Known {
+            next: records.next(),
+            later: records,
+        }
+    }
+
     /// The bytes of a name that a pass takes. They are shared with the record of that name, if it is here and not
     /// passed. There are none if no pass takes the name. If names are asked for in rising order, each name that is
     /// here is found, and all calls together go once over the names and the records.
@@ -40,10 +56,10 @@ impl<'a> Known<'a> {
     fn find(&mut self, name: &[u8]) -> Option<&'a Name>
         ensures { IfSome result (λ known. (known.now ≡ name.now) × IsTrue (is_valid_name name.now)) }
     {
-        while let Some((record, later)) = self.records.split_first() {
+        while let Some(record) = self.next {
             let known = record.name.as_bytes();
             match known.cmp(name) {
-                Ordering::Less => self.records = later,
+                Ordering::Less => self.next = self.later.next(),
                 Ordering::Equal => return Some(&record.name),
                 Ordering::Greater => break,
             }

@@ -13,7 +13,10 @@
 #![tactic(auto)]
 
 mod below;
+mod chunk;
+mod chunks;
 mod file_record;
+mod filling;
 mod kind;
 mod known;
 mod law;
@@ -22,6 +25,8 @@ mod listing;
 mod merging;
 mod name;
 mod pair;
+mod reader;
+mod records;
 mod view;
 
 pub use file_record::Record;
@@ -31,4 +36,6 @@ pub use law::{history_has_one_view, kept_positions_filter, positions_are_there, 
 pub use limit::{MAX_LISTING_ROWS, MAX_RECORDS, MAX_TICK};
 pub use listing::{Pass, PassFault, Seen};
 pub use name::{MAX_NAME, Name, is_valid_name};
+pub use reader::Reader;
+pub use records::Records;
 pub use view::{View, ViewFault};

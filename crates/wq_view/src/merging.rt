@@ -1,66 +1,186 @@
-//! The changes that a pass makes in a view: records and rows pair by pair, both in the byte order of
-//! their names. No function goes over the pairs more than twice.
-ghost use Rattle.std.specs.Prelude.{◌≡◌, ◌≤◌, ◌++◌, length, vec_len, IfOk, OnOk, IsTrue};
+//! The changes that a pass makes in a view. The view after the pass shares each chunk that the pass leaves as it is.
+ghost use Rattle.std.specs.Prelude.{◌≡◌, ◌≤◌, ◌++◌, true, false, take, drop, length, [], IfNone, IfOk, IfSome, IsTrue, MatchOption, OnOk};
 ghost use Rattle.std.specs.List.{list_all};
-ghost use Rattle.wq_view.specs.Limit.{max_listing_rows};
+ghost use Rattle.wq_view.specs.Change.{IsChange};
+ghost use Rattle.wq_view.specs.Chunk.{records_in, slot_records};
+ghost use Rattle.wq_view.specs.Filling.{filled};
+ghost use Rattle.wq_view.specs.Merge.{records_after, shows};
+ghost use Rattle.wq_view.specs.Run.{is_same_run, rows_behind, run_after};
 ghost use Rattle.wq_view.specs.Seen.{is_lawful_row, is_count};
-ghost use Rattle.wq_view.specs.Merge.{pairs_of, records_after, shows};
 
+use crate::chunk::Slot;
+use crate::chunks::Chunks;
 use crate::file_record::Record;
-use crate::limit::{MAX_RECORDS, MAX_TICK};
+use crate::filling::Filling;
+use crate::limit::MAX_TICK;
 use crate::listing::Seen;
-use crate::pair::Pairs;
+use crate::pair::{Moment, Pair, Pairs};
 use std::alloc::{AllocError, Global};
 
-/// Whether rows and records say just the same of the files that exist.
-pub(crate) fn shows(records: &[Record], rows: &[Seen]) -> bool
-    ensures { result ≡ shows records.now rows.now }
-{
-    Pairs::of(records, rows).all(|pair| pair.is_unchanged())
+/// The change that a pass makes in chunks. It has the first chunks, which the pass leaves as they are, the chunks from
+/// the first changed one on, and the rows that belong to the latter or come after all records.
+#[derive(Clone, Copy)]
+pub(crate) struct Change<'a> {
+    pub(crate) same: &'a [Slot],
+    pub(crate) others: &'a [Slot],
+    pub(crate) rows: &'a [Seen],
 }
 
-/// The records after a pass with these rows. The call is refused if memory runs out, and also if there
+/// The change that a pass with these rows makes. There is none if rows and records say just the same of the files that
+/// exist.
+pub(crate) fn first_change<'a>(slots: &'a [Slot], rows: &'a [Seen]) -> Option<Change<'a>>
+    ensures same { IfNone result (shows (records_in slots.now) rows.now ≡ true) }
+    ensures differs { IfSome result (λ _. shows (records_in slots.now) rows.now ≡ false) }
+    ensures change { IfSome result (IsChange (records_in slots.now) rows.now) }
+{
+    let mut left = rows;
+    for (at, slot) in slots.iter().enumerate() {
+        match rows_if_same(slot.chunk.records(), left) {
+            Some(later) => left = later,
+            None => return Some(change_at(slots, at, left)),
+        }
+    }
+    if left.is_empty() {
+        return None;
+    }
+    Some(change_at(slots, slots.len(), left))
+}
+
+/// The change in the chunks from this place on, by these rows.
+fn change_at<'a>(slots: &'a [Slot], at: usize, rows: &'a [Seen]) -> Change<'a>
+    requires { at ≤ length slots.now }
+    ensures same { result.same.now ≡ take at slots.now }
+    ensures others { result.others.now ≡ drop at slots.now }
+    ensures rows { result.rows.now ≡ rows.now }
+{
+    let (same, others) = slots.split_at(at);
+    Change { same, others, rows }
+}
+
+/// The rows after the ones that belong to a run of records, if a pass leaves the run as it is.
+fn rows_if_same<'a>(records: &'a [Record], rows: &'a [Seen]) -> Option<&'a [Seen]>
+    ensures { MatchOption result (is_same_run records.now rows.now ≡ false)
+        (λ left. (is_same_run records.now rows.now ≡ true) × (left.now ≡ rows_behind records.now rows.now)) }
+{
+    let mut pairs = Pairs::of(records, rows);
+    while let Some(pair) = pairs.take() {
+        if !pair.is_unchanged() {
+            return None;
+        }
+    }
+    Some(pairs.rows())
+}
+
+/// The chunks after a pass that makes this change. The call is refused if memory runs out, and also if there
 /// would be too many records.
-pub(crate) fn records_after(
+pub(crate) fn chunks_after(
     alloc: Global,
-    records: &[Record],
-    rows: &[Seen],
-    tick: u64,
-    second: i64,
-) -> Result<Vec<Record>, AllocError>
+    change: &Change<'_>,
+    at: &Moment,
+) -> Result<Chunks, AllocError>
+    requires lawful { IsTrue (list_all is_lawful_row change.now.rows.now) }
+    requires tick { at.now.tick ≤ MAX_TICK }
+    requires second { IsTrue (is_count at.now.second) }
+    ensures { IfOk result (λ chunks. chunks ≡ records_in change.now.same.now
+        ++ records_after at.now.tick at.now.second (records_in change.now.others.now) change.now.rows.now) }
+{
+    let count = change.same.len().saturating_add(change.others.len());
+    let mut filling = Filling::new(alloc, count)?;
+    share_all(&mut filling, change.same)?;
+    let left = push_all_after(&mut filling, change.others, change.rows, at)?;
+    push_new(&mut filling, left, at)?;
+    filling.finish()
+}
+
+/// Adds chunks as they are.
+fn share_all(filling: &mut Filling, slots: &[Slot]) -> Result<(), AllocError>
+    ensures { OnOk result (filled filling.new ≡ filled filling.old ++ records_in slots.now) }
+{
+    for slot in slots {
+        filling.share(&slot.chunk)?;
+    }
+    Ok(())
+}
+
+/// Adds chunks as they are after a pass, and gives the rows after the ones that belong to them.
+fn push_all_after<'a>(
+    filling: &mut Filling,
+    slots: &'a [Slot],
+    rows: &'a [Seen],
+    at: &Moment,
+) -> Result<&'a [Seen], AllocError>
     requires lawful { IsTrue (list_all is_lawful_row rows.now) }
-    requires few { (length records.now ≤ MAX_RECORDS) × (length rows.now ≤ max_listing_rows) }
-    requires tick { tick ≤ MAX_TICK }
-    requires second { IsTrue (is_count second) }
-    ensures records { IfOk result
-        (λ after. after.items ≡ records_after tick second records.now rows.now) }
-    ensures bound { IfOk result (λ after. vec_len after ≤ MAX_RECORDS) }
+    requires tick { at.now.tick ≤ MAX_TICK }
+    requires second { IsTrue (is_count at.now.second) }
+    ensures records { IfOk result (λ left. filled filling.new
+        ≡ filled filling.old ++ run_after at.now.tick at.now.second (records_in slots.now) rows.now) }
+    ensures left { IfOk result (λ left. left.now ≡ rows_behind (records_in slots.now) rows.now) }
 {
-    let count = count_of(records, rows);
-    if count > MAX_RECORDS {
-        return Err(AllocError);
+    let mut left = rows;
+    for slot in slots {
+        left = push_after(filling, slot, left, at)?;
     }
-    let mut after = Vec::with_capacity(alloc, count)?;
-    for pair in Pairs::of(records, rows) {
-        after.push(pair.after(tick, second)?)?;
-    }
-    Ok(after)
+    Ok(left)
 }
 
-/// The number of names that records and rows have together.
-fn count_of(records: &[Record], rows: &[Seen]) -> usize
-    requires { (length records.now ≤ MAX_RECORDS) × (length rows.now ≤ max_listing_rows) }
-    ensures { result ≡ length (pairs_of records.now rows.now) }
+/// Adds a chunk as it is after a pass, and gives the rows after its own. A chunk that the pass leaves as it is, is
+/// shared.
+fn push_after<'a>(
+    filling: &mut Filling,
+    slot: &'a Slot,
+    rows: &'a [Seen],
+    at: &Moment,
+) -> Result<&'a [Seen], AllocError>
+    requires lawful { IsTrue (list_all is_lawful_row rows.now) }
+    requires tick { at.now.tick ≤ MAX_TICK }
+    requires second { IsTrue (is_count at.now.second) }
+    ensures records { IfOk result (λ left. filled filling.new
+        ≡ filled filling.old ++ run_after at.now.tick at.now.second (slot_records slot.now) rows.now) }
+    ensures left { IfOk result (λ left. left.now ≡ rows_behind (slot_records slot.now) rows.now) }
 {
-    Pairs::of(records, rows).count()
+    if let Some(left) = rows_if_same(slot.chunk.records(), rows) {
+        filling.share(&slot.chunk)?;
+        return Ok(left);
+    }
+    push_run_after(filling, slot.chunk.records(), rows, at)
 }
 
-/// Adds a copy of each record.
-pub(crate) fn push_copies(copies: &mut Vec<Record>, records: &[Record]) -> Result<(), AllocError>
-    ensures { OnOk result (copies.new.items ≡ copies.old.items ++ records.now) }
+/// Adds the records of a run as they are after a pass, and gives the rows after its own.
+fn push_run_after<'a>(
+    filling: &mut Filling,
+    records: &'a [Record],
+    rows: &'a [Seen],
+    at: &Moment,
+) -> Result<&'a [Seen], AllocError>
+    requires lawful { IsTrue (list_all is_lawful_row rows.now) }
+    requires tick { at.now.tick ≤ MAX_TICK }
+    requires second { IsTrue (is_count at.now.second) }
+    ensures records { IfOk result (λ left. filled filling.new
+        ≡ filled filling.old ++ run_after at.now.tick at.now.second records.now rows.now) }
+    ensures left { IfOk result (λ left. left.now ≡ rows_behind records.now rows.now) }
 {
-    for record in records {
-        copies.push(record.copy()?)?;
+    filling.begin(Pairs::of(records, rows).count())?;
+    let mut pairs = Pairs::of(records, rows);
+    while let Some(pair) = pairs.take() {
+        filling.push(pair.after(at)?)?;
+    }
+    Ok(pairs.rows())
+}
+
+/// Adds the records of the rows that come after all records. Their names are new.
+fn push_new(filling: &mut Filling, rows: &[Seen], at: &Moment) -> Result<(), AllocError>
+    requires lawful { IsTrue (list_all is_lawful_row rows.now) }
+    requires tick { at.now.tick ≤ MAX_TICK }
+    requires second { IsTrue (is_count at.now.second) }
+    ensures { OnOk result (filled filling.new
+        ≡ filled filling.old ++ records_after at.now.tick at.now.second [] rows.now) }
+{
+    if rows.is_empty() {
+        return Ok(());
+    }
+    filling.reopen(rows.len())?;
+    for row in rows {
+        filling.push(Pair::New(row).after(at)?)?;
     }
     Ok(())
 }

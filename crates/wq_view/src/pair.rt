@@ -1,14 +1,22 @@
 //! Records and rows side by side: for each name the record, the row or both, in the byte order of names. The change
 //! that a pass makes in a record is for others.
-ghost use Rattle.std.specs.Prelude.{◌≡◌, ◌≤◌, IfOk, IsTrue};
+ghost use Rattle.std.specs.Prelude.{◌≡◌, ◌≤◌, ◌∷◌, [], IfOk, IsTrue, MatchOption};
 ghost use Rattle.wq_view.specs.Seen.{is_count};
-ghost use Rattle.wq_view.specs.Merge.{is_unchanged, pair_after, pairs_of};
-ghost use Rattle.wq_view.specs.Pair.{has_lawful_row, pair_data, pairs_left};
+ghost use Rattle.wq_view.specs.Merge.{is_unchanged, pair_after};
+ghost use Rattle.wq_view.specs.Pair.{has_lawful_row, pair_data, pairs_left, rows_left};
+ghost use Rattle.wq_view.specs.Run.{run_pairs, rows_behind};
 
 use crate::file_record::Record;
 use crate::limit::MAX_TICK;
 use crate::listing::Seen;
 use std::alloc::AllocError;
+
+/// When a pass was made: its tick, and its second of the Unix epoch.
+#[derive(Clone, Copy)]
+pub(crate) struct Moment {
+    pub(crate) tick: u64,
+    pub(crate) second: i64,
+}
 
 /// The record, the row or both of a name.
 #[derive(Clone, Copy)]
@@ -34,33 +42,34 @@ impl Pair<'_> {
     }
 
     /// The record of the name after a pass that saw the row, or saw no file of this name.
-    pub(crate) fn after(self, tick: u64, second: i64) -> Result<Record, AllocError>
+    pub(crate) fn after(self, at: &Moment) -> Result<Record, AllocError>
         requires lawful { IsTrue (has_lawful_row (pair_data self)) }
-        requires tick { tick ≤ MAX_TICK }
-        requires second { IsTrue (is_count second) }
-        ensures { IfOk result (λ r. r ≡ pair_after tick second (pair_data self.entry)) }
+        requires tick { at.now.tick ≤ MAX_TICK }
+        requires second { IsTrue (is_count at.now.second) }
+        ensures { IfOk result (λ r. r ≡ pair_after at.now.tick at.now.second (pair_data self.entry)) }
     {
         match self {
             Pair::Old(record) => {
                 let mut after = record.copy()?;
-                after.observe_absence(tick, second);
+                after.observe_absence(at.tick, at.second);
                 Ok(after)
             }
             Pair::Both(record, row) => {
                 let mut after = record.copy()?;
-                after.observe(row, tick, second);
+                after.observe(row, at.tick, at.second);
                 Ok(after)
             }
             Pair::New(row) => {
                 let mut after = Record::blank(row)?;
-                after.observe(row, tick, second);
+                after.observe(row, at.tick, at.second);
                 Ok(after)
             }
         }
     }
 }
 
-/// The pairs of records and rows with rising names. The iterator goes over both lists once.
+/// The pairs of a run of records and the rows that belong to it. These are the rows up to the name of its last record.
+/// Records and rows have rising names.
 #[derive(Drop)]
 pub(crate) struct Pairs<'a> {
     records: &'a [Record],
@@ -70,25 +79,21 @@ pub(crate) struct Pairs<'a> {
 impl<'a> Pairs<'a> {
     /// The pairs of these records and rows.
     pub(crate) fn of(records: &'a [Record], rows: &'a [Seen]) -> Pairs<'a>
-        ensures { pairs_left result ≡ pairs_of records.now rows.now }
+        ensures pairs { pairs_left result ≡ run_pairs records.now rows.now }
+        ensures rows { rows_left result ≡ rows_behind records.now rows.now }
     {
         Pairs { records, rows }
     }
-}
 
-impl<'a> Iterator for Pairs<'a> {
-    ghost use Rattle.std.specs.Iterator.{YieldsFirstBy, item_count};
-    ghost use Rattle.wq_view.specs.Pair.{pair_data, pairs_left};
-
-    type Item = Pair<'a>;
-
-    ghost next_gives = { YieldsFirstBy pair_data pairs_left };
-
-    ghost remaining = { item_count pairs_left };
-
+    /// Takes the first pair.
     #[inline(always)]
     #[tactic(auto, using(crate::proofs::NameOrder::order_of_same, crate::proofs::NameOrder::less_from_lt, crate::proofs::NameOrder::order_of_others))]
-    fn next(&mut self) -> Option<Pair<'a>> {
+    pub(crate) fn take(&mut self) -> Option<Pair<'a>>
+        ensures pairs { MatchOption result
+            ((pairs_left self.old ≡ []) × (self.new.rows.now ≡ rows_left self.old))
+            (λ pair. pairs_left self.old ≡ pair_data pair ∷ pairs_left self.new) }
+        ensures rows { rows_left self.new ≡ rows_left self.old }
+    {
         match (self.records.split_first(), self.rows.split_first()) {
             // Mostly the names are the same, and this test finds it soonest.
             (Some((record, records)), Some((row, rows))) if record.has_name_of(row) => {
@@ -108,11 +113,23 @@ impl<'a> Iterator for Pairs<'a> {
                 self.records = records;
                 Some(Pair::Old(record))
             }
-            (None, Some((row, rows))) => {
-                self.rows = rows;
-                Some(Pair::New(row))
-            }
-            (None, None) => None,
+            (None, _) => None,
         }
+    }
+
+    /// The rows that were not taken yet.
+    pub(crate) fn rows(&self) -> &'a [Seen]
+        ensures { result.now ≡ self.now.rows.now }
+    {
+        self.rows
+    }
+
+    /// How many pairs are left.
+    pub(crate) fn count(mut self) -> usize {
+        let mut count = 0usize;
+        while self.take().is_some() {
+            count = count.saturating_add(1);
+        }
+        count
     }
 }

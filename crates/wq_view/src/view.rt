@@ -1,17 +1,24 @@
 //! The view of a root: the records of all files that its passes saw, in the byte order of their names.
+//! A view keeps its records in chunks. Two views share each chunk that no pass between them changed.
 //! Lookups take no memory. Only a pass that moves the view, and a copy of the view, take memory.
-ghost use Rattle.std.specs.Prelude.{MatchOption, ℕ, nat_le, nat_lt, ◌==◌, ◌&&◌, ◌≡◌, ◌≢◌, ◌+◌, ◌≤◌, ◌<◌, ◌↔◌, List, [], ◌∷◌, ◌++◌, Ok, Err, Some, None, true, false, length, IfOk, IfErr, IfNone, IfSome, IsTrue, slice_get};
+ghost use Rattle.std.specs.Prelude.{MatchOption, ℕ, nat_le, nat_lt, ◌==◌, ◌&&◌, ◌≡◌, ◌≢◌, ◌+◌, ◌≤◌, ◌<◌, ◌↔◌, List, [], ◌∷◌, ◌++◌, Ok, Err, Some, None, true, false, drop, length, IfOk, IfErr, IfNone, IfSome, IsTrue, slice_get};
 ghost use Rattle.wq_view.specs.RecordData.{record_named};
 ghost use Rattle.wq_view.specs.History.{History, last_stats};
 ghost use Rattle.wq_view.specs.Below.{is_below};
+ghost use Rattle.wq_view.specs.Change.{IsChangeBy};
 ghost use Rattle.wq_view.specs.Limit.{max_records, max_tick};
 ghost use Rattle.wq_view.specs.Position.{has_name, passes_at};
+ghost use Rattle.wq_view.specs.Records.{records_left};
 ghost use Rattle.wq_view.specs.View.{IsViewOf, NamesRise};
 
+use crate::chunks::Chunks;
 use crate::file_record::Record;
-use crate::limit::{MAX_RECORDS, MAX_TICK};
+use crate::limit::MAX_TICK;
 use crate::listing::Pass;
-use crate::merging::{push_copies, records_after, shows};
+use crate::merging::{Change, chunks_after, first_change};
+use crate::pair::Moment;
+use crate::reader::Reader;
+use crate::records::Records;
 use std::alloc::{AllocError, Global};
 use std::marker::Model;
 use thiserror::Error;
@@ -42,22 +49,21 @@ impl From<AllocError> for ViewFault {
 #[derive(Drop)]
 pub struct View {
     tick: u64,
-    records: Vec<Record>,
+    chunks: Chunks,
 }
 
 impl Model for View {
-    ghost use Rattle.std.specs.Prelude.{◌≤◌, vec_len};
-    ghost use Rattle.wq_view.specs.Limit.{max_records, max_tick};
+    ghost use Rattle.std.specs.Prelude.{◌≤◌};
+    ghost use Rattle.wq_view.specs.Limit.{max_tick};
     ghost use Rattle.wq_view.specs.View.{ViewData, view_code, NamesRise};
 
     ghost Value = { ViewData };
 
     ghost coded = { view_code };
 
-    ghost view = { λ v. record { tick = v.tick; records = v.records.items } };
+    ghost view = { λ v. record { tick = v.tick; records = v.chunks } };
 
-    ghost invariant = { λ v. (v.tick ≤ max_tick) × (vec_len v.records ≤ max_records)
-        × NamesRise v.records.items };
+    ghost invariant = { λ v. (v.tick ≤ max_tick) × NamesRise v.chunks };
 }
 
 impl View {
@@ -68,7 +74,7 @@ impl View {
     {
         View {
             tick: 0,
-            records: Vec::new(alloc),
+            chunks: Chunks::new(alloc),
         }
     }
 
@@ -99,8 +105,8 @@ impl View {
         }
     }
 
-    /// The view after a pass, or none if the pass saw just the same as the pass before it. The records of
-    /// the two views share their names.
+    /// The view after a pass, or none if the pass saw just the same as the pass before it. The two views share the
+    /// chunks that the pass leaves as they are, and the names of the other records.
     ///
     /// The call runs in O(n + m) for n records and m rows. Only a pass that saw something else takes memory.
     pub fn after(&self, pass: &Pass) -> Result<Option<View>, ViewFault>
@@ -115,13 +121,13 @@ impl View {
         // And for any view:
         ensures room { IfOk result (λ next. IfSome next (λ _. self.now.tick < max_tick)) }
     {
-        if self.shows(pass) {
+        let Some(change) = self.change_by(pass) else {
             return Ok(None);
-        }
+        };
         if self.tick == MAX_TICK {
             return Err(ViewFault::TicksSpent);
         }
-        Ok(Some(self.moved_by(pass)?))
+        Ok(Some(self.moved_by(pass, &change)?))
     }
 
     /// Whether the pass saw just the same as the last one, so that taking it in would move nothing. The call takes no
@@ -130,19 +136,35 @@ impl View {
         ensures { (history : History) → IsViewOf history self.now
             → (IsTrue result ↔ (last_stats history ≡ pass.now.stats)) }
     {
-        shows(&self.records, pass.rows())
+        self.change_by(pass).is_none()
     }
 
-    /// The view after a pass that saw something else than the one before it.
-    fn moved_by(&self, pass: &Pass) -> Result<View, AllocError>
-        requires { self.now.tick < max_tick }
+    /// The change that the pass makes. There is none if the pass saw just the same as the last one.
+    fn change_by<'a>(&'a self, pass: &'a Pass) -> Option<Change<'a>>
+        ensures same { (history : History) → IsViewOf history self.now
+            → MatchOption result (last_stats history ≡ pass.now.stats)
+            (λ _. last_stats history ≢ pass.now.stats) }
+        ensures change { IfSome result (IsChangeBy self.now.records pass.now) }
+    {
+        first_change(self.chunks.slots(), pass.rows())
+    }
+
+    /// The view after a pass that saw something else than the one before it, and makes this change.
+    fn moved_by(&self, pass: &Pass, change: &Change<'_>) -> Result<View, AllocError>
+        requires tick { self.now.tick < max_tick }
+        requires change { IsChangeBy self.now.records pass.now change.now }
         ensures { (history : History) → IsViewOf history self.now
             → IfOk result (IsViewOf (history ++ pass.now ∷ [])) }
     {
-        let alloc = *self.records.allocator();
-        let tick = self.tick + 1;
-        let records = records_after(alloc, &self.records, pass.rows(), tick, pass.second())?;
-        Ok(View { tick, records })
+        let at = Moment {
+            tick: self.tick + 1,
+            second: pass.second(),
+        };
+        let chunks = chunks_after(self.chunks.allocator(), change, &at)?;
+        Ok(View {
+            tick: at.tick,
+            chunks,
+        })
     }
 
     /// The number of the last pass that moved the view, at most 2^62. It is 0 before any such pass.
@@ -158,14 +180,14 @@ impl View {
         ensures value { result ≡ length self.now.records }
         ensures bound { result ≤ max_records }
     {
-        self.records.len()
+        self.chunks.len()
     }
 
     /// Whether there are no records, because no pass saw a file.
     pub fn is_empty(&self) -> bool
         ensures { IsTrue result ↔ (self.now.records ≡ []) }
     {
-        self.records.is_empty()
+        self.len() == 0
     }
 
     /// The record at this place in the byte order of names.
@@ -173,16 +195,30 @@ impl View {
         requires { i < length self.now.records }
         ensures { slice_get self.now.records i ≡ Some result.now }
     {
-        &self.records[i]
+        self.chunks.get(i)
+    }
+
+    /// A reader of the records, which finds a place soon if it is close to the one before it.
+    pub fn reader(&self) -> Reader<'_>
+        ensures { result ≡ self.now.records }
+    {
+        Reader::of(&self.chunks)
     }
 
     /// The records in the byte order of their names.
-    pub fn records(&self) -> &[Record]
-        ensures value { result.now ≡ self.now.records }
-        ensures rise { NamesRise result.now }
-        ensures bound { length result.now ≤ max_records }
+    pub fn records(&self) -> Records<'_>
+        ensures value { records_left result ≡ self.now.records }
+        ensures rise { NamesRise (records_left result) }
+        ensures bound { length (records_left result) ≤ max_records }
     {
-        &self.records
+        Records::of(self.chunks.slots())
+    }
+
+    /// The records from a place on. There are none from the end on.
+    pub fn records_from(&self, i: usize) -> Records<'_>
+        ensures { records_left result ≡ drop i self.now.records }
+    {
+        self.chunks.records_from(i)
     }
 
     /// The place of the record of this name. The name need not be valid.
@@ -196,9 +232,18 @@ impl View {
         ensures bound { IfSome result (λ i. i < max_records) }
     {
         let name = name.as_bytes();
-        self.records
-            .binary_search_by(|record| record.name_order(name))
-            .ok()
+        let at = self
+            .chunks
+            .partition_point(|record| record.name_order(name).is_lt());
+        self.has_name_at(at, name).then_some(at)
+    }
+
+    /// Whether the record at a place, if there is one, has this name.
+    fn has_name_at(&self, i: usize, name: &[u8]) -> bool
+        ensures value { result ≡ passes_at (has_name name.now) self.now.records i }
+        ensures bound { IsTrue result → i < max_records }
+    {
+        i < self.len() && self.get(i).name.as_bytes() == name
     }
 
     /// The range of the positions of the records strictly below a directory: from the first number up to the
@@ -214,27 +259,25 @@ impl View {
     {
         let dir = dir.as_bytes();
         if dir.is_empty() {
-            return (0, self.records.len());
+            return (0, self.len());
         }
         let start = self
-            .records
+            .chunks
             .partition_point(|record| record.order_below(dir).is_lt());
         let end = self
-            .records
+            .chunks
             .partition_point(|record| record.order_below(dir).is_le());
         (start, end)
     }
 
-    /// An equal view. Its records share their names with the records of this view.
+    /// An equal view. It shares its records with this view.
     pub fn copy(&self) -> Result<View, ViewFault>
         ensures ok { IfOk result (λ view. view ≡ self.now) }
         ensures err { IfErr result (λ fault. fault ≡ ViewFault.NoMemory) }
     {
-        let mut records = Vec::with_capacity(*self.records.allocator(), self.records.len())?;
-        push_copies(&mut records, &self.records)?;
         Ok(View {
             tick: self.tick,
-            records,
+            chunks: self.chunks.copy()?,
         })
     }
 }

@@ -41,11 +41,11 @@ one_more : (name : List ℕ) (pieces : List Piece) (piece : Piece) → pieces_wi
 one_more name pieces piece = sum_by-append (λ (p : Piece). cond (is_in p.part name) 1 0) pieces (piece ∷ []) ∙ ap (λ n. pieces_with name pieces + n) (none_and _)
 
 -- the piece between the last cut and one after it
-pub shared_with_one : (pieces : List Piece) (last : Option (Bor (List ℕ))) (cut : Bor (List ℕ)) (known : _) → is_behind cut.now last ≡ true → IsSharedOutBelow last pieces → IsSharedOutBelow (Some cut) (pieces ++ (record { part = record { from = last; below = Some cut }; known = known } ∷ []))
-shared_with_one pieces None cut known behind shared name = one_more name pieces _ ∙ rw (shared name) (none_and _)
-shared_with_one pieces (Some last) cut known behind shared name = one_more name pieces _ ∙ rw (shared name) (one_of_two _ _ (below_both name last.now cut.now behind))
+pub shared_with_one : (pieces : List Piece) (last : Option (Bor (List ℕ))) (cut : Bor (List ℕ)) (known : _) (count : ℕ) → is_behind cut.now last ≡ true → IsSharedOutBelow last pieces → IsSharedOutBelow (Some cut) (pieces ++ (record { part = record { from = last; below = Some cut }; known = known; count = count } ∷ []))
+shared_with_one pieces None cut known count behind shared name = one_more name pieces _ ∙ rw (shared name) (none_and _)
+shared_with_one pieces (Some last) cut known count behind shared name = one_more name pieces _ ∙ rw (shared name) (one_of_two _ _ (below_both name last.now cut.now behind))
 
 -- the piece after the last cut
-pub shared_with_rest : (pieces : List Piece) (last : Option (Bor (List ℕ))) (known : _) → IsSharedOutBelow last pieces → IsSharedOut (pieces ++ (record { part = record { from = last; below = None }; known = known } ∷ []))
-shared_with_rest pieces None known shared name = one_more name pieces _ ∙ rw (shared name) refl
-shared_with_rest pieces (Some last) known shared name = one_more name pieces _ ∙ rw (shared name) (one_of_rest _)
+pub shared_with_rest : (pieces : List Piece) (last : Option (Bor (List ℕ))) (known : _) (count : ℕ) → IsSharedOutBelow last pieces → IsSharedOut (pieces ++ (record { part = record { from = last; below = None }; known = known; count = count } ∷ []))
+shared_with_rest pieces None known count shared name = one_more name pieces _ ∙ rw (shared name) refl
+shared_with_rest pieces (Some last) known count shared name = one_more name pieces _ ∙ rw (shared name) (one_of_rest _)

@@ -18,7 +18,7 @@ use crate::walk::rows_in;
 use std::alloc::{AllocError, Global};
 use std::thread::{Threads, join};
 use wq_crawl::TreeFault;
-use wq_view::{MAX_LISTING_ROWS, Record, Seen};
+use wq_view::{MAX_LISTING_ROWS, Seen, View};
 
 /// The rows of the files below a root that was not listed before.
 pub(crate) fn first_rows<T: Threads, D: Disk + Sync>(
@@ -36,13 +36,13 @@ pub(crate) fn first_rows<T: Threads, D: Disk + Sync>(
     rows_of(threads, disk, alloc, &path, &pieces)
 }
 
-/// The rows of the files below a root with a last view of these records. The rows share the names of the records.
+/// The rows of the files below a root with this last view. The rows share the names of its records.
 pub(crate) fn rows_again<T: Threads, D: Disk + Sync>(
     threads: &T,
     disk: &D,
     alloc: Global,
     root: &str,
-    last: &[Record],
+    last: &View,
 ) -> Result<Vec<Seen>, TreeFault>
     ensures lawful { IfOk result (λ rows. IsTrue (list_all is_lawful_row rows.items)) }
     ensures few { IfOk result (λ rows. length rows.items ≤ max_listing_rows) }

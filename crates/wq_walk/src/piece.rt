@@ -6,7 +6,7 @@ ghost use Rattle.wq_walk.specs.Pieces.{IsSharedOut, IsSharedOutBelow, is_behind}
 
 use crate::part::Part;
 use std::alloc::{AllocError, Global};
-use wq_view::Record;
+use wq_view::{Known, View};
 
 /// The greatest number of pieces. With more pieces two threads end closer together, and more directories are read
 /// twice.
@@ -19,23 +19,53 @@ const FEW: usize = 2000;
 #[derive(Clone, Copy)]
 pub(crate) struct Piece<'a> {
     pub(crate) part: Part<'a>,
-    pub(crate) known: &'a [Record],
+    /// The records of the last view, from the first one in the part on.
+    pub(crate) known: Known<'a>,
+    /// The number of these records that are in the part.
+    pub(crate) count: usize,
 }
 
-/// An item that has a name.
-trait HasName {
-    fn name(&self) -> &[u8];
+/// Rising names. A tree is cut at some of them.
+#[derive(Clone, Copy)]
+enum CutNames<'a> {
+    /// The names of the tree's last view.
+    Last(&'a View),
+    /// Some names at the top of a tree that had no view yet.
+    First(&'a [Vec<u8>]),
 }
 
-impl HasName for Record {
-    fn name(&self) -> &[u8] {
-        self.name.as_bytes()
+impl<'a> CutNames<'a> {
+    /// The number of names.
+    fn len(self) -> usize {
+        match self {
+            CutNames::Last(view) => view.len(),
+            CutNames::First(names) => names.len(),
+        }
     }
-}
 
-impl HasName for Vec<u8> {
-    fn name(&self) -> &[u8] {
-        self.as_slice()
+    /// The name at a place, if there is one.
+    fn at(self, place: usize) -> Option<&'a [u8]> {
+        match self {
+            CutNames::Last(view) if place < view.len() => Some(view.get(place).name.as_bytes()),
+            CutNames::Last(_) => None,
+            CutNames::First(names) => Some(names.get(place)?.as_slice()),
+        }
+    }
+
+    /// The records of the last view from a place on.
+    fn known(self, place: usize) -> Known<'a> {
+        match self {
+            CutNames::Last(view) => Known::of(view.records_from(place)),
+            CutNames::First(_) => Known::none(),
+        }
+    }
+
+    /// The number of records that the last view has from one place up to another.
+    fn count(self, from: usize, to: usize) -> usize {
+        match self {
+            CutNames::Last(_) => to.saturating_sub(from),
+            CutNames::First(_) => 0,
+        }
     }
 }
 
@@ -57,8 +87,8 @@ impl<'a> Cuts<'a> {
     }
 
     /// Cuts off the piece below a name if the name is after the last cut, and says whether it is. The piece's part has
-    /// these records.
-    fn cut(&mut self, name: &'a [u8], known: &'a [Record]) -> Result<bool, AllocError> {
+    /// the first `count` of these records.
+    fn cut(&mut self, name: &'a [u8], known: Known<'a>, count: usize) -> Result<bool, AllocError> {
         if !is_behind(name, self.last) {
             return Ok(false);
         }
@@ -68,13 +98,15 @@ impl<'a> Cuts<'a> {
                 below: Some(name),
             },
             known,
+            count,
         })?;
         self.last = Some(name);
         Ok(true)
     }
 
-    /// All pieces: the ones that were cut off, and the rest of the tree. The rest's part has these records.
-    fn with_rest(self, known: &'a [Record]) -> Result<Vec<Piece<'a>>, AllocError>
+    /// All pieces: the ones that were cut off, and the rest of the tree. The rest's part has the first `count` of these
+    /// records.
+    fn with_rest(self, known: Known<'a>, count: usize) -> Result<Vec<Piece<'a>>, AllocError>
         ensures { IfOk result (λ pieces. IsSharedOut pieces.items) }
     {
         let part = Part {
@@ -82,17 +114,17 @@ impl<'a> Cuts<'a> {
             below: None,
         };
         let mut pieces = self.pieces;
-        pieces.push(Piece { part, known })?;
+        pieces.push(Piece { part, known, count })?;
         Ok(pieces)
     }
 }
 
-/// The pieces of a tree with a last view of these records, in the order of names. Each name is in exactly one piece.
-pub(crate) fn pieces_of(alloc: Global, last: &[Record]) -> Result<Vec<Piece<'_>>, AllocError>
+/// The pieces of a tree with this last view, in the order of names. Each name is in exactly one piece.
+pub(crate) fn pieces_of(alloc: Global, last: &View) -> Result<Vec<Piece<'_>>, AllocError>
     ensures { IfOk result (λ pieces. IsSharedOut pieces.items) }
 {
     let most = if last.len() < FEW { 1 } else { MOST_PIECES };
-    pieces_cut(alloc, most, last, last)
+    pieces_cut(alloc, most, CutNames::Last(last))
 }
 
 /// The pieces of a tree that had no view yet, cut at some of these names, which rise. Each name is in exactly one
@@ -100,19 +132,14 @@ pub(crate) fn pieces_of(alloc: Global, last: &[Record]) -> Result<Vec<Piece<'_>>
 pub(crate) fn first_pieces(alloc: Global, names: &[Vec<u8>]) -> Result<Vec<Piece<'_>>, AllocError>
     ensures { IfOk result (λ pieces. IsSharedOut pieces.items) }
 {
-    pieces_cut(alloc, MOST_PIECES, names, &[])
+    pieces_cut(alloc, MOST_PIECES, CutNames::First(names))
 }
 
 /// At most so many pieces, in the order of names. The cuts have equal numbers of these names between them.
 ///
 /// No cut is made within the directory in which its piece begins, because the directory would be read once more for it.
 /// The cut in the middle is made even so.
-fn pieces_cut<'a, T: HasName>(
-    alloc: Global,
-    most: usize,
-    names: &'a [T],
-    known: &'a [Record],
-) -> Result<Vec<Piece<'a>>, AllocError>
+fn pieces_cut(alloc: Global, most: usize, names: CutNames<'_>) -> Result<Vec<Piece<'_>>, AllocError>
     ensures { IfOk result (λ pieces. IsSharedOut pieces.items) }
 {
     let mut cuts = Cuts::new(alloc, most)?;
@@ -121,22 +148,17 @@ fn pieces_cut<'a, T: HasName>(
         let end = names.len().saturating_mul(number) / MOST_PIECES;
         let is_middle = number == MOST_PIECES / 2;
         if let Some(name) = cut_between(names, start, end, is_middle)
-            && cuts.cut(name, known.get(start..end).unwrap_or(&[]))?
+            && cuts.cut(name, names.known(start), names.count(start, end))?
         {
             start = end;
         }
     }
-    cuts.with_rest(known.get(start..).unwrap_or(&[]))
+    cuts.with_rest(names.known(start), names.count(start, names.len()))
 }
 
 /// The name at the second of two places, if a piece that begins with the name at the first place ends before it.
-fn cut_between<'a, T: HasName>(
-    names: &'a [T],
-    start: usize,
-    end: usize,
-    is_middle: bool,
-) -> Option<&'a [u8]> {
-    let (first, name) = (names.get(start)?.name(), names.get(end)?.name());
+fn cut_between(names: CutNames<'_>, start: usize, end: usize, is_middle: bool) -> Option<&[u8]> {
+    let (first, name) = (names.at(start)?, names.at(end)?);
     let is_apart = is_middle || directory_of(first) != directory_of(name);
     (end > start && is_apart).then_some(name)
 }

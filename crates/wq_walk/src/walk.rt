@@ -63,16 +63,13 @@ pub(crate) fn rows_in<'a, D: Disk>(
 {
     let mut block = Block::new(alloc)?;
     let top = top(disk, alloc, &mut block, root)?;
-    let known = Known {
-        records: piece.known,
-    };
     let mut walk = Walk {
         alloc,
         block,
         path: TreePath::new(alloc, root.len()),
         above: Vec::new(alloc),
-        rows: Rows::with_room(alloc, piece.part, piece.known.len())?,
-        known,
+        rows: Rows::with_room(alloc, piece.part, piece.count)?,
+        known: piece.known,
         progress,
     };
     walk.run(disk, top)?;

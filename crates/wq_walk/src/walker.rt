@@ -65,7 +65,6 @@ impl<T: Threads + Drop> Tree for Walker<T> {
         ensures lawful { IfOk result (λ rows. IsTrue (list_all is_lawful_row rows.items)) }
         ensures few { IfOk result (λ rows. length rows.items ≤ max_listing_rows) }
     {
-        let last = last.records();
         let listed = rows_again(&self.threads, &self.disk, self.alloc, root, last);
         self.count(&listed);
         listed

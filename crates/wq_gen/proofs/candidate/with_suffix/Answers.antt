@@ -6,8 +6,10 @@ use Rattle.wq_gen.proofs.Positions.{goes_on, none_given}
 use Rattle.wq_gen.proofs.candidate.with_suffix.Goals as goal
 
 pub loop-i-preserved : goal.loop-i-preserved
-loop-i-preserved c =
-    goes_on (suffix_is_among c.as_slice-texts.result.now) c.args.view.now.records c.loop-i.i c.get.result.now c.has_suffix.result c.loop-i.found.items _ c.loop-i.invariant c.get.ensures c.has_suffix.ensures c.in_ok-keep_if.ensures
+loop-i-preserved c = record {
+  reads = c.get.ensures.same ∙ c.loop-i.invariant.reads;
+  found = goes_on (suffix_is_among c.as_slice-texts.result.now) c.args.view.now.records c.loop-i.i c.get.result.now c.has_suffix.result c.loop-i.found.items _ c.loop-i.invariant.found (rw c.loop-i.invariant.reads at c.get.ensures.value) c.has_suffix.ensures c.in_ok-keep_if.ensures;
+}
 
 pub returns-in_default : goal.returns-in_default
 returns-in_default c =

@@ -1,4 +1,4 @@
--- the positions found so far
+-- the reader has the view's records, and these are the positions found so far
 use Rattle.std.proofs.Common.{◌≡◌, filter}
 use Rattle.std.specs.List.{range_with_len}
 use Rattle.wq_view.specs.Position.{passes_at}
@@ -6,5 +6,7 @@ use Rattle.wq_gen.specs.Candidate.{suffix_is_among}
 use Rattle.wq_gen.proofs.candidate.with_suffix.Given as goal
 
 abbrev pub invariant-loop-i : goal.invariant-loop-i
-invariant-loop-i l =
-    l.found.items ≡ filter (passes_at (suffix_is_among l.texts) l.view.records) (range_with_len 0 l.i)
+invariant-loop-i l = record {
+  reads : l.reader ≡ l.view.records;
+  found : l.found.items ≡ filter (passes_at (suffix_is_among l.texts) l.view.records) (range_with_len 0 l.i);
+}

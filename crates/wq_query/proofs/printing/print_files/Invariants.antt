@@ -1,4 +1,5 @@
--- the tokens so far and then those of the rest are the tokens of the files
+-- the reader has the view's records, and the tokens so far with those of the rest are the tokens of
+-- the files
 use Rattle.std.proofs.Common.{◌≡◌, ◌++◌, drop, map}
 use Rattle.json.specs.Tree.{json_tokens, items_tokens}
 use Rattle.serde_json.specs.Data.{array}
@@ -11,6 +12,7 @@ use Rattle.wq_query.proofs.printing.print_files.Given as goal
 
 abbrev pub invariant-loop-place : goal.invariant-loop-place
 invariant-loop-place l = record {
+  reads : l.reader ≡ l.view.records;
   before : l.out.before ≡ l.fn.out.before;
   tokens : l.out.tokens ++ items_tokens (items_outline (items_of (map (told l.form (instance_data l.instance) l.bound) (records_at l.view.records (drop l.place-index l.places)))))
       ≡ l.fn.out.tokens ++ json_tokens (outline (array (items_of (map (told l.form (instance_data l.instance) l.bound) (records_at l.view.records l.places)))));

@@ -1,4 +1,5 @@
--- the values so far and then those of the rest are the values of the files
+-- the reader has the view's records, and the values so far with those of the rest are the values of
+-- the files
 use Rattle.std.proofs.Common.{◌≡◌, ◌++◌, map, drop}
 use Rattle.serde_json.specs.View.{view as data_of}
 use Rattle.wq_clock.specs.Instance.{instance_data}
@@ -7,7 +8,9 @@ use Rattle.wq_query.specs.Reply.{file_data}
 use Rattle.wq_query.proofs.reply.files.Given as goal
 
 abbrev pub invariant-loop-place : goal.invariant-loop-place
-invariant-loop-place l =
-    map data_of l.files.items
-    ++ map (file_data l.plan.query.fields.items (instance_data l.instance) l.plan.bound) (records_at l.view.records (drop l.place-index l.places))
-    ≡ map (file_data l.plan.query.fields.items (instance_data l.instance) l.plan.bound) (records_at l.view.records l.places)
+invariant-loop-place l = record {
+  reads : l.reader ≡ l.view.records;
+  values : map data_of l.files.items
+      ++ map (file_data l.plan.query.fields.items (instance_data l.instance) l.plan.bound) (records_at l.view.records (drop l.place-index l.places))
+      ≡ map (file_data l.plan.query.fields.items (instance_data l.instance) l.plan.bound) (records_at l.view.records l.places);
+}

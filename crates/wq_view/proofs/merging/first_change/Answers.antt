@@ -1,0 +1,25 @@
+-- One chunk more stays as it is, or does not; after the last one no row is left, or some are.
+use Rattle.std.proofs.Common.{rules, ap, sym, ◌∙◌, arith}
+use Rattle.wq_view.specs.Run.{is_same_run, rows_behind}
+use Rattle.wq_view.proofs.Passing.{same_step, differs_at, left_step, change_is, ended_same, ended_differs}
+use Rattle.wq_view.proofs.merging.first_change.Goals as goal
+
+pub returns-in-None-clause-differs : goal.returns-in-None-clause-differs
+returns-in-None-clause-differs c = differs_at c.args.slots.now c.loop-at.at c.args.rows.now c.loop-at.left.now c.loop-at.invariant.same c.loop-at.invariant.left c.index-slots-at.result c.loop-at-test.true (sym c.index-slots-at.is) (ap (λ rs. is_same_run rs c.loop-at.left.now) (sym (c.records.ensures.value ∙ c.deref.ensures)) ∙ c.in-None.ensures)
+
+pub returns-in-None-clause-change : goal.returns-in-None-clause-change
+returns-in-None-clause-change c = change_is c.args.slots.now c.loop-at.at c.args.rows.now c.loop-at.left.now c.loop-at.invariant.same c.loop-at.invariant.left c.change_at.result c.change_at.ensures.same c.change_at.ensures.others c.change_at.ensures.rows
+
+pub loop-at-preserved : goal.loop-at-preserved
+loop-at-preserved c =
+    let is = sym (c.records.ensures.value ∙ c.deref.ensures) in
+    record {
+      same = same_step c.args.slots.now c.loop-at.at c.args.rows.now c.loop-at.left.now c.loop-at.invariant.same c.loop-at.invariant.left c.index-slots-at.result c.loop-at-test.true (sym c.index-slots-at.is) (ap (λ rs. is_same_run rs c.loop-at.left.now) is ∙ c.in-Some.ensures.0);
+      left = left_step c.args.slots.now c.loop-at.at c.index-slots-at.result c.loop-at-test.true (sym c.index-slots-at.is) c.args.rows.now c.loop-at.left.now c.in-Some.later.now c.loop-at.invariant.left (c.in-Some.ensures.1 ∙ ap (λ rs. rows_behind rs c.loop-at.left.now) (sym is));
+    }
+
+pub returns-then-is_empty-clause-same : goal.returns-then-is_empty-clause-same
+returns-then-is_empty-clause-same c = ended_same c.args.slots.now c.loop-at.at c.args.rows.now c.loop-at.left.now c.loop-at.invariant.same c.loop-at.invariant.left (omega (arith, c.loop-at-test.false)) (search rules)
+
+pub returns-clause-differs : goal.returns-clause-differs
+returns-clause-differs c = ended_differs c.args.slots.now c.loop-at.at c.args.rows.now c.loop-at.left.now c.loop-at.invariant.same c.loop-at.invariant.left (omega (arith, c.loop-at-test.false)) (λ e. search rules)

@@ -1,0 +1,8 @@
+-- the new records so far
+use Rattle.std.proofs.Common.{◌≡◌, ◌++◌, [], take}
+use Rattle.wq_view.specs.Filling.{filled}
+use Rattle.wq_view.specs.Merge.{records_after}
+use Rattle.wq_view.proofs.merging.push_new.Given as goal
+
+abbrev pub invariant-loop-row : goal.invariant-loop-row
+invariant-loop-row l = filled l.filling ≡ filled l.initial.filling ++ records_after l.at.tick l.at.second [] (take l.row-index l.rows)

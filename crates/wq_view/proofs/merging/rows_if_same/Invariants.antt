@@ -1,0 +1,16 @@
+-- what is left decides
+use Rattle.std.proofs.Common.{◌≡◌, length}
+use Rattle.std.specs.List.{list_all}
+use Rattle.wq_view.specs.Merge.{is_unchanged}
+use Rattle.wq_view.specs.Pair.{pairs_left, rows_left}
+use Rattle.wq_view.specs.Run.{is_same_run, rows_behind}
+use Rattle.wq_view.proofs.merging.rows_if_same.Given as goal
+
+abbrev pub invariant-loop-pair : goal.invariant-loop-pair
+invariant-loop-pair l = record {
+  same : list_all is_unchanged (pairs_left l.pairs) ≡ is_same_run l.records l.rows;
+  rows : rows_left l.pairs ≡ rows_behind l.records l.rows;
+}
+
+abbrev pub decreases-loop-pair : goal.decreases-loop-pair
+decreases-loop-pair l = length (pairs_left l.pairs)

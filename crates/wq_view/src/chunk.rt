@@ -1,0 +1,55 @@
+//! A chunk of a view's records. Views share chunks.
+ghost use Rattle.std.specs.Prelude.{◌≡◌, ◌≤◌, length};
+ghost use Rattle.wq_view.specs.Limit.{max_chunk};
+
+use crate::file_record::Record;
+use std::marker::Model;
+use std::sync::Arc;
+
+/// From 1 to 4,096 records, one after the other in the byte order of their names.
+#[derive(Drop)]
+pub(crate) struct Chunk {
+    records: Vec<Record>,
+}
+
+impl Model for Chunk {
+    ghost use Rattle.std.specs.Prelude.{◌≤◌, List, vec_len};
+    ghost use Rattle.std.specs.Coded.{coded_list};
+    ghost use Rattle.wq_view.specs.Limit.{max_chunk};
+    ghost use Rattle.wq_view.specs.RecordData.{RecordData, record_code};
+
+    ghost Value = { List RecordData };
+
+    ghost coded = { coded_list record_code };
+
+    ghost view = { λ c. c.records.items };
+
+    ghost invariant = { λ c. (1 ≤ vec_len c.records) × (vec_len c.records ≤ max_chunk) };
+}
+
+impl Chunk {
+    /// The chunk of these records.
+    pub(crate) fn of(records: Vec<Record>) -> Chunk
+        requires some { 1 ≤ length records.items }
+        requires few { length records.items ≤ max_chunk }
+        ensures { result ≡ records.items }
+    {
+        Chunk { records }
+    }
+
+    /// The records.
+    pub(crate) fn records(&self) -> &[Record]
+        ensures value { result.now ≡ self.now }
+        ensures some { 1 ≤ length self.now }
+        ensures few { length self.now ≤ max_chunk }
+    {
+        &self.records
+    }
+}
+
+/// A chunk, and the number of records up to its last one.
+#[derive(Drop)]
+pub(crate) struct Slot {
+    pub(crate) end: usize,
+    pub(crate) chunk: Arc<Chunk>,
+}
