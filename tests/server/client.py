@@ -65,13 +65,17 @@ class Client:
         self.send_bytes(self.text(list(command)) + b"\n")
 
     def reply(self) -> dict:
+        return json.loads(self.line())
+
+    def line(self) -> bytes:
+        """The next line, without its end."""
         while b"\n" not in self.read:
             piece = self.socket.recv(65_536)
             if not piece:
                 raise ValueError(f"the stream ended behind {self.read!r}")
             self.read += piece
         line, self.read = self.read.split(b"\n", 1)
-        return json.loads(line)
+        return line
 
     def ask(self, *command: object) -> dict:
         self.send(*command)
@@ -107,16 +111,19 @@ class Client:
 
 class Server:
     """A server whose socket is in a directory. One that is plain reads no more than any user, though root starts it. With no
-    interval, the server takes its own. Other words may begin the command."""
+    interval, or no number of workers, the server takes its own. Other words may begin the command."""
 
     def __init__(
-        self, room: Path, interval: Optional[int] = 1000, is_plain: bool = False, through: Sequence[str] = ()
+        self, room: Path, interval: Optional[int] = 1000, is_plain: bool = False, through: Sequence[str] = (),
+        workers: Optional[int] = None,
     ) -> None:
         self.sockname = str(room / "socket")
         self.said = tempfile.TemporaryFile()
         words = ["serve", "--sockname", self.sockname, "--start", "7", "--pid", "9"]
         if interval is not None:
             words += ["--interval", str(interval)]
+        if workers is not None:
+            words += ["--workers", str(workers)]
         if is_plain:
             through = [sys.executable, str(PLAIN)]
         command = [*through, str(built.program_path()), *words]

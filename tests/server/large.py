@@ -19,7 +19,7 @@ def check_a_million(tally: built.Tally, room: Path) -> None:
     with tempfile.TemporaryDirectory(dir=MEMORY if has_room(MEMORY) else room) as shelf:
         root = Path(shelf) / "tree"
         try:
-            make_names(root)
+            make_names(root, DIRECTORIES, MOST_FILES)
             check_most_files(tally, room, root)
         finally:
             subprocess.run(["rm", "-rf", str(root)], check=True)
@@ -30,14 +30,14 @@ def has_room(directory: Path) -> bool:
     return os.access(directory, os.W_OK) and os.statvfs(directory).f_favail > MOST_FILES * 6 // 5
 
 
-def make_names(root: Path) -> None:
+def make_names(root: Path, directories: int, rows: int) -> None:
     """Directories with as many names each, all of which are links to one link: a row each, and no file."""
-    for number in range(DIRECTORIES):
+    for number in range(directories):
         directory = root / f"directory{number:02}"
         directory.mkdir(parents=True)
         opened = os.open(directory, os.O_RDONLY)
         os.symlink("nothing", "0", dir_fd=opened)
-        for name in range(1, MOST_FILES // DIRECTORIES - 1):
+        for name in range(1, rows // directories - 1):
             os.link("0", str(name), src_dir_fd=opened, dst_dir_fd=opened, follow_symlinks=False)
         os.close(opened)
 

@@ -11,13 +11,15 @@ mod limit;
 mod table;
 mod text;
 mod version;
+mod workers;
 mod writing;
 
 pub use compare::{Case, Relation, is_suffix};
 pub use decimal::{signed_number, unsigned_number};
 pub use directory::{rest_below, slashes};
-pub use limit::{MAX_NUMBER, MAX_ROOTS, MAX_SIGNED};
+pub use limit::{MAX_NUMBER, MAX_ROOTS, MAX_SIGNED, MAX_WORKERS};
 pub use table::Table;
 pub use text::Text;
 pub use version::VERSION;
+pub use workers::Workers;
 pub use writing::write_all;

@@ -1,5 +1,5 @@
 //! Limits that several crates know: the limit of the server's numbers, for each of their two kinds,
-//! and the limit of roots.
+//! and the limits of roots and of the threads of a query.
 
 /// The greatest number of the protocol, 2^62: it fits signed and unsigned words and JSON's integers
 /// alike.
@@ -10,3 +10,6 @@ pub const MAX_SIGNED: i64 = 1 << 62;
 
 /// How many roots may be watched at once.
 pub const MAX_ROOTS: usize = 16;
+
+/// How many threads may look for the files of a query.
+pub const MAX_WORKERS: u32 = 16;

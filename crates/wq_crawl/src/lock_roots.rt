@@ -7,6 +7,7 @@ use crate::seconds::Seconds;
 use crate::shared_crawler::SharedCrawler;
 use crate::tree::Tree;
 use std::sync::{Arc, Wait};
+use wq_base::Workers;
 use wq_live::{Named, Told};
 
 /// Roots over a crawler that threads share. They show no crawler.
@@ -14,14 +15,24 @@ use wq_live::{Named, Told};
 pub struct LockRoots<N: Named, R: Wait + Drop, T: Tree + Drop, S: Seconds + Drop> {
     crawler: Arc<SharedCrawler<N, R, T, S>>,
     rt: R,
+    workers: Workers,
 }
 
 impl<N: Named, R: Wait + Drop, T: Tree + Drop, S: Seconds + Drop> LockRoots<N, R, T, S> {
-    /// Roots over this crawler. They wait for it by this handle.
-    pub fn new(crawler: Arc<SharedCrawler<N, R, T, S>>, rt: R) -> LockRoots<N, R, T, S>
-        ensures { (result.crawler ≡ crawler) × (result.rt ≡ rt) }
+    /// Roots over this crawler. They wait for it by this handle, and say that so many threads may
+    /// look for the files of a query.
+    pub fn new(
+        crawler: Arc<SharedCrawler<N, R, T, S>>,
+        rt: R,
+        workers: Workers,
+    ) -> LockRoots<N, R, T, S>
+        ensures { (result.crawler ≡ crawler) × (result.rt ≡ rt) × (result.workers ≡ workers) }
     {
-        LockRoots { crawler, rt }
+        LockRoots {
+            crawler,
+            rt,
+            workers,
+        }
     }
 }
 
@@ -41,5 +52,9 @@ impl<N: Named, R: Wait + Drop, T: Tree + Drop, S: Seconds + Drop> Roots<N>
 
     fn unwatch(&mut self, number: u64) -> Result<Told<N>, CrawlFault> {
         self.crawler.unwatch(&self.rt, number)
+    }
+
+    fn workers(&self) -> u32 {
+        self.workers.count
     }
 }

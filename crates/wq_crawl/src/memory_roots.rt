@@ -33,4 +33,8 @@ impl<N: Named, R: Wait + Drop, T: Tree + Drop, S: Seconds + Drop> Roots<N>
     fn unwatch(&mut self, number: u64) -> Result<Told<N>, CrawlFault> {
         self.crawler.unwatch(number)
     }
+
+    fn workers(&self) -> u32 {
+        1
+    }
 }

@@ -1,4 +1,5 @@
 //! Crawling, watching and unwatching roots for a session.
+ghost use Rattle.wq_base.specs.Limit.{AreFew};
 ghost use Rattle.wq_crawl.specs.Crawl.{tells};
 ghost use Rattle.wq_crawl.specs.Roots.{RootsGive, ending, passing, showing};
 
@@ -28,4 +29,8 @@ pub trait Roots<N: Named> {
     /// Publishes the end of the root of this number, if it is shown, and tells the list of events.
     fn unwatch(&mut self, number: u64) -> Result<Told<N>, CrawlFault>
         ensures { RootsGive (crawler self.old) (ending number) (tells result) (crawler self.new) };
+
+    /// How many threads may look for the files of a query, 1 to 16.
+    fn workers(&self) -> u32
+        ensures { AreFew result };
 }

@@ -10,6 +10,7 @@ use std::io;
 use std::sync::Wait;
 use std::thread::Threads;
 use std::time::{Clock, Duration};
+use wq_base::Workers;
 use wq_clock::Run;
 use wq_crawl::{Crawler, Seconds, Tree};
 use wq_follow::Trigger;
@@ -38,6 +39,8 @@ pub struct Parts<T: Tree + Drop, S: Seconds + Drop, O: Notices + Drop, P: Spawn 
     pub sockname: String,
     /// How long the server waits between two rounds of crawls. Sessions get idle moments after each.
     pub interval: Duration,
+    /// How many threads may look for the files of a query.
+    pub workers: Workers,
 }
 
 /// Serves the clients of a socket until one asks that the server ends. The operator is told that it
@@ -72,6 +75,7 @@ where
         shelf,
         parts.notices,
         parts.spawn,
+        parts.workers,
     )?;
     run_host(rt, alloc, listening, host, parts.interval)
 }

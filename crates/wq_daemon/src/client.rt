@@ -101,7 +101,7 @@ where
 /// Runs a client's session, and says whether it asked that the server ends.
 fn run_session<R, H>(rt: R, link: &Arc<Link>, host: &H) -> bool
 where
-    R: Wait + Copy + Drop,
+    R: Threads + Wait + Copy + Drop + Sync,
     H: Host,
 {
     let Ok(theirs) = link.clone() else {
@@ -109,5 +109,5 @@ where
         return false;
     };
     let mut inbox = LinkInbox::new(theirs, rt);
-    host.serve(&mut inbox, &mut &link.stream)
+    host.serve(&rt, &mut inbox, &mut &link.stream)
 }

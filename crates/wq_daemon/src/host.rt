@@ -3,6 +3,7 @@
 use crate::moments::RootNumbers;
 use std::io::Write;
 use std::sync::Arc;
+use std::thread::Threads;
 use wq_launch::{Run, Runs};
 use wq_serve::Inbox;
 
@@ -11,8 +12,14 @@ pub trait Host {
     /// Tells the operator that clients are served from now on.
     fn greet(&self);
 
-    /// Runs a session over all its events, and says whether it asked that the server ends.
-    fn serve<I: Inbox, W: Write>(&self, inbox: &mut I, writer: &mut W) -> bool;
+    /// Runs a session over all its events, and says whether it asked that the server ends. This handle starts the threads
+    /// that look for the files of its queries.
+    fn serve<T: Threads + Sync, I: Inbox, W: Write>(
+        &self,
+        threads: &T,
+        inbox: &mut I,
+        writer: &mut W,
+    ) -> bool;
 
     /// Begins a round of crawls, and gives the roots that are watched; none if memory is refused for them.
     fn roots(&self) -> Option<Vec<String>>;

@@ -11,6 +11,8 @@ use serde_json::Value;
 use std::alloc::{AllocError, Global};
 use std::io::Write;
 use std::sync::{Arc, Mutex, Wait};
+use std::thread::Threads;
+use wq_base::Workers;
 use wq_clock::Run;
 use wq_crawl::{CrawlFault, Crawler, LockRoots, Seconds, SharedCrawler, Tree};
 use wq_follow::Trigger;
@@ -44,6 +46,8 @@ where
     /// What the operator is told once clients are served.
     greeting: String,
     notices: O,
+    /// How many threads may look for the files of a query.
+    workers: Workers,
 }
 
 /// The seats of a server.
@@ -67,7 +71,7 @@ where
     P: Spawn + Drop,
 {
     /// A server over this crawler and this shelf, with a seat for each session that may be, one for idle moments and one for
-    /// rounds of triggers. Commands are started by the last part.
+    /// rounds of triggers. `spawn` starts commands, and so many threads may look for the files of a query.
     pub fn new(
         rt: R,
         alloc: Global,
@@ -76,6 +80,7 @@ where
         shelf: SharedShelf,
         notices: O,
         spawn: P,
+        workers: Workers,
     ) -> Result<LockHost<N, R, T, S, O, P, Trigger>, AllocError> {
         let greeting = format!(in alloc; "listening on {}", shelf.sockname())?;
         let shelf = Arc::new(alloc, Mutex::new(shelf))?;
@@ -92,12 +97,13 @@ where
             failing: Mutex::new(Failing::new(alloc)),
             greeting,
             notices,
+            workers,
         })
     }
 
     /// The roots, as a session reaches them.
     fn lock_roots(&self) -> Result<LockRoots<N, R, T, S>, AllocError> {
-        Ok(LockRoots::new(self.crawler.clone()?, self.rt))
+        Ok(LockRoots::new(self.crawler.clone()?, self.rt, self.workers))
     }
 
     /// The shelf, as a session reaches it.
@@ -231,7 +237,12 @@ where
         self.notices.tell(&self.greeting);
     }
 
-    fn serve<I: Inbox, W: Write>(&self, inbox: &mut I, writer: &mut W) -> bool {
+    fn serve<H: Threads + Sync, I: Inbox, W: Write>(
+        &self,
+        threads: &H,
+        inbox: &mut I,
+        writer: &mut W,
+    ) -> bool {
         let (Ok(mut roots), Ok(mut desk)) = (self.lock_roots(), self.lock_desk()) else {
             refuse(writer, Refusal::NoMemory);
             return false;
@@ -240,8 +251,9 @@ where
             refuse(writer, Refusal::TooManySessions);
             return false;
         };
+        let (alloc, run) = (self.alloc, self.run);
         let ended = serve(
-            self.alloc, self.run, inbox, writer, seat, &mut roots, &mut desk,
+            threads, alloc, run, inbox, writer, seat, &mut roots, &mut desk,
         );
         self.give_seat(ended.seat);
         ended.shut

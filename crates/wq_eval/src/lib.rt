@@ -1,11 +1,20 @@
-//! Runs a program over files of a view, and gives the files for which it answers yes.
+//! Runs a program over files of a view, by one thread or by several, and gives the files for which
+//! it answers yes.
 //!
 //! The caller says which files are asked, and in which order: positions come in, and positions go
 //! out.
 #![tactic(auto)]
 
+mod collecting;
 mod evaluation;
+mod gate;
 mod law;
+mod piece;
+mod workers;
 
+pub use collecting::collect;
 pub use evaluation::filter;
+pub use gate::{Gate, OpenGate};
 pub use law::{answers_are_said, runs_say};
+pub use piece::{Done, Pieces};
+pub use workers::filter_workers;

@@ -9,7 +9,7 @@ use std::sync::atomic::{AtomicU64, Ordering};
 use std::sync::{Arc, Mutex, Wait};
 use std::thread::Threads;
 use std::{io, thread};
-use wq_base::Table;
+use wq_base::{Table, Workers};
 use wq_clock::Run;
 use wq_crawl::{Crawler, LockRoots, SharedCrawler};
 use wq_follow::Trigger;
@@ -81,17 +81,18 @@ fn line(alloc: Global, text: &str) -> Result<Event, AllocError> {
 }
 
 /// Serves a client whose lines are these on a thread's own ends, and gives what is written to it.
-fn write_client<N: Named, R: Wait + Copy + Drop>(
+fn write_client<N: Named, R: Threads + Wait + Copy + Drop + Sync>(
     rt: R,
     alloc: Global,
     client: Talker<N, R, Trigger>,
 ) -> Option<Vec<u8>> {
     let mut inbox = client.inbox;
     let mut writer = client.writer;
-    let mut roots = LockRoots::new(client.crawler, rt);
+    let mut roots = LockRoots::new(client.crawler, rt, Workers { count: 1 });
     let mut desk = LockDesk::new(client.shelf, rt);
     let run = Run::new(7, 9);
     let ended = serve(
+        &rt,
         alloc,
         run,
         &mut inbox,

@@ -8,6 +8,7 @@ use std::collections::VecDeque;
 use std::marker::Brand;
 use std::sync::Wait;
 use std::test::Fail;
+use std::thread::Threads;
 use wq_crawl::{Crawler, MemoryRoots};
 use wq_live::{Blank, Named};
 use wq_serve::MemoryDesk;
@@ -79,7 +80,7 @@ fn events_of(alloc: Global, coming: &[Coming]) -> Result<VecDeque<Event>, AllocE
 }
 
 /// What a session writes to which this comes; none where it failed.
-fn talk<N: Named, R: Wait + Drop>(
+fn talk<N: Named, R: Threads + Wait + Copy + Drop + Sync>(
     rt: R,
     alloc: Global,
     blank: Blank,
@@ -98,7 +99,7 @@ fn talk<N: Named, R: Wait + Drop>(
         shelf: new_shelf(alloc)?,
     };
     let events = events_of(alloc, coming).ok()?;
-    let (_seat, written) = write_events(alloc, events, seat, &mut roots, &mut desk)?;
+    let (_seat, written) = write_events(&rt, alloc, events, seat, &mut roots, &mut desk)?;
     Some(written)
 }
 

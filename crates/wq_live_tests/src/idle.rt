@@ -7,6 +7,7 @@ use std::os::unix::net::UnixStream;
 use std::sync::Arc;
 use std::sync::atomic::{AtomicU64, Ordering};
 use std::test::Fail;
+use std::thread::Threads;
 use std::time::Duration;
 use std::{fs, io};
 use wq_daemon::{Host, RootNumbers, listen, remove, run};
@@ -28,7 +29,12 @@ struct Teller {
 impl Host for Teller {
     fn greet(&self) {}
 
-    fn serve<I: Inbox, W: Write>(&self, inbox: &mut I, writer: &mut W) -> bool {
+    fn serve<T: Threads + Sync, I: Inbox, W: Write>(
+        &self,
+        _threads: &T,
+        inbox: &mut I,
+        writer: &mut W,
+    ) -> bool {
         for _ in NUMBERS {
             let number = match inbox.next() {
                 Event::Idle(number) => number,

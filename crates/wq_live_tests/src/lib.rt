@@ -1,7 +1,8 @@
 //! Tests of the shared view, of sessions over it, and of a server: what no contract of `wq_live`, `wq_serve` and
 //! `wq_daemon` says. Calls succeed while there is memory, a look finds what was published last, looks wait for nobody,
 //! sessions share one shelf, a server answers on its socket and ends, and its sessions get idle moments. Rounds start the
-//! commands of triggers, and real commands are started, get their input and end.
+//! commands of triggers, and real commands are started, get their input and end. Workers of a query run at the same time,
+//! and keep the files that one thread keeps.
 #![tactic(auto)]
 
 #[cfg(test)]
@@ -26,3 +27,5 @@ mod server;
 mod session;
 #[cfg(test)]
 mod step;
+#[cfg(test)]
+mod workers;

@@ -9,6 +9,8 @@ use std::io;
 use std::io::Write;
 use std::marker::Brand;
 use std::sync::{Arc, Wait};
+use std::thread::Threads;
+use wq_base::Workers;
 use wq_clock::Run;
 use wq_crawl::{CrawlFault, Crawler, LockRoots, Roots, SharedCrawler, Tree, TreeFault};
 use wq_live::{Blank, Named, Told};
@@ -76,6 +78,10 @@ impl<N: Named, R: Wait + Drop> Roots<N> for Publishing<N, R> {
         publish_twice(&mut self.roots);
         self.roots.unwatch(number)
     }
+
+    fn workers(&self) -> u32 {
+        self.roots.workers()
+    }
 }
 
 /// A desk that publishes twice before it holds the shelf, also to find a program or to keep one.
@@ -130,7 +136,7 @@ impl<N: Named, R: Wait + Drop> Write for Telling<N, R> {
 }
 
 /// What a session writes whose client sends these lines; none where it failed.
-fn talk<N: Named, R: Wait + Copy + Drop>(
+fn talk<N: Named, R: Threads + Wait + Copy + Drop + Sync>(
     rt: R,
     alloc: Global,
     blank: Blank,
@@ -148,17 +154,18 @@ fn talk<N: Named, R: Wait + Copy + Drop>(
     let mut inbox = MemoryInbox::new(VecDeque::from(Splitter::new(alloc).feed(lines).ok()?));
     let mut writer = Telling {
         bytes: Vec::new(alloc),
-        roots: LockRoots::new(Arc::try_clone(&crawler).ok()?, rt),
+        roots: LockRoots::new(Arc::try_clone(&crawler).ok()?, rt, Workers { count: 1 }),
     };
     let mut desk = Holding {
         desk: LockDesk::new(shared_shelf(alloc)?, rt),
-        roots: LockRoots::new(Arc::try_clone(&crawler).ok()?, rt),
+        roots: LockRoots::new(Arc::try_clone(&crawler).ok()?, rt, Workers { count: 1 }),
     };
     let mut roots = Publishing {
-        roots: LockRoots::new(crawler, rt),
+        roots: LockRoots::new(crawler, rt, Workers { count: 1 }),
     };
     let run = Run::new(7, 9);
     let ended = serve(
+        &rt,
         alloc,
         run,
         &mut inbox,
@@ -186,7 +193,7 @@ const WRITTEN: &[u8] = br#"{"version":"wq-1","watch":"/r","watcher":"poll"}
 "#;
 
 /// Whether a client is written what it should while roots, desk and writer publish.
-fn is_well<R: Wait + Copy + Drop>(rt: R, alloc: Global) -> bool {
+fn is_well<R: Threads + Wait + Copy + Drop + Sync>(rt: R, alloc: Global) -> bool {
     let Ok(blank) = Blank::new(alloc, &rt, 1) else {
         return false;
     };

@@ -6,6 +6,7 @@ use std::alloc::Global;
 use std::marker::Brand;
 use std::sync::Wait;
 use std::test::Fail;
+use std::thread::Threads;
 use wq_clock::Run;
 use wq_crawl::{Crawler, MemoryRoots, Roots, Tree, TreeFault};
 use wq_follow::{Launch, LaunchFault, Start};
@@ -116,7 +117,11 @@ fn look_and_fire<N: Named>(
 }
 
 /// Crawls and has a round after each crawl. Gives the launcher; none if the client was not written what it should.
-fn fire_all<N: Named, R: Wait + Drop>(rt: R, alloc: Global, blank: Blank) -> Option<Alternating>
+fn fire_all<N: Named, R: Threads + Wait + Copy + Drop + Sync>(
+    rt: R,
+    alloc: Global,
+    blank: Blank,
+) -> Option<Alternating>
     requires { blank.book ≡ N.book }
 {
     let tree = Growing { alloc, count: 0 };
@@ -126,7 +131,7 @@ fn fire_all<N: Named, R: Wait + Drop>(rt: R, alloc: Global, blank: Blank) -> Opt
     let mut desk = MemoryDesk {
         shelf: new_shelf(alloc)?,
     };
-    let (mut seat, written) = write_lines(alloc, LINES, seat, &mut roots, &mut desk)?;
+    let (mut seat, written) = write_lines(&rt, alloc, LINES, seat, &mut roots, &mut desk)?;
     if written.as_slice() != WRITTEN {
         return None;
     }

@@ -15,6 +15,7 @@ use std::test::Fail;
 use std::thread::{self, Threads};
 use std::time::{Clock, Duration};
 use std::{env, fs, process};
+use wq_base::Workers;
 use wq_clock::Run;
 use wq_daemon::{Listening, Notices, Parts, SEATS, listen, remove, serve_clients};
 use wq_follow::Start;
@@ -96,6 +97,7 @@ fn make_parts(
         spawn: NoCommands,
         sockname: String::from_str(alloc, "the socket")?,
         interval: Duration::from_millis(10),
+        workers: Workers { count: 1 },
     })
 }
 

@@ -9,6 +9,7 @@ use std::collections::VecDeque;
 use std::marker::Brand;
 use std::sync::{Arc, Mutex, Wait};
 use std::test::Fail;
+use std::thread::Threads;
 use wq_clock::Run;
 use wq_crawl::{Crawler, MemoryRoots, Roots, Seconds, Tree, TreeFault};
 use wq_follow::Trigger;
@@ -105,7 +106,8 @@ pub(crate) fn shared_shelf(alloc: Global) -> Option<Arc<Mutex<SharedShelf>>> {
 }
 
 /// What a session writes whose client sends these bytes, and its seat; none where the writer failed.
-pub(crate) fn write_lines<N: Named, R: Roots<N>, D: Desk>(
+pub(crate) fn write_lines<T: Threads + Sync, N: Named, R: Roots<N>, D: Desk>(
+    rt: &T,
     alloc: Global,
     stream: &[u8],
     seat: Seat<N>,
@@ -113,11 +115,12 @@ pub(crate) fn write_lines<N: Named, R: Roots<N>, D: Desk>(
     desk: &mut D,
 ) -> Option<(Seat<N>, Vec<u8>)> {
     let events = Splitter::new(alloc).feed(stream).ok()?;
-    write_events(alloc, VecDeque::from(events), seat, roots, desk)
+    write_events(rt, alloc, VecDeque::from(events), seat, roots, desk)
 }
 
 /// What a session writes to which these events come, and its seat; none where the writer failed.
-pub(crate) fn write_events<N: Named, R: Roots<N>, D: Desk>(
+pub(crate) fn write_events<T: Threads + Sync, N: Named, R: Roots<N>, D: Desk>(
+    rt: &T,
     alloc: Global,
     events: VecDeque<Event>,
     seat: Seat<N>,
@@ -127,7 +130,7 @@ pub(crate) fn write_events<N: Named, R: Roots<N>, D: Desk>(
     let mut inbox = MemoryInbox::new(events);
     let mut writer = Vec::new(alloc);
     let run = Run::new(7, 9);
-    let ended = serve(alloc, run, &mut inbox, &mut writer, seat, roots, desk);
+    let ended = serve(rt, alloc, run, &mut inbox, &mut writer, seat, roots, desk);
     if ended.fault {
         return None;
     }
@@ -141,7 +144,7 @@ type Talk<'a> = (&'a [u8], &'static [u8]);
 type Names = &'static [&'static [u8]];
 
 /// The files of a tree that has some.
-const FILES: Names = &[b"b.txt", b"src/a.c"];
+pub(crate) const FILES: Names = &[b"b.txt", b"src/a.c"];
 
 /// What a session looks with and asks: its seat, and its roots.
 #[derive(Drop)]
@@ -167,20 +170,21 @@ fn make_ends<N: Named, R: Wait + Drop>(
 }
 
 /// Serves a client at a desk, and says whether it was written what it should.
-fn talk_at<N: Named, R: Wait + Drop, D: Desk>(
+fn talk_at<N: Named, R: Threads + Wait + Drop + Sync, D: Desk>(
+    rt: &R,
     alloc: Global,
     ends: Ends<N, R>,
     desk: &mut D,
     talk: &Talk<'_>,
 ) -> Option<(Ends<N, R>, bool)> {
     let Ends { seat, mut roots } = ends;
-    let (seat, written) = write_lines(alloc, talk.0, seat, &mut roots, desk)?;
+    let (seat, written) = write_lines(rt, alloc, talk.0, seat, &mut roots, desk)?;
     Some((Ends { seat, roots }, written.as_slice() == talk.1))
 }
 
 /// Serves clients one after the other, each at a desk of its own over the same lock. Says how many were written what
 /// they should.
-fn play<N: Named, R: Wait + Copy + Drop>(
+fn play<N: Named, R: Threads + Wait + Copy + Drop + Sync>(
     rt: R,
     alloc: Global,
     blank: Blank,
@@ -193,7 +197,7 @@ fn play<N: Named, R: Wait + Copy + Drop>(
     let shelf = shared_shelf(alloc)?;
     for (place, talk) in talks.iter().enumerate() {
         let mut desk = LockDesk::new(Arc::try_clone(&shelf).ok()?, rt);
-        let (after, is_right) = talk_at(alloc, ends, &mut desk, talk)?;
+        let (after, is_right) = talk_at(&rt, alloc, ends, &mut desk, talk)?;
         ends = after;
         if !is_right {
             return Some(place);
@@ -203,7 +207,7 @@ fn play<N: Named, R: Wait + Copy + Drop>(
 }
 
 /// How many clients are written what they should, over a tree of these files.
-fn well<R: Wait + Copy + Drop>(
+fn well<R: Threads + Wait + Copy + Drop + Sync>(
     rt: R,
     alloc: Global,
     names: Names,
@@ -229,7 +233,7 @@ fn with_spaces(
 
 /// Serves clients one after the other at the same desk, which nothing else has. Says how many were written what they
 /// should.
-fn play_alone<N: Named, R: Wait + Drop>(
+fn play_alone<N: Named, R: Threads + Wait + Copy + Drop + Sync>(
     rt: R,
     alloc: Global,
     blank: Blank,
@@ -242,7 +246,7 @@ fn play_alone<N: Named, R: Wait + Drop>(
         shelf: new_shelf(alloc)?,
     };
     for (place, talk) in talks.iter().enumerate() {
-        let (after, is_right) = talk_at(alloc, ends, &mut desk, talk)?;
+        let (after, is_right) = talk_at(&rt, alloc, ends, &mut desk, talk)?;
         ends = after;
         if !is_right {
             return Some(place);
@@ -262,14 +266,18 @@ fn is_answered<N: Named, R: Roots<N>>(roots: &mut R) -> bool {
 }
 
 /// Whether the roots of a session still answer when it has ended and no seat is left.
-fn outlive<N: Named, R: Wait + Drop>(rt: R, alloc: Global, blank: Blank) -> Option<bool>
+fn outlive<N: Named, R: Threads + Wait + Copy + Drop + Sync>(
+    rt: R,
+    alloc: Global,
+    blank: Blank,
+) -> Option<bool>
     requires { blank.book ≡ N.book }
 {
     let ends = make_ends::<N, R>(rt, alloc, blank, FILES)?;
     let mut desk = MemoryDesk {
         shelf: new_shelf(alloc)?,
     };
-    let (ends, is_right) = talk_at(alloc, ends, &mut desk, &WATCH)?;
+    let (ends, is_right) = talk_at(&rt, alloc, ends, &mut desk, &WATCH)?;
     let Ends { seat, mut roots } = ends;
     drop(seat);
     Some(is_right && is_answered(&mut roots))

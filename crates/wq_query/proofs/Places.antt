@@ -1,5 +1,5 @@
 -- The places of the files that a plan lists.
-use Rattle.std.proofs.Common.{◌≡◌, ℕ, Bool, true, false, not, List, [], ◌∷◌, Option, Some, None, option_map, refl, sym, ap, ◌∙◌}
+use Rattle.std.proofs.Common.{◌≡◌, ℕ, Bool, true, false, not, List, [], ◌∷◌, Option, Some, None, option_map, refl, sym, ap, subst, ◌∙◌}
 use Rattle.std.specs.Prelude.{◌&&◌, ◌||◌, filter, slice_get, if◌then◌else◌}
 use Rattle.std.specs.Option.{option_map_or}
 use Rattle.wq_view.specs.RecordData.{RecordData}
@@ -82,6 +82,19 @@ pub places_matching : (plan : PlanData) (raw : Raw) (records : List RecordData)
 places_matching plan raw records decides =
     passing (is_candidate (generators_of plan)) (says_yes raw) (is_match plan) records
     (λ r. ap (λ b. is_candidate (generators_of plan) r && b) (decides r))
+
+-- the program keeps the places of the files that match, out of those of the candidates
+pub places_kept : (plan : PlanData) (raw program : Raw) (records : List RecordData) (places : List ℕ)
+    → plan.program ≡ option_map (λ _. raw) (plan.query).program → program ≡ raw
+    → ((plan.query).program ≡ None → SaysMeaning raw (plan.query).expression)
+    → places ≡ positions_of (is_candidate (generators_of plan)) records
+    → filter (passes_at (says_yes program) records) places ≡ positions_of (is_match plan) records
+places_kept plan raw program records places named same says there =
+    let Decides : Raw → Option Raw → Type 0 = λ p o. (r : RecordData) → says_yes p r ≡ is_meant o (plan.query).expression r in
+    let decides : Decides raw (option_map (λ _. raw) (plan.query).program) = program_decides (plan.query).program raw (plan.query).expression says in
+    ap (filter (passes_at (says_yes program) records)) there
+    ∙ places_matching plan program records
+    (subst (Decides program) (sym named) (subst (λ p. Decides p (option_map (λ _. raw) (plan.query).program)) (sym same) decides))
 
 -- at a fresh bound, the files that match and exist are listed
 pub places_existing : (plan : PlanData) (records : List RecordData) → is_fresh plan.bound ≡ true

@@ -2,6 +2,7 @@
 //! reply. Neither the choice of a root nor a crawl of it before the answer is described here.
 #![tactic(auto)]
 
+mod evaluating;
 mod fault;
 mod field;
 mod following;
@@ -23,4 +24,4 @@ pub use following::{files_text, print_list};
 pub use law::{subscriptions_are_plain, values_ask_what_they_write};
 pub use query::{Plan, Query};
 pub use reading::{flag, some_fields};
-pub use reply::{answer, answer_bytes};
+pub use reply::{answer, answer_bytes, answer_workers};

@@ -1,14 +1,19 @@
 //! The files that a plan lists: candidates for which its program answers yes.
-ghost use Rattle.std.specs.Prelude.{◌≡◌, IfOk, filter};
+ghost use Rattle.std.specs.Prelude.{◌≡◌, ◌≤◌, IfOk, filter, length};
+ghost use Rattle.wq_base.specs.Limit.{AreFew};
+ghost use Rattle.wq_gen.specs.Candidate.{is_candidate};
+ghost use Rattle.wq_view.specs.Limit.{max_records};
 ghost use Rattle.wq_view.specs.Position.{passes_at, positions_of, records_at};
 ghost use Rattle.wq_query.specs.Listing.{AreWithin, files_of, generators_of};
 ghost use Rattle.wq_query.specs.Listing.{lists_nothing, is_listed, is_match, is_new};
 ghost use Rattle.wq_query.specs.Query.{planned};
 
+use crate::evaluating::evaluate;
 use crate::query::Plan;
 use std::alloc::{AllocError, Global};
+use std::thread::Threads;
 use wq_clock::Bound;
-use wq_eval::filter;
+use wq_eval::{Gate, filter};
 use wq_gen::{Generators, candidates};
 use wq_view::{Record, View, positions_are_there, positions_filter};
 
@@ -23,17 +28,46 @@ pub(crate) fn listed(alloc: Global, plan: &Plan, view: &View) -> Result<Vec<u32>
     }
     positions_filter();
     positions_are_there();
-    listed_places(alloc, plan, view)
+    listed_places(alloc, plan, view, matching(alloc, plan, view)?)
 }
 
-/// The places of the files that pass the plan's filter, even if the plan is to list nothing.
+/// The places that [`listed`] gives, found by up to so many threads.
+pub(crate) fn listed_workers<R: Threads + Sync, G: Gate + Sync>(
+    rt: &R,
+    alloc: Global,
+    gate: &G,
+    workers: u32,
+    plan: &Plan,
+    view: &View,
+) -> Result<Vec<u32>, AllocError>
+    requires { AreFew workers }
+    ensures within { IfOk result (λ places. AreWithin view.now.records places.items) }
+    ensures files { IfOk result (λ places. records_at view.now.records places.items
+        ≡ files_of (planned plan.now) view.now.records) }
+{
+    if is_empty(plan) {
+        return Ok(Vec::new(alloc));
+    }
+    positions_filter();
+    positions_are_there();
+    let matching = matching_workers(rt, alloc, gate, workers, plan, view)?;
+    listed_places(alloc, plan, view, matching)
+}
+
+/// The places of the files that pass the plan's filter, even if the plan is to list nothing. `places`
+/// are those of the files that match.
 #[tactic(auto, using(crate::proofs::Places::places_existing, crate::proofs::Places::places_listed))]
-fn listed_places(alloc: Global, plan: &Plan, view: &View) -> Result<Vec<u32>, AllocError>
+fn listed_places(
+    alloc: Global,
+    plan: &Plan,
+    view: &View,
+    places: Vec<u32>,
+) -> Result<Vec<u32>, AllocError>
+    requires { places.items ≡ positions_of (is_match (planned plan.now)) view.now.records }
     ensures { IfOk result (λ places. places.items
         ≡ positions_of (is_listed (planned plan.now)) view.now.records) }
 {
     positions_are_there();
-    let places = matching(alloc, plan, view)?;
     if plan.bound.is_fresh() {
         existing(alloc, view, &places)
     } else {
@@ -42,16 +76,42 @@ fn listed_places(alloc: Global, plan: &Plan, view: &View) -> Result<Vec<u32>, Al
 }
 
 /// The places of the candidates for which the program of the plan answers yes.
-#[tactic(auto, using(crate::proofs::Places::places_matching))]
 fn matching(alloc: Global, plan: &Plan, view: &View) -> Result<Vec<u32>, AllocError>
     ensures { IfOk result (λ places. places.items
         ≡ positions_of (is_match (planned plan.now)) view.now.records) }
 {
+    let places = candidates_of(alloc, plan, view)?;
+    filter(alloc, &plan.program, view, &places)
+}
+
+/// The places that [`matching`] gives, found by up to so many threads.
+fn matching_workers<R: Threads + Sync, G: Gate + Sync>(
+    rt: &R,
+    alloc: Global,
+    gate: &G,
+    workers: u32,
+    plan: &Plan,
+    view: &View,
+) -> Result<Vec<u32>, AllocError>
+    requires { AreFew workers }
+    ensures { IfOk result (λ places. places.items
+        ≡ positions_of (is_match (planned plan.now)) view.now.records) }
+{
+    let places = candidates_of(alloc, plan, view)?;
+    evaluate(rt, alloc, gate, workers, &plan.program, view, &places)
+}
+
+/// The places of the plan's candidates.
+fn candidates_of(alloc: Global, plan: &Plan, view: &View) -> Result<Vec<u32>, AllocError>
+    ensures places { IfOk result (λ places. places.items
+        ≡ positions_of (is_candidate (generators_of (planned plan.now))) view.now.records) }
+    ensures within { IfOk result (λ places. AreWithin view.now.records places.items) }
+    ensures count { IfOk result (λ places. length places.items ≤ max_records) }
+{
     // Only the proof uses the contract of this call, which is about the length of a view.
     view.len();
     positions_are_there();
-    let places = candidates(alloc, view, generators(plan))?;
-    filter(alloc, &plan.program, view, &places)
+    candidates(alloc, view, generators(plan))
 }
 
 /// The generators of the plan's candidates.

@@ -5,23 +5,26 @@ ghost use Rattle.serde_json.specs.View.{view as data_of};
 ghost use Rattle.serde_json.specs.Written.{compact_text};
 ghost use Rattle.wq_clock.specs.ClockText.{clock_text};
 ghost use Rattle.wq_clock.specs.Instance.{instance_data};
+ghost use Rattle.wq_base.specs.Limit.{AreFew};
 ghost use Rattle.wq_view.specs.Kind.{letter_of};
 ghost use Rattle.wq_query.specs.Query.{planned};
-ghost use Rattle.wq_query.specs.Listing.{AreWithin};
+ghost use Rattle.wq_query.specs.Listing.{AreWithin, files_of};
 ghost use Rattle.wq_view.specs.Position.{records_at};
 ghost use Rattle.wq_query.specs.Reply.{field_data, file_data, reply_of};
 
 use crate::field::Field;
 use crate::form::Form;
-use crate::listing::{is_new, listed};
+use crate::listing::{is_new, listed, listed_workers};
 use crate::printing::print_reply;
 use crate::query::Plan;
 use crate::room::room_of;
 use json::Writer;
 use serde_json::{Map, Value, json};
 use std::alloc::{AllocError, Global};
+use std::thread::Threads;
 use wq_base::{MAX_NUMBER, VERSION};
 use wq_clock::{Bound, Instance, print};
+use wq_eval::Gate;
 use wq_view::{Kind, Record, View};
 
 /// The reply to a query at a view: its clock, the listed files in the view's order, and whether the
@@ -57,10 +60,49 @@ pub fn answer_bytes(
         ≡ compact_text (reply_of (planned plan.now) (instance_data instance.now) view.now)) }
 {
     let places = listed(alloc, plan, view)?;
+    text_of(alloc, plan, instance, view, &places)
+}
+
+/// The text that [`answer_bytes`] gives. Up to so many threads find its files: each takes
+/// pieces of 1,024 candidates, and calls the gate as it begins one.
+///
+/// If there are fewer than 16,384 candidates it starts no thread, and it never uses more threads than
+/// one for four pieces.
+pub fn answer_workers<R: Threads + Sync, G: Gate + Sync>(
+    rt: &R,
+    alloc: Global,
+    gate: &G,
+    workers: u32,
+    plan: &Plan,
+    instance: &Instance,
+    view: &View,
+) -> Result<Vec<u8>, AllocError>
+    requires { AreFew workers }
+    ensures { IfOk result (λ text. text.items
+        ≡ compact_text (reply_of (planned plan.now) (instance_data instance.now) view.now)) }
+{
+    let places = listed_workers(rt, alloc, gate, workers, plan, view)?;
+    text_of(alloc, plan, instance, view, &places)
+}
+
+/// The text of the reply that lists the files at these places.
+fn text_of(
+    alloc: Global,
+    plan: &Plan,
+    instance: &Instance,
+    view: &View,
+    places: &[u32],
+) -> Result<Vec<u8>, AllocError>
+    requires within { AreWithin view.now.records places.now }
+    requires files { records_at view.now.records places.now
+        ≡ files_of (planned plan.now) view.now.records }
+    ensures { IfOk result (λ text. text.items
+        ≡ compact_text (reply_of (planned plan.now) (instance_data instance.now) view.now)) }
+{
     let form = Form::of(alloc, &plan.query.fields)?;
-    let room = room_of(instance, view, &places, &form);
+    let room = room_of(instance, view, places, &form);
     let mut out = Writer::new(with_room(alloc, room));
-    print_reply(&mut out, plan, instance, view, &places, &form)?;
+    print_reply(&mut out, plan, instance, view, places, &form)?;
     let text = out.into_inner();
     Ok(text)
 }

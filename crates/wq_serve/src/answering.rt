@@ -15,16 +15,20 @@ ghost use Rattle.wq_session.specs.Prepared.{IsPrepared, asked, asked_at};
 ghost use Rattle.wq_session.specs.Work.{work_data};
 
 use crate::client::Client;
+use crate::crew::Crew;
 use crate::desk::Desk;
 use crate::looking::{SharedAt, look_for, number_for, share_for};
 use std::alloc::Global;
+use std::thread::Threads;
 use wq_clock::Instance;
 use wq_crawl::{CrawlFault, Roots};
+use wq_eval::OpenGate;
 use wq_live::{Named, Seat, Told};
 use wq_session::{Ask, At, Need, Out, Prepared, Refusal, Work};
 
 /// Does what an ask needs, and answers it.
-pub(crate) fn answer<N: Named, R: Roots<N>, D: Desk>(
+pub(crate) fn answer<T: Threads + Sync, N: Named, R: Roots<N>, D: Desk>(
+    crew: &Crew<'_, T>,
     client: &mut Client,
     ask: Ask,
     seat: Seat<N>,
@@ -37,17 +41,17 @@ pub(crate) fn answer<N: Named, R: Roots<N>, D: Desk>(
     ensures run { client.new.run ≡ client.old.run }
 {
     match ask.need() {
-        Need::None => (seat, hold(client, ask, None, desk)),
-        Need::Look(_) => look_and_hold(client, ask, seat, desk),
+        Need::None => (seat, hold(crew, client, ask, None, desk)),
+        Need::Look(_) => look_and_hold(crew, client, ask, seat, desk),
         Need::Crawl(root) => {
             let told = roots.crawl(root);
-            learn_and_hold(client, ask, seat, told, desk)
+            learn_and_hold(crew, client, ask, seat, told, desk)
         }
         Need::Watch(root) => {
             let told = watch(roots, root);
-            learn_and_hold(client, ask, seat, told, desk)
+            learn_and_hold(crew, client, ask, seat, told, desk)
         }
-        Need::Unwatch(_) => unwatch_and_hold(client, ask, seat, roots, desk),
+        Need::Unwatch(_) => unwatch_and_hold(crew, client, ask, seat, roots, desk),
     }
 }
 
@@ -63,13 +67,22 @@ fn watch<N: Named, R: Roots<N>>(roots: &mut R, root: &str) -> Result<Option<Told
 
 /// Answers an ask at a root, or at none: the shelf is held while it is taken, and not while it is finished.
 #[tactic(auto, using(crate::proofs::Held::held_finish))]
-fn hold<D: Desk>(client: &mut Client, ask: Ask, at: Option<At<'_>>, desk: &mut D) -> Out
+fn hold<T: Threads + Sync, D: Desk>(
+    crew: &Crew<'_, T>,
+    client: &mut Client,
+    ask: Ask,
+    at: Option<At<'_>>,
+    desk: &mut D,
+) -> Out
     ensures answers { AnswersAt (stand_of (D.shelf desk.old) client.old) ask
         (option_map at_data at.entry) result (stand_of (D.shelf desk.new) client.new) }
     ensures run { client.new.run ≡ client.old.run }
 {
     let work = take(client.alloc, ask, at, desk);
-    let mut out = client.session.finish(client.alloc, work, at);
+    let (gate, rt, count) = (OpenGate {}, crew.rt, crew.workers.count);
+    let mut out = client
+        .session
+        .finish_workers(rt, client.alloc, &gate, count, work, at);
     if let Some(cursor) = client.session.settle(&mut out) {
         desk.unset(cursor);
     }
@@ -108,7 +121,8 @@ fn prepare<'a, D: Desk>(alloc: Global, ask: Ask, at: Option<At<'a>>, desk: &mut 
 ///
 /// The look is left before the shelf is held: a share of the root's view outlives it, so that no publish waits while a reply
 /// is made. Where no share can be had, the look is open for as long as that takes.
-fn look_and_hold<N: Named, D: Desk>(
+fn look_and_hold<T: Threads + Sync, N: Named, D: Desk>(
+    crew: &Crew<'_, T>,
     client: &mut Client,
     ask: Ask,
     seat: Seat<N>,
@@ -120,19 +134,20 @@ fn look_and_hold<N: Named, D: Desk>(
 {
     match seat.look() {
         Ok(look) => match share_for(client.run, &ask, &look) {
-            Ok(shared) => (look.leave(), hold_shared(client, ask, shared, desk)),
+            Ok(shared) => (look.leave(), hold_shared(crew, client, ask, shared, desk)),
             Err(_) => {
                 let at = look_for(client.run, &ask, &look);
-                let out = hold(client, ask, at, desk);
+                let out = hold(crew, client, ask, at, desk);
                 (look.leave(), out)
             }
         },
-        Err(seat) => (seat, hold(client, ask, None, desk)),
+        Err(seat) => (seat, hold(crew, client, ask, None, desk)),
     }
 }
 
 /// Answers an ask at a root with a share of its view, or at none.
-fn hold_shared<D: Desk>(
+fn hold_shared<T: Threads + Sync, D: Desk>(
+    crew: &Crew<'_, T>,
     client: &mut Client,
     ask: Ask,
     shared: Option<SharedAt>,
@@ -143,13 +158,14 @@ fn hold_shared<D: Desk>(
     ensures run { client.new.run ≡ client.old.run }
 {
     match &shared {
-        Some(shared) => hold(client, ask, Some(shared.at()), desk),
-        None => hold(client, ask, None, desk),
+        Some(shared) => hold(crew, client, ask, Some(shared.at()), desk),
+        None => hold(crew, client, ask, None, desk),
     }
 }
 
 /// Answers an ask for which the roots told this.
-fn learn_and_hold<N: Named, D: Desk>(
+fn learn_and_hold<T: Threads + Sync, N: Named, D: Desk>(
+    crew: &Crew<'_, T>,
     client: &mut Client,
     ask: Ask,
     seat: Seat<N>,
@@ -162,14 +178,15 @@ fn learn_and_hold<N: Named, D: Desk>(
     ensures run { client.new.run ≡ client.old.run }
 {
     match told {
-        Ok(None) => look_and_hold(client, ask, seat, desk),
-        Ok(Some(told)) => look_and_hold(client, ask, seat.learn(told), desk),
+        Ok(None) => look_and_hold(crew, client, ask, seat, desk),
+        Ok(Some(told)) => look_and_hold(crew, client, ask, seat.learn(told), desk),
         Err(fault) => (seat, refuse(client, fault)),
     }
 }
 
 /// Unwatches the root that an ask needs, if it is shown, and answers the ask at its number.
-fn unwatch_and_hold<N: Named, R: Roots<N>, D: Desk>(
+fn unwatch_and_hold<T: Threads + Sync, N: Named, R: Roots<N>, D: Desk>(
+    crew: &Crew<'_, T>,
     client: &mut Client,
     ask: Ask,
     seat: Seat<N>,
@@ -183,16 +200,17 @@ fn unwatch_and_hold<N: Named, R: Roots<N>, D: Desk>(
 {
     let (seat, instance) = number_for(client.run, &ask, seat);
     match instance {
-        None => (seat, hold(client, ask, None, desk)),
+        None => (seat, hold(crew, client, ask, None, desk)),
         Some(instance) => {
             let told = roots.unwatch(instance.root);
-            hold_at_end(client, ask, seat, instance, told, desk)
+            hold_at_end(crew, client, ask, seat, instance, told, desk)
         }
     }
 }
 
 /// Answers an ask at the number of a root, the end of which was told.
-fn hold_at_end<N: Named, D: Desk>(
+fn hold_at_end<T: Threads + Sync, N: Named, D: Desk>(
+    crew: &Crew<'_, T>,
     client: &mut Client,
     ask: Ask,
     seat: Seat<N>,
@@ -211,7 +229,7 @@ fn hold_at_end<N: Named, D: Desk>(
                 instance,
                 view: None,
             };
-            let out = hold(client, ask, Some(at), desk);
+            let out = hold(crew, client, ask, Some(at), desk);
             (learn_and_leave(seat, told), out)
         }
         Err(fault) => (seat, refuse(client, fault)),

@@ -2,11 +2,13 @@
 //! writer takes the replies, a seat shows the views of roots, the roots are crawled, and a desk holds the shelf that all
 //! clients share.
 //!
-//! Nothing here knows a socket, a file or a thread. What waits does so behind one of the ends.
+//! Nothing here knows a socket or a file. A handle that is handed in starts the threads that look for the files of a query.
+//! What waits does so behind one of the ends.
 #![tactic(auto)]
 
 mod answering;
 mod client;
+mod crew;
 mod desk;
 mod idling;
 mod inbox;

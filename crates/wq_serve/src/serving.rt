@@ -7,12 +7,15 @@ ghost use Rattle.wq_stream.specs.declared.event.Event.{Event};
 
 use crate::answering::answer;
 use crate::client::Client;
+use crate::crew::Crew;
 use crate::desk::Desk;
 use crate::idling::idle;
 use crate::inbox::Inbox;
 use crate::writing::write_out;
 use std::alloc::Global;
 use std::io::Write;
+use std::thread::Threads;
+use wq_base::Workers;
 use wq_clock::Run;
 use wq_crawl::Roots;
 use wq_live::{Named, Seat};
@@ -44,8 +47,12 @@ pub struct Ended<N: Named> {
 /// At an idle moment of a root it looks at that, and tells the client what changed since the last lists of its
 /// subscriptions. Where the look is refused, it tells that at a later moment.
 ///
+/// As many threads as the roots say may look for the files of a query. The handle starts them, and they end before the
+/// reply is made.
+///
 /// It ends where the client has gone, by a line with which a session ends, where the writer fails, and after 2^62 events.
-pub fn serve<N: Named, I: Inbox, W: Write, R: Roots<N>, D: Desk>(
+pub fn serve<T: Threads + Sync, N: Named, I: Inbox, W: Write, R: Roots<N>, D: Desk>(
+    rt: &T,
     alloc: Global,
     run: Run,
     inbox: &mut I,
@@ -60,6 +67,11 @@ pub fn serve<N: Named, I: Inbox, W: Write, R: Roots<N>, D: Desk>(
         (place (I.left inbox.new) (R.crawler roots.new) result.seat (D.shelf desk.new) follows)
         (record { shut = result.shut; fault = result.fault }) }
 {
+    let count = roots.workers();
+    let crew = Crew {
+        rt,
+        workers: Workers { count },
+    };
     let mut client = Client {
         alloc,
         run,
@@ -67,7 +79,7 @@ pub fn serve<N: Named, I: Inbox, W: Write, R: Roots<N>, D: Desk>(
     };
     let mut seat = seat;
     for _ in 0..MAX_EVENTS {
-        let (after, out) = take_event(&mut client, inbox, seat, roots, desk);
+        let (after, out) = take_event(&crew, &mut client, inbox, seat, roots, desk);
         seat = after;
         let shut = out.shuts();
         if write_out(writer, &out).is_err() {
@@ -93,7 +105,8 @@ pub fn serve<N: Named, I: Inbox, W: Write, R: Roots<N>, D: Desk>(
 }
 
 /// Takes the next event, and answers it.
-fn take_event<N: Named, I: Inbox, R: Roots<N>, D: Desk>(
+fn take_event<T: Threads + Sync, N: Named, I: Inbox, R: Roots<N>, D: Desk>(
+    crew: &Crew<'_, T>,
     client: &mut Client,
     inbox: &mut I,
     seat: Seat<N>,
@@ -111,7 +124,7 @@ fn take_event<N: Named, I: Inbox, R: Roots<N>, D: Desk>(
         Event::Idle(root) => idle(client, root, seat),
         event => {
             let ask = Ask::read(client.alloc, event);
-            answer(client, ask, seat, roots, desk)
+            answer(crew, client, ask, seat, roots, desk)
         }
     }
 }

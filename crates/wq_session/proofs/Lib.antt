@@ -18,3 +18,4 @@ mod Placed
 mod Polled
 mod Moments
 pub mod Rounds
+mod Listing

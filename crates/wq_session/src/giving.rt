@@ -1,5 +1,5 @@
 //! What is given out: replies that were made, and those that are always the same.
-ghost use Rattle.std.specs.Prelude.{◌≡◌, ◌⊎◌, ◌++◌, codes, ℕ, List, Some, None, false, option_map, IfOk};
+ghost use Rattle.std.specs.Prelude.{◌≡◌, ◌⊎◌, ◌++◌, codes, ℕ, List, Some, None, false, option_map, IfOk, MatchResult};
 ghost use Rattle.wq_session.specs.Answer.{MayRefuse};
 ghost use Rattle.wq_session.specs.Out.{refuses, replies, runs_out, saying_text, saying_with};
 ghost use Rattle.wq_session.specs.Out.{shuts_with, silence, tells_lists};
@@ -74,6 +74,22 @@ impl Out {
             shuts: false,
             unset: None,
         })
+    }
+
+    /// The reply of this text, if it was made. If memory ran out for the text or the newline, the output says so, with the
+    /// cursor that was moved for the reply.
+    pub(crate) fn of_answer(text: Result<Vec<u8>, AllocError>, cursor: Option<Cursor>) -> Out
+        ensures { MatchResult text
+            (λ text. (result ≡ saying_text text.items) ⊎ (result ≡ runs_out cursor))
+            (λ _. result ≡ runs_out cursor) }
+    {
+        let Ok(text) = text else {
+            return Out::runs_out(cursor);
+        };
+        match Out::of_text(text) {
+            Ok(out) => out,
+            Err(_) => Out::runs_out(cursor),
+        }
     }
 
     /// A reply, and the list that follows it, of these texts, after which the session goes on.

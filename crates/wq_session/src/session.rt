@@ -1,6 +1,7 @@
 //! A session's step: the part of an answer that needs what all clients share, the part that needs only the view and what
 //! the session keeps, and what is to be unset where memory did not suffice for that one.
 ghost use Rattle.std.specs.Prelude.{◌≡◌, [], Some, map, option_map};
+ghost use Rattle.wq_base.specs.Limit.{AreFew};
 ghost use Rattle.wq_clock.specs.Instance.{instance_data};
 ghost use Rattle.wq_follow.specs.Followed.{subscription_data};
 ghost use Rattle.wq_query.specs.Query.{planned};
@@ -13,14 +14,16 @@ ghost use Rattle.wq_session.specs.Work.{evaluates, work_data};
 
 use crate::ask::Ask;
 use crate::at::At;
-use crate::command::{listed, tried};
+use crate::command::{listed, listed_workers, tried};
 use crate::cursor::Cursor;
 use crate::outcome::Out;
 use crate::prepared::Prepared;
 use crate::shelving::unset_cursor;
 use crate::work::Work;
 use std::alloc::Global;
+use std::thread::Threads;
 use wq_clock::Instance;
+use wq_eval::Gate;
 use wq_follow::{Subscription, Trigger};
 use wq_query::Plan;
 use wq_registry::Shelf;
@@ -87,6 +90,36 @@ impl Session {
         }
     }
 
+    /// Finishes the work as [`finish`](Session::finish) does. If it lists files, up to so many threads find them, and each
+    /// calls the gate as it begins a piece of the candidates.
+    pub fn finish_workers<R: Threads + Sync, G: Gate + Sync>(
+        &mut self,
+        rt: &R,
+        alloc: Global,
+        gate: &G,
+        workers: u32,
+        work: Work,
+        at: Option<At<'_>>,
+    ) -> Out
+        requires workers { AreFew workers }
+        requires work { CanFinish (work_data work) (option_map at_data at) }
+        ensures { Finishes (work_data work) (option_map at_data at.entry) (follows_of self.old)
+            result (follows_of self.new) }
+    {
+        match work {
+            Work::Evaluates(plan, cursor) => match at {
+                Some(
+                    At {
+                        instance,
+                        view: Some(view),
+                    },
+                ) => self.list_workers(rt, alloc, gate, workers, &plan, cursor, &instance, view),
+                _ => unreachable!(),
+            },
+            work => self.finish(alloc, work, at),
+        }
+    }
+
     /// The listing of the files of a plan, of a root with this view. The subscriptions stay.
     fn list(
         &self,
@@ -101,6 +134,26 @@ impl Session {
             (follows_of self.now) result (follows_of self.now) }
     {
         listed(alloc, plan, cursor, instance, view)
+    }
+
+    /// Lists the files of a plan as [`list`](Session::list) does. Up to so many threads find them.
+    fn list_workers<R: Threads + Sync, G: Gate + Sync>(
+        &self,
+        rt: &R,
+        alloc: Global,
+        gate: &G,
+        workers: u32,
+        plan: &Plan,
+        cursor: Option<Cursor>,
+        instance: &Instance,
+        view: &View,
+    ) -> Out
+        requires { AreFew workers }
+        ensures { Finishes (evaluates (planned plan.now) cursor)
+            (Some (record { instance = instance_data instance.now; view = Some view.now }))
+            (follows_of self.now) result (follows_of self.now) }
+    {
+        listed_workers(rt, alloc, gate, workers, plan, cursor, instance, view)
     }
 
     /// What stands to be undone on the shelf: a cursor that was moved for a reply which memory did not suffice for.

@@ -5,7 +5,7 @@ use crate::machine::Settings;
 use clap::error::ErrorKind;
 use clap::{Arg, ArgMatches, Command, Error};
 use std::alloc::{AllocError, AllocFailed, Global};
-use wq_base::{MAX_NUMBER, unsigned_number};
+use wq_base::{MAX_NUMBER, MAX_WORKERS, Workers, unsigned_number};
 use wq_clock::Run;
 
 /// How many milliseconds lie between two rounds of crawls, where the command line does not say it.
@@ -16,9 +16,6 @@ const MIN_INTERVAL: u64 = 10;
 
 /// The most milliseconds that may lie between two rounds of crawls: an hour.
 const MAX_INTERVAL: u64 = 3_600_000;
-
-/// How many threads a query may use at most.
-const MAX_WORKERS: u64 = 16;
 
 /// The task that the command line asks for.
 #[derive(Debug, Drop)]
@@ -65,15 +62,17 @@ fn settings_of(alloc: Global, given: &ArgMatches<'_>) -> Result<Settings, Comman
     let start = number_of(given, "start", None, MAX_NUMBER)?;
     let pid = number_of(given, "pid", None, MAX_NUMBER)?;
     let interval = number_of(given, "interval", Some(INTERVAL), MAX_INTERVAL)?;
-    let workers = number_of(given, "workers", Some(1), MAX_WORKERS)?;
-    if interval < MIN_INTERVAL || workers == 0 {
+    let count = number_of(given, "workers", Some(1), u64::from(MAX_WORKERS))?;
+    if interval < MIN_INTERVAL || count == 0 {
         return Err(CommandLineFault::Wrong);
     }
     Ok(Settings {
         sockname: String::from_str(alloc, sockname)?,
         run: Run::new(start, pid),
         interval,
-        workers,
+        workers: Workers {
+            count: count as u32,
+        },
     })
 }
 

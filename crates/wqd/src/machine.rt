@@ -7,6 +7,7 @@ use std::process::ExitCode;
 use std::sync::Wait;
 use std::thread::Threads;
 use std::time::{Clock, Duration};
+use wq_base::Workers;
 use wq_clock::Run;
 use wq_crawl::{Seconds, Tree};
 use wq_daemon::{Listening, Notices, Parts, SEATS, listen, remove, serve_clients};
@@ -21,8 +22,8 @@ pub(crate) struct Settings {
     pub(crate) run: Run,
     /// How many milliseconds it waits between two rounds of crawls.
     pub(crate) interval: u64,
-    /// How many threads a query may use, 1 to 16. One is used so far.
-    pub(crate) workers: u64,
+    /// How many threads may look for the files of a query.
+    pub(crate) workers: Workers,
 }
 
 /// Lines on standard error.
@@ -101,6 +102,7 @@ where
         spawn: machine.spawn,
         sockname: settings.sockname,
         interval: Duration::from_millis(settings.interval),
+        workers: settings.workers,
     };
     let blank = Blank::new(alloc, &rt, SEATS)?;
     serve_clients::<Brand, R, T, S, O, P>(rt, alloc, listening, blank, parts)

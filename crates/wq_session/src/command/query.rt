@@ -4,6 +4,7 @@ ghost use Rattle.std.specs.Prelude.{◌≡◌, List, Some, false, is_none, optio
 ghost use Rattle.serde_json.specs.Data.{Data};
 ghost use Rattle.serde_json.specs.View.{view as data_of, items_view};
 ghost use Rattle.wq_clock.specs.Instance.{instance_data};
+ghost use Rattle.wq_base.specs.Limit.{AreFew};
 ghost use Rattle.wq_follow.specs.Subscription.{SubscriptionData};
 ghost use Rattle.wq_query.specs.Query.{asked_of, planned};
 ghost use Rattle.wq_registry.specs.Root.{numbered};
@@ -32,10 +33,12 @@ use crate::work::Work;
 use serde_json::Value;
 use std::alloc::{AllocError, Global};
 use std::sync::Arc;
+use std::thread::Threads;
 use wq_base::Text;
 use wq_clock::{Bound, Instance};
+use wq_eval::Gate;
 use wq_follow::Trigger;
-use wq_query::{Plan, Query, answer_bytes};
+use wq_query::{Plan, Query, answer_bytes, answer_workers};
 use wq_registry::{Shelf, ShelfFault};
 use wq_term::whole_number;
 use wq_verify::Program;
@@ -216,11 +219,27 @@ pub(crate) fn listed(
         (Some (record { instance = instance_data instance.now; view = Some view.now }))
         follows result follows }
 {
-    let Ok(text) = answer_bytes(alloc, plan, instance, view) else {
-        return Out::runs_out(cursor);
-    };
-    match Out::of_text(text) {
-        Ok(out) => out,
-        Err(_) => Out::runs_out(cursor),
-    }
+    Out::of_answer(answer_bytes(alloc, plan, instance, view), cursor)
+}
+
+/// The output that [`listed`] gives, of files that up to so many threads find.
+pub(crate) fn listed_workers<R: Threads + Sync, G: Gate + Sync>(
+    rt: &R,
+    alloc: Global,
+    gate: &G,
+    workers: u32,
+    plan: &Plan,
+    cursor: Option<Cursor>,
+    instance: &Instance,
+    view: &View,
+) -> Out
+    requires { AreFew workers }
+    ensures { (follows : List SubscriptionData) → Finishes (evaluates (planned plan.now) cursor)
+        (Some (record { instance = instance_data instance.now; view = Some view.now }))
+        follows result follows }
+{
+    Out::of_answer(
+        answer_workers(rt, alloc, gate, workers, plan, instance, view),
+        cursor,
+    )
 }

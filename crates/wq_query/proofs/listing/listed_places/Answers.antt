@@ -7,5 +7,5 @@ use Rattle.wq_query.proofs.listing.listed_places.Goals as goal
 pub existing-requires : goal.existing-requires
 existing-requires c =
     let records = c.args.view.now.records in
-    subst (All (λ i. i < length records)) (sym (c.deref.ensures.value ∙ c.in_ok-places.ensures))
+    subst (All (λ i. i < length records)) (sym (c.deref.ensures.value ∙ c.requires))
     (c.positions_are_there.ensures (is_match (planned c.args.plan.now)) records).0

@@ -6,7 +6,7 @@ use Rattle.wq_clock.specs.Instance.{instance_data}
 use Rattle.wq_query.specs.Query.{planned}
 use Rattle.wq_query.specs.Reply.{reply_of}
 use Rattle.wq_query.proofs.Tokens.{text-of}
-use Rattle.wq_query.proofs.reply.answer_bytes.Goals as goal
+use Rattle.wq_query.proofs.reply.text_of.Goals as goal
 
 pub returns : goal.returns
 returns c =

@@ -1,0 +1,77 @@
+//! The filter on several threads. Workers draw pieces, and the collector puts together what they
+//! kept.
+ghost use Rattle.std.specs.Prelude.{◌≡◌, ◌<◌, ◌≤◌, All, IfOk, filter, length};
+ghost use Rattle.wq_eval.specs.Answer.{says_yes};
+ghost use Rattle.wq_base.specs.Limit.{AreFew};
+ghost use Rattle.wq_eval.specs.Piece.{AreRight, AreSound};
+ghost use Rattle.wq_view.specs.Limit.{max_records};
+ghost use Rattle.wq_view.specs.Position.{passes_at};
+
+use crate::collecting::collect;
+use crate::gate::Gate;
+use crate::piece::{Done, Pieces};
+use std::alloc::{AllocError, Global};
+use std::sync::atomic::{AtomicU64, Ordering};
+use std::thread;
+use std::thread::Threads;
+use wq_verify::Program;
+use wq_view::View;
+
+/// The positions that [`filter`](crate::filter) gives, found by up to so many threads. Each takes
+/// pieces of so many positions until none is left, and calls the gate as it begins one.
+pub fn filter_workers<R: Threads + Sync, G: Gate + Sync>(
+    rt: &R,
+    alloc: Global,
+    gate: &G,
+    workers: u32,
+    piece: u32,
+    program: &Program,
+    view: &View,
+    positions: &[u32],
+) -> Result<Vec<u32>, AllocError>
+    requires workers { AreFew workers }
+    requires piece { 1 ≤ piece }
+    requires within { All (λ i. i < length view.now.records) positions.now }
+    requires count { length positions.now ≤ max_records }
+    ensures { IfOk result (λ kept. kept.items
+        ≡ filter (passes_at (says_yes program.now) view.now.records) positions.now) }
+{
+    let pieces = Pieces {
+        program,
+        view,
+        positions,
+        size: piece,
+    };
+    let drawn = AtomicU64::new(0);
+    let done = thread::map_indices(
+        rt,
+        alloc,
+        workers as usize,
+        &|_| { work(alloc, gate, &drawn, &pieces) },
+    )?;
+    collect(alloc, &pieces, done)
+}
+
+/// Draws pieces as long as there are some, and evaluates them. If memory runs out it stops, and
+/// leaves its piece to the collector. Nothing rests on the numbers that are drawn.
+fn work<G: Gate>(alloc: Global, gate: &G, drawn: &AtomicU64, pieces: &Pieces<'_>) -> Vec<Done>
+    requires { AreSound pieces.now }
+    ensures { AreRight pieces.now result.items }
+{
+    let mut all = Vec::new(alloc);
+    let count = pieces.count();
+    for _ in 0..count {
+        let number = drawn.fetch_add(1, Ordering::SeqCst);
+        if number >= u64::from(count) {
+            break;
+        }
+        gate.enter(number as u32);
+        let Ok(done) = pieces.evaluate(alloc, number as u32) else {
+            break;
+        };
+        if all.push(done).is_err() {
+            break;
+        }
+    }
+    all
+}

@@ -1,0 +1,197 @@
+//! Queries whose files several threads find. The threads run at the same time, the files are those that one thread
+//! finds, and a piece that no thread or two threads evaluated changes nothing.
+ghost use Rattle.std.specs.Prelude.{◌≡◌, ◌≤◌};
+ghost use Rattle.wq_base.specs.Limit.{AreFew};
+
+use crate::fixture::pass;
+use crate::session::{FILES, SameFiles, Still, new_shelf, write_lines};
+use std::alloc::Global;
+use std::marker::Brand;
+use std::sync::atomic::{AtomicU64, Ordering};
+use std::sync::{Arc, Wait};
+use std::test::Fail;
+use std::thread::Threads;
+use wq_base::Workers;
+use wq_compile::compile;
+use wq_crawl::{Crawler, LockRoots, SharedCrawler};
+use wq_eval::{Gate, OpenGate, Pieces, collect, filter_workers};
+use wq_gen::{Generators, candidates};
+use wq_live::{Blank, Named};
+use wq_serve::MemoryDesk;
+use wq_term::Expr;
+use wq_verify::Program;
+use wq_view::{View, positions_are_there};
+
+/// How often the worker of the first piece looks whether the second piece was begun.
+const TURNS: u64 = 1_000_000_000;
+
+/// A gate that holds the worker of the first piece until the second piece is begun.
+#[derive(Drop)]
+struct Meeting {
+    begun: AtomicU64,
+    late: AtomicU64,
+}
+
+impl Gate for Meeting {
+    fn enter(&self, piece: u32) {
+        if piece > 0 {
+            self.begun.store(1, Ordering::SeqCst);
+        } else if !has_begun(&self.begun) {
+            self.late.store(1, Ordering::SeqCst);
+        }
+    }
+}
+
+/// Whether the second piece was begun before all turns were made.
+fn has_begun(begun: &AtomicU64) -> bool {
+    for _ in 0..TURNS {
+        if begun.load(Ordering::SeqCst) > 0 {
+            return true;
+        }
+    }
+    false
+}
+
+/// A view of so many files, and the program that says yes to each.
+#[derive(Drop)]
+struct Asked {
+    view: View,
+    program: Program,
+}
+
+/// A view of so many files, with that program; none if memory ran out.
+fn asked(alloc: Global, files: u64) -> Option<Asked> {
+    let mut view = View::new(alloc);
+    view.absorb(&pass(alloc, files)?).ok()?;
+    let program = compile(alloc, &Expr::True).ok()?;
+    Some(Asked { view, program })
+}
+
+/// The generators of a query that has none.
+fn no_generators() -> Generators {
+    Generators {
+        since: None,
+        suffix: None,
+        path: None,
+    }
+}
+
+/// The positions that so many workers keep of this number of files, in pieces of this size.
+fn kept<R: Threads + Sync, G: Gate + Sync>(
+    rt: &R,
+    alloc: Global,
+    gate: &G,
+    workers: u32,
+    piece: u32,
+    files: u64,
+) -> Option<Vec<u32>>
+    requires workers { AreFew workers }
+    requires piece { 1 ≤ piece }
+{
+    let Asked { view, program } = asked(alloc, files)?;
+    // Only the proof uses the contracts of these calls: each position is one of a record.
+    view.len();
+    positions_are_there();
+    let positions = candidates(alloc, &view, &no_generators()).ok()?;
+    filter_workers(rt, alloc, gate, workers, piece, &program, &view, &positions).ok()
+}
+
+/// The positions of five files in three pieces, of which a worker evaluated the second one twice and no worker the
+/// others. The worker also evaluated a piece that does not exist.
+fn collected(alloc: Global) -> Option<Vec<u32>> {
+    let Asked { view, program } = asked(alloc, 5)?;
+    view.len();
+    positions_are_there();
+    let positions = candidates(alloc, &view, &no_generators()).ok()?;
+    let pieces = Pieces {
+        program: &program,
+        view: &view,
+        positions: &positions,
+        size: 2,
+    };
+    let strange = pieces.evaluate(alloc, 9).ok()?;
+    let first = pieces.evaluate(alloc, 1).ok()?;
+    let again = pieces.evaluate(alloc, 1).ok()?;
+    let list = vec![in alloc; strange, first, again].ok()?;
+    collect(alloc, &pieces, vec![in alloc; list].ok()?).ok()
+}
+
+/// Whether these positions are kept.
+fn are(kept: Option<Vec<u32>>, want: &[u32]) -> bool {
+    match kept {
+        Some(kept) => kept.as_slice() == want,
+        None => false,
+    }
+}
+
+/// Whether so many workers keep three files in pieces of two, and none of none.
+fn are_kept<R: Threads + Sync>(rt: &R, alloc: Global, workers: u32) -> bool
+    requires { AreFew workers }
+{
+    are(kept(rt, alloc, &OpenGate {}, workers, 2, 3), &[0, 1, 2])
+        && are(kept(rt, alloc, &OpenGate {}, workers, 2, 0), &[])
+}
+
+/// The bytes that a session writes for a client that sends these, if two threads may look for the files of its queries.
+fn talk<N: Named, R: Threads + Wait + Copy + Drop + Sync>(
+    rt: R,
+    alloc: Global,
+    blank: Blank,
+    stream: &[u8],
+) -> Option<Vec<u8>>
+    requires { blank.book ≡ N.book }
+{
+    let tree = SameFiles {
+        alloc,
+        names: FILES,
+    };
+    let mut crawler = Crawler::new(blank.open::<N, R>(rt), tree, Still(100));
+    let seat = crawler.seat().ok()?;
+    let crawler = Arc::new(alloc, SharedCrawler::new(alloc, crawler).ok()?).ok()?;
+    let mut roots = LockRoots::new(crawler, rt, Workers { count: 2 });
+    let mut desk = MemoryDesk {
+        shelf: new_shelf(alloc)?,
+    };
+    let (_seat, written) = write_lines(&rt, alloc, stream, seat, &mut roots, &mut desk)?;
+    Some(written)
+}
+
+/// The lines that a client sends.
+const LINES: &[u8] = br#"["watch","/r"]
+["query","/r",{"expression":["type","f"],"fields":["name"]}]
+"#;
+
+/// The lines that are written to it.
+const WRITTEN: &[u8] = br#"{"version":"wq-1","watch":"/r","watcher":"poll"}
+{"clock":"c:7:9:1:1","files":["b.txt","src/a.c"],"is_fresh_instance":true,"version":"wq-1"}
+"#;
+
+#[test]
+fn a_query_by_two_workers_is_answered(rt: HostRuntime) -> Result<(), Fail> {
+    let blank = Blank::new(rt.alloc(), &rt, 1)?;
+    let written = talk::<Brand, HostRuntime>(rt, rt.alloc(), blank, LINES);
+    assert_eq!(rt; written.as_deref(), Some(WRITTEN));
+    Ok(())
+}
+
+#[test]
+fn workers_at_once(rt: HostRuntime) {
+    let gate = Meeting {
+        begun: AtomicU64::new(0),
+        late: AtomicU64::new(0),
+    };
+    assert!(rt; are(kept(&rt, rt.alloc(), &gate, 2, 1, 2), &[0, 1]));
+    assert_eq!(rt; gate.late.load(Ordering::SeqCst), 0);
+}
+
+#[test]
+fn pieces_that_are_lost_or_done_twice_are_each_taken_once(rt: HostRuntime) {
+    assert!(rt; are(collected(rt.alloc()), &[0, 1, 2, 3, 4]));
+}
+
+#[test]
+fn any_number_of_workers_keeps_the_same_files(rt: HostRuntime) {
+    assert!(rt; are_kept(&rt, rt.alloc(), 1));
+    assert!(rt; are_kept(&rt, rt.alloc(), 2));
+    assert!(rt; are_kept(&rt, rt.alloc(), 16));
+}

@@ -1,0 +1,10 @@
+-- The text is that of the reply, or memory ran out.
+use Rattle.wq_clock.specs.Instance.{instance_data}
+use Rattle.wq_query.specs.Query.{planned}
+use Rattle.wq_session.proofs.Listing.{listed_finishes}
+use Rattle.wq_session.proofs.command.query.listed_workers.Goals as goal
+
+pub returns : goal.returns
+returns g c follows =
+    listed_finishes (λ text. text.items) (planned c.args.plan.now) c.args.cursor (instance_data c.args.instance.now) c.args.view.now
+    c.answer_workers.result c.of_answer.result follows c.answer_workers.ensures c.of_answer.ensures
