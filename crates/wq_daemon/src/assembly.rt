@@ -1,4 +1,4 @@
-//! The server whole: its parts put together, and run.
+//! The whole server: puts its parts together, and runs them.
 ghost use Rattle.std.specs.Prelude.{◌≡◌};
 
 use crate::host::Notices;
@@ -19,35 +19,34 @@ use wq_live::{Blank, Named};
 use wq_registry::Cache;
 use wq_serve::SharedShelf;
 
-/// How many seats a server has: one for each session, one for idle moments, one for rounds of triggers, and some to spare.
+/// How many seats a server has: one for each session, one for idle moments, one for rounds of triggers, and a few more.
 pub const SEATS: usize = 48;
 
-/// What a server works with.
+/// The parts and settings of a server.
 #[derive(Drop)]
 pub struct Parts<T: Tree + Drop, S: Seconds + Drop, O: Notices + Drop, P: Spawn + Drop> {
-    /// Which run of the server it is.
+    /// The run of the server.
     pub run: Run,
-    /// What lists roots.
+    /// Lists roots.
     pub tree: T,
-    /// What tells the second of a pass.
+    /// Tells the second of a pass.
     pub seconds: S,
-    /// Where the operator is told of what went wrong.
+    /// Tells the operator of faults.
     pub notices: O,
-    /// What starts the commands of triggers.
+    /// Starts the commands of triggers.
     pub spawn: P,
-    /// The name of the socket, as clients are told it.
+    /// The name of the socket that clients are told.
     pub sockname: String,
-    /// How long the server waits between two rounds of crawls. Sessions get idle moments after each.
+    /// How long the server waits between two rounds of crawls. Sessions get idle moments after each round.
     pub interval: Duration,
     /// How many threads may look for the files of a query.
     pub workers: Workers,
 }
 
-/// Serves the clients of a socket until one asks that the server ends. The operator is told that it
-/// listens.
+/// Serves the clients of a socket until one asks that the server ends. It tells the operator that it listens.
 ///
 /// # Errors
-/// What the server needs could not be made, and nothing was served.
+/// The server could not make a part that it needs, and served nobody.
 pub fn serve_clients<N, R, T, S, O, P>(
     rt: R,
     alloc: Global,
@@ -80,7 +79,7 @@ where
     run_host(rt, alloc, listening, host, parts.interval)
 }
 
-/// Has a host run on the threads of the server.
+/// Runs a host on the threads of the server.
 fn run_host<N, R, T, S, O, P>(
     rt: R,
     alloc: Global,

@@ -21,10 +21,10 @@ struct Bringers {
     idler: JoinHandle<()>,
 }
 
-/// Runs a client's session to its end, with threads that bring its events. Where the session asked
-/// for that, the server ends.
+/// Runs a client's session to its end, with threads that bring its events. If the session asked for it,
+/// the server ends.
 ///
-/// Where no thread can be made, the client is told so and the session ends at once.
+/// If no thread can be made, the client is told so and the session ends at once.
 pub(crate) fn run_client<R, H>(rt: R, alloc: Global, link: Arc<Link>, server: &Arc<Server<H>>)
 where
     R: Threads + Wait + Clock + Copy + Drop + Send + Sync + 'static,
@@ -50,7 +50,7 @@ where
     link.set_over();
 }
 
-/// Starts the threads that bring a client's events; none where one of them cannot be started.
+/// Starts the threads that bring a client's events; none if one of them cannot be started.
 fn begin_bringing<R, H>(
     rt: R,
     alloc: Global,
@@ -84,7 +84,8 @@ where
     .ok()
 }
 
-/// Starts the thread that brings a client's idle moments. They follow the rounds of crawls from now on.
+/// Starts the thread that brings a client's idle moments. They come after the rounds of crawls from now
+/// on.
 fn begin_idling<R, H>(rt: R, link: &Arc<Link>, server: &Arc<Server<H>>) -> Option<JoinHandle<()>>
 where
     R: Threads + Wait + Clock + Copy + Drop + Send + Sync + 'static,

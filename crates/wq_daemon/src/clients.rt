@@ -16,8 +16,8 @@ use wq_session::Refusal;
 /// How many clients may be connected at once.
 pub const MAX_SESSIONS: usize = 32;
 
-/// How many seconds a write waits for a client that takes nothing. A write that wrote a part is
-/// followed by another, so a client is cut off after up to twice as long.
+/// How many seconds a write waits for a client that takes nothing. After a write of a part comes
+/// another write, so the server cuts off a client after up to twice as long.
 const PATIENCE: u64 = 60;
 
 /// A client, and the thread of its session.
@@ -34,7 +34,7 @@ pub(crate) struct Clients {
 }
 
 impl Clients {
-    /// No client, with room for all that may come.
+    /// No client yet, with room for all that may come.
     pub(crate) fn new(alloc: Global) -> Result<Clients, AllocError> {
         Ok(Clients {
             clients: Vec::with_capacity(alloc, MAX_SESSIONS)?,
@@ -75,7 +75,7 @@ impl Clients {
         }
     }
 
-    /// Lets go of the clients whose sessions are over.
+    /// Drops the clients whose sessions are over.
     fn forget_ended<R: Threads + Wait>(&mut self, rt: &R) {
         for place in (0..self.clients.len()).rev() {
             if place < self.clients.len() && self.clients[place].link.is_over() {
@@ -85,14 +85,13 @@ impl Clients {
     }
 }
 
-/// Ends a client's session, if it goes on, and waits until it has ended.
+/// Ends a client's session, if it still runs, and waits until it has ended.
 fn end<R: Threads + Wait>(rt: &R, client: Client) {
     client.link.end(rt);
     client.session.join(rt);
 }
 
-/// Begins the session of a client; where no memory or no thread is left for it, the client is told
-/// so.
+/// Begins the session of a client. If no memory or no thread is left for it, the client is told so.
 fn begin<R, H>(rt: R, alloc: Global, stream: UnixStream, server: &Arc<Server<H>>) -> Option<Client>
 where
     R: Threads + Wait + Clock + Copy + Drop + Send + Sync + 'static,
@@ -111,7 +110,7 @@ where
     }
 }
 
-/// Has writes to a client wait no longer than they should, and gives a second handle of its stream.
+/// Limits how long a write to a client waits, and gives a second handle of its stream.
 fn with_patience(stream: &UnixStream) -> io::Result<UnixStream> {
     stream.set_write_timeout(Some(Duration::from_secs(PATIENCE)))?;
     stream.try_clone()

@@ -1,4 +1,5 @@
-//! The roots that could not be crawled in this round and in the one before, and why, so that each fault is told of once.
+//! The roots that could not be crawled in this round and in the one before, and why. So the operator hears of each
+//! fault once.
 
 use std::alloc::Global;
 use std::mem;
@@ -22,7 +23,7 @@ pub(crate) struct Failing {
 }
 
 impl Failing {
-    /// No root. It takes no memory.
+    /// No roots. This takes no memory.
     pub(crate) fn new(alloc: Global) -> Failing {
         Failing {
             alloc,
@@ -36,7 +37,8 @@ impl Failing {
         self.before = mem::replace(&mut self.found, Vec::new(self.alloc));
     }
 
-    /// Adds a root and its fault. If memory runs out for that, the root is told of again after the next crawl.
+    /// Adds a root and its fault. If memory runs out for that, the operator hears of the root again after the next
+    /// crawl.
     pub(crate) fn add(&mut self, root: &str, fault: CrawlFault) {
         if let Ok(root) = String::from_str(self.alloc, root) {
             let _ = self.found.push(Failed { root, fault });

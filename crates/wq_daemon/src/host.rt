@@ -1,4 +1,4 @@
-//! What the server runs: sessions, crawls and rounds of triggers, from its threads, and what its operator is told.
+//! The work of the server's threads: sessions, crawls and rounds of triggers, and the lines to its operator.
 
 use crate::moments::RootNumbers;
 use std::io::Write;
@@ -7,7 +7,7 @@ use std::thread::Threads;
 use wq_launch::{Run, Runs};
 use wq_serve::Inbox;
 
-/// What serves clients, crawls roots and starts the commands of triggers, from many threads at once.
+/// Serves clients, crawls roots and starts the commands of triggers, from many threads at once.
 pub trait Host {
     /// Tells the operator that clients are served from now on.
     fn greet(&self);
@@ -21,10 +21,10 @@ pub trait Host {
         writer: &mut W,
     ) -> bool;
 
-    /// Begins a round of crawls, and gives the roots that are watched; none if memory is refused for them.
+    /// Begins a round of crawls, and gives the roots that are watched; none if memory runs out for them.
     fn roots(&self) -> Option<Vec<String>>;
 
-    /// Crawls a root once, and then has a round of its triggers. Whoever calls this takes the commands that were started.
+    /// Crawls a root once, and then has a round of its triggers. The caller then takes the commands that were started.
     fn crawl(&self, root: &str);
 
     /// Takes the first command that was started and that nobody attends yet.
@@ -36,11 +36,11 @@ pub trait Host {
     /// The commands that run.
     fn runs(&self) -> &Arc<Runs>;
 
-    /// The roots as they are shown now; none where memory is refused for them.
+    /// The roots that are shown now; none if memory runs out for them.
     fn numbers(&self) -> Option<RootNumbers>;
 }
 
-/// Where the server tells its operator of what went wrong.
+/// Tells the operator of the server about faults.
 pub trait Notices {
     /// Tells a line.
     fn tell(&self, line: &str);

@@ -1,6 +1,5 @@
-//! What runs behind the server's socket: the threads, the queues between them, rounds of triggers,
-//! the socket, and how all of it ends. Others say what a session answers, walk trees, and start
-//! commands.
+//! The running server: its threads, the queues between them, rounds of triggers, the socket, and
+//! how all of it ends. Other crates answer in sessions, walk trees, and start commands.
 #![tactic(auto)]
 
 mod assembly;

@@ -1,4 +1,4 @@
-//! What the threads of one client share.
+//! The link to a client, which its threads share.
 
 use crate::pulse::Pulse;
 use crate::queue::Queue;
@@ -8,18 +8,18 @@ use std::os::unix::net::UnixStream;
 use std::sync::atomic::{AtomicBool, Ordering};
 use std::sync::{Arc, Wait};
 
-/// A client's stream, the events that came of it, and whether its session is over.
+/// A client's stream, the events that came from it, and whether its session is over.
 #[derive(Drop)]
 pub(crate) struct Link {
     pub(crate) stream: UnixStream,
     pub(crate) queue: Queue,
-    /// That of the server.
+    /// The pulse of the server.
     pub(crate) pulse: Arc<Pulse>,
     is_over: AtomicBool,
 }
 
 impl Link {
-    /// The link to a client of which nothing has come.
+    /// The link to a client from which nothing has come.
     pub(crate) fn new(
         alloc: Global,
         stream: UnixStream,
@@ -33,14 +33,14 @@ impl Link {
         })
     }
 
-    /// Has the session take no more events, and has who brings them hear of it.
+    /// Lets the session take no more events, and tells the threads that bring them.
     pub(crate) fn close<R: Wait>(&self, rt: &R) {
         self.queue.close(rt);
         self.pulse.wake(rt);
     }
 
-    /// Ends the session and what reads and writes for it. What was written before still reaches the
-    /// client.
+    /// Ends the session, and the reads and writes for it. Bytes that were written before still
+    /// reach the client.
     pub(crate) fn end<R: Wait>(&self, rt: &R) {
         self.close(rt);
         // A client that has gone already leaves a stream that cannot be shut down.

@@ -5,7 +5,7 @@ use std::sync::{Arc, Wait};
 use wq_serve::Inbox;
 use wq_stream::Event;
 
-/// The events of a client, in their order. It does not show them.
+/// The events of a client, in their order. The contract does not show them.
 #[derive(Drop)]
 pub(crate) struct LinkInbox<R: Wait + Drop> {
     link: Arc<Link>,

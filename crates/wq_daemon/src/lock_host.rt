@@ -1,5 +1,5 @@
-//! What the threads of the server share: the shelf, the seats, the launcher, and what crawls. Each is under a lock of its
-//! own. Looking at files and listing them takes none.
+//! The parts that the threads of the server share: the shelf, the seats, the launcher, and the crawler. Each is under a
+//! lock of its own. A look at files takes no lock, and neither does a listing of them.
 
 use crate::clients::MAX_SESSIONS;
 use crate::failing::Failing;
@@ -21,7 +21,7 @@ use wq_live::{Named, RootTable, Seat};
 use wq_serve::{Inbox, Kept, LockDesk, ReachedShelf, SharedShelf, serve};
 use wq_session::Refusal;
 
-/// A server's parts. It serves a client for each seat that is free.
+/// The parts of a server. It serves a client for each free seat.
 #[derive(Drop)]
 pub struct LockHost<N, R, T, S, O, P, K>
 where
@@ -37,13 +37,13 @@ where
     alloc: Global,
     run: Run,
     seats: Mutex<Vec<Seat<N>>>,
-    /// What idle moments are looked at from. It is there whenever it is not locked.
+    /// The seat of idle moments. It is there whenever it is not locked.
     idle_seat: Mutex<Option<Seat<N>>>,
     crawler: Arc<SharedCrawler<N, R, T, S>>,
     shelf: Arc<Mutex<ReachedShelf<K>>>,
     rounds: Rounds<N, P, R>,
     failing: Mutex<Failing>,
-    /// What the operator is told once clients are served.
+    /// The line to the operator when the server begins to serve clients.
     greeting: String,
     notices: O,
     /// How many threads may look for the files of a query.
@@ -70,8 +70,8 @@ where
     O: Notices + Drop,
     P: Spawn + Drop,
 {
-    /// A server over this crawler and this shelf, with a seat for each session that may be, one for idle moments and one for
-    /// rounds of triggers. `spawn` starts commands, and so many threads may look for the files of a query.
+    /// A server over this crawler and this shelf. It has a seat for each session that may be, one for idle moments and
+    /// one for rounds of triggers. `spawn` starts commands, and so many threads may look for the files of a query.
     pub fn new(
         rt: R,
         alloc: Global,
@@ -101,24 +101,24 @@ where
         })
     }
 
-    /// The roots, as a session reaches them.
+    /// The roots, for a session.
     fn lock_roots(&self) -> Result<LockRoots<N, R, T, S>, AllocError> {
         Ok(LockRoots::new(self.crawler.clone()?, self.rt, self.workers))
     }
 
-    /// The shelf, as a session reaches it.
+    /// The shelf, for a session.
     fn lock_desk(&self) -> Result<LockDesk<R>, AllocError> {
         Ok(LockDesk::new(self.shelf.clone()?, self.rt))
     }
 
-    /// A seat that is free.
+    /// A free seat.
     fn take_seat(&self) -> Option<Seat<N>> {
         self.seats.lock(&self.rt).pop()
     }
 
     /// Gives a seat back.
     fn give_seat(&self, seat: Seat<N>) {
-        // There is room for all seats, so no memory is wanted.
+        // There is room for all seats, so this takes no memory.
         let _ = self.seats.lock(&self.rt).push(seat);
     }
 
@@ -131,7 +131,7 @@ where
         Ok(texts)
     }
 
-    /// Crawls a root, and tells if it can no longer be crawled.
+    /// Crawls a root, and tells the operator if it can no longer be crawled.
     fn crawl_root(&self, root: &str) {
         if let Err(fault) = self.crawler.crawl(&self.rt, root) {
             self.tell_once(root, fault);
@@ -139,7 +139,7 @@ where
         }
     }
 
-    /// Tells that a root cannot be crawled, unless that was so in the last round already.
+    /// Tells the operator that a root cannot be crawled, unless that was so in the last round already.
     fn tell_once(&self, root: &str, fault: CrawlFault) {
         if self.failing.lock(&self.rt).had(root, fault) {
             return;
@@ -149,7 +149,7 @@ where
         }
     }
 
-    /// Tells of the triggers whose commands could not be started, of each once.
+    /// Tells the operator of the triggers whose commands could not be started, once for each.
     fn tell_of_starts(&self) {
         for _ in 0..MAX_RUNS {
             let Some(line) = self.rounds.next_line() else {
@@ -160,14 +160,14 @@ where
     }
 }
 
-/// The line by which the operator is told of a root's fault. The root stands in it as JSON, so it
-/// stays one line whatever the root's bytes are.
+/// The line to the operator about a root's fault. The root is in it as JSON, so it stays one line whatever the root's
+/// bytes are.
 fn fault_line(alloc: Global, root: &str, fault: CrawlFault) -> Result<String, AllocError> {
     let root = Value::try_from_str(alloc, root)?.to_string(alloc)?;
     Ok(format!(in alloc; "{root}: {fault}")?)
 }
 
-/// The seats of a server, and the crawler, as threads share it.
+/// The seats of a server, and the crawler that threads share.
 fn shared<N, R, T, S>(
     alloc: Global,
     mut crawler: Crawler<N, R, T, S>,
@@ -205,7 +205,7 @@ where
     Ok(seats)
 }
 
-/// The roots as a seat sees them, and the seat; none where memory is refused for them, or the look.
+/// The roots that a seat sees, and the seat. There are none if memory runs out for them, or if the look is refused.
 fn look_at_numbers<N: Named>(seat: Seat<N>) -> (Seat<N>, Option<RootNumbers>) {
     match seat.look() {
         Ok(look) => {
@@ -260,7 +260,7 @@ where
     }
 
     fn roots(&self) -> Option<Vec<String>> {
-        // A root that is watched no more leaves its view in memory until then.
+        // The view of a root that is no longer watched stays in memory until this call.
         self.crawler.let_go(&self.rt);
         let roots = self.root_texts().ok()?;
         self.failing.lock(&self.rt).begin_round();

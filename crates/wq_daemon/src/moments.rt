@@ -1,4 +1,5 @@
-//! Idle moments: for which roots a session gets one, and what brings them into its queue.
+//! Idle moments: the roots for which a session gets one, and the thread that puts them into its
+//! queue.
 ghost use Rattle.std.specs.Prelude.{◌≡◌, ◌+◌, ◌-◌, ◌++◌, IfOk};
 ghost use Rattle.std.specs.List.{range_with_len};
 
@@ -14,16 +15,16 @@ use wq_stream::Event;
 /// The roots at some moment.
 #[derive(Drop)]
 pub struct RootNumbers {
-    /// The numbers of those that are shown.
+    /// The numbers of the roots that are shown.
     pub shown: Vec<u64>,
-    /// How many were ever started, which is the number of the last one.
+    /// How many roots were ever started, which is the number of the last one.
     pub given: u64,
 }
 
 impl RootNumbers {
-    /// The numbers for which there is an idle moment once so many roots were ever started: those
-    /// that were shown at this moment, and then those that were given since. No number is used
-    /// again, so each that is shown by then is among them.
+    /// The numbers for which there is an idle moment when so many roots were ever started. First
+    /// come those that were shown at this moment, and then those that were given since. No number
+    /// is used again, so each root that is shown by then is among them.
     fn due(&self, given: u64) -> Result<Vec<u64>, AllocError>
         ensures { IfOk result (λ due. due.items
             ≡ self.now.shown.items ++ range_with_len (self.now.given + 1) (given - self.now.given)) }
@@ -36,11 +37,11 @@ impl RootNumbers {
     }
 }
 
-/// Puts an idle moment for each root that is due into a session's queue after each round of crawls,
-/// as long as the queue is open. The roots were these when the first of these rounds began. If a
-/// round takes longer than an interval, there is a moment before it ends.
+/// After each round of crawls, puts an idle moment for each due root into a session's queue, as
+/// long as the queue is open. The roots were these when the first of these rounds began. If a round
+/// takes longer than an interval, there is a moment before it ends.
 ///
-/// Where memory is refused for them, they are due a round later.
+/// If memory runs out for the roots, their moments are due a round later.
 pub(crate) fn bring_moments<R, H>(rt: &R, server: &Server<H>, numbers: RootNumbers, link: &Link)
 where
     R: Wait + Clock,
@@ -63,8 +64,7 @@ where
     }
 }
 
-/// The roots as they are now, and the numbers that are due since then; none where memory is
-/// refused.
+/// The roots at this moment, and the numbers that are due since then; none if memory runs out.
 fn due_by_now<H: Host>(host: &H, then: &RootNumbers) -> Option<(RootNumbers, Vec<u64>)> {
     let now = host.numbers()?;
     let due = then.due(now.given).ok()?;

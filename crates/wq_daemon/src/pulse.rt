@@ -1,4 +1,4 @@
-//! The pulse of a server: it beats after each round of crawls, and wakes those who wait for that.
+//! The pulse of a server: it beats after each round of crawls, and wakes the threads that wait for that.
 
 use crate::queue::Queue;
 use std::sync::{Condvar, Mutex, Wait};
@@ -12,7 +12,7 @@ pub(crate) struct Pulse {
 }
 
 impl Pulse {
-    /// The pulse of a server that crawled nothing yet.
+    /// The pulse of a server that has crawled nothing yet.
     pub(crate) fn new() -> Pulse {
         Pulse {
             beats: Mutex::new(0),
@@ -33,14 +33,15 @@ impl Pulse {
         self.changed.notify_all();
     }
 
-    /// Has those who wait look at their queues, one of which was closed.
+    /// Lets the waiting threads look at their queues, one of which was closed.
     pub(crate) fn wake<R: Wait>(&self, rt: &R) {
-        // Who waits either looks after this, or is waiting by now.
+        // A thread that waits either looks after this, or is waiting by now.
         drop(self.beats.lock(rt));
         self.changed.notify_all();
     }
 
-    /// Waits for a beat after so many, but no longer than this, and no longer than the queue is open. Gives the beats.
+    /// Waits for a beat after so many, but no longer than this, and no longer than the queue is open. Gives the number
+    /// of beats.
     pub(crate) fn wait<R: Wait + Clock>(
         &self,
         rt: &R,

@@ -1,5 +1,5 @@
-//! The bounded queue between those who bring events and the session that takes them. No contract
-//! says that anything arrives.
+//! The bounded queue between the threads that bring events and the session that takes them. No
+//! contract promises that an event arrives.
 
 use std::alloc::{AllocError, Global};
 use std::sync::{Condvar, Mutex, Wait};
@@ -11,12 +11,12 @@ use wq_stream::{Event, Waiting};
 pub(crate) struct Queue {
     waiting: Mutex<Waiting>,
     changed: Condvar,
-    /// Wakes those who wait for the end alone, whom no event is to wake.
+    /// Wakes the threads that wait for the end alone. No event is to wake these.
     closed: Condvar,
 }
 
 impl Queue {
-    /// A queue in which nothing waits. All of its memory is taken now.
+    /// An empty queue. It takes all of its memory now.
     pub(crate) fn new(alloc: Global) -> Result<Queue, AllocError> {
         Ok(Queue {
             waiting: Mutex::new(Waiting::new(alloc)?),
@@ -25,8 +25,8 @@ impl Queue {
         })
     }
 
-    /// Puts an event behind the others as soon as there is room, and says whether it stands there.
-    /// Where it does not, the queue is closed.
+    /// Puts an event after the others as soon as there is room, and says whether it did. If it did
+    /// not, the queue is closed.
     pub(crate) fn put<R: Wait>(&self, rt: &R, event: Event) -> bool {
         let lock = self.waiting.lock(rt);
         let mut waiting = self.changed.wait_while(rt, lock, |it| it.is_full());
@@ -36,7 +36,7 @@ impl Queue {
         is_there
     }
 
-    /// Takes the first event as soon as there is one, or the end where the queue is closed.
+    /// Takes the first event as soon as there is one, or the end if the queue is closed.
     pub(crate) fn take<R: Wait>(&self, rt: &R) -> Event {
         let lock = self.waiting.lock(rt);
         let mut waiting = self.changed.wait_while(rt, lock, |it| it.is_idle());
@@ -46,14 +46,14 @@ impl Queue {
         event.unwrap_or(Event::End)
     }
 
-    /// Takes in no more events, and gives the end to who takes one.
+    /// Closes the queue: it takes in no more events, and whoever takes one gets the end.
     pub(crate) fn close<R: Wait>(&self, rt: &R) {
         self.waiting.lock(rt).close();
         self.changed.notify_all();
         self.closed.notify_all();
     }
 
-    /// Whether no more events are taken in.
+    /// Whether the queue is closed.
     pub(crate) fn is_closed<R: Wait>(&self, rt: &R) -> bool {
         self.waiting.lock(rt).is_closed()
     }

@@ -1,4 +1,5 @@
-//! Rounds of triggers: the root is looked at, and then the shelf is held while the commands of its triggers are started.
+//! Rounds of triggers: a round looks at the root, and then holds the shelf while it starts the commands of the
+//! triggers.
 
 use std::alloc::{AllocError, Global};
 use std::sync::{Arc, Mutex, Wait};
@@ -9,14 +10,14 @@ use wq_live::{Look, Named, Seat};
 use wq_serve::SharedShelf;
 use wq_view::View;
 
-/// A root that was looked at, with a share of its view, so that no look is open while its triggers are told of it.
+/// A root that a round has looked at, with a share of its view. So no look is open while the triggers hear of it.
 #[derive(Drop)]
 struct RoundAt {
     instance: Instance,
     view: Arc<View>,
 }
 
-/// What rounds of triggers work with. Its locks are taken while the shelf is held, and never the other way round.
+/// The parts for rounds of triggers. A round takes their locks while it holds the shelf, and never the other way round.
 #[derive(Drop)]
 pub(crate) struct Rounds<N, P, R>
 where
@@ -27,7 +28,7 @@ where
     rt: R,
     alloc: Global,
     run: Run,
-    /// What a round looks from. It is there whenever it is not locked.
+    /// The seat of rounds. It is there whenever it is not locked.
     seat: Mutex<Option<Seat<N>>>,
     launcher: Mutex<Launcher<P, R>>,
     runs: Arc<Runs>,
@@ -39,7 +40,7 @@ where
     P: Spawn + Drop,
     R: Wait + Copy + Drop,
 {
-    /// Rounds in which no command was started yet, in this run of the server.
+    /// The parts before any start of a command, in this run of the server.
     pub(crate) fn new(
         rt: R,
         alloc: Global,
@@ -74,12 +75,12 @@ where
         self.launcher.lock(&self.rt).give_back(run);
     }
 
-    /// The line for the first start that failed and of which the operator was not told yet; none if memory ran out.
+    /// The line for the first failed start that the operator has not heard of yet; none if memory ran out.
     pub(crate) fn next_line(&self) -> Option<Text> {
         self.launcher.lock(&self.rt).next_line().ok()?
     }
 
-    /// Has a round of the triggers of a root on this shelf. A root without triggers is not looked at.
+    /// Has a round of the triggers of a root on this shelf. It does not look at a root without triggers.
     pub(crate) fn fire(&self, root: &str, shelf: &Mutex<SharedShelf>) {
         let number = number_with_triggers(&*shelf.lock(&self.rt), root);
         let Some(number) = number else {
@@ -94,7 +95,7 @@ where
 
     /// Looks at the root of this number, and has a round of its triggers. If the look is refused, there is no round.
     ///
-    /// The look is left first, so that no publish waits for the round. If no share of the view can be had, the look is
+    /// It leaves the look first, so no publish waits for the round. If it can get no share of the view, the look is
     /// open for as long as the round takes.
     fn look_and_fire(&self, seat: Seat<N>, number: u64, shelf: &Mutex<SharedShelf>) -> Seat<N> {
         match seat.look() {
@@ -113,7 +114,7 @@ where
         }
     }
 
-    /// The root of this number with a share of its view, if it is shown. It is refused if no share can be had.
+    /// The root of this number with a share of its view, if it is shown. It is refused if there is no share.
     fn share(&self, number: u64, look: &Look<N>) -> Result<Option<RoundAt>, AllocError> {
         match look.share_of(number)? {
             Some(view) => Ok(Some(RoundAt {
@@ -131,14 +132,14 @@ where
         }
     }
 
-    /// Has a round of the triggers of the root of this number, at the view that a look lends, if it does.
+    /// Has a round of the triggers of the root of this number, at the view that a look lends, if it lends one.
     fn fire_lent(&self, number: u64, look: &Look<N>, shelf: &Mutex<SharedShelf>) {
         if let Some(view) = look.view(number) {
             self.fire_at(&self.run.instance(number), view, shelf);
         }
     }
 
-    /// Has a round of the triggers of a root at a view of it. The shelf is held meanwhile, and then the launcher.
+    /// Has a round of the triggers of a root at a view of it. It locks the shelf first, and then the launcher.
     fn fire_at(&self, instance: &Instance, view: &View, shelf: &Mutex<SharedShelf>) {
         let mut shelf = shelf.lock(&self.rt);
         let mut launcher = self.launcher.lock(&self.rt);

@@ -1,4 +1,5 @@
-//! The server as it runs: it accepts clients, and crawls and starts commands beside them, until it is asked to end.
+//! The running server: it accepts clients, and crawls and starts commands at the same time, until a client asks it to
+//! end.
 
 use crate::clients::Clients;
 use crate::host::Host;
@@ -13,16 +14,16 @@ use std::thread::{self, JoinHandle, Threads};
 use std::time::{Clock, Duration};
 use wq_launch::{MAX_RUNS, attend};
 
-/// How many milliseconds are waited after a connection that could not be accepted.
+/// How many milliseconds the server waits after a connection that it could not accept.
 const PAUSE: u64 = 100;
 
-/// Serves clients, and crawls the roots that are watched with a pause of the interval between two
-/// rounds. After the crawl of a root it starts the commands of its triggers, and a session gets idle
-/// moments after each round. It returns when a client asked that the server ends: all sessions have
-/// ended then, and all threads but those that attend commands, which go on.
+/// Serves clients, and crawls the watched roots with a pause of the interval between two rounds. After the crawl of a
+/// root it starts the commands of its triggers, and a session gets idle moments after each round. It returns when a
+/// client has asked that the server ends. All sessions have ended then, and all threads except those that attend
+/// commands, which go on.
 ///
 /// # Errors
-/// What the server needs could not be made, and nothing was served.
+/// The server could not make a part that it needs, and served nobody.
 pub fn run<R, H>(
     rt: R,
     alloc: Global,
@@ -89,7 +90,7 @@ where
     }
 }
 
-/// Crawls each root that is watched, with a round of its triggers after it. It goes no further once the server is to end.
+/// Crawls each root that is watched, with a round of its triggers after it. It stops if the server is to end.
 fn crawl_all<R, H>(rt: R, alloc: Global, server: &Server<H>)
 where
     R: Threads + Wait + Copy + Drop + Send + Sync + 'static,
@@ -97,7 +98,7 @@ where
 {
     // Commands that could not be attended before are tried again, whether or not a root is watched.
     attend_all(rt, alloc, &server.host);
-    // If memory is refused for the roots, they are crawled in the next round.
+    // If memory runs out for the roots, they are crawled in the next round.
     let Some(roots) = server.host.roots() else {
         return;
     };
@@ -110,7 +111,7 @@ where
     }
 }
 
-/// Has a thread of its own attend each command that was started. If no thread can be made, the commands wait.
+/// Starts a thread for each command that was started, which attends it. If no thread can be made, the commands wait.
 fn attend_all<R, H>(rt: R, alloc: Global, host: &H)
 where
     R: Threads + Wait + Copy + Drop + Send + Sync + 'static,

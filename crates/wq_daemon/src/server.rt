@@ -1,4 +1,4 @@
-//! What the threads of a server share.
+//! The state that the threads of a server share.
 
 use crate::host::Host;
 use crate::pulse::Pulse;
@@ -6,19 +6,19 @@ use crate::stop::Stop;
 use std::sync::{Arc, Wait};
 use std::time::Duration;
 
-/// A server that runs.
+/// A running server.
 #[derive(Drop)]
 pub(crate) struct Server<H: Host + Drop> {
     pub(crate) host: H,
     pub(crate) stop: Stop,
-    /// How long it waits between two rounds of crawls.
+    /// How long the server waits between two rounds of crawls.
     pub(crate) interval: Duration,
-    /// It beats after each round. Sessions get their idle moments then.
+    /// The pulse, which beats after each round. Sessions get their idle moments then.
     pub(crate) pulse: Arc<Pulse>,
 }
 
 impl<H: Host + Drop> Server<H> {
-    /// Has the server end: no more roots are crawled and no more connections accepted.
+    /// Ends the server: it crawls no more roots and accepts no more connections.
     pub(crate) fn end<R: Wait>(&self, rt: &R) {
         self.stop.ask(rt);
     }

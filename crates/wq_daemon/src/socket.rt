@@ -1,5 +1,5 @@
-//! The server's socket in the file system: how it comes, so that nobody else can connect to it, and
-//! how it goes.
+//! The server's socket in the file system: how it is made, so that nobody else can connect to it,
+//! and how it is removed.
 
 use mio::net::UnixStream;
 use std::alloc::{AllocError, Global};
@@ -9,26 +9,26 @@ use std::net::Net;
 use std::os::unix::fs::{DirBuilderExt, FileTypeExt, MetadataExt, PermissionsExt};
 use std::os::unix::net::{SocketAddr, UnixListener};
 
-/// How many names are tried for the directory in which the socket is made. A server that is killed
-/// at the wrong moment leaves one that has such a name.
+/// How many names the server tries for the directory in which it makes the socket. A server that is
+/// killed at the wrong moment leaves a directory of such a name.
 const TRIES: u32 = 10_000;
 
-/// Only the owner may read and write, which connecting asks for.
+/// Only the owner may read and write, which a client needs to connect.
 const SOCKET_MODE: u32 = 0o600;
 
 /// Only the owner may enter.
 const DIRECTORY_MODE: u32 = 0o700;
 
-/// A socket that is listened on.
+/// A socket on which the server listens.
 #[derive(Drop)]
 pub struct Listening {
-    /// What accepts connections.
+    /// Accepts connections.
     pub listener: UnixListener,
     path: String,
     file: FileId,
 }
 
-/// Which file it is, under whatever path.
+/// The identity of a file, under whatever path.
 #[derive(Clone, Copy, PartialEq, Eq, Drop)]
 struct FileId {
     device: u64,
@@ -36,7 +36,7 @@ struct FileId {
 }
 
 impl FileId {
-    /// That of the file at a path. A link is not followed.
+    /// The identity of the file at a path. It does not follow a link.
     fn at<R: Files>(rt: &R, path: &str) -> io::Result<FileId> {
         let metadata = fs::symlink_metadata(rt, path)?;
         Ok(FileId {
@@ -46,10 +46,10 @@ impl FileId {
     }
 }
 
-/// Listens on a socket at a path, which only the owner can connect to.
+/// Listens on a socket at a path. Only the owner can connect to it.
 ///
-/// The directory has to be there. A socket at the path that nobody listens on is replaced; one that
-/// somebody listens on, and any other file, is an error and stays. The socket is made in a
+/// The directory has to exist. A socket at the path that nobody listens on is replaced. A socket
+/// that somebody listens on, and any other file, is an error and stays. The socket is made in a
 /// directory beside it that nobody else can enter, gets its mode there, and is then given its name.
 pub fn listen<R: Files + Net>(rt: &R, alloc: Global, path: &str) -> io::Result<Listening> {
     // A path that is too long for clients is refused.
@@ -66,8 +66,8 @@ pub fn listen<R: Files + Net>(rt: &R, alloc: Global, path: &str) -> io::Result<L
     })
 }
 
-/// Removes the file of a socket, unless another stands in its place. Where no memory is left for
-/// that, it stays, as a stale one.
+/// Removes the file of a socket, unless another file is in its place. If no memory is left for
+/// that, the file stays, as a stale socket.
 pub fn remove<R: Files>(rt: &R, alloc: Global, listening: &Listening) {
     let path = listening.path.as_str();
     if FileId::at(rt, path).ok() != Some(listening.file) {
@@ -81,8 +81,8 @@ pub fn remove<R: Files>(rt: &R, alloc: Global, listening: &Listening) {
     }
 }
 
-/// Removes the file of a socket by way of a path where nobody else comes: since it was looked at,
-/// another server may have put its own in its place, and that one's gets its name back.
+/// Removes the file of a socket by way of a path where nobody else comes. Another server may
+/// meanwhile have put its own socket in that place, and that socket gets its name back.
 fn remove_aside<R: Files>(rt: &R, aside: &str, listening: &Listening) {
     let path = listening.path.as_str();
     if fs::rename(rt, path, aside).is_err() {
@@ -110,9 +110,9 @@ fn clear<R: Files + Net>(rt: &R, path: &str, aside: &str) -> io::Result<()> {
     }
 }
 
-/// Why a socket is not to be removed, if it is not: somebody listens on it, or that cannot be told.
-/// It waits for nobody: a server that hangs, and that so many clients wait for as may wait, is one
-/// that listens.
+/// Why a socket must stay, if it must: somebody listens on it, or that cannot be found out. This
+/// call waits for nobody. A server that hangs, with its queue of clients full, counts as one that
+/// listens.
 fn in_use<R: Net>(rt: &R, path: &str) -> Option<Error> {
     match UnixStream::connect(rt, path) {
         Ok(_) => Some(Error::from(ErrorKind::AddrInUse)),
@@ -121,13 +121,14 @@ fn in_use<R: Net>(rt: &R, path: &str) -> Option<Error> {
     }
 }
 
-/// Removes a socket on which nobody listened. It is moved aside and tried once more there: another
-/// server may have replaced it meanwhile, and that one's gets its name back.
+/// Removes a socket on which nobody listened. It moves the socket aside and tries it there once
+/// more. Another server may have replaced it meanwhile, and that server's socket gets its name
+/// back.
 fn take_away<R: Files + Net>(rt: &R, path: &str, aside: &str) -> io::Result<()> {
     fs::rename(rt, path, aside)?;
     let in_use = in_use(rt, aside);
     if in_use.is_some() {
-        // Where a third server has taken the name in that moment, it keeps it.
+        // If a third server has taken the name in that moment, it keeps the name.
         let _ = fs::hard_link(rt, aside, path);
     }
     fs::remove_file(rt, aside)?;
@@ -157,8 +158,8 @@ fn make_directory<R: Files>(rt: &R, alloc: Global, path: &str) -> io::Result<Str
     Err(Error::from(ErrorKind::AlreadyExists))
 }
 
-/// Listens on a socket that is made in a directory of its own, and then named by a path at which no
-/// more than a stale socket may stand. Says which file it is.
+/// Listens on a socket that it makes in a directory of its own, and then names by a path. At the
+/// path there may be at most a stale socket. Gives the identity of the file.
 fn listen_in<R: Files + Net>(
     rt: &R,
     alloc: Global,
@@ -173,8 +174,9 @@ fn listen_in<R: Files + Net>(
     Ok((listener, named?))
 }
 
-/// Gives a socket its mode and its name, and says which file it is: once it has its name, another
-/// server may move it aside for a moment, to see whether somebody listens.
+/// Gives a socket its mode and its name, and returns the identity of the file. It finds that out
+/// before the naming: after it, another server may move the socket aside for a moment, to see
+/// whether somebody listens.
 fn name<R: Files>(rt: &R, made: &str, path: &str) -> io::Result<FileId> {
     fs::set_permissions(rt, made, Permissions::from_mode(SOCKET_MODE))?;
     let file = FileId::at(rt, made)?;

@@ -1,4 +1,4 @@
-//! How the server ends: who asks for it, and who hears of it.
+//! The end of the server: the request for it, and the threads that hear of it.
 
 use std::io;
 use std::net::Shutdown;
@@ -12,12 +12,12 @@ use std::time::{Clock, Duration};
 pub(crate) struct Stop {
     is_asked: Mutex<bool>,
     asked: Condvar,
-    /// The listener's socket, as which it can be shut down.
+    /// The listener's socket, which can be shut down.
     door: UnixStream,
 }
 
 impl Stop {
-    /// A server that goes on, with this listener.
+    /// The state of a server that goes on, with this listener.
     pub(crate) fn new(listener: &UnixListener) -> io::Result<Stop> {
         let door = UnixStream::from(OwnedFd::from(listener.try_clone()?));
         Ok(Stop {
@@ -27,11 +27,11 @@ impl Stop {
         })
     }
 
-    /// Has the server end: no more connections are accepted, and who waits for this wakes up.
+    /// Ends the server: it accepts no more connections, and the threads that wait for this wake up.
     pub(crate) fn ask<R: Wait>(&self, rt: &R) {
         *self.is_asked.lock(rt) = true;
         self.asked.notify_all();
-        // A socket that is shut down already wakes nobody, and nobody has to be woken.
+        // If the socket is shut down already, this wakes nobody, and nobody has to be woken.
         let _ = self.door.shutdown(Shutdown::Both);
     }
 

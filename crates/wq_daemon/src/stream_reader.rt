@@ -1,5 +1,5 @@
-//! What brings the events of a client's stream into its session's queue. What they ask is not
-//! looked at here.
+//! The reader that brings the events of a client's stream into its session's queue. It does not
+//! look at what they ask.
 
 use crate::queue::Queue;
 use std::alloc::{AllocError, Global};
@@ -8,16 +8,16 @@ use std::sync::Wait;
 use std::time::{Clock, Duration};
 use wq_stream::{Event, Splitter};
 
-/// How many bytes of a stream are asked for at once.
+/// How many bytes of a stream it asks for at once.
 const PIECE: usize = 65_536;
 
-/// How many milliseconds are waited before what was refused memory is tried again.
+/// How many milliseconds it waits after memory ran out, before it tries again.
 const PAUSE: u64 = 50;
 
 /// Reads a stream to its end, as long as the queue is open. The last event that it puts is the
 /// stream's end or its fault.
 ///
-/// Where memory is refused, it waits and tries the same bytes again.
+/// If memory runs out, it waits and tries the same bytes again.
 pub(crate) fn read_all<R: Wait + Clock, S: Read>(
     rt: &R,
     alloc: Global,
@@ -70,7 +70,7 @@ fn put_events<R: Wait + Clock>(
     true
 }
 
-/// The events of a piece. Where memory is refused it is tried again after a moment; none where the
+/// The events of a piece. If memory runs out, it tries again after a moment. There are none if the
 /// queue is closed.
 fn split<R: Wait + Clock>(
     rt: &R,

@@ -17,7 +17,7 @@ use wq_live::{Blank, Named, Seat};
 use wq_serve::{Inbox, Kept, LockDesk, ReachedShelf, SharedShelf, serve};
 use wq_stream::Event;
 
-/// How often it is looked whether the other client got its reply.
+/// How often a client looks whether the other client got its reply.
 const TURNS: u64 = 1_000_000_000;
 
 /// An inbox that holds its second line until the other client got its first reply.
@@ -80,7 +80,8 @@ fn line(alloc: Global, text: &str) -> Result<Event, AllocError> {
     Ok(Event::Line(Table::from_vec(Vec::from_slice(alloc, text.as_bytes())?)))
 }
 
-/// Serves a client whose lines are these on a thread's own ends, and gives what is written to it.
+/// Serves a client with these lines on a thread's own ends, and gives the bytes that are written to
+/// it.
 fn write_client<N: Named, R: Threads + Wait + Copy + Drop + Sync>(
     rt: R,
     alloc: Global,
@@ -108,7 +109,7 @@ fn write_client<N: Named, R: Threads + Wait + Copy + Drop + Sync>(
     }
 }
 
-/// A client with its own ends and with what all clients share.
+/// A client with its own ends and with the parts that all clients share.
 #[derive(Drop)]
 struct Talker<N: Named, R: Wait + Drop, K: Kept + Drop> {
     inbox: Waiting,
@@ -118,7 +119,7 @@ struct Talker<N: Named, R: Wait + Drop, K: Kept + Drop> {
     shelf: Arc<Mutex<ReachedShelf<K>>>,
 }
 
-/// What all clients share.
+/// The parts that all clients share.
 #[derive(Drop)]
 struct Shared<N: Named, R: Wait + Drop> {
     crawler: Arc<SharedCrawler<N, R, SameFiles, Still>>,
@@ -150,7 +151,7 @@ fn make_client<N: Named, R: Wait + Drop>(
     })
 }
 
-/// What clients share, over a crawler.
+/// The parts that all clients share, over a crawler.
 fn share<N: Named, R: Wait + Drop>(
     alloc: Global,
     crawler: Crawler<N, R, SameFiles, Still>,
@@ -189,7 +190,7 @@ fn make_writer(alloc: Global, told: Arc<AtomicU64>) -> Telling {
     }
 }
 
-/// What two clients are written that talk at the same time.
+/// The replies to two clients that talk at the same time.
 fn talk<N: Named + Send + Sync + 'static, R: Threads + Wait + Copy + Drop + Send + Sync + 'static>(
     rt: R,
     alloc: Global,
@@ -206,7 +207,7 @@ fn talk<N: Named + Send + Sync + 'static, R: Threads + Wait + Copy + Drop + Send
     talk_both(rt, alloc, first, second)
 }
 
-/// What two clients are written that talk on a thread each.
+/// The replies to two clients that talk on a thread each.
 fn talk_both<
     N: Named + Send + Sync + 'static,
     R: Threads + Wait + Copy + Drop + Send + Sync + 'static,
@@ -230,12 +231,12 @@ const ADD_NO: &str = r#"["program-add","no","V1FQRgEAAAAAAAAAAAACAQEAACMAAAA="]"
 
 const LIST: &str = r#"["program-list"]"#;
 
-/// The second lines that both clients may be written.
+/// The second lines that may be written to the clients.
 const YES_NO: &[u8] = b"{\"programs\":[\"yes\",\"no\"],\"version\":\"wq-1\"}\n";
 
 const NO_YES: &[u8] = b"{\"programs\":[\"no\",\"yes\"],\"version\":\"wq-1\"}\n";
 
-/// Whether two clients that talk at the same time are told both programs, in one order.
+/// Whether two clients that talk at the same time hear of both programs, in one order.
 fn is_one_order<R: Threads + Wait + Copy + Drop + Send + Sync + 'static>(
     rt: R,
     alloc: Global,

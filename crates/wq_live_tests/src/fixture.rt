@@ -1,4 +1,4 @@
-//! Passes over a made-up tree, what a publisher does, and what a seat sees.
+//! Passes over a made-up tree, the steps of a publisher, and the looks of a seat.
 ghost use Rattle.std.specs.Prelude.{◌≡◌, IfOk};
 ghost use Rattle.wq_view.specs.Name.{is_valid_name};
 ghost use Rattle.wq_view.specs.Seen.{is_lawful_row};
@@ -9,7 +9,7 @@ use std::sync::{ArcSlice, Wait};
 use wq_live::{Blank, Look, Named, Publisher, Seat, Told};
 use wq_view::{Kind, Pass, Seen};
 
-/// What is seen of a root: its number, the tick of its view, and how many files that has.
+/// The sight of a root: its number, the tick of its view, and how many files the view has.
 pub(crate) type Sight = (u64, u64, usize);
 
 /// The row of a file, named by its number.
@@ -30,7 +30,7 @@ pub(crate) fn named_row(alloc: Global, name: &[u8]) -> Result<Seen, AllocError>
     })
 }
 
-/// A pass that sees so many files; none where memory ran out.
+/// A pass that sees so many files; none if memory ran out.
 pub(crate) fn pass(alloc: Global, files: u64) -> Option<Pass> {
     let mut rows = Vec::new(alloc);
     for number in 0..files {
@@ -39,7 +39,7 @@ pub(crate) fn pass(alloc: Global, files: u64) -> Option<Pass> {
     Pass::new(rows, 1).ok()
 }
 
-/// Starts a root with a pass that sees so many files; none where that fails.
+/// Starts a root with a pass that sees so many files; none if that fails.
 pub(crate) fn start<N: Named, R: Wait + Drop>(
     alloc: Global,
     publisher: &mut Publisher<N, R>,
@@ -66,7 +66,7 @@ pub(crate) fn open_with_root<N: Named, R: Wait + Drop>(
     publisher
 }
 
-/// Publishes a pass over the root of this number that sees so many files; none where that fails.
+/// Publishes a pass over the root of this number that sees so many files; none if that fails.
 pub(crate) fn publish<N: Named, R: Wait + Drop>(
     alloc: Global,
     publisher: &mut Publisher<N, R>,
@@ -77,13 +77,13 @@ pub(crate) fn publish<N: Named, R: Wait + Drop>(
     publisher.publish(number, pass).ok()
 }
 
-/// What a look shows of the root of this text.
+/// The sight of the root of this text, in a look.
 pub(crate) fn sight_of<N: Named>(look: &Look<N>, text: &str) -> Option<Sight> {
     let (number, view) = look.root(text)?;
     Some((number, view.tick(), look.view(number)?.len()))
 }
 
-/// What a seat sees of the root of this text when it looks.
+/// The sight of the root of this text, in the next look of a seat.
 pub(crate) fn look_at<N: Named>(seat: Seat<N>, text: &str) -> (Seat<N>, Option<Sight>) {
     match seat.look() {
         Ok(look) => {

@@ -1,4 +1,4 @@
-//! A session that subscribes to a root, and is told of its changes at idle moments.
+//! A session that subscribes to a root, and hears of its changes at idle moments.
 ghost use Rattle.std.specs.Prelude.{◌≡◌};
 
 use crate::publishing::Blinking;
@@ -14,7 +14,7 @@ use wq_live::{Blank, Named};
 use wq_serve::MemoryDesk;
 use wq_stream::{Event, Splitter};
 
-/// What comes to a session.
+/// An event that comes to a session.
 #[derive(Drop)]
 enum Coming {
     /// A line of its client.
@@ -48,7 +48,7 @@ const COMING: [Coming; 16] = [
     Says(b"[\"version\"]\n"),
 ];
 
-/// What is written to it.
+/// The lines that are written to it.
 const WRITTEN: &[u8] = br#"{"version":"wq-1","watch":"/r","watcher":"poll"}
 {"clock":"c:7:9:1:1","subscribe":"s","version":"wq-1"}
 {"clock":"c:7:9:1:1","files":[{"exists":true,"name":"a"}],"is_fresh_instance":true,"root":"/r","subscription":"s","unilateral":true,"version":"wq-1"}
@@ -79,7 +79,7 @@ fn events_of(alloc: Global, coming: &[Coming]) -> Result<VecDeque<Event>, AllocE
     Ok(events)
 }
 
-/// What a session writes to which this comes; none where it failed.
+/// The bytes that a session writes for these events; none if it failed.
 fn talk<N: Named, R: Threads + Wait + Copy + Drop + Sync>(
     rt: R,
     alloc: Global,

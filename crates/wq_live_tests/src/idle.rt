@@ -15,7 +15,7 @@ use wq_launch::{Run, Runs};
 use wq_serve::Inbox;
 use wq_stream::Event;
 
-/// The numbers of two intervals: those that were shown and those that were given, and then those that were shown.
+/// The numbers of two intervals: in the first the shown and the given roots, in the second the shown roots.
 const NUMBERS: &[u8] = b"1234525";
 
 /// A host whose roots change once, and whose sessions write the numbers of their first events.
@@ -40,7 +40,7 @@ impl Host for Teller {
                 Event::Idle(number) => number,
                 _ => 0,
             };
-            // A client that has gone is written nothing.
+            // A client that has gone gets nothing.
             let _ = writer.write_all(&[b'0' + (number % 10) as u8]);
         }
         true

@@ -1,4 +1,4 @@
-//! Real commands: a launcher starts them by the system, and a thread attends each.
+//! Real commands: a launcher starts them on the system, and a thread attends each.
 
 use crate::server::make_room;
 use std::alloc::{AllocError, Global};
@@ -13,18 +13,18 @@ use wq_clock::{Instance, print};
 use wq_follow::{Env, Launch, Start};
 use wq_launch::{Launcher, Runs, Spawn, System, attend};
 
-/// How often it is looked whether all commands have ended, and how many milliseconds lie between.
+/// How often the test looks whether all commands have ended, and how many milliseconds lie between two looks.
 const LOOKS: u32 = 1000;
 
 const PAUSE: u64 = 10;
 
-/// How many bytes a command gets that reads none: more than a pipe takes.
+/// The number of bytes for a command that reads none: more than a pipe takes.
 const MUCH: usize = 200_000;
 
 /// A script that copies its input, and then two of its variables.
 const SCRIPT: &str = "cat > seen; echo \"$WATCHMAN_TRIGGER $WATCHMAN_CLOCK\" >> seen";
 
-/// What it writes.
+/// The output of the script.
 const SEEN: &[u8] = b"a\nb\nt c:7:9:1:2\n";
 
 /// A copy of a text.
@@ -67,7 +67,7 @@ fn start(
     })
 }
 
-/// Waits until no command runs. Says whether that came to be.
+/// Waits until no command runs. Says whether all have ended.
 fn have_ended<R: Wait + Clock>(rt: &R, runs: &Runs) -> bool {
     for _ in 0..LOOKS {
         if runs.count(rt) == 0 {
@@ -95,7 +95,7 @@ where
     Ok(attend(rt, alloc, &runs, run).is_none() && have_ended(&rt, &runs))
 }
 
-/// The bytes of a file in a directory, which goes then, as the directory does.
+/// The bytes of a file in a directory. Then it removes the file and the directory.
 fn take_out(rt: HostRuntime, room: &str, name: &str) -> io::Result<Vec<u8>> {
     let path = format!(in rt.alloc(); "{room}/{name}")?;
     let mut bytes = Vec::new(rt.alloc());
@@ -138,8 +138,8 @@ where
     Ok(launcher.start(missing).is_err())
 }
 
-/// How many lines tell of a program that is not there and is started twice; none if a start did not fail, or a number was
-/// not free again.
+/// How many lines the operator gets about a program that is not there and is started twice. There are none if a start
+/// did not fail, or if a number was not free again.
 fn lines_of_failures<R, P>(
     rt: R,
     alloc: Global,

@@ -1,8 +1,8 @@
-//! Tests of the shared view, of sessions over it, and of a server: what no contract of `wq_live`, `wq_serve` and
-//! `wq_daemon` says. Calls succeed while there is memory, a look finds what was published last, looks wait for nobody,
-//! sessions share one shelf, a server answers on its socket and ends, and its sessions get idle moments. Rounds start the
-//! commands of triggers, and real commands are started, get their input and end. Workers of a query run at the same time,
-//! and keep the files that one thread keeps.
+//! Tests of the shared view, of sessions over it, and of a server. They test facts that no contract of `wq_live`,
+//! `wq_serve` and `wq_daemon` has. Calls succeed while there is memory, a look finds the last publish, and looks wait
+//! for nobody. Sessions share one shelf, a server answers on its socket and ends, and its sessions get idle moments.
+//! Rounds start the commands of triggers, and real commands are started, get their input and end. Workers of a query
+//! run at the same time, and keep the files that one thread keeps.
 #![tactic(auto)]
 
 #[cfg(test)]

@@ -1,5 +1,5 @@
-//! A session whose roots, desk and writer publish while it calls them. A publish waits for those that look at the value
-//! before the last one: of two, the second would wait for ever for a look that the session has open.
+//! A session whose roots, desk and writer publish while it calls them. A publish waits for the looks at the value
+//! before the last one. So the second of two publishes would wait for ever for a look that the session has open.
 ghost use Rattle.std.specs.Prelude.{◌≡◌};
 
 use crate::session::{Still, rows_of, shared_shelf};
@@ -84,7 +84,7 @@ impl<N: Named, R: Wait + Drop> Roots<N> for Publishing<N, R> {
     }
 }
 
-/// A desk that publishes twice before it holds the shelf, also to find a program or to keep one.
+/// A desk that publishes twice before it holds the shelf, also if it is to find a program or to keep one.
 #[derive(Drop)]
 struct Holding<N: Named, R: Wait + Drop> {
     desk: LockDesk<R>,
@@ -117,7 +117,7 @@ impl<N: Named, R: Wait + Drop> Desk for Holding<N, R> {
     }
 }
 
-/// A writer that publishes twice before it takes anything.
+/// A writer that publishes twice before each write.
 #[derive(Drop)]
 struct Telling<N: Named, R: Wait + Drop> {
     bytes: Vec<u8>,
@@ -135,7 +135,7 @@ impl<N: Named, R: Wait + Drop> Write for Telling<N, R> {
     }
 }
 
-/// What a session writes whose client sends these lines; none where it failed.
+/// The bytes that a session writes for a client that sends these lines; none if it failed.
 fn talk<N: Named, R: Threads + Wait + Copy + Drop + Sync>(
     rt: R,
     alloc: Global,
@@ -180,19 +180,19 @@ fn talk<N: Named, R: Threads + Wait + Copy + Drop + Sync>(
     Some(writer.bytes)
 }
 
-/// What a client says.
+/// The lines of a client.
 const LINES: &[u8] = br#"["watch","/r"]
 ["query","/r",{"expression":["type","f"],"fields":["name"]}]
 ["watch-del","/r"]
 "#;
 
-/// What is written to it.
+/// The lines that are written to it.
 const WRITTEN: &[u8] = br#"{"version":"wq-1","watch":"/r","watcher":"poll"}
 {"clock":"c:7:9:1:9","files":["a","b"],"is_fresh_instance":true,"version":"wq-1"}
 {"root":"/r","version":"wq-1","watch-del":true}
 "#;
 
-/// Whether a client is written what it should while roots, desk and writer publish.
+/// Whether a client gets the right lines while roots, desk and writer publish.
 fn is_well<R: Threads + Wait + Copy + Drop + Sync>(rt: R, alloc: Global) -> bool {
     let Ok(blank) = Blank::new(alloc, &rt, 1) else {
         return false;

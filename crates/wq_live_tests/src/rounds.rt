@@ -39,7 +39,7 @@ impl Tree for Growing {
     }
 }
 
-/// A launcher in memory: every second start fails, and each command that it starts has ended by the next round.
+/// A launcher in memory: every second start fails, and each command that it starts ends before the next round.
 #[derive(Drop)]
 struct Alternating {
     /// How many starts there were, and how many arguments they had together.
@@ -79,15 +79,15 @@ const LINES: &[u8] = br#"["watch","/r"]
 ["trigger","/r",{"name":"t","command":["make"],"append_files":true}]
 "#;
 
-/// What is written to it.
+/// The lines that are written to it.
 const WRITTEN: &[u8] = br#"{"version":"wq-1","watch":"/r","watcher":"poll"}
 {"disposition":"created","triggerid":"t","version":"wq-1"}
 "#;
 
-/// How many rounds there are: one for each file but the first, and one before which no file was made.
+/// How many rounds there are: one for each file but the first, and one with no new file before it.
 const ROUNDS: usize = NAMES.len();
 
-/// A round of the triggers of the root at what a look shows.
+/// A round of the triggers of the root, at the view of a look.
 fn have_round<N: Named>(
     alloc: Global,
     look: &Look<N>,
@@ -100,7 +100,7 @@ fn have_round<N: Named>(
     }
 }
 
-/// Looks, and has a round there.
+/// Looks, and has a round at that view.
 fn look_and_fire<N: Named>(
     alloc: Global,
     seat: Seat<N>,
@@ -116,7 +116,7 @@ fn look_and_fire<N: Named>(
     }
 }
 
-/// Crawls and has a round after each crawl. Gives the launcher; none if the client was not written what it should.
+/// Crawls and has a round after each crawl. Gives the launcher; none if the client did not get the right lines.
 fn fire_all<N: Named, R: Threads + Wait + Copy + Drop + Sync>(
     rt: R,
     alloc: Global,
@@ -147,8 +147,8 @@ fn fire_all<N: Named, R: Threads + Wait + Copy + Drop + Sync>(
     Some(launcher)
 }
 
-/// Each round but the last has a start: a file was made. The starts that fail have 2 names, 1 and 1 appended. Each next one
-/// has these again, and one more.
+/// Each round but the last has a start: a file was made. The starts that fail have 2 names, 1 and 1 appended. Each
+/// start after a failed one has these names again, and one more.
 #[test]
 fn each_file_has_a_start(rt: HostRuntime) -> Result<(), Fail> {
     let blank = Blank::new(rt.alloc(), &rt, 1)?;

@@ -27,7 +27,7 @@ fn publish_all<N: Named, R: Wait + Drop>(
     true
 }
 
-/// Looks until a pass of so many files is seen. Says whether no look went back, and each showed the view of its tick.
+/// Looks until it sees a pass of so many files. Says whether no look went back, and each showed the view of its tick.
 fn watch<N: Named>(mut seat: Seat<N>, until: u64) -> (Seat<N>, bool) {
     let mut last = 0;
     for _ in 0..u64::MAX {
@@ -113,8 +113,8 @@ fn looks_do_not_wait_for_the_lock(rt: HostRuntime) -> Result<(), Fail> {
     Ok(())
 }
 
-/// Looks beside another look at the first pass, until a second pass is seen. Says whether all was right, and the other look
-/// shows what it showed.
+/// Looks beside another look at the first pass, until it sees a second pass. Says whether all was right, and the other
+/// look shows what it showed.
 fn look_beside<N: Named>(look: &Look<N>, seat: Seat<N>) -> bool {
     let (seat, is_seen) = watch(seat, 2);
     is_seen && look_often(seat, 1000, 2) && sight_of(look, "/a") == Some((1, 1, 1))

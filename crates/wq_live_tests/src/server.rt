@@ -22,17 +22,17 @@ use wq_follow::Start;
 use wq_launch::Spawn;
 use wq_live::{Blank, Named};
 
-/// How many directories are tried that may stand already.
+/// How many directories the test tries, since some may exist already.
 const TRIES: u32 = 100;
 
-/// What a client sends.
+/// The lines of a client.
 const LINES: &[u8] = br#"["watch","/r"]
 ["query","/r",{"fields":["name"]}]
 ["get-sockname"]
 ["shutdown-server"]
 "#;
 
-/// What it is written.
+/// The lines that are written to it.
 const REPLIES: &[u8] = br#"{"version":"wq-1","watch":"/r","watcher":"poll"}
 {"clock":"c:7:9:1:1","files":["b.txt","src/a.c"],"is_fresh_instance":true,"version":"wq-1"}
 {"sockname":"the socket","version":"wq-1"}
@@ -66,7 +66,7 @@ impl Spawn for NoCommands {
     }
 }
 
-/// Makes a directory that stood nowhere before, and gives its path.
+/// Makes a directory that did not exist before, and gives its path.
 pub(crate) fn make_room(rt: &HostRuntime) -> io::Result<String> {
     let above = env::temp_dir(rt)?;
     let process = process::id(rt.process());
@@ -81,7 +81,7 @@ pub(crate) fn make_room(rt: &HostRuntime) -> io::Result<String> {
     Err(Error::from(ErrorKind::AlreadyExists))
 }
 
-/// What a server works with whose tree and clock stand still.
+/// The parts of a server whose tree and clock never change.
 fn make_parts(
     alloc: Global,
     told: Arc<AtomicU64>,
@@ -101,7 +101,7 @@ fn make_parts(
     })
 }
 
-/// Sends the lines, and gives what comes until the stream ends.
+/// Sends the lines, and gives the bytes that come until the stream ends.
 fn talk(alloc: Global, mut stream: UnixStream) -> io::Result<Vec<u8>> {
     let mut replies = Vec::new(alloc);
     stream.write_all(LINES)?;
@@ -109,8 +109,8 @@ fn talk(alloc: Global, mut stream: UnixStream) -> io::Result<Vec<u8>> {
     Ok(replies)
 }
 
-/// Serves a client to the end of the server, and gives what the client was written; none where the server or the client
-/// failed.
+/// Serves a client to the end of the server, and gives the bytes that were written to it. There are none if the
+/// server or the client failed.
 fn serve_one<N, R>(
     rt: R,
     alloc: Global,

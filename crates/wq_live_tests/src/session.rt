@@ -1,4 +1,4 @@
-//! Sessions over memory, one after the other: their lines, and what they write.
+//! Sessions over memory, one after the other: their lines, and their replies.
 ghost use Rattle.std.specs.Prelude.{◌≡◌, IfOk, IsTrue};
 ghost use Rattle.std.specs.List.{list_all};
 ghost use Rattle.wq_view.specs.Seen.{is_lawful_row};
@@ -19,7 +19,7 @@ use wq_serve::{Desk, LockDesk, MemoryDesk, MemoryInbox, SharedShelf, serve};
 use wq_stream::{Event, Splitter};
 use wq_view::{Seen, is_valid_name};
 
-/// A tree each root of which has the same files.
+/// A tree in which each root has the same files.
 #[derive(Drop)]
 pub(crate) struct SameFiles {
     pub(crate) alloc: Global,
@@ -46,7 +46,7 @@ struct Rows {
 }
 
 impl Rows {
-    /// No row, with room for so many.
+    /// No rows yet, with room for so many.
     fn with_room(alloc: Global, room: usize) -> Result<Rows, AllocError> {
         Ok(Rows {
             rows: Vec::with_capacity(alloc, room)?,
@@ -69,7 +69,7 @@ impl Rows {
     }
 }
 
-/// The rows of files of those of these names that are valid.
+/// The rows of files with these names, without the names that are not valid.
 pub(crate) fn rows_of(alloc: Global, names: &[&[u8]]) -> Result<Vec<Seen>, AllocError>
     ensures { IfOk result (λ rows. IsTrue (list_all is_lawful_row rows.items)) }
 {
@@ -82,7 +82,7 @@ pub(crate) fn rows_of(alloc: Global, names: &[&[u8]]) -> Result<Vec<Seen>, Alloc
     Ok(rows.into_rows())
 }
 
-/// A clock that stands still.
+/// A clock that never moves.
 #[derive(Drop)]
 pub(crate) struct Still(pub(crate) i64);
 
@@ -92,7 +92,7 @@ impl Seconds for Still {
     }
 }
 
-/// The shelf of a server at its start; none where memory ran out.
+/// The shelf of a server at its start; none if memory ran out.
 pub(crate) fn new_shelf(alloc: Global) -> Option<Shelf<Trigger>> {
     let sockname = String::from_str(alloc, "s").ok()?;
     Some(Shelf::new(alloc, Cache::new(alloc, 7, 9).ok()?, sockname))
@@ -105,7 +105,7 @@ pub(crate) fn shared_shelf(alloc: Global) -> Option<Arc<Mutex<SharedShelf>>> {
     Arc::new(alloc, Mutex::new(shelf)).ok()
 }
 
-/// What a session writes whose client sends these bytes, and its seat; none where the writer failed.
+/// The bytes that a session writes for a client that sends these, and its seat; none if the writer failed.
 pub(crate) fn write_lines<T: Threads + Sync, N: Named, R: Roots<N>, D: Desk>(
     rt: &T,
     alloc: Global,
@@ -118,7 +118,7 @@ pub(crate) fn write_lines<T: Threads + Sync, N: Named, R: Roots<N>, D: Desk>(
     write_events(rt, alloc, VecDeque::from(events), seat, roots, desk)
 }
 
-/// What a session writes to which these events come, and its seat; none where the writer failed.
+/// The bytes that a session writes for these events, and its seat; none if the writer failed.
 pub(crate) fn write_events<T: Threads + Sync, N: Named, R: Roots<N>, D: Desk>(
     rt: &T,
     alloc: Global,
@@ -137,7 +137,7 @@ pub(crate) fn write_events<T: Threads + Sync, N: Named, R: Roots<N>, D: Desk>(
     Some((ended.seat, writer))
 }
 
-/// What one client sends, and what is written to it.
+/// The lines of one client, and the lines that are written to it.
 type Talk<'a> = (&'a [u8], &'static [u8]);
 
 /// The names of the files of a tree.
@@ -146,7 +146,7 @@ type Names = &'static [&'static [u8]];
 /// The files of a tree that has some.
 pub(crate) const FILES: Names = &[b"b.txt", b"src/a.c"];
 
-/// What a session looks with and asks: its seat, and its roots.
+/// The ends of a session: its seat, and its roots.
 #[derive(Drop)]
 struct Ends<N: Named, R: Wait + Drop> {
     seat: Seat<N>,
@@ -169,7 +169,7 @@ fn make_ends<N: Named, R: Wait + Drop>(
     Some(Ends { seat, roots })
 }
 
-/// Serves a client at a desk, and says whether it was written what it should.
+/// Serves a client at a desk, and says whether it got the right lines.
 fn talk_at<N: Named, R: Threads + Wait + Drop + Sync, D: Desk>(
     rt: &R,
     alloc: Global,
@@ -182,8 +182,8 @@ fn talk_at<N: Named, R: Threads + Wait + Drop + Sync, D: Desk>(
     Some((Ends { seat, roots }, written.as_slice() == talk.1))
 }
 
-/// Serves clients one after the other, each at a desk of its own over the same lock. Says how many were written what
-/// they should.
+/// Serves clients one after the other, each at a desk of its own over the same lock. Says how many got the right
+/// lines.
 fn play<N: Named, R: Threads + Wait + Copy + Drop + Sync>(
     rt: R,
     alloc: Global,
@@ -206,7 +206,7 @@ fn play<N: Named, R: Threads + Wait + Copy + Drop + Sync>(
     Some(talks.len())
 }
 
-/// How many clients are written what they should, over a tree of these files.
+/// How many clients get the right lines, over a tree of these files.
 fn well<R: Threads + Wait + Copy + Drop + Sync>(
     rt: R,
     alloc: Global,
@@ -217,7 +217,7 @@ fn well<R: Threads + Wait + Copy + Drop + Sync>(
     play::<Brand, R>(rt, alloc, blank, names, talks)
 }
 
-/// What stands before a line of so many spaces, that line without its end, and what stands behind it.
+/// The text before a line of so many spaces, that line without its end, and the text after it.
 fn with_spaces(
     alloc: Global,
     before: &[u8],
@@ -231,8 +231,7 @@ fn with_spaces(
     Ok(bytes)
 }
 
-/// Serves clients one after the other at the same desk, which nothing else has. Says how many were written what they
-/// should.
+/// Serves clients one after the other at the same desk, which nobody else has. Says how many got the right lines.
 fn play_alone<N: Named, R: Threads + Wait + Copy + Drop + Sync>(
     rt: R,
     alloc: Global,
@@ -255,7 +254,7 @@ fn play_alone<N: Named, R: Threads + Wait + Copy + Drop + Sync>(
     Some(talks.len())
 }
 
-/// Whether roots answer as they should, of which `/r` alone is shown, as root 1.
+/// Whether roots give the right answers if only `/r` is shown, as root 1.
 fn is_answered<N: Named, R: Roots<N>>(roots: &mut R) -> bool {
     matches!(roots.crawl("/r"), Ok(Some(_)))
         && matches!(roots.crawl("/q"), Ok(None))
@@ -265,7 +264,7 @@ fn is_answered<N: Named, R: Roots<N>>(roots: &mut R) -> bool {
         && matches!(roots.crawl("/r"), Ok(Some(_)))
 }
 
-/// Whether the roots of a session still answer when it has ended and no seat is left.
+/// Whether the roots of a session still answer after it has ended and no seat is left.
 fn outlive<N: Named, R: Threads + Wait + Copy + Drop + Sync>(
     rt: R,
     alloc: Global,
@@ -283,10 +282,10 @@ fn outlive<N: Named, R: Threads + Wait + Copy + Drop + Sync>(
     Some(is_right && is_answered(&mut roots))
 }
 
-/// How many bytes the longest line has that a session takes.
+/// The length in bytes of the longest line that a session takes.
 const LONGEST_LINE: usize = 1_048_576;
 
-/// The end of a line, and a line behind it.
+/// The end of a line, and a line after it.
 const BEHIND: &[u8] = b"\n[\"version\"]\n";
 
 #[test]

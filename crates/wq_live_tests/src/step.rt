@@ -1,4 +1,4 @@
-//! Steps of a publisher, and what seats see after each.
+//! Steps of a publisher, and the looks of seats after each.
 ghost use Rattle.std.specs.Prelude.{◌≡◌};
 
 use crate::fixture::{Sight, look_at, open_with_root, pass, publish, start};
@@ -9,7 +9,7 @@ use std::sync::Wait;
 use std::test::Fail;
 use wq_live::{Blank, Named, Publisher, Seat, StartFault, Told};
 
-/// What the publisher does.
+/// A step of the publisher.
 #[derive(Drop)]
 enum Step {
     /// Starts the root of this text with a pass that sees so many files.
@@ -20,10 +20,10 @@ enum Step {
     End(u64),
 }
 
-/// A step, and what is seen of the root `/a` after it.
+/// A step, and the look at the root `/a` after it.
 type Row = (Step, Option<Sight>);
 
-/// Does a step; none where it fails.
+/// Does a step; none if it fails.
 fn take<N: Named, R: Wait + Drop>(
     alloc: Global,
     publisher: &mut Publisher<N, R>,
@@ -36,8 +36,8 @@ fn take<N: Named, R: Wait + Drop>(
     }
 }
 
-/// Does steps, and says how many went well. After each, both seats see what they should: one that is told nothing, and
-/// one that is told each list.
+/// Does steps, and says how many went well. After each step, two seats see the right root: a seat that is told
+/// nothing, and a seat that is told each list.
 fn play<N: Named, R: Wait + Drop>(
     alloc: Global,
     publisher: &mut Publisher<N, R>,
@@ -98,10 +98,10 @@ fn a_root_is_shown_until_its_end(rt: HostRuntime) {
 #[test]
 fn each_pass_is_seen(rt: HostRuntime) {
     let rows = [
-        // A first pass that saw no file is none.
+        // A first pass that saw no file does not count.
         (Step::Start("/a", 0), Some((1, 0, 0))),
         (Step::Pass(1, 3), Some((1, 1, 3))),
-        // It saw just what the last one saw.
+        // It saw the same as the last one.
         (Step::Pass(1, 3), Some((1, 1, 3))),
         (Step::Pass(1, 4), Some((1, 2, 4))),
     ];
@@ -142,7 +142,7 @@ fn is_full<N: Named, R: Wait + Drop>(alloc: Global, publisher: &mut Publisher<N,
     matches!(publisher.start("17", pass), Err(StartFault::TooManyRoots))
 }
 
-/// Whether 16 roots are shown, of which the last is as it was started, and the next is not.
+/// Whether 16 roots are shown and a 17th is not. The 16th is as it was started.
 fn is_filled<N: Named, R: Wait + Drop>(publisher: &mut Publisher<N, R>) -> bool {
     let Ok(seat) = publisher.seat() else {
         return false;
@@ -151,7 +151,7 @@ fn is_filled<N: Named, R: Wait + Drop>(publisher: &mut Publisher<N, R>) -> bool 
     publisher.len() == 16 && publisher.find("17").is_none() && sight == Some((16, 1, 1))
 }
 
-/// A seventeenth root is refused, and changes nothing. After an end there is room for it: gives its number.
+/// A seventeenth root is refused, and changes nothing. After the end of a root there is room for it: gives its number.
 fn fill_up<N: Named, R: Wait + Drop>(rt: R, alloc: Global, blank: Blank) -> Option<u64>
     requires { blank.book ≡ N.book }
 {
@@ -194,7 +194,7 @@ fn seats_have_their_number(rt: HostRuntime) -> Result<(), Fail> {
     Ok(())
 }
 
-/// What a seat sees before and after the end of its publisher.
+/// The looks of a seat before and after the end of its publisher.
 fn outlive<N: Named, R: Wait + Drop>(
     rt: R,
     alloc: Global,
@@ -218,7 +218,7 @@ fn a_look_is_refused_where_the_publisher_is_gone(rt: HostRuntime) -> Result<(), 
     Ok(())
 }
 
-/// Whether of two looks at the same list neither is shorter.
+/// Whether two looks at the same list are equally long.
 fn are_equal<N: Named>(first: Seat<N>, second: Seat<N>) -> bool {
     let Ok(first) = first.look() else {
         return false;

@@ -1,5 +1,5 @@
-//! Queries whose files several threads find. The threads run at the same time, the files are those that one thread
-//! finds, and a piece that no thread or two threads evaluated changes nothing.
+//! Queries whose files several threads find. The threads run at the same time, and the files are those that one thread
+//! finds. A piece that no thread or two threads evaluated changes nothing.
 ghost use Rattle.std.specs.Prelude.{◌≡◌, ◌≤◌};
 ghost use Rattle.wq_base.specs.Limit.{AreFew};
 

@@ -1,4 +1,4 @@
--- How the playing of a script goes on, and how it ends.
+-- The steps of the playing of a script, and its end.
 use Rattle.std.proofs.Common.{◌≡◌, ◌≢◌, ℕ, zero, suc, ◌+◌, ◌<◌, ◌≤◌, List, [], ◌∷◌, length, Option, Some, None, Result, Ok, Err, IsErr, IsErrAnd, IfSome, Bool, true, false, refl, sym, ap, subst, ◌∙◌, arith, inl, inr}
 use Rattle.std.proofs.lemmas.Bool.{lt-leb}
 use Rattle.wq_replay.specs.Fault.{step_fault, taking_fault}
@@ -19,7 +19,7 @@ use Rattle.wq_base.proofs.Fronts.{keeps_same}
 use Rattle.wq_replay.proofs.Inside.{within_kept}
 use Rattle.wq_replay.proofs.Played.{first_kept, first_none, first_then}
 
--- where the playing of a script stands: so many bytes were taken, and the lines before this number were played
+-- the state of the playing of a script: so many bytes were taken, and the lines before this number were played
 abbrev pub Holds : Option (List ℕ) → Option (List ℕ) → Option (List ℕ) → Option (List ℕ) → ℕ → ℕ → Stage → Type 0
 Holds script left before now size n code = IfSome script (λ bytes. (at : StageData) × (rest : List ℕ) × (count : ℕ)
     × (left ≡ Some rest) × (n ≡ suc count) × IsAt code at × (length bytes ≡ size + length rest)
@@ -30,7 +30,7 @@ pub holds_first : (script before : Option (List ℕ)) (code : Stage) → IsAt co
 holds_first None before code is = tt
 holds_first (Some bytes) before code is = (start, bytes, 0, refl, refl, is, omega arith, first_none bytes before)
 
--- what was taken of known bytes
+-- the bytes that were taken of known bytes
 taken_of : (left rest : Option (List ℕ)) (bytes line : List ℕ) (taken : ℕ) → left ≡ Some bytes
     → IfSome left (λ bytes. TakesLine bytes taken line rest) → TakesLine bytes taken line rest
 taken_of left rest bytes line taken is takes = subst (λ k. IfSome k (λ bytes. TakesLine bytes taken line rest)) is takes
@@ -97,7 +97,7 @@ first_is at bytes line left (inr (long, whole, later, is, longer)) = (
   λ well. absurd (well (long_is_malformed at line long)),
 )
 
--- what a step does is no malformed line's
+-- a malformed line takes no step
 goes_well : (at : StageData) (turn : Turn) (now later : Option (List ℕ)) (next : Stage) → TakesTurn at turn now later (Ok true) next → turn ≢ malformed
 goes_well at malformed now later next (written, after, appends, does, stands) = absurd does
 goes_well at (drafts draft) now later next takes = λ h. cc
@@ -107,7 +107,7 @@ goes_well at (rests client) now later next takes = λ h. cc
 goes_well at (fires succeeds) now later next takes = λ h. cc
 goes_well at (finishes name) now later next takes = λ h. cc
 
--- what ends the server is no malformed line's
+-- a malformed line does not end the server
 shuts_well : (at : StageData) (turn : Turn) (now later : Option (List ℕ)) → Shuts at turn now later → turn ≢ malformed
 shuts_well at malformed now later ends = absurd ends
 shuts_well at (drafts draft) now later ends = absurd ends
@@ -117,7 +117,7 @@ shuts_well at (rests client) now later ends = absurd ends
 shuts_well at (fires succeeds) now later ends = absurd ends
 shuts_well at (finishes name) now later ends = absurd ends
 
--- a step of a taken line, at the place where the script stands
+-- a step of a taken line, at the stage of the script
 abbrev pub Stepped : Stage → Option (List ℕ) → Option (List ℕ) → List ℕ → Result Bool StepFault → Stage → Type 0
 Stepped code now later line result next = (at : StageData) → IsAt code at → TakesTurn at (turn_of at line) now later result next
 
@@ -152,7 +152,7 @@ goes_on (Some bytes) left before now later rest size n (suc taken) code next lin
           (subst (λ turn. DoesLine at turn step.0 step.1) whole.3 step.3) step.2 (step.4).world.roots.lawful),
     )
 
--- by a line the server ends
+-- a line ends the server
 pub ends_server : (script left before now later rest : Option (List ℕ)) (size n taken : ℕ) (code next : Stage) (line : List ℕ)
     → Holds script left before now size n code → 0 < taken → IfSome left (λ bytes. TakesLine bytes taken line rest)
     → Stepped code now later line (Ok false) next → IfSome script (λ bytes. Ends bytes before later rest (Ok tt))
@@ -174,7 +174,7 @@ ends_server (Some bytes) left before now later rest size n (suc taken) code next
       subst (λ turn. Shuts at turn now later) whole.3 step,
     )
 
--- a line was not done
+-- a line was not played
 pub ends_stepping : (script left before now later rest : Option (List ℕ)) (size n taken : ℕ) (code next : Stage) (line : List ℕ)
     (after : Option (List ℕ)) (fault : StepFault)
     → Holds script left before now size n code → 0 < taken → IfSome left (λ bytes. TakesLine bytes taken line rest)
@@ -226,7 +226,7 @@ ends_handed script before now rest fault (Ok done) hands ends = absurd hands.1
 ends_handed script before now rest fault (Err handed) hands ends =
     subst (λ f. IfSome script (λ bytes. Ends bytes before now rest (Err f))) (sym hands.1) ends
 
--- a fault that is said to be another
+-- a fault that is handed on as another
 pub ends_as : (script before now rest : Option (List ℕ)) (fault said : ReplayFault) → said ≡ fault
     → IfSome script (λ bytes. Ends bytes before now rest (Err fault))
     → IfSome script (λ bytes. Ends bytes before now rest (Err said))

@@ -1,4 +1,4 @@
--- The subscriptions of clients, when one of them has others now; and numbers that ascend.
+-- The subscriptions of clients, when those of one client change; and ascending numbers.
 use Rattle.std.proofs.Common.{◌≡◌, ℕ, ℤ, suc, ◌+◌, ◌<◌, ◌≤◌, Bool, true, false, not, cond, nat_eq, nat_lt, List, [], ◌∷◌, ◌++◌, map, find, drop, take, remove, length, get_or, Option, Some, None, position, slice_get, drop-cons, refl, sym, ap, subst, ◌∙◌, arith}
 use mathlib.Core.Bool.{false≢true}
 use Rattle.std.specs.List.{position_or_len}
@@ -20,7 +20,7 @@ use Rattle.wq_replay.specs.Clients.{FollowsNow, kept_client, kept_with}
 use Rattle.wq_replay.specs.Gets.{kept}
 use Rattle.wq_replay.specs.declared.client.Client.{Client}
 
--- a number is another's equal both ways
+-- equality of numbers holds both ways
 int_eq_sym : (x y : ℤ) → int_eq x y ≡ int_eq y x
 int_eq_sym x y = by (int_eq x y) (int_eq y x) refl refl
   where
@@ -39,7 +39,7 @@ int_eq_through : (x y z : ℤ) → int_eq x y ≡ true → int_eq y z ≡ true �
 int_eq_through x y z one other differ =
     false≢true (sym differ ∙ (Decides-int_eq x z).1 ((Decides-int_eq x y).0 one ∙ (Decides-int_eq y z).0 other))
 
--- the other clients, and those behind them, which have the subscriptions of one client alone
+-- the other clients, and the clients after them, which have the subscriptions of one client alone
 pub now_with : (number : ℤ) (left : List SubscriptionData) (before tail : List Client)
     → ((other : ℤ) → follows_in other tail ≡ cond (int_eq number other) left [])
     → FollowsNow number left before (others number before ++ tail)
@@ -60,7 +60,7 @@ now_with number left (client ∷ before) tail ends other =
     by false false true is same had later = ap (λ b. cond b (follows_of client.session) (follows_in other (others number before ++ tail))) had
     by false false false is same had later = ap (λ b. cond b (follows_of client.session) (follows_in other (others number before ++ tail))) had ∙ later
 
--- no client is behind them
+-- no client is after them
 none_behind : (number other : ℤ) → follows_in other [] ≡ cond (int_eq number other) [] []
 none_behind number other = by (int_eq number other) []
   where
@@ -83,7 +83,7 @@ kept_now number session before after is =
     subst (FollowsNow number (follows_of session) before) (sym is)
     (now_with number (follows_of session) before (kept_client number session) (kept_behind number session (follows_of session) refl))
 
--- the client is kept no more
+-- the client is no longer kept
 pub dropped_now : (number : ℤ) (before after : List Client) → after ≡ others number before → FollowsNow number [] before after
 dropped_now number before after is =
     subst (FollowsNow number [] before) (append-nil (others number before) ∙ sym is)
@@ -141,7 +141,7 @@ others_removed number clients i client at =
     ∙ sym (filter-append test (take i clients) (drop i clients))
     ∙ ap (others number) (take-append-drop i clients)
 
--- one number more is lower
+-- one more number is lower
 pub lower_next : (number : ℕ) (numbers : List ℕ) (i x : ℕ) → i < length numbers → x ≡ get_or numbers i x → nat_lt x number ≡ true
     → with_number number numbers ≡ take i numbers ++ with_number number (drop i numbers)
     → with_number number numbers ≡ take (i + 1) numbers ++ with_number number (drop (i + 1) numbers)
@@ -185,26 +185,26 @@ put_before number numbers i x within is higher so_far =
     ∙ ap (λ rest. take i numbers ++ number ∷ rest) (sym parts)
     )
 
--- and behind all, if all are lower
+-- and after all, if all are lower
 pub put_last : (number : ℕ) (numbers : List ℕ) (i : ℕ) → drop i numbers ≡ [] → with_number number numbers ≡ take i numbers ++ with_number number (drop i numbers)
     → numbers ++ number ∷ [] ≡ with_number number numbers
 put_last number numbers i none so_far =
     ap (λ xs. xs ++ number ∷ []) (sym (ap (λ rest. take i numbers ++ rest) (sym none) ∙ take-append-drop i numbers) ∙ append-nil (take i numbers))
     ∙ sym (so_far ∙ ap (λ rest. take i numbers ++ with_number number rest) none)
 
--- an answer by which the client goes on
+-- an answer that lets the client go on
 pub answer_kept : (number : ℤ) (session : Session) (goes_on : Bool) (before after : List Client) → goes_on ≡ true
     → after ≡ others number before ++ kept_client number session → FollowsNow number (kept goes_on (follows_of session)) before after
 answer_kept number session goes_on before after goes is =
     subst (λ g. FollowsNow number (kept g (follows_of session)) before after) (sym goes) (kept_now number session before after is)
 
--- and one by which it does not
+-- and an answer that ends its session
 pub answer_dropped : (number : ℤ) (session : Session) (goes_on : Bool) (before after : List Client) → goes_on ≡ false
     → after ≡ others number before → FollowsNow number (kept goes_on (follows_of session)) before after
 answer_dropped number session goes_on before after goes is =
     subst (λ g. FollowsNow number (kept g (follows_of session)) before after) (sym goes) (dropped_now number before after is)
 
--- the number of one subscription more
+-- the number of one more subscription
 pub numbers_next : (numbers after : List ℕ) (all : List Subscription) (i : ℕ) (s : Subscription) (number : ℕ) (total : List ℕ)
     → i < length all → s ≡ get_or all i s → number ≡ (subscription_data s).number → after ≡ with_number number numbers
     → numbers_from numbers (map subscription_data (drop i all)) ≡ total

@@ -1,4 +1,4 @@
--- What is taken of a line before its end has no newline.
+-- The bytes that are taken of a line before its end have no newline.
 use Rattle.std.proofs.Common.{◌≡◌, ◌≢◌, ℕ, zero, suc, ◌-◌, Bool, false, ◌==◌, if◌then◌else◌, List, [], ◌∷◌, ◌++◌, length, take, All, Option, Some, None, IfSome, refl, sym, ap, subst, ◌∙◌}
 use mathlib.Core.Bool.{false≢true}
 use Rattle.std.proofs.lemmas.Bool.{or_parts, eqb-false}
@@ -10,11 +10,11 @@ use Rattle.wq_replay.specs.Replay.{StopsWithin}
 use Rattle.wq_replay.specs.Taken.{is_last_line, kept_line, max_kept, stops_within}
 use Rattle.wq_replay.proofs.Parts.{kept_front}
 
--- no newline stands among some bytes
+-- no newline is among some bytes
 abbrev pub NoNewline : List ℕ → Type 0
 NoNewline = All (λ byte. byte ≢ newline)
 
--- what is kept of some bytes has no newline where their first line does not stop within them
+-- the kept part of some bytes has no newline if their first line does not stop within them
 kept_inside : (room : ℕ) (bytes : List ℕ) → stops_within room bytes ≡ false → NoNewline (kept_line room bytes)
 kept_inside zero bytes none = absurd (false≢true (sym none))
 kept_inside (suc room) [] none = All-nil (λ byte. byte ≢ newline)
@@ -35,7 +35,7 @@ part_within (Some bytes) (Some left) before shown count last took counted lasts 
     let part : take count shown ≡ kept_line room shown = ap (λ n. take n shown) counted ∙ kept_front room shown in
     (take count shown, left, refl, took, subst NoNewline (sym part) (kept_inside room shown open'.0))
 
--- a reader that was left within a line, and then within what was left of it
+-- a reader that was left within a line, and then within the rest of it
 pub within_then : (known mid rest : Option (List ℕ)) → IfSome known (λ bytes. StopsWithin bytes mid)
     → IfSome mid (λ bytes. StopsWithin bytes rest) → IfSome known (λ bytes. StopsWithin bytes rest)
 within_then None mid rest first second = tt

@@ -1,4 +1,4 @@
--- A call that is accepted leaves the run of a trigger that stays on the shelf.
+-- An accepted call keeps the run of a trigger that stays on the shelf.
 use Rattle.std.proofs.Common.{◌≡◌, ℕ, Bool, true, false, not, ◌||◌, nat_eq, if◌then◌else◌, List, [], ◌∷◌, ◌++◌, flat_map, Option, Some, None, is_some, Result, Ok, Err, inl, inr, refl, sym, ap, subst, ◌∙◌}
 use mathlib.Core.Bool.{false≢true}
 use Rattle.std.specs.Str.{bytes_eq}
@@ -41,14 +41,14 @@ changes_then root (c ∷ calls) more =
     ap (λ cs. trigger_change root c ++ cs) (changes_then root calls more)
     ∙ sym (append_assoc (trigger_change root c) (flat_map (trigger_change root) calls) (flat_map (trigger_change root) more))
 
--- the thing that changes leave under a name, and then others
+-- the thing that changes leave under a name, if other changes follow
 said_then : (name : List ℕ) (first more : List (Change TriggerData)) (before : Option TriggerData)
     → last_said name (first ++ more) before ≡ last_said name more (last_said name first before)
 said_then name [] more before = refl
 said_then name (c ∷ first) more before = said_then name first more (later (says_of name c) before)
 
 module _ (root : ℕ) (c : CallNow) where
-  -- whether the root is not there throughout, with one call more
+  -- whether the root is absent at some time, with one more call
   interrupted_then : (calls : List CallNow) (s : ShelfNow)
       → is_interrupted root s (calls ++ c ∷ []) ≡ (is_interrupted root s calls || not (stays_on root (after_all calls s) c))
   interrupted_then [] s = by (not (stays_on root s c))
@@ -64,7 +64,7 @@ module _ (root : ℕ) (c : CallNow) where
       by true y z = refl
       by false y z = refl
 
-  -- the calls since it was added, with one call more
+  -- the calls since it was added, with one more call
   since_then : (calls : List CallNow) (s : ShelfNow)
       → since_added root s (calls ++ c ∷ []) ≡ (if stays_on root (after_all calls s) c then since_added root s calls ++ c ∷ [] else [])
   since_then [] s = by (stays_on root s c)
@@ -90,7 +90,7 @@ after_then : (calls : List CallNow) (c : CallNow) (s : ShelfNow) → after_all (
 after_then [] c s = refl
 after_then (d ∷ calls) c s = after_then calls c (after_call d s)
 
--- a call that puts a trigger leaves it the run of the one that it replaces
+-- a call that puts a trigger gives it the run of the trigger that it replaces
 abbrev Keeps : CallNow → ShelfNow → Type 0
 Keeps (adds_trigger r n t) shelf = t.running ≡ run_at r n shelf
 Keeps (adds_program n program) shelf = Unit {0}
@@ -106,18 +106,18 @@ abbrev if_stays : List CallNow → Bool → List CallNow
 if_stays cs b = if b then cs else []
 
 module _ (root : ℕ) (name : List ℕ) (sockname : List ℕ) (calls : List CallNow) where
-  -- what calls lead to
+  -- the shelf that calls lead to
   abbrev led : ShelfNow
   led = after_all calls (blank sockname)
 
   abbrev changes : List (Change TriggerData)
   changes = flat_map (trigger_change root) (since_added root (blank sockname) calls)
 
-  -- the trigger is what the changes say of it
+  -- the changes determine the trigger
   said_there : trigger_called root name led ≡ last_said name changes None
   said_there = ap (under name) (triggers_are_made calls sockname root) ∙ last_change_counts changes name
 
-  -- a trigger that is there after one call more is what its change says of it
+  -- if a trigger is there after one more call, the change of that call determines it
   called_after : (c : CallNow) → is_some (trigger_called root name (after_call c led)) ≡ true
       → trigger_called root name (after_call c led) ≡ last_said name (trigger_change root c ++ []) (trigger_called root name led)
   called_after c there =
@@ -249,7 +249,7 @@ module _ (root : ℕ) (name : List ℕ) (sockname : List ℕ) (shelf : ShelfNow)
       (sym leads) (call_keeps root name sockname earlier c) kept there
   list_keeps (c ∷ d ∷ cs) kept there = absurd kept
 
--- a cursor that is unset leaves triggers
+-- to unset a cursor leaves the triggers
 unset_keeps : (root : ℕ) (name : List ℕ) (sockname : List ℕ) (shelf : ShelfNow) (earlier : List CallNow) → shelf ≡ after_all earlier (blank sockname)
     → (cursor : Option Cursor) → is_some (trigger_called root name (after_all (unset_calls cursor) shelf)) ≡ true
     → trigger_called root name (after_all (unset_calls cursor) shelf) ≡ trigger_called root name shelf
@@ -259,7 +259,7 @@ unset_keeps root name sockname shelf earlier leads (Some cursor) there =
     → trigger_called root name (after_call (unsets_cursor cursor.root cursor.name) s) ≡ trigger_called root name s)
     (sym leads) (called_after root name sockname earlier (unsets_cursor cursor.root cursor.name)) there
 
--- after the calls that were accepted of an ask, a trigger that is there has the run that it had
+-- after the accepted calls of an ask, a trigger that is there has the run that it had
 pub accepted_keep : (root : ℕ) (name : List ℕ) (sockname : List ℕ) (ask : Ask) (at : Option AtData) (shelf : ShelfNow) (earlier : List CallNow)
     (follows : List SubscriptionData) (out : OutData) (calls : List CallNow) → shelf ≡ after_all earlier (blank sockname)
     → Accepts ask at shelf follows out calls → is_some (trigger_called root name (after_all calls shelf)) ≡ true

@@ -32,7 +32,7 @@ same_parts : (answers others : List (Option ℕ)) (running more : List ℕ) (tri
 same_parts answers others running more tried all a r t =
     ap (λ x. launcher_of x running tried) a ∙ ap (λ x. launcher_of others x tried) r ∙ ap (launcher_of others more) t
 
--- one start more was tried
+-- one more start was tried
 tried_more : (tried : List Tried) (t : Tried) → all_tried (tried ++ t ∷ []) ≡ all_tried tried ++ tried_data t ∷ []
 tried_more [] t = refl
 tried_more (first ∷ tried) t = ap (λ all. tried_data first ∷ all) (tried_more tried t)

@@ -1,4 +1,4 @@
--- The first line of some bytes, and those behind it.
+-- The first line of some bytes, and the lines after it.
 use Rattle.std.proofs.Common.{◌≡◌, ℕ, suc, ◌-◌, Bool, true, false, ◌==◌, nat_lt, if◌then◌else◌, List, [], ◌∷◌, length, take, refl, sym, ap, ◌∙◌, arith}
 use Rattle.std.proofs.lemmas.Bool.{lt-ltb}
 use Rattle.std.specs.Io.BufRead.{take_through, drop_through, strip_last, ends_with_byte}
@@ -9,7 +9,7 @@ abbrev pub first_line : List ℕ → List ℕ
 first_line [] = []
 first_line (b ∷ bs) = if b == 10 then [] else b ∷ first_line bs
 
--- the lines of some bytes are their first line and those behind it
+-- the lines of some bytes are their first line and the lines after it
 pub lines_first : (b : ℕ) (bs : List ℕ) → lines_of (b ∷ bs) ≡ first_line (b ∷ bs) ∷ lines_of (drop_through 10 (b ∷ bs))
 lines_first b [] = at (b == 10)
   where
@@ -22,7 +22,7 @@ lines_first b (c ∷ bs) = at (b == 10) (lines_first c bs)
     at true later = refl
     at false later = ap (put_first b) later
 
--- the last byte of more than one is that of the rest
+-- the last byte of more than one byte is the last byte of the rest
 ends_later : (b c : ℕ) (xs : List ℕ) → ends_with_byte 10 (b ∷ c ∷ xs) ≡ ends_with_byte 10 (c ∷ xs)
 ends_later b c xs =
     let long : nat_lt 0 (suc (suc (length xs))) ≡ true = lt-ltb _ _ (omega arith) in
@@ -60,7 +60,7 @@ strip_if : (b : ℕ) (more line : List ℕ) (newline : Bool) → (b == 10) ≡ n
 strip_if b more line true is later = strip_one b ∙ rw is refl
 strip_if b more line false is later = later
 
--- what is read through a newline is the first line, once its newline is dropped
+-- the bytes that are read up to a newline are the first line, without that newline
 pub strip_through : (bs : List ℕ) → strip_last 10 (take_through 10 bs) ≡ first_line bs
 strip_through [] = refl
 strip_through (b ∷ []) = last (b == 10) refl

@@ -30,7 +30,7 @@ use Rattle.wq_replay.proofs.Shelves.{after_both, does, round_calls, shelves_are_
 use Rattle.wq_replay.proofs.KeptRuns.{accepted_keep, run_at}
 use Rattle.wq_replay.proofs.Turns.{after_round, no_turns, put_other, turns_go, turns_pass, turns_start}
 
--- the runs of a world that is not in a round, and is not told of an end
+-- the runs of a world at a happening that is no round and no end of a run
 at_number : (number : Option ℕ) (world : WorldData) (root : List ℕ) (pass : PassData) (after : WorldData)
     → CrawlsAt number world root pass after → after.runs ≡ world.runs
 at_number None world root pass after is = ap (λ w. w.runs) is
@@ -84,7 +84,7 @@ record IsRunning (root : ℕ) (name : List ℕ) (run : ℕ) (sockname : List ℕ
   goes : list_any (λ r. nat_eq run r) (world.runs).running ≡ true
 
 module _ (answers_are_calls : AnswersAreCalls) (rounds_are_calls : RoundsAreCalls) (root : ℕ) (name : List ℕ) (run : ℕ) (sockname : List ℕ) where
-  -- an ask leaves the run of a trigger that is there
+  -- an ask keeps the run of a trigger that is there
   ask_keeps : (client : ℤ) (world : WorldData) (ask : Ask) (out : OutData) (earlier calls : List CallNow) → world.shelf ≡ after_all earlier (blank sockname)
       → AcceptsFor client world ask out calls → is_some (trigger_called root name (after_all calls world.shelf)) ≡ true
       → run_at root name (after_all calls world.shelf) ≡ run_at root name world.shelf
@@ -126,7 +126,7 @@ module _ (answers_are_calls : AnswersAreCalls) (rounds_are_calls : RoundsAreCall
           ∙ ap (λ ts. run_in (under name ts)) (put_other root other.number (after_turns (had.round).turns) (world.shelf).roots differ)
           ∙ is.has
 
-  -- what happens, but the end of the run
+  -- any happening but the end of the run
   step_keeps : (world : WorldData) (happening : HappeningData) (sent : List SentData) (next : WorldData) → IsRunning root name run sockname world
       → Does world happening sent next → happening ≢ ended run → HasTrigger root name next
       → (run_at root name next.shelf ≡ Some run) × (list_any (λ r. nat_eq run r) (next.runs).running ≡ true)
@@ -158,7 +158,7 @@ module _ (answers_are_calls : AnswersAreCalls) (rounds_are_calls : RoundsAreCall
     ap (λ w. list_any (λ x. nat_eq run x) (w.runs).running) same ∙ other_ended run r (world.runs).running (λ n. other (ap ended n)) is.goes,
   )
 
-  -- one thing after the other
+  -- happenings in turn
   goes_keep : (world : WorldData) (happenings : List HappeningData) (after : WorldData) → IsRunning root name run sockname world
       → Meanwhile root name run world happenings after → IsRunning root name run sockname after
   goes_keep world [] after is same = subst (IsRunning root name run sockname) (sym same) is

@@ -1,4 +1,4 @@
--- How the first line of some bytes is taken part by part.
+-- The first line of some bytes is taken part by part.
 use Rattle.std.proofs.Common.{◌≡◌, ℕ, zero, suc, ◌+◌, ◌-◌, ◌<◌, ◌≤◌, Bool, true, false, ◌||◌, ◌==◌, nat_lt, if◌then◌else◌, List, [], ◌∷◌, ◌++◌, length, min, take, drop, Option, Some, None, IfSome, refl, sym, ap, subst, ◌∙◌, arith, inl, inr}
 use Rattle.std.proofs.lemmas.List.{append-nil, append_assoc, append_cancel_left, drop_at, length-append, take_all, take_min}
 use Rattle.std.proofs.lemmas.Bool.{eq-eqb, eqb-false, eqb-true, ltb-true, ltb-false, false_from_ne_true}
@@ -12,7 +12,7 @@ use Rattle.wq_replay.specs.Line.{lines_of}
 use Rattle.wq_replay.specs.Taken.{BeginsWith, TakesLine, TakesPart, is_last_line, kept_line, max_kept, stops_within}
 use Rattle.wq_replay.proofs.NewLines.{first_line, lines_first, strip_through}
 
--- what is kept of some bytes, and of those behind them
+-- the kept part of some bytes, and of the bytes after them
 pub kept_then : (room : ℕ) (shown tail : List ℕ) → kept_line room (shown ++ tail) ≡ kept_line room shown ++ (if stops_within room shown then [] else kept_line (room - length (kept_line room shown)) (drop (length (kept_line room shown)) (shown ++ tail)))
 kept_then zero shown tail = refl
 kept_then (suc room) [] tail = let same : suc room - 0 ≡ suc room = omega arith in rw same refl
@@ -37,7 +37,7 @@ kept_front (suc room) (x ∷ xs) = at (x == 10) (kept_front room xs)
     at true later = refl
     at false later = ap (λ l. x ∷ l) later
 
--- what is kept is no longer than its room
+-- the kept part is no longer than its room
 pub kept_short : (room : ℕ) (bytes : List ℕ) → length (kept_line room bytes) ≤ room
 kept_short zero bytes = omega arith
 kept_short (suc room) [] = omega arith
@@ -47,7 +47,7 @@ kept_short (suc room) (x ∷ xs) = at (x == 10) (kept_short room xs)
     at true later = omega arith
     at false later = omega arith
 
--- nor than the bytes
+-- and no longer than the bytes
 pub kept_within : (room : ℕ) (bytes : List ℕ) → length (kept_line room bytes) ≤ length bytes
 kept_within zero bytes = omega arith
 kept_within (suc room) [] = omega arith
@@ -71,7 +71,7 @@ same_later : (a b : ℕ) (same : Bool) → (a == b) ≡ same → same ≡ (suc a
 same_later a b true is = sym (eq-eqb (suc a) (suc b) (ap suc (eqb-true a b is)))
 same_later a b false is = sym (false_from_ne_true _ (λ h. let later : suc a ≡ suc b = eqb-true _ _ h in eqb-false a b is (omega (arith, later))))
 
--- without one it is all that there is room for, and it stops where that is its room
+-- without a newline it is all that there is room for, and it stops if it fills its room
 pub no_newline : (room : ℕ) (bytes : List ℕ) → Nowhere (Passes (is_byte 10) (take room bytes)) 0 (length (take room bytes)) → (length (kept_line room bytes) ≡ length (take room bytes)) × (stops_within room bytes ≡ (length (take room bytes) == room))
 no_newline zero bytes none = (refl, refl)
 no_newline (suc room) [] none = (refl, sym (false_from_ne_true _ (λ same. let h : 0 ≡ suc room = eqb-true _ _ same in absurd (omega (arith, h)))))
@@ -84,11 +84,11 @@ kept_none : (room : ℕ) → kept_line room [] ≡ []
 kept_none zero = refl
 kept_none (suc room) = refl
 
--- what is searched, cut at the room or at the end
+-- the bytes that are searched, cut at the room or at the end
 cut_at : (n room : ℕ) (bytes : List ℕ) → n ≡ min room (length bytes) → take n bytes ≡ take room bytes
 cut_at n room bytes is = ap (λ k. take k bytes) is ∙ take_min room bytes
 
--- where a newline is found, what is kept ends with it
+-- if a newline is found, the kept part ends with it
 pub newline_in : (n room at : ℕ) (bytes : List ℕ) → n ≡ min room (length bytes) → NoneBefore (Passes (is_byte 10) (take n bytes)) 0 (length (take n bytes)) at → Passes (is_byte 10) (take n bytes) at → (at + 1 ≡ length (kept_line room bytes)) × (true ≡ is_last_line room bytes)
 newline_in n room at bytes is first here =
     let same = cut_at n room bytes is in
@@ -96,14 +96,14 @@ newline_in n room at bytes is first here =
     let next : at + 1 ≡ suc at = omega arith in
     (next ∙ sym found.0, rw (found.1) refl)
 
--- where none is found, all that was searched is kept
+-- if none is found, all that was searched is kept
 pub none_in : (n room : ℕ) (bytes : List ℕ) → n ≡ min room (length bytes) → Nowhere (Passes (is_byte 10) (take n bytes)) 0 (length (take n bytes)) → (length (take n bytes) ≡ length (kept_line room bytes)) × ((length (take n bytes) == room || length bytes == 0) ≡ is_last_line room bytes)
 none_in n room bytes is none =
     let same = cut_at n room bytes is in
     let found = no_newline room bytes (subst (λ l. Nowhere (Passes (is_byte 10) l) 0 (length l)) same none) in
     (ap length same ∙ sym found.0, rw (same, found.1) refl)
 
--- what is kept of all the bytes that a reader has, and of those that it shows
+-- the kept part of all the bytes that a reader has, and of those that it shows
 kept_shown : (room : ℕ) (bytes part left shown : List ℕ) (stop : Bool) → StartsWith bytes shown → bytes ≡ part ++ left → part ≡ kept_line room shown → stop ≡ stops_within room shown → kept_line room bytes ≡ part ++ (if stop then [] else kept_line (room - length part) left)
 kept_shown room bytes part left shown stop front split took stopped =
     let whole = starts_with_rest bytes shown front in
@@ -126,7 +126,7 @@ taken_as bytes before part left room false false last is split all ends lasts =
     let rest : max_kept - length (before ++ part) ≡ room - length part = ap (λ n. max_kept - n) (length-append before part) ∙ room_left (length before) max_kept (length part) ∙ ap (λ r. r - length part) (sym is) in
     rw (lasts, rest) (left, refl, ap (λ l. before ++ l) split ∙ sym (append_assoc before part left), ap (λ r. before ++ kept_line r bytes) (sym is) ∙ ap (λ l. before ++ l) all ∙ sym (append_assoc before part (kept_line (room - length part) left)))
 
--- what a reader showed is taken as far as it is kept
+-- the bytes that a reader showed are taken as far as they are kept
 pub part_taken : (known rest : Option (List ℕ)) (before after shown : List ℕ) (count : ℕ) (last : Bool) → Consumes known rest (take count shown)
     → IfSome known (λ bytes. StartsWith bytes shown) → IfSome known (λ bytes. length shown ≡ 0 → bytes ≡ []) → count ≡ length (kept_line (max_kept - length before) shown) → last ≡ is_last_line (max_kept - length before) shown → after ≡ before ++ take count shown
     → IfSome known (λ bytes. TakesPart bytes before last after rest)
@@ -183,7 +183,7 @@ first_take (suc n) (x ∷ xs) = at (x == 10) (first_take n xs)
     at true later = refl
     at false later = ap (λ l. x ∷ l) later
 
--- where there is room for the first line and its newline, these are kept
+-- if there is room for the first line and its newline, these are kept
 kept_whole : (n : ℕ) (bytes : List ℕ) → length (first_line bytes) < n → kept_line n bytes ≡ take_through 10 bytes
 kept_whole zero bytes h = absurd (omega arith)
 kept_whole (suc n) [] h = refl
@@ -193,7 +193,7 @@ kept_whole (suc n) (x ∷ xs) h = at (x == 10) h (kept_whole n xs)
     at true h later = refl
     at false h later = ap (λ l. x ∷ l) (later (omega arith))
 
--- the first line with its newline, and what follows
+-- the first line with its newline, and the bytes after it
 through_then : (bytes : List ℕ) → bytes ≡ take_through 10 bytes ++ drop_through 10 bytes
 through_then [] = refl
 through_then (x ∷ xs) = at (x == 10) (through_then xs)
@@ -228,7 +228,7 @@ one_more n = omega arith
 all_room : (n : ℕ) → n - 0 ≡ n
 all_room n = omega arith
 
--- a buffer that holds what is kept begins with the first line, or both are over the limit
+-- a buffer that holds the kept part begins with the first line, or both are over the limit
 begins : (room b : ℕ) (bs buffer line left : List ℕ) (over : Bool) → max_script_line < room → kept_line room (b ∷ bs) ≡ buffer → line ≡ strip_last 10 buffer → b ∷ bs ≡ buffer ++ left → nat_lt max_script_line (length (first_line (b ∷ bs))) ≡ over → BeginsWith (b ∷ bs) line left
 begins room b bs buffer line left over fits holds stripped split is =
     at over is
@@ -264,7 +264,7 @@ room_for_more = subst (λ n. max_script_line < n) (sym (all_room max_kept)) (one
 none_taken_of_some : (n : ℕ) → 0 ≡ n → 0 < n → ⊥
 none_taken_of_some n none some = omega arith
 
--- what is taken of some bytes takes their first line
+-- the bytes that are taken of some bytes take their first line
 pub line_taken : (known rest : Option (List ℕ)) (taken : ℕ) (buffer line : List ℕ) → IfSome known (λ bytes. TakesPart bytes [] true buffer rest) → taken ≡ length buffer → line ≡ strip_last 10 buffer → IfSome known (λ bytes. TakesLine bytes taken line rest)
 line_taken None rest taken buffer line took count stripped = tt
 line_taken (Some []) rest taken buffer line (left, is, split, holds) count stripped =
@@ -293,7 +293,7 @@ pub first_part : (known : Option (List ℕ)) (line : List ℕ) → line ≡ [] �
 first_part None line is = tt
 first_part (Some bytes) line is = subst (λ l. TakesPart bytes [] false l (Some bytes)) (sym is) (bytes, refl, refl, refl)
 
--- a part is taken behind others
+-- a part is taken after others
 pub next_part : (script known rest : Option (List ℕ)) (mid after : List ℕ) (last as_said : Bool) → last ≡ as_said → IfSome script (λ bytes. TakesPart bytes [] false mid known) → IfSome known (λ bytes. TakesPart bytes mid last after rest) → IfSome script (λ bytes. TakesPart bytes [] as_said after rest)
 next_part None known rest mid after last as_said said before part = tt
 next_part (Some bytes) known rest mid after last as_said said before part = subst (λ b. TakesPart bytes [] b after rest) said (taken_on bytes mid after last known rest before part)

@@ -1,4 +1,4 @@
--- How the lines of a script are played from the front.
+-- The lines of a script are played from the front.
 use Rattle.std.proofs.Common.{ℕ, suc, List, [], ◌∷◌, ◌++◌, Option, refl, sym, ap, subst, ◌∙◌, arith, rules}
 use Rattle.std.proofs.lemmas.List.{append-nil, append_assoc, length-append}
 use Rattle.std.specs.Io.KnownBytes.{Appends}
@@ -8,7 +8,7 @@ use Rattle.wq_replay.specs.Replay.{DoesLine, FirstLines, Plays}
 use Rattle.wq_replay.specs.Stage.{StageData, start, turn_of}
 use Rattle.wq_base.proofs.Fronts.{appends_none, appends_then}
 
--- one more line behind those that were played
+-- one more line after those that were played
 pub plays_then : (stage at next : StageData) (lines : List (List ℕ)) (line written sent : List ℕ) → Plays stage lines written at
     → DoesLine at (turn_of at line) sent next → Plays stage (lines ++ line ∷ []) (written ++ sent) next
 plays_then stage at next [] line written sent (none, is) does =

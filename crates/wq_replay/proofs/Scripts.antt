@@ -1,4 +1,4 @@
--- What the lines of a script do is one run of its world.
+-- The lines of a script make one run of its world.
 use Rattle.std.proofs.Common.{◌≡◌, ℕ, List, [], ◌∷◌, ◌++◌, refl, sym, ap, subst, ◌∙◌}
 use Rattle.wq_replay.specs.Replay.{DoesAll, DoesLine, Plays, crawled, ends_of, moments, rounds, sent_lines}
 use Rattle.wq_replay.specs.Stage.{StageData, Turn, drafts, lists, hears, rests, fires, finishes, malformed, turn_of}
@@ -12,12 +12,12 @@ abbrev pub RunsTo : StageData → List ℕ → StageData → Type 0
 RunsTo stage written after = (happenings : List HappeningData) × (sent : List SentData)
     × Runs stage.world happenings sent after.world × (written ≡ sent_lines sent)
 
--- what happens is a run
+-- happenings are a run
 all_runs : (stage after : StageData) (happenings : List HappeningData) (written : List ℕ) → DoesAll stage happenings written after → RunsTo stage written after
 all_runs stage after happenings written (sent, world, runs, lines, is) =
     (happenings, sent, subst (Runs stage.world happenings sent) (sym (ap (λ s. s.world) is)) runs, lines)
 
--- what a line does is a run
+-- the effect of a line is a run
 turn_runs : (stage after : StageData) (turn : Turn) (written : List ℕ) → DoesLine stage turn written after → RunsTo stage written after
 turn_runs stage after (drafts draft) written (none, is) = ([], [], (refl, ap (λ s. s.world) is), none)
 turn_runs stage after (lists crawls tree) written (world, runs, none, is) =

@@ -1,4 +1,4 @@
--- What sending came to.
+-- The results of sendings.
 use Rattle.std.proofs.Common.{◌≡◌, ℕ, suc, ◌+◌, ◌<◌, length, map, drop, get_or, drop-cons, arith, codes, option_map, ℤ, Bool, true, false, not, ◌&&◌, ◌||◌, List, [], ◌∷◌, ◌++◌, Option, Some, None, Result, Ok, Err, IsErr, IsErrAnd, refl, sym, ap, subst, ◌∙◌}
 use Rattle.std.proofs.lemmas.List.{append-nil, append_assoc}
 use Rattle.std.specs.Io.KnownBytes.{Appends}
@@ -14,7 +14,7 @@ use Rattle.wq_replay.specs.declared.fault.StepFault.{StepFault}
 use Rattle.wq_replay.specs.declared.fault.StepFault.TheVariants.{Malformed, NoMemory, Write}
 use Rattle.wq_base.proofs.Fronts.{appends_none, appends_then, front_before, front_behind}
 
--- of some replies those before these last ones were written, and the server goes on so far or does not
+-- the replies before these last ones were written, and the server goes on so far or does not
 pub record SentSoFar (before now : Option (List ℕ)) (all : List SentData) (goes_on : Bool) (left : List SentData) : Type 0 where
   pub written : List ℕ
   pub appends : Appends before now written
@@ -25,20 +25,20 @@ pub record SentSoFar (before now : Option (List ℕ)) (all : List SentData) (goe
 pub none_sent : (known : Option (List ℕ)) (all : List SentData) → SentSoFar known known all true all
 none_sent known all = record { written = []; appends = appends_none known; lines = refl; ends = refl }
 
--- whether more go on, from whether the first did and all do
+-- whether the server goes on after more, from whether it does after the first, and after all
 and_not : (goes_on ends later : Bool) → (not goes_on || (ends || later)) ≡ (not (goes_on && not ends) || later)
 and_not true true later = refl
 and_not true false later = refl
 and_not false ends later = refl
 
--- the lines of what is sent first and then
+-- the lines that are sent first, and then others
 pub lines_then : (first later : List SentData) → sent_lines (first ++ later) ≡ sent_lines first ++ sent_lines later
 lines_then [] later = refl
 lines_then (one ∷ first) later =
     ap (λ lines. sent_line one.client one.text ++ lines) (lines_then first later)
     ∙ sym (append_assoc (sent_line one.client one.text) (sent_lines first) (sent_lines later))
 
--- whether the server ends by what is sent first or then
+-- whether the server ends by the lines that are sent first, or by the others
 shuts_then : (first later : List SentData) → shuts (first ++ later) ≡ (shuts first || shuts later)
 shuts_then [] later = refl
 shuts_then (one ∷ first) later = by one.shuts (shuts_then first later)
@@ -61,7 +61,7 @@ some_sent before now later all left part rest goes_on said so_far is lines says 
       ∙ and_not goes_on (shuts part) (shuts rest) ∙ ap (λ b. not b || shuts rest) (sym says);
 }
 
--- one line more was written, by which the server does not end
+-- one more line was written, which does not end the server
 pub list_sent : (before now later : Option (List ℕ)) (all left rest : List SentData) (one : SentData) (goes_on : Bool)
     → SentSoFar before now all goes_on left → left ≡ one ∷ rest → one.shuts ≡ false
     → Appends now later (sent_line one.client one.text) → SentSoFar before later all goes_on rest
@@ -98,7 +98,7 @@ front_sent before now later all left part rest goes_on (Err handed) so_far is fr
     (front_behind before now later so_far.written (sent_lines part ++ sent_lines rest) so_far.appends
     (front_before now later (sent_lines part) (sent_lines rest) front)))
 
--- what is left of things that happened begins with what is sent of the one at its place
+-- the lines that are left begin with those of the happening at its place
 pub next_sent : (sent : List Sent) (i : ℕ) (one : Sent) → i < length sent → one ≡ get_or sent i one
     → all_sent (drop i sent) ≡ sent_of one ++ all_sent (drop (i + 1) sent)
 next_sent sent i one within is =
@@ -106,7 +106,7 @@ next_sent sent i one within is =
     ap all_sent (drop-cons sent i one within) ∙ ap (λ first. sent_of first ++ all_sent (drop (suc i) sent)) (sym is)
     ∙ ap (λ n. sent_of one ++ all_sent (drop n sent)) (sym later)
 
--- what is left of texts begins with the one at its place
+-- the texts that are left begin with the one at its place
 pub next_text : (line : List ℕ → SentData) (texts : List (List ℕ)) (i : ℕ) (one : List ℕ) → i < length texts → one ≡ get_or texts i one
     → map line (drop i texts) ≡ line one ∷ map line (drop (i + 1) texts)
 next_text line texts i one within is =
@@ -115,14 +115,14 @@ next_text line texts i one within is =
     ∙ ap (λ first. line first ∷ map line (drop (suc i) texts)) (sym is)
     ∙ ap (λ n. line one ∷ map line (drop n texts)) (sym later)
 
--- what was sent of one thing, where it is handed on
+-- the lines that were sent for one happening, if the result is handed on
 pub sent_handed : (sent : List SentData) (before after : Option (List ℕ)) (fault : StepFault) (result : Result Bool StepFault)
     → Sends sent before after (Err fault) → IsErr result × IsErrAnd result (λ handed. handed ≡ fault) → WritesFront before after (sent_lines sent) × (fault ≡ Write)
 sent_handed sent before after Write result sends same = (sends, refl)
 sent_handed sent before after Malformed result sends same = absurd sends
 sent_handed sent before after NoMemory result sends same = absurd sends
 
--- the writer failed within what is sent of the next one
+-- the writer failed within the lines of the next happening
 pub next_front : (before now later : Option (List ℕ)) (all left part rest : List SentData) (goes_on : Bool) (fault : StepFault)
     (result : Result Bool StepFault) → SentSoFar before now all goes_on left → left ≡ part ++ rest
     → Sends part now later (Err fault) → IsErr result × IsErrAnd result (λ handed. handed ≡ fault) → Sends all before later result
@@ -185,7 +185,7 @@ lists_stay : (client : ℤ) (lists : List (List ℕ)) → shuts (map (sent_list 
 lists_stay client [] = refl
 lists_stay client (text ∷ lists) = lists_stay client lists
 
--- nor by the lines of a round
+-- and never by the lines of a round
 notes_stay : (lines : List (List ℕ)) → shuts (map sent_note lines) ≡ false
 notes_stay [] = refl
 notes_stay (text ∷ lines) = notes_stay lines

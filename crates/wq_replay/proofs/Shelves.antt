@@ -1,4 +1,4 @@
--- The shelf of a world, as the calls that were accepted.
+-- The shelf of a world is the result of the accepted calls.
 use Rattle.std.proofs.Common.{◌≡◌, ℕ, ℤ, Bool, List, [], ◌∷◌, ◌++◌, Option, Some, None, Result, Ok, Err, inl, inr, refl, sym, ap, subst, ◌∙◌}
 use Rattle.wq_clock.specs.Instance.{InstanceData}
 use Rattle.wq_clock.specs.Run.{instance_of}
@@ -54,7 +54,7 @@ after_both [] later shelf = refl
 after_both (c ∷ cs) later shelf = after_both cs later _
 
 module _ (answers_are_calls : AnswersAreCalls) (rounds_are_calls : RoundsAreCalls) where
-  -- what an ask gets
+  -- the reply to an ask
   ends : (number : Option ℕ) (table : TableData) (client : ℤ) (world : WorldData) (ask : Ask) (out : OutData) (after : WorldData)
       → GetsAt number table client world ask out after
       → (calls : List CallNow) × AcceptsAt number table client world ask out calls × (after.shelf ≡ after_all calls world.shelf)
@@ -72,7 +72,7 @@ module _ (answers_are_calls : AnswersAreCalls) (rounds_are_calls : RoundsAreCall
   gets_for None table client world ask out after gets = ends (ending (need_of ask) table) table client world ask out after gets
   gets_for (Some fault) table client world ask out after (may, is) = ([], (may, refl), ap (λ w. w.shelf) is)
 
-  -- what a round leaves on a shelf to which calls lead
+  -- the result of a round, on a shelf that calls lead to
   pub round_calls : (instance : InstanceData) (view : ViewData) (shelf : ShelfNow) (earlier : List CallNow) (sockname : List ℕ) (shown : Option LauncherData)
       (after : ShelfNow) (left : Option LauncherData) → shelf ≡ after_all earlier (blank sockname) → (had : IsRound instance view shelf shown after left)
       → after ≡ after_all (turn_calls instance.root had.turns) shelf
@@ -91,7 +91,7 @@ module _ (answers_are_calls : AnswersAreCalls) (rounds_are_calls : RoundsAreCall
     ap (λ w. w.shelf) had.is ∙ round_calls (instance_of world.run root.number) root.view world.shelf earlier sockname _ had.shelf _ leads had.round,
   )
 
-  -- what happens, on a shelf to which calls lead
+  -- a happening, on a shelf that calls lead to
   pub does : (world : WorldData) (happening : HappeningData) (sent : List SentData) (after : WorldData) (earlier : List CallNow) (sockname : List ℕ)
       → world.shelf ≡ after_all earlier (blank sockname) → Does world happening sent after
       → (calls : List CallNow) × AcceptsOf world happening sent calls × (after.shelf ≡ after_all calls world.shelf)
@@ -106,7 +106,7 @@ module _ (answers_are_calls : AnswersAreCalls) (rounds_are_calls : RoundsAreCall
       (it.0, (table, is, it.1), it.2)
   does world (ended run) sent after earlier sockname leads (none, is) = ([], refl, ap (λ w. w.shelf) is)
 
-  -- what happens one after the other
+  -- happenings in turn
   runs : (world : WorldData) (happenings : List HappeningData) (sent : List SentData) (after : WorldData) (earlier : List CallNow) (sockname : List ℕ)
       → world.shelf ≡ after_all earlier (blank sockname) → Runs world happenings sent after
       → (calls : List CallNow) × RunsWith world happenings sent after calls × (after.shelf ≡ after_all calls world.shelf)

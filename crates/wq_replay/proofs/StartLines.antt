@@ -62,7 +62,7 @@ all_vars env a b c d e f clock overflow root since trigger =
     trigger_var : List (List ℕ × List ℕ)
     trigger_var = var (codes "WATCHMAN_TRIGGER") env.trigger ∷ []
 
--- a line about one start more
+-- a line about one more start
 pub lines_more : (lines after : List (List ℕ)) (line : List ℕ) (tried : List Tried) (i : ℕ) (one : Tried) (all : List (List ℕ))
     → i < length tried → one ≡ get_or tried i one → line ≡ tried_text (tried_data one) → after ≡ lines ++ line ∷ []
     → lines ++ map tried_text (all_tried (drop i tried)) ≡ all → after ++ map tried_text (all_tried (drop (i + 1) tried)) ≡ all

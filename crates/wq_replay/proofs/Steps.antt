@@ -1,4 +1,4 @@
--- What the lines of a script do, and what the code did.
+-- The effects of the lines of a script, and the steps of the code.
 use Rattle.std.proofs.Common.{◌≡◌, ◌≢◌, ℕ, ℤ, Bool, true, false, not, if◌then◌else◌, List, [], ◌∷◌, ◌++◌, Option, Some, None, option_map, is_none, Result, Ok, Err, IsErr, IsErrAnd, refl, sym, ap, subst, ◌∙◌}
 use mathlib.Core.Bool.{false≢true}
 use Rattle.wq_stream.specs.declared.event.Event.{Event}
@@ -30,7 +30,7 @@ pub rows_are : (crawls : Bool) (second : ℤ) (rows others : List SeenData) → 
     → Some (draft_with crawls second rows) ≡ Some (draft_with crawls second others)
 rows_are crawls second rows others is = ap (λ all. Some (draft_with crawls second all)) is
 
--- a listing is open behind a line
+-- a listing is open after a line
 pub draft_open : (at : StageData) (draft : DraftData) (code : Stage) (known : Option (List ℕ))
     → Stands at.world code.world → at.tree ≡ code.tree → Some draft ≡ option_map draft_data code.draft
     → TakesTurn at (drafts draft) known known (Ok true) code
@@ -82,7 +82,7 @@ crawl_runs before after root tree happenings sent is named runs =
     subst (λ r. Runs before (crawl r (Ok tree) ∷ []) [] after) named
     (crawl_silent before after root (Ok tree) sent (subst (λ all. Runs before all sent after) is runs))
 
--- what happens at the end of a listing, with which `/r` is crawled or not
+-- the happenings at the end of a listing, with which `/r` is crawled or not
 pub crawled_runs : (before after : WorldData) (tree : PassData) (crawls said : Bool) → crawls ≡ said
     → Runs before (crawled said tree) [] after → Runs before (crawled crawls tree) [] after
 crawled_runs before after tree crawls said is runs = subst (λ b. Runs before (crawled b tree) [] after) (sym is) runs
@@ -94,7 +94,7 @@ unready at client event known (Ok goes_on) code hands = absurd hands.1
 unready at client event known (Err fault) code hands =
     subst (λ f. TakesTurn at (hears client event) known known (Err f) code) (sym hands.1) ((λ h. cc), appends_none known)
 
--- a client was heard, where its ask and what that needs first were played
+-- a client was heard, if its ask and the crawl or watching that it needs first were played
 pub heard_of : (at : StageData) (client : ℤ) (event : Event) (ask : Ask) (tree : PassData) (happenings : List HappeningData)
     (sent : List SentData) (after : WorldData) → Asks event ask → at.tree ≡ tree
     → happenings ≡ needed tree (need_of ask) ++ asked client ask ∷ [] → Runs at.world happenings sent after
@@ -154,7 +154,7 @@ happened_front at happenings sent world before after Write (Err handed) code run
 happened_front at happenings sent world before after Malformed (Err handed) code runs sends hands = absurd sends
 happened_front at happenings sent world before after NoMemory (Err handed) code runs sends hands = absurd sends
 
--- a line that lets all of this happen
+-- a line that plays all these happenings
 takes_all : (at : StageData) (turn : Turn) (happenings : List HappeningData) (before after : Option (List ℕ)) (result : Result Bool StepFault) (code : Stage)
     → ((written : List ℕ) (next : StageData) → DoesAll at happenings written next → DoesLine at turn written next)
     → (StopsAll at happenings before after → StopsWriting at turn before after)

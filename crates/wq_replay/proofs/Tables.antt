@@ -1,4 +1,4 @@
--- What tables say of roots, and the first list of events.
+-- The roots of tables, and the first list of events.
 use Rattle.std.proofs.Common.{◌≡◌, ◌==◌, ℕ, ◌+◌, ◌≤◌, ◌<◌, Bool, true, false, cond, not, suc, zero, List, find, filter, length, drop, get_or, arith, sym, subst, pos, [], ◌∷◌, map, Option, Some, None, option_map, refl, ap, ◌∙◌}
 use Rattle.std.specs.FinMap.{len-empty}
 use Rattle.wq_clock.specs.Instance.{InstanceData}
@@ -17,14 +17,14 @@ use Rattle.wq_clock.specs.Run.{RunData, instance_of}
 use Rattle.wq_replay.specs.Gets.{at_root}
 use Rattle.wq_replay.specs.World.{root_text}
 
--- what is looked at, of its parts
+-- the root that is looked at, of its parts
 abbrev pub at_data_of : InstanceData → Option ViewData → AtData
 at_data_of instance view = record { instance = instance; view = view }
 
 some_same : {X : Type 0} {x y : X} → Some x ≡ Some y → x ≡ y
 some_same h = cc h
 
--- a root that is found by its number and its view is looked at so
+-- a root that is found by its number and its view is the one that is looked at
 pub at_found : (mine : RunData) (found : Option RootView) (number : ℕ) (view : ViewData) (instance : InstanceData)
     → Some number ≡ option_map (λ (r : RootView). r.number) found → Some view ≡ option_map (λ (r : RootView). r.view) found
     → instance ≡ instance_of mine number → Some (at_data_of instance (Some view)) ≡ option_map (at_root mine) found
@@ -35,7 +35,7 @@ at_found mine (Some r) number view instance numbered viewed is =
     ap (λ i. Some (at_data_of i (Some view))) (is ∙ ap (instance_of mine) n)
     ∙ ap (λ v. Some (at_data_of (instance_of mine r.number) (Some v))) v
 
--- the empty listing is no pass
+-- an empty listing does not count as a pass
 none_first : first_history (listing_of [] (pos 0)) ≡ []
 none_first = rw (len-empty name_cmp Stat) refl
 
@@ -59,7 +59,7 @@ known_started (r ∷ roots) a (suc n) limit fits is =
     let later : map (λ (root : Root). root.number) roots ≡ range_with_len (a + 1) n = ap (drop 1) is in
     (omega (arith, fits, first), known_started roots (a + 1) n limit (omega (arith, fits)) later)
 
--- nor have those of them that pass a test
+-- and neither have those of them that pass a test
 known_filtered : (limit : ℕ) (test : Root → Bool) (roots : List Root) → AllByRecursion (λ (root : Root). root.number ≤ limit) roots
     → AllByRecursion (λ (root : Root). root.number ≤ limit) (filter test roots)
 known_filtered limit test [] all = tt
@@ -98,7 +98,7 @@ numbered_found number (r ∷ roots) = by (r.number == number) refl (numbered_fou
     by true is later = ap Some (same_number r.number number is)
     by false is later = later
 
--- a root that is found by this number is looked at so
+-- a root that is found by this number is the one that is looked at
 pub at_numbered : (mine : RunData) (number : ℕ) (found : Option RootView) (view : ViewData) (instance : InstanceData)
     → option_map (λ (r : RootView). r.number) found ≡ option_map (λ (r : RootView). number) found
     → Some view ≡ option_map (λ (r : RootView). r.view) found → instance ≡ instance_of mine number
@@ -122,7 +122,7 @@ none_past number given (r ∷ roots) past all = by (r.number == number) refl (no
     by true is later = let same = same_number r.number number is in absurd (omega (arith, past, all.0, same))
     by false is later = later
 
--- a number that was not given yet is none of a root
+-- no root has a number that was not given yet
 pub at_past : (mine : RunData) (number : ℕ) (events : List RootEvent) (table : TableData) → IsTableOf events table
     → table.given < number → None ≡ option_map (at_root mine) (find (has_number number) table.roots)
 at_past mine number events table is past =

@@ -22,7 +22,7 @@ use Rattle.wq_replay.proofs.KeptRuns.{run_at}
 some_same : {X : Type 0} {x y : X} → Some x ≡ Some y → x ≡ y
 some_same h = cc h
 
--- the triggers of a root once others were put to it, if the root is there
+-- the triggers of a root after others were put to it, if the root is there
 put_triggers : (root : ℕ) (ts : ByName TriggerData) (rs : List (RootData TriggerData))
     → (numbered root rs ≡ None) ⊎ (triggers_in (numbered root (changed root (λ r. record r { triggers = ts }) rs)) ≡ ts)
 put_triggers root ts [] = inl refl
@@ -40,7 +40,7 @@ put_triggers root ts (r ∷ rs) = by (nat_eq root r.number) refl (put_triggers r
     by true same later = inr (ap (λ b. triggers_in (if b then Some (record r { triggers = ts }) else numbered root rs)) same)
     by false differs later = other differs later
 
--- the triggers of a root once others were put to another root
+-- the triggers of a root after others were put to another root
 pub put_other : (root other : ℕ) (ts : ByName TriggerData) (rs : List (RootData TriggerData)) → nat_eq root other ≡ false
     → triggers_in (numbered root (changed other (λ r. record r { triggers = ts }) rs)) ≡ triggers_in (numbered root rs)
 put_other root other ts [] differ = refl

@@ -1,4 +1,4 @@
--- A round in a world, by what the code did.
+-- A round in a world, by the steps of the code.
 use Rattle.std.proofs.Common.{◌≡◌, ℕ, Bool, true, false, if◌then◌else◌, List, [], ◌∷◌, map, Option, Some, None, option_map, refl, sym, ap, subst, ◌∙◌}
 use Rattle.std.specs.Option.{option_and_then}
 use Rattle.std.specs.Str.{IsUtf8, is_utf8}
@@ -82,7 +82,7 @@ pub rounds_none : (found : Option RootView) (succeeds : Bool) (before : WorldDat
 rounds_none None succeeds before lines none empty = (ap (map sent_note) empty, refl)
 rounds_none (Some r) succeeds before lines none empty = absurd cc
 
--- the run of a trigger, by what is found on the code's shelf
+-- the run of a trigger, by the trigger that is found on the code's shelf
 pub run_found : (before : WorldData) (shelf : ShelfData Trigger) (root name : List ℕ) (number : ℕ) (o : Option (RootData Trigger)) (t : Option Trigger)
     → before.shelf ≡ shelf_data shelf → number_of root before.events ≡ Some number → numbered number shelf.roots ≡ o → under name (triggers_in o) ≡ t
     → trigger_run root name before ≡ run_in (option_map trigger_data t)
@@ -91,7 +91,7 @@ run_found before shelf root name number o t held shown found is =
     ∙ ap (λ (n : Option ℕ). option_and_then (λ n. run_in (trigger_called n name (shelf_data shelf))) n) shown
     ∙ ap run_in (called_now_at number name shelf o found ∙ ap (option_map trigger_data) is)
 
--- the end of a run, if the name is a text, and if it is none
+-- the end of a run, if the name is a text, and if it is not
 pub ends_text : (name : List ℕ) (before : WorldData) → IsUtf8 name → ends_of name before ≡ end_if (trigger_run root_text name before)
 ends_text name before text =
     ap (λ b. if b then end_if (trigger_run root_text name before) else []) (is_utf8-from_IsUtf8 name text)

@@ -1,4 +1,4 @@
--- How worlds go on.
+-- The runs of worlds.
 use Rattle.std.proofs.Common.{◌≡◌, ℕ, ℤ, Bool, true, false, if◌then◌else◌, List, [], ◌∷◌, ◌++◌, length, arith, Option, Some, None, Result, Ok, Err, IfOk, IfSome, OnOk, MatchOption, Vec, map, option_map, refl, sym, ap, subst, ◌∙◌}
 use Rattle.std.proofs.lemmas.List.{append-nil, append_assoc}
 use Rattle.std.specs.Ordering.{int_eq}
@@ -39,7 +39,7 @@ use Rattle.wq_replay.specs.World.{Crawls, CrawlsAt, HappeningData, RefusedData, 
 some_same : {X : Type 0} {x y : X} → Some x ≡ Some y → x ≡ y
 some_same h = cc h
 
--- what happens first and what happens then are one run
+-- two runs, one after the other, are one run
 pub runs_go_on : (world between after : WorldData) (first later : List HappeningData)
     (sent rest : List SentData) → Runs world first sent between → Runs between later rest after
     → Runs world (first ++ later) (sent ++ rest) after
@@ -49,7 +49,7 @@ runs_go_on world between after [] later sent rest (none, is) goes =
 runs_go_on world between after (happening ∷ first) later sent rest (next, now, behind, does, is, runs) goes =
     (next, now, behind ++ rest, does, ap (λ s. s ++ rest) is ∙ append_assoc now behind rest, runs_go_on next between after first later behind rest runs goes)
 
--- one thing that happens is a run
+-- one happening is a run
 pub runs_one : (world after : WorldData) (happening : HappeningData) (sent : List SentData) → Does world happening sent after
     → Runs world (happening ∷ []) sent after
 runs_one world after happening sent does = (after, sent, [], does, sym (append-nil sent), (refl, refl))
@@ -65,7 +65,7 @@ pub crawls_shown : (before after : WorldData) (root : List ℕ) (pass : PassData
     → Crawls before root (Ok pass) after
 crawls_shown before after root pass number some crawls = subst (λ n. CrawlsAt n before root pass after) (sym some) crawls
 
--- a watch by which a root starts
+-- a watch that starts a root
 pub watches_free : (before : WorldData) (root : List ℕ) (seen : Result PassData CrawlFault) (place : Place)
     (result : Result (Unit {0}) AllocError) (Then : WorldData → Type 0) → IsPlace root before.events place → place ≡ Free
     → OnOk result ((after : WorldData) × Starts before root seen after × Then after)
@@ -112,7 +112,7 @@ gets_looked before after client ask out table is none ends gets = (
       (subst (λ n. GetsAt n table client before ask out after) (sym ends) gets),
 )
 
--- what an ask got that ends a root, in what it got
+-- a reply at the end of a root is the reply to an ask that ends it
 pub ended_gets : (before : WorldData) (client : ℤ) (ask : Ask) (table : TableData) (number : ℕ) (code : World) (result : Result OutData AllocError)
     → IsTableOf before.events table → fault_for (need_of ask) table before.refused ≡ None → ending (need_of ask) table ≡ Some number
     → IfOk result (λ out. (after : WorldData) × EndsAt client number before ask out after × Stands after code)
@@ -121,7 +121,7 @@ ended_gets before client ask table number code (Err error) is none ends gets = t
 ended_gets before client ask table number code (Ok out) is none ends (after, gets, stands) =
     (after, gets_ended before after client ask out table number is none ends gets, stands)
 
--- and of any other ask
+-- and a reply at the root that is looked at is the reply to any other ask
 pub looked_gets : (before : WorldData) (client : ℤ) (ask : Ask) (table : TableData) (code : World) (result : Result OutData AllocError)
     → IsTableOf before.events table → fault_for (need_of ask) table before.refused ≡ None → ending (need_of ask) table ≡ None
     → IfOk result (λ out. (after : WorldData) × AnswersInWorld client (looked (need_of ask) before.run table) before ask out after × Stands after code)
@@ -139,7 +139,7 @@ answers_at ask out at said from mine shelf had has left same stands follows answ
     (subst (λ s. AnswersAsk ask said s had out shelf left) (sym stands)
     (subst (λ a. AnswersAsk ask a from had out shelf left) same answers))
 
--- the subscriptions of clients in the code, where those of one are others now
+-- the subscriptions of clients in the code, if those of one client changed
 pub follows_still : (client : ℤ) (left : List SubscriptionData) (world code next : ℤ → List SubscriptionData)
     → ((other : ℤ) → world other ≡ code other) → ((other : ℤ) → next other ≡ with_follows client left code other)
     → (other : ℤ) → with_follows client left world other ≡ next other
@@ -150,7 +150,7 @@ follows_still client left world code next stands now other =
     by true = refl
     by false = stands other
 
--- an answer to a client, and the world then
+-- an answer to a client, and the world after it
 pub answers_well : (before : WorldData) (client : ℤ) (ask : Ask) (at said : Option AtData) (from shelf : ShelfNow) (had : List Client)
     (code : World) (result : Result OutData AllocError) → at ≡ said → before.shelf ≡ from
     → ((other : ℤ) → before.follows other ≡ follows_in other had) → before.run ≡ run_data code.run
@@ -173,7 +173,7 @@ answers_well before client ask at said from shelf had code (Ok out) same stands 
   },
 )
 
--- an idle moment of a client, and the world then
+-- an idle moment of a client, and the world after it
 pub rests_well : (before : WorldData) (client : ℤ) (root : ℕ) (at : Option AtData) (had : List Client) (code : World)
     (result : Result OutData AllocError) → at ≡ numbered root before.run code.table
     → ((other : ℤ) → before.follows other ≡ follows_in other had) → before.run ≡ run_data code.run
@@ -225,7 +225,7 @@ ends_some mine said need table instance is same =
         let same : instance ≡ instance_of mine number = some_same is in
         (ap (λ i. Some i.root) (sym same), same ∙ ap (λ i. instance_of mine i.root) (sym same))
 
--- what is looked at, in the code's values
+-- the root that is looked at, in the code's values
 pub looked_is : (said need : NeedData) (mine run : RunData) (table : TableData) (got : Option AtData) → got ≡ looked said mine table
     → said ≡ need → run ≡ mine → got ≡ looked need run table
 looked_is said need mine run table got is same stands =
@@ -236,7 +236,7 @@ pub ended_is : (instance : InstanceData) (run : RunData) → instance ≡ instan
     → Some (at_data_of instance None) ≡ Some (at_end run instance.root)
 ended_is instance run is = ap (λ i. Some (at_data_of i None)) is
 
--- what holds of an option that was given
+-- a fact about an option that was given
 pub given_none : {X E : Type 0} (A : Type 0) (B : X → Type 0) (result : Result (Option X) E) (field : Option X) → result ≡ Ok field → field ≡ None
     → IfOk result (λ next. MatchOption next A B) → A
 given_none A B result field is none holds =
@@ -252,12 +252,12 @@ pub some_holds : {X E : Type 0} (B : X → Type 0) (result : Result (Option X) E
 some_holds B result field x is some holds =
     subst (λ f. IfSome f B) some (subst (λ r. IfOk r (λ next. IfSome next B)) is holds)
 
--- what was played so far, whatever is played behind it
+-- the happenings that were played so far, whatever is played after them
 abbrev pub PlaysOn : WorldData → List HappeningData → List SentData → WorldData → List HappeningData → Type 0
 PlaysOn before all sent now left =
     (rest : List SentData) (after : WorldData) → Runs now left rest after → Runs before all (sent ++ rest) after
 
--- one thing more was played
+-- one more happening was played
 pub plays_one : (before now next : WorldData) (all left : List HappeningData) (happening : HappeningData) (sent said : List SentData)
     → PlaysOn before all sent now (happening ∷ left) → Does now happening said next → PlaysOn before all (sent ++ said) next left
 plays_one before now next all left happening sent said plays does = λ rest after runs.
@@ -274,7 +274,7 @@ plays_next before now next all left behind happening sent after said is more pla
     (plays_one before now next all (map happening_data behind) (happening_data happening) (all_sent sent) (sent_if said)
     (subst (λ l. PlaysOn before all (all_sent sent) now (map happening_data l)) is plays) does)
 
--- what is sent of one thing more
+-- the lines that are sent for one more happening
 sent_then : (sent : List Sent) (one : Sent) → all_sent (sent ++ one ∷ []) ≡ all_sent sent ++ sent_of one
 sent_then [] one = append-nil (sent_of one)
 sent_then (first ∷ sent) one =
@@ -296,7 +296,7 @@ pub plays_all : (before now : WorldData) (all : List HappeningData) (sent : List
 plays_all before now all sent plays =
     subst (λ s. Runs before all s now) (append-nil sent) (plays [] now (refl, refl))
 
--- where all that led to the code goes on by a run, all of it leads to the code then
+-- if the happenings that led to the code go on by a run, all of them lead to the code after it
 pub leads_on : (first : WorldData) (events happenings : List HappeningData) (said : List SentData) (code next : World)
     (result : Result (Vec Sent Global) AllocError) → Leads first events said code
     → ((before : WorldData) → Stands before code → IfOk result (λ sent. (after : WorldData)

@@ -1,6 +1,6 @@
--- The calls of the shelf that were accepted of what happened in a world, and that its shelf is what
--- they come to.
--- No public document is behind it.
+-- The accepted calls of the shelf for the happenings in a world. The shelf of the world is the
+-- result of these calls.
+-- It is this server's own.
 use Rattle.std.specs.Prelude.{◌≡◌, ◌⊎◌, Bool, List, [], ◌∷◌, ◌++◌, Option, Some, None, ℕ, ℤ}
 use Rattle.wq_clock.specs.Run.{RunData, instance_of}
 use Rattle.wq_live.specs.Table.{RootView, TableData, IsTableOf, root_by_text}
@@ -21,9 +21,9 @@ use Rattle.wq_replay.specs.Rounds.{HasRound}
 use Rattle.wq_replay.specs.World.{WorldData, HappeningData, crawl, watching, asked, idle, round}
 use Rattle.wq_replay.specs.World.{ended, SentData, new_world, root_text}
 
--- these calls were accepted of a client's ask that ends the root of this number, or none: those of
--- its answer, at the root that it names, or at the end of the one that it ends; or none, if memory
--- ran out over that end
+-- these are the accepted calls of a client's ask that ends the root of this number, or none. They
+-- are the calls of its answer, at the root that it names or at the end of the root that it ends. If
+-- memory ran out over that end, there are none
 abbrev pub AcceptsAt : Option ℕ → TableData → ℤ → WorldData → Ask → OutData → List CallNow → Type 0
 AcceptsAt None table client world ask out calls =
     Accepts ask (looked (need_of ask) world.run table) world.shelf (world.follows client) out calls
@@ -31,7 +31,7 @@ AcceptsAt (Some number) table client world ask out calls =
     Accepts ask (Some (at_end world.run number)) world.shelf (world.follows client) out calls
     ⊎ (MayRefuse NoMemory out × (calls ≡ []))
 
--- these calls were accepted of an ask: none, where its crawl or watching was refused
+-- these are the accepted calls of an ask: none, if its crawl or watching was refused
 abbrev pub AcceptsUnless : Option CrawlFault → TableData → ℤ → WorldData → Ask → OutData
     → List CallNow → Type 0
 AcceptsUnless (Some fault) table client world ask out calls =
@@ -39,20 +39,20 @@ AcceptsUnless (Some fault) table client world ask out calls =
 AcceptsUnless None table client world ask out calls =
     AcceptsAt (ending (need_of ask) table) table client world ask out calls
 
--- these calls were accepted of a client's ask that got this in a world
+-- these are the accepted calls of a client's ask that got this in a world
 abbrev pub AcceptsFor : ℤ → WorldData → Ask → OutData → List CallNow → Type 0
 AcceptsFor client world ask out calls = (table : TableData) × IsTableOf world.events table
     × AcceptsUnless (fault_for (need_of ask) table world.refused) table client world ask out calls
 
--- these calls were accepted of a round of a root, if it is shown: each trigger that had a turn is put
--- under its name again
+-- these are the accepted calls of a round of a root, if it is shown. They put each trigger that had
+-- a turn under its name again
 abbrev pub AcceptsRound : Option RootView → Bool → WorldData → List SentData → List CallNow → Type 0
 AcceptsRound None succeeds world sent calls = calls ≡ []
 AcceptsRound (Some root) succeeds world sent calls = (after : WorldData)
     × (had : HasRound (instance_of world.run root.number) root.view succeeds world sent after)
     × (calls ≡ turn_calls root.number (had.round).turns)
 
--- these calls were accepted of what happened
+-- these are the accepted calls of one happening
 abbrev pub AcceptsOf : WorldData → HappeningData → List SentData → List CallNow → Type 0
 AcceptsOf world (crawl root seen) sent calls = calls ≡ []
 AcceptsOf world (watching root seen) sent calls = calls ≡ []
@@ -63,8 +63,8 @@ AcceptsOf world (round root succeeds) sent calls = (table : TableData)
     × IsTableOf world.events table × AcceptsRound (root_by_text root table) succeeds world sent calls
 AcceptsOf world (ended run) sent calls = calls ≡ []
 
--- one after the other happens, and of all together these calls were accepted: those of each lead from
--- the shelf before it to the one after it
+-- these happenings come in turn, and these are the accepted calls of all of them. The calls of each
+-- happening lead from the shelf before it to the shelf after it
 abbrev pub RunsWith : WorldData → List HappeningData → List SentData → WorldData → List CallNow → Type 0
 RunsWith world [] sent after calls = (sent ≡ []) × (after ≡ world) × (calls ≡ [])
 RunsWith world (happening ∷ later) sent after calls =
@@ -72,8 +72,8 @@ RunsWith world (happening ∷ later) sent after calls =
     × Does world happening first next × AcceptsOf world happening first now
     × (next.shelf ≡ after_all now world.shelf) × (sent ≡ first ++ rest) × (calls ≡ now ++ behind) × RunsWith next later rest after behind
 
--- the shelf of a world is what the calls come to that were accepted of all that happened, behind
--- that of the root that a new world has
+-- the shelf of a world is the result of the accepted calls of all happenings, after the call for the
+-- root of a new world
 abbrev pub ShelvesAreCalls : Type 0
 ShelvesAreCalls = (run : RunData) (sockname : List ℕ) (happenings : List HappeningData)
     (sent : List SentData) (after : WorldData) → Runs (new_world run sockname) happenings sent after

@@ -20,7 +20,7 @@ follows_in number (client ∷ later) =
 abbrev pub others : ℤ → List Client → List Client
 others number = filter (λ client. not (is_of number client))
 
--- numbers that ascend, with one more, if it is not among them
+-- ascending numbers with this one, which is added if it is not among them
 abbrev pub with_number : ℕ → List ℕ → List ℕ
 with_number number [] = number ∷ []
 with_number number (first ∷ later) =
@@ -28,7 +28,7 @@ with_number number (first ∷ later) =
     else if nat_eq number first then first ∷ later
     else number ∷ first ∷ later
 
--- such numbers, with those of the roots of these subscriptions
+-- such numbers, with the numbers of the roots of these subscriptions
 abbrev pub numbers_from : List ℕ → List SubscriptionData → List ℕ
 numbers_from numbers [] = numbers
 numbers_from numbers (s ∷ later) = numbers_from (with_number s.number numbers) later

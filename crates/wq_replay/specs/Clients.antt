@@ -1,5 +1,5 @@
--- How the subscriptions of one client become others.
--- No public document is behind it.
+-- A change of the subscriptions of one client.
+-- It is this server's own.
 use Rattle.std.specs.Prelude.{◌≡◌, ℤ, List, [], ◌∷◌}
 use Rattle.wq_follow.specs.Subscription.{SubscriptionData}
 use Rattle.wq_session.specs.Followed.{follows_of}
@@ -8,7 +8,7 @@ use Rattle.wq_replay.specs.Client.{follows_in}
 use Rattle.wq_replay.specs.Gets.{with_follows}
 use Rattle.wq_replay.specs.declared.client.Client.{Client}
 
--- the subscriptions of a client are these now, and those of others are as they were
+-- the subscriptions of a client are these now, and the other clients keep theirs
 abbrev pub FollowsNow : ℤ → List SubscriptionData → List Client → List Client → Type 0
 FollowsNow number left before after = (other : ℤ)
     → follows_in other after ≡ with_follows number left (λ o. follows_in o before) other
@@ -17,7 +17,7 @@ FollowsNow number left before after = (other : ℤ)
 abbrev pub client_with : ℤ → Session → Client
 client_with number session = record { number = number; session = session }
 
--- the client with some subscriptions, or none
+-- the client with these subscriptions, or no client if there are none
 abbrev pub kept_with : ℤ → Session → List SubscriptionData → List Client
 kept_with number session [] = []
 kept_with number session (s ∷ later) = client_with number session ∷ []

@@ -1,4 +1,4 @@
--- How the faults of a step, and of taking a line, end a replay.
+-- The end of a replay by a fault of a step, or by a fault of the taking of a line.
 -- It is this server's own.
 use Rattle.std.specs.Prelude.{ℕ}
 use Rattle.wq_replay.specs.declared.fault.ReplayFault.{ReplayFault}

@@ -1,4 +1,4 @@
--- The answers of a world to what clients ask, and what an idle moment gives out there.
+-- The answers of a world to the asks of clients, and the lists that an idle moment gives out there.
 -- Crawls and watches before answers are from Watchman's documentation of synchronisation
 -- (`sync_timeout`), of `watch` and of `watch-del`; the rest is this server's own.
 use Rattle.std.specs.Prelude.{◌≡◌, ◌⊎◌, ℕ, ℤ, Bool, true, false, List, [], ◌∷◌, ◌++◌, find}
@@ -20,13 +20,13 @@ use Rattle.wq_session.specs.declared.refusal.Refusal.TheVariants.{NoMemory}
 use Rattle.wq_crawl.specs.declared.fault.CrawlFault.{CrawlFault}
 use Rattle.wq_replay.specs.World.{RefusedData, WorldData, at_events, shows, unrefused}
 
--- why the crawl or the watching of this root was refused that came last, if it was
+-- the fault of the last crawl or watching, if that was of this root and was refused
 abbrev pub refused_fault : List ℕ → Option RefusedData → Option CrawlFault
 refused_fault root None = None
 refused_fault root (Some refused) = if bytes_eq refused.root root then Some refused.fault else None
 
--- why the crawl that an ask needs was refused, where its root is shown; or the watching, where it is
--- not
+-- the fault of the crawl or the watching that an ask needs, if that was refused. A crawl counts if
+-- its root is shown, a watching if it is not
 abbrev pub fault_for : NeedData → TableData → Option RefusedData → Option CrawlFault
 fault_for (crawl_of root) table refused = if shows root table then refused_fault root refused else None
 fault_for (watch_of root) table refused = if shows root table then None else refused_fault root refused
@@ -37,7 +37,7 @@ abbrev pub ending : NeedData → TableData → Option ℕ
 ending (unwatch root) table = number_by_text root table
 ending _ table = None
 
--- a root as it is looked at
+-- a root, as a session looks at it
 abbrev pub at_root : RunData → RootView → AtData
 at_root run root = record { instance = instance_of run root.number; view = Some root.view }
 
@@ -45,15 +45,14 @@ at_root run root = record { instance = instance_of run root.number; view = Some 
 abbrev pub at_end : RunData → ℕ → AtData
 at_end run number = record { instance = instance_of run number; view = None }
 
--- what an ask is answered at that ends no root: the root that it names, if it names one that is
--- shown
+-- the root that an ask is answered at, if it ends no root: the root that it names, if that is shown
 abbrev pub looked : NeedData → RunData → TableData → Option AtData
 looked (look root) run table = option_map (at_root run) (root_by_text root table)
 looked (crawl_of root) run table = option_map (at_root run) (root_by_text root table)
 looked (watch_of root) run table = option_map (at_root run) (root_by_text root table)
 looked _ run table = None
 
--- the root of a number as it is looked at, if it is shown
+-- the root of a number, as a session looks at it, if it is shown
 abbrev pub numbered : ℕ → RunData → TableData → Option AtData
 numbered number run table = option_map (at_root run) (find (has_number number) table.roots)
 
@@ -75,14 +74,15 @@ answered client shelf left world = record world {
   refused = None;
 }
 
--- an answer to a client at what is looked at, at what all clients share, and at its subscriptions
+-- an answer to a client at the root that it looks at, at the shelf of all clients, and at its
+-- subscriptions
 abbrev pub AnswersInWorld : ℤ → Option AtData → WorldData → Ask → OutData → WorldData → Type 0
 AnswersInWorld client at world ask out after = (shelf : ShelfNow) × (left : List SubscriptionData)
     × AnswersAsk ask at world.shelf (world.follows client) out shelf left
     × (after ≡ answered client shelf (kept out.goes_on left) world)
 
--- the answer to an ask that ends the root of this number: that ends first, unless memory runs out
--- over it
+-- the answer to an ask that ends the root of this number: the root ends first, unless memory runs
+-- out over that
 abbrev pub EndsAt : ℤ → ℕ → WorldData → Ask → OutData → WorldData → Type 0
 EndsAt client number world ask out after =
     AnswersInWorld client (Some (at_end world.run number))
@@ -95,7 +95,7 @@ GetsAt None table client world ask out after =
     AnswersInWorld client (looked (need_of ask) world.run table) world ask out after
 GetsAt (Some number) table client world ask out after = EndsAt client number world ask out after
 
--- what an ask gets: that its crawl or watching was refused, or its answer
+-- the reply to an ask: that its crawl or watching was refused, or its answer
 abbrev pub GetsFor : Option CrawlFault → TableData → ℤ → WorldData → Ask → OutData → WorldData
     → Type 0
 GetsFor (Some fault) table client world ask out after =
@@ -103,12 +103,13 @@ GetsFor (Some fault) table client world ask out after =
 GetsFor None table client world ask out after =
     GetsAt (ending (need_of ask) table) table client world ask out after
 
--- what the ask of a client gets, and the world then
+-- the reply to the ask of a client, and the world after it
 abbrev pub Gets : ℤ → WorldData → Ask → OutData → WorldData → Type 0
 Gets client world ask out after = (table : TableData) × IsTableOf world.events table
     × GetsFor (fault_for (need_of ask) table world.refused) table client world ask out after
 
--- what an idle moment of the root of this number gives out to a client, and the world then
+-- the lists that an idle moment of the root of this number gives out to a client, and the world
+-- after it
 abbrev pub Rests : ℤ → ℕ → WorldData → OutData → WorldData → Type 0
 Rests client root world out after = (table : TableData) × (left : List SubscriptionData)
     × IsTableOf world.events table

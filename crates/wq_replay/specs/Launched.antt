@@ -1,5 +1,5 @@
 -- The meaning of the code's types of runs and of the launcher in memory.
--- No public document is behind it.
+-- It is this server's own.
 use Rattle.std.specs.Prelude.{ℕ, Bool, true, false, List, [], ◌∷◌, ◌++◌, map, Option, Some, None}
 use Rattle.wq_follow.specs.Launcher.{LauncherData, TriedData}
 use Rattle.wq_follow.specs.Started.{start_data}
@@ -29,7 +29,7 @@ with_tried start run tried = tried ++ record { start = start; run = run } ∷ []
 abbrev pub launcher_data : MemoryLauncher → LauncherData
 launcher_data l = launcher_with (runs_data l.runs) (all_tried l.tried.items)
 
--- the same, unless memory ran out for a start
+-- the launcher, unless memory ran out for a start
 abbrev pub shown_unless : Bool → LauncherData → Option LauncherData
 shown_unless true l = None
 shown_unless false l = Some l

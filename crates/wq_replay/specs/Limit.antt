@@ -1,4 +1,5 @@
--- The limits of scripts and of their lines in bytes, of lines without their newlines.
+-- The limits of scripts and of their lines, in bytes. The newline of a line does not count for the
+-- line.
 -- They are this server's own.
 use Rattle.std.specs.Prelude.{ℕ}
 
@@ -6,6 +7,6 @@ use Rattle.std.specs.Prelude.{ℕ}
 abbrev pub max_script_line : ℕ
 max_script_line = 1048640
 
--- a script, its newlines counted
+-- a script, with its newlines
 abbrev pub max_script : ℕ
 max_script = 1073741824

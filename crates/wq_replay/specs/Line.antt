@@ -1,9 +1,9 @@
--- The lines of a script: each ends at a newline, which the last line need not have.
+-- The lines of a script: each ends at a newline, except that the last line may lack one.
 -- It is this server's own.
 use Rattle.std.specs.Prelude.{ℕ, ◌==◌, List, [], ◌∷◌, if◌then◌else◌}
 use Rattle.wq_base.specs.Byte.{newline}
 
--- a byte before the first line, which it makes where there is none
+-- a byte before the first line. If there is no line, the byte makes one
 abbrev pub put_first : ℕ → List (List ℕ) → List (List ℕ)
 put_first byte [] = (byte ∷ []) ∷ []
 put_first byte (line ∷ lines) = (byte ∷ line) ∷ lines

@@ -1,5 +1,5 @@
--- What a `Line` of the code stands for.
--- No public document is behind it.
+-- The meaning of a `Line` of the code.
+-- It is this server's own.
 use Rattle.wq_replay.specs.Script.{LineData, pass, tree, row, end, ask, leave, idle, fire, done}
 use Rattle.wq_view.specs.Seen.{SeenData}
 use Rattle.wq_replay.specs.declared.script.Line.{Line}
@@ -7,11 +7,11 @@ use Rattle.wq_replay.specs.declared.script.RowLine.{RowLine}
 use Rattle.wq_replay.specs.declared.script.Line.TheVariants.{Pass, Tree, Row, End, Ask, Leave, Idle}
 use Rattle.wq_replay.specs.declared.script.Line.TheVariants.{Fire, Done}
 
--- what a row says was seen
+-- the file that a row describes
 abbrev pub seen_data : RowLine → SeenData
 seen_data r = record { name = r.name.now; kind = r.kind; size = r.size; mtime_ms = r.mtime_ms }
 
--- the line of a script that it is
+-- the line of a script that a `Line` means
 abbrev pub line_data : Line → LineData
 line_data (Pass second) = pass second
 line_data (Tree second) = tree second

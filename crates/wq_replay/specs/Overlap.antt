@@ -1,4 +1,4 @@
--- The runs of a trigger do not overlap: it is not started again before its run has ended.
+-- The runs of a trigger do not overlap: no round starts it again before its run has ended.
 -- It is this server's own.
 use Rattle.std.specs.Prelude.{◌≡◌, ◌≢◌, ℕ, Bool, true, List, [], ◌∷◌, Option, Some, None, is_some}
 use Rattle.std.specs.Prelude.{if◌then◌else◌}
@@ -13,7 +13,7 @@ use Rattle.wq_replay.specs.Playing.{Does, Runs}
 use Rattle.wq_replay.specs.Rounds.{HasRound}
 use Rattle.wq_replay.specs.World.{WorldData, HappeningData, ended, SentData, new_world}
 
--- what a round did for the trigger of a name, if there is one
+-- the result of a round for the trigger of a name, if there is one
 abbrev pub fired_for : List ℕ → List TurnData → Option FiredData
 fired_for name [] = None
 fired_for name (turn ∷ turns) =
@@ -30,16 +30,15 @@ StartsTrigger root name run world after =
 abbrev pub HasTrigger : ℕ → List ℕ → WorldData → Type 0
 HasTrigger root name world = is_some (trigger_called root name world.shelf) ≡ true
 
--- one thing after the other happens. The trigger is never deleted, and none of them is the end of
--- the run
+-- these happenings come in turn. None of them deletes the trigger, and none is the end of the run
 abbrev pub Meanwhile : ℕ → List ℕ → ℕ → WorldData → List HappeningData → WorldData → Type 0
 Meanwhile root name run world [] after = after ≡ world
 Meanwhile root name run world (happening ∷ later) after =
     (sent : List SentData) × (next : WorldData) × Does world happening sent next
     × (happening ≢ ended run) × HasTrigger root name next × Meanwhile root name run next later after
 
--- once a trigger was started, no round starts it before its run has ended, as long as it is not
--- deleted. A trigger that is replaced is not deleted
+-- after a trigger was started, no round starts it before its run has ended, unless a client deletes
+-- it. To replace a trigger is not to delete it
 abbrev pub RunsDoNotOverlap : Type 0
 RunsDoNotOverlap = (server : RunData) (sockname : List ℕ) (earlier later : List HappeningData)
     (sent : List SentData) (world first last after : WorldData) (root : ℕ) (name : List ℕ)

@@ -1,4 +1,4 @@
--- What happens in a world, one thing after the other, and what is sent then.
+-- The happenings of a world in turn, and the lines that the server sends for them.
 -- It is this server's own.
 use Rattle.std.specs.Prelude.{◌≡◌, ℕ, ℤ, Bool, false, List, [], ◌∷◌, ◌++◌, map}
 use Rattle.std.specs.Prelude.{Option, Some, None}
@@ -8,21 +8,21 @@ use Rattle.wq_replay.specs.Rounds.{Rounds, without_running}
 use Rattle.wq_replay.specs.World.{WorldData, HappeningData, crawl, watching, asked, idle, round}
 use Rattle.wq_replay.specs.World.{ended, SentData, Crawls, Watches}
 
--- what is sent of a reply, if there is one
+-- the line of a reply, if there is one
 abbrev pub sent_for : ℤ → Bool → Option (List ℕ) → List SentData
 sent_for client shuts None = []
 sent_for client shuts (Some text) =
     record { client = Some client; text = text; shuts = shuts } ∷ []
 
--- a list that is sent, by which the server never ends
+-- a list that the server sends. It never ends the server
 abbrev pub sent_list : ℤ → List ℕ → SentData
 sent_list client text = record { client = Some client; text = text; shuts = false }
 
--- what is sent to a client: the reply, if there is one, and then each list
+-- the lines to a client: the reply, if there is one, and then each list
 abbrev pub sent_to : ℤ → OutData → List SentData
 sent_to client out = sent_for client out.shuts out.reply ++ map (sent_list client) out.lists
 
--- something happens: this is sent, and the world is another then
+-- a happening comes: the server sends these lines, and this is the world after it
 abbrev pub Does : WorldData → HappeningData → List SentData → WorldData → Type 0
 Does world (crawl root seen) sent after = (sent ≡ []) × Crawls world root seen after
 Does world (watching root seen) sent after = (sent ≡ []) × Watches world root seen after
@@ -33,14 +33,14 @@ Does world (idle client root) sent after =
 Does world (round root succeeds) sent after = Rounds root succeeds world sent after
 Does world (ended run) sent after = (sent ≡ []) × (after ≡ without_running run world)
 
--- one after the other happens
+-- these happenings come in turn
 abbrev pub Runs : WorldData → List HappeningData → List SentData → WorldData → Type 0
 Runs world [] sent after = (sent ≡ []) × (after ≡ world)
 Runs world (happening ∷ later) sent after =
     (next : WorldData) × (first rest : List SentData) × Does world happening first next
     × (sent ≡ first ++ rest) × Runs next later rest after
 
--- what happens first and what happens then are one run
+-- two runs, one after the other, are one run
 abbrev pub RunsGoOn : Type 0
 RunsGoOn = (world between after : WorldData) (first later : List HappeningData)
     (sent rest : List SentData) → Runs world first sent between → Runs between later rest after

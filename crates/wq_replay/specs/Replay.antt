@@ -1,4 +1,4 @@
--- What the replay of a script writes, and how it ends.
+-- The lines that the replay of a script writes, and its end.
 -- It is this server's own.
 use Rattle.std.specs.Prelude.{◌≡◌, ◌≢◌, ◌≤◌, ◌<◌, ◌⊎◌, ℕ, suc, ◌+◌, ℤ, Bool, true, false, List, [], ◌∷◌, ◌++◌}
 use Rattle.std.specs.Prelude.{length, map, codes, bytes_eq, All, if◌then◌else◌, Option, Some, None, Result, Ok, Err}
@@ -29,13 +29,13 @@ use Rattle.wq_replay.specs.World.{root_text}
 use Rattle.wq_replay.specs.declared.fault.ReplayFault.{ReplayFault}
 use Rattle.wq_replay.specs.declared.fault.ReplayFault.TheVariants.{Line, TooLong, Read, Write, Memory}
 
--- the line that is written for what is sent: the client's number, if there is one, with a space,
--- and the text
+-- the line that is written for one that is sent: the client's number with a space, if there is a
+-- client, and the text
 abbrev pub sent_line : Option ℤ → List ℕ → List ℕ
 sent_line (Some client) text = signed_decimal client ++ (codes " " ++ (text ++ codes "\n"))
 sent_line None text = text ++ codes "\n"
 
--- the lines that are written for what is sent
+-- the lines that are written for those that are sent
 abbrev pub sent_lines : List SentData → List ℕ
 sent_lines [] = []
 sent_lines (sent ∷ later) = sent_line sent.client sent.text ++ sent_lines later
@@ -44,53 +44,54 @@ sent_lines (sent ∷ later) = sent_line sent.client sent.text ++ sent_lines late
 abbrev pub shuts : List SentData → Bool
 shuts = list_any (λ sent. sent.shuts)
 
--- what happens where a listing of `/r` ends: it is crawled, or is not
+-- the happenings at the end of a listing of `/r`: a crawl of it, or none
 abbrev pub crawled : Bool → PassData → List HappeningData
 crawled crawls tree = if crawls then crawl root_text (Ok tree) ∷ [] else []
 
--- what a root lists, where `/r` lists this: `/r` that; another root cannot be read
+-- the listing of a root, if `/r` lists this: for `/r` it is this, and no other root can be read
 abbrev pub listed_root : PassData → List ℕ → Result PassData CrawlFault
 listed_root tree root = if bytes_eq root root_text then Ok tree else Err Unreadable
 
--- what happens before an ask, where `/r` lists this: the crawl or the watching that it needs, if any
+-- the happenings before an ask, if `/r` lists this: the crawl or the watching that the ask needs, if
+-- any
 abbrev pub needed : PassData → NeedData → List HappeningData
 needed tree (crawl_of root) = crawl root (listed_root tree root) ∷ []
 needed tree (watch_of root) = watching root (listed_root tree root) ∷ []
 needed tree _ = []
 
--- a client is heard: this is sent, and the world is another then
+-- a client is heard: the server sends these lines, and this is the world after it
 pub record IsHeard (stage : StageData) (client : ℤ) (event : Event) (sent : List SentData)
     (after : WorldData) : Type 0 where
   pub ask : Ask
   pub asks : Asks event ask
   pub runs : Runs stage.world (needed stage.tree (need_of ask) ++ asked client ask ∷ []) sent after
 
--- what happens if a client has an idle moment of each root that it is subscribed to
+-- the happenings if a client has an idle moment of each root that it is subscribed to
 abbrev pub moments : ℤ → WorldData → List HappeningData
 moments client world = map (idle client) (numbers_of (world.follows client))
 
--- what happens if the triggers of `/r` have a round
+-- the happenings if the triggers of `/r` have a round
 abbrev pub rounds : Bool → List HappeningData
 rounds succeeds = round root_text succeeds ∷ []
 
--- that a run has ended, if there is one
+-- the happening that a run has ended, if there is a run
 abbrev pub end_if : Option ℕ → List HappeningData
 end_if None = []
 end_if (Some run) = ended run ∷ []
 
--- what happens if the command of the trigger of `/r` of this name has ended: nothing, if the name
--- is no text, or if there is no run
+-- the happenings if the command of the trigger of `/r` of this name has ended. There are none if the
+-- name is no text, or if there is no run
 abbrev pub ends_of : List ℕ → WorldData → List HappeningData
 ends_of name world = if is_utf8 name then end_if (trigger_run root_text name world) else []
 
--- all of this happens at a stage: this is written of it, and the stage is another then
+-- all these happenings come at a stage: these lines are written, and this is the stage after them
 abbrev pub DoesAll : StageData → List HappeningData → List ℕ → StageData → Type 0
 DoesAll stage happenings written after = (sent : List SentData) × (world : WorldData)
     × Runs stage.world happenings sent world
     × (written ≡ sent_lines sent) × (after ≡ record stage { world = world })
 
--- what a line does takes the script from a stage to the next, with this written, and the server
--- goes on; a malformed line leads nowhere
+-- a line takes the script from a stage to the next, these lines are written, and the server goes on.
+-- A malformed line leads nowhere
 abbrev pub DoesLine : StageData → Turn → List ℕ → StageData → Type 0
 DoesLine stage (drafts draft) written after =
     (written ≡ []) × (after ≡ record stage { draft = Some draft })
@@ -107,21 +108,21 @@ DoesLine stage (finishes name) written after =
     DoesAll stage (ends_of name stage.world) written after
 DoesLine stage malformed written after = ⊥
 
--- these lines take the script in turn from a stage to another, with this written
+-- these lines take the script in turn from a stage to another, and this is written
 abbrev pub Plays : StageData → List (List ℕ) → List ℕ → StageData → Type 0
 Plays stage [] written after = (written ≡ []) × (after ≡ stage)
 Plays stage (line ∷ lines) written after = (next : StageData) × (first later : List ℕ)
     × DoesLine stage (turn_of stage line) first next × (written ≡ first ++ later)
     × Plays next lines later after
 
--- what the lines of a script do is one run of its world, and each reply of that run is written
+-- the lines of a script make one run of its world, and each reply of that run is written
 abbrev pub ScriptsAreRuns : Type 0
 ScriptsAreRuns = (stage after : StageData) (lines : List (List ℕ)) (written : List ℕ)
     → Plays stage lines written after → (happenings : List HappeningData) × (sent : List SentData)
     × Runs stage.world happenings sent after.world × (written ≡ sent_lines sent)
 
--- so many first lines of a script were played, their replies were written, the script stands
--- here, and these lines are left
+-- so many first lines of a script were played, and their replies were written. The script is at this
+-- stage now, and these lines are left
 pub record FirstLines (script : List ℕ) (before after : Option (List ℕ)) (count : ℕ)
     (at : StageData) (left : List (List ℕ)) : Type 0 where
   pub first : List (List ℕ)
@@ -132,7 +133,7 @@ pub record FirstLines (script : List ℕ) (before after : Option (List ℕ)) (co
   pub appends : Appends before after written
   pub lawful : IsLawfulList (at.world).events
 
--- a reader was left within the first line of some bytes: what was taken of them has no newline
+-- a reader was left within the first line of some bytes: the bytes that were taken have no newline
 abbrev pub StopsWithin : List ℕ → Option (List ℕ) → Type 0
 StopsWithin bytes rest = (taken left : List ℕ) × (rest ≡ Some left) × (bytes ≡ taken ++ left)
     × All (λ byte. byte ≢ newline) taken
@@ -144,12 +145,12 @@ Shuts stage (hears client event) before after =
     × (shuts sent ≡ true) × Appends before after (sent_lines sent)
 Shuts _ _ _ _ = ⊥
 
--- all of this happened at a stage, and of what was sent a front was written, but not all
+-- all these happenings came at a stage, and a front of the lines to send was written, but not all
 abbrev pub StopsAll : StageData → List HappeningData → Option (List ℕ) → Option (List ℕ) → Type 0
 StopsAll stage happenings before after = (sent : List SentData) × (world : WorldData)
     × Runs stage.world happenings sent world × WritesFront before after (sent_lines sent)
 
--- a line did what it does, and of what was sent a front was written, but not all
+-- a line was played, and a front of the lines to send was written, but not all
 abbrev pub StopsWriting : StageData → Turn → Option (List ℕ) → Option (List ℕ) → Type 0
 StopsWriting stage (hears client event) before after =
     (sent : List SentData) × (world : WorldData) × IsHeard stage client event sent world
@@ -167,8 +168,7 @@ EndsAll script before after rest =
     (length script ≤ max_script) × (count : ℕ) × (at : StageData)
     × FirstLines script before after count at [] × (rest ≡ Some [])
 
--- some first lines were played, and by the next one the server is to end; what stands behind that
--- was not read
+-- some first lines were played, and the next one ends the server. Nothing after that line was read
 abbrev pub EndsServer : List ℕ → Option (List ℕ) → Option (List ℕ) → Option (List ℕ) → Type 0
 EndsServer script before after rest =
     (count : ℕ) × (at : StageData) × (line : List ℕ) × (left : List ℕ)
@@ -182,8 +182,8 @@ EndsAtLine n script before after =
     (count : ℕ) × (at : StageData) × (line : List ℕ) × (later : List (List ℕ)) × (n ≡ suc count)
     × FirstLines script before after count at (line ∷ later) × (turn_of at line ≡ malformed)
 
--- some first lines were played, with which the script is within its limit, and with the next one,
--- behind which it was read no further, it is not
+-- some first lines were played, up to which the script is within its limit. The next one takes it
+-- over the limit, and nothing after that line was read
 abbrev pub EndsTooLong : List ℕ → Option (List ℕ) → Option (List ℕ) → Option (List ℕ) → Type 0
 EndsTooLong script before after rest =
     (count : ℕ) × (at : StageData) × (bytes left : List ℕ) × (rest ≡ Some left)
@@ -195,7 +195,7 @@ abbrev pub EndsReading : List ℕ → Option (List ℕ) → Option (List ℕ) �
 EndsReading script before after rest = (count : ℕ) × (at : StageData) × (bytes : List ℕ)
     × FirstLines script before after count at (lines_of bytes) × StopsWithin bytes rest
 
--- some first lines were played, and of what is sent for the next one a front was written, but not
+-- some first lines were played. A front of the lines to send for the next one was written, but not
 -- all
 abbrev pub EndsWriting : List ℕ → Option (List ℕ) → Option (List ℕ) → Type 0
 EndsWriting script before after =
@@ -209,7 +209,8 @@ EndsDoing script before after =
     (count : ℕ) × (at : StageData) × (line : List ℕ) × (later : List (List ℕ))
     × FirstLines script before after count at (line ∷ later) × (turn_of at line ≢ malformed)
 
--- how a replay ends, by what the writer held before and after, and what is left to read
+-- the end of a replay, by the bytes that the writer held before and after, and by the bytes that are
+-- left to read
 abbrev pub Ends : List ℕ → Option (List ℕ) → Option (List ℕ) → Option (List ℕ)
     → Result (Unit {0}) ReplayFault → Type 0
 Ends script before after rest (Ok _) =

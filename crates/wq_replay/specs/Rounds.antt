@@ -15,7 +15,7 @@ use Rattle.wq_replay.specs.Runs.{RunSetData, launcher_at, launcher_with, run_end
 use Rattle.wq_replay.specs.StartLine.{tried_text}
 use Rattle.wq_replay.specs.World.{WorldData, SentData, unrefused}
 
--- a line about a start, by which the server never ends
+-- a line about a start. It never ends the server
 abbrev pub sent_note : List ℕ → SentData
 sent_note text = record { client = None; text = text; shuts = false }
 
@@ -23,8 +23,8 @@ sent_note text = record { client = None; text = text; shuts = false }
 abbrev pub fired : ShelfNow → RunSetData → WorldData → WorldData
 fired shelf runs world = record world { shelf = shelf; runs = runs; refused = None }
 
--- a round of a root at a view of it: the triggers have their turns, the launcher answers each
--- start, and a line is sent about each
+-- a round of a root at a view of it. The triggers have their turns, the launcher answers each
+-- start, and the server sends a line about each
 pub record HasRound (instance : InstanceData) (view : ViewData) (succeeds : Bool)
     (world : WorldData) (sent : List SentData) (after : WorldData) : Type 0 where
   pub shelf : ShelfNow

@@ -1,4 +1,5 @@
--- What a line of a script says: words between single spaces, of which the last may have spaces.
+-- The meaning of a line of a script. A line has words between single spaces, and the last word may
+-- have spaces.
 -- The letters of kinds are those of Watchman's field `type`; the rest is this server's own.
 use Rattle.std.specs.Prelude.{ℕ, ℤ, pos, Bool, true, false, ◌&&◌, ◌==◌, int_le, List, [], ◌∷◌, codes, bytes_eq, if◌then◌else◌, Option, Some, None, option_map, option_and_then}
 use Rattle.std.specs.Str.{byte}
@@ -9,9 +10,9 @@ use Rattle.wq_view.specs.declared.kind.Kind.{Kind}
 
 -- a line by its word
 pub data LineData : Type 0 where
-  -- a listing begins, seen at this second, with which the root is crawled
+  -- a listing begins, seen at this second. The root is crawled with it
   pass : ℤ → LineData
-  -- a listing begins of what there is at this second, which no crawl has seen yet
+  -- a listing begins of the files at this second, which no crawl has seen yet
   tree : ℤ → LineData
   -- a row of the listing
   row : SeenData → LineData
@@ -21,7 +22,7 @@ pub data LineData : Type 0 where
   ask : ℤ → List ℕ → LineData
   -- a client leaves
   leave : ℤ → LineData
-  -- nothing else happens for a while, and a client is told of what changed
+  -- nothing else happens for a while, and a client hears of changes
   idle : ℤ → LineData
   -- a round of the triggers of the root, in which each start succeeds, or each fails
   fire : (succeeds : Bool) → LineData
@@ -36,21 +37,21 @@ is_space b = b == byte " "
 abbrev pub before_word : ℕ → List ℕ × List ℕ → List ℕ × List ℕ
 before_word b (word, rest) = (b ∷ word, rest)
 
--- the word before the first space, and what follows that space
+-- the word before the first space, and the bytes after that space
 abbrev pub first_word : List ℕ → Option (List ℕ × List ℕ)
 first_word [] = None
 first_word (b ∷ bs) =
     if is_space b then Some ([], bs) else option_map (before_word b) (first_word bs)
 
--- a word that is a number, and what follows it
+-- a word that is a number, and the bytes after it
 abbrev pub number_before : List ℕ × List ℕ → Option (ℤ × List ℕ)
 number_before (word, rest) = option_map (λ number. (number, rest)) (signed_of word)
 
--- a number, and what follows the space behind it
+-- a number, and the bytes after the space that follows it
 abbrev pub number_then : List ℕ → Option (ℤ × List ℕ)
 number_then text = option_and_then number_before (first_word text)
 
--- the kind that a word names: it is the letter of one
+-- the kind that a word names by its letter
 abbrev pub kind_of_word : List ℕ → Option Kind
 kind_of_word (letter ∷ []) = kind_with letter
 kind_of_word _ = None
@@ -60,7 +61,7 @@ abbrev pub row_from : Kind → ℤ → ℤ × List ℕ → LineData
 row_from kind size (mtime_ms, name) =
     row (record { name = name; kind = kind; size = size; mtime_ms = mtime_ms })
 
--- the row of a kind, from its size and what follows it
+-- the row of a kind, from its size and the bytes after it
 abbrev pub row_sized : Kind → ℤ × List ℕ → Option LineData
 row_sized kind (size, rest) = option_map (row_from kind size) (number_then rest)
 
@@ -76,15 +77,15 @@ is_client client = int_le (pos 1) client && int_le client (pos 32)
 abbrev pub ask_from : ℤ × List ℕ → Option LineData
 ask_from (client, line) = if is_client client then Some (ask client line) else None
 
--- the same from its text
+-- a client's line, from its text
 abbrev pub ask_of : List ℕ → Option LineData
 ask_of text = option_and_then ask_from (number_then text)
 
--- that a client leaves
+-- the line that a client leaves
 abbrev pub leave_from : ℤ → Option LineData
 leave_from client = if is_client client then Some (leave client) else None
 
--- that nothing else happens for a while
+-- the line that nothing else happens for a while
 abbrev pub idle_from : ℤ → Option LineData
 idle_from client = if is_client client then Some (idle client) else None
 
@@ -95,7 +96,7 @@ fire_of word =
     else if bytes_eq word (codes "fail") then Some (fire false)
     else None
 
--- a line by its first word and what follows
+-- a line, by its first word and the bytes after it
 abbrev pub line_worded : List ℕ × List ℕ → Option LineData
 line_worded (word, rest) =
     if bytes_eq word (codes "pass") then option_map pass (signed_of rest)
@@ -107,7 +108,7 @@ line_worded (word, rest) =
     else if bytes_eq word (codes "done") then Some (done rest)
     else option_and_then (λ kind. row_of kind rest) (kind_of_word word)
 
--- what a line says, unless it is malformed
+-- the meaning of a line, unless it is malformed
 abbrev pub line_of : List ℕ → Option LineData
 line_of text =
     if bytes_eq text (codes "end") then Some end

@@ -1,4 +1,4 @@
--- What sending came to.
+-- The result of a sending.
 -- It is this server's own.
 use Rattle.std.specs.Prelude.{◌≡◌, not, ℕ, Bool, List, Option, Result, Ok, Err}
 use Rattle.std.specs.Io.KnownBytes.{Appends}
@@ -8,7 +8,7 @@ use Rattle.wq_replay.specs.World.{SentData}
 use Rattle.wq_replay.specs.declared.fault.StepFault.{StepFault}
 use Rattle.wq_replay.specs.declared.fault.StepFault.TheVariants.{Malformed, Write, NoMemory}
 
--- the lines were written whole, and it is said whether the server goes on; or the writer failed
+-- the lines were written whole, with the flag whether the server goes on; or the writer failed
 -- within them
 abbrev pub Sends : List SentData → Option (List ℕ) → Option (List ℕ) → Result Bool StepFault
     → Type 0

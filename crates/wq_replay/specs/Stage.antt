@@ -1,4 +1,4 @@
--- Where a script stands, and what its next line does there.
+-- The stage of a script, and the effect of its next line there.
 -- It is this server's own.
 use Rattle.std.specs.Prelude.{ℕ, ℤ, pos, Bool, true, false, nat_le, if◌then◌else◌, List, [], ◌∷◌, ◌++◌, length, codes, Option, Some, None, is_none}
 use Rattle.wq_stream.specs.Stream.{event_of}
@@ -17,15 +17,15 @@ pub record DraftData : Type 0 where
   pub second : ℤ
   pub rows : List SeenData
 
--- the world, what a crawl of `/r` would list, and the listing that is open
+-- the world, the listing that a crawl of `/r` would give, and the listing that is open
 pub record StageData : Type 0 where
   pub world : WorldData
   pub tree : PassData
   pub draft : Option DraftData
 
--- what a line does
+-- the effect of a line
 pub data Turn : Type 0 where
-  -- the listing that is open is this one now
+  -- this is the open listing now
   drafts : DraftData → Turn
   -- `/r` lists this from now on, and is crawled or not
   lists : (crawls : Bool) → PassData → Turn
@@ -44,11 +44,11 @@ pub data Turn : Type 0 where
 abbrev pub first_world : WorldData
 first_world = new_world (record { start = 7; pid = 9 }) (codes "replay")
 
--- what `/r` lists before a script says it
+-- the listing of `/r` before a script gives one
 abbrev pub no_tree : PassData
 no_tree = listing_of [] (pos 0)
 
--- where a script starts
+-- the first stage of a script
 abbrev pub start : StageData
 start = record { world = first_world; tree = no_tree; draft = None }
 
@@ -67,7 +67,7 @@ turn_outside (fire succeeds) = fires succeeds
 turn_outside (done name) = finishes name
 turn_outside _ = malformed
 
--- the end of a listing, which is what `/r` lists unless it has a fault
+-- the end of a listing. Unless it has a fault, `/r` lists it from now on
 abbrev pub turn_at_end : DraftData → Turn
 turn_at_end draft =
     if is_none (listing_fault draft.rows draft.second)
@@ -84,12 +84,12 @@ abbrev pub turn_in : Option DraftData → LineData → Turn
 turn_in None line = turn_outside line
 turn_in (Some draft) line = turn_inside draft line
 
--- what was read of a line, if it was read
+-- the bytes that were read of a line, if it was read
 abbrev pub turn_at : Option DraftData → Option LineData → Turn
 turn_at draft None = malformed
 turn_at draft (Some line) = turn_in draft line
 
--- what a line does at a stage; one over the limit is malformed
+-- the effect of a line at a stage. A line over the limit is malformed
 abbrev pub turn_of : StageData → List ℕ → Turn
 turn_of stage line =
     if nat_le (length line) max_script_line then turn_at stage.draft (line_of line) else malformed

@@ -1,5 +1,5 @@
--- Where the world of the code stands.
--- No public document is behind it.
+-- The meaning of the world of the code.
+-- It is this server's own.
 use Rattle.std.specs.Prelude.{◌≡◌, ℤ, false, List, [], ◌∷◌, ◌++◌, map, Option, Some, None, option_map}
 use Rattle.std.specs.Prelude.{Result, Ok, Err}
 use Rattle.std.specs.Borrow.{Bor}
@@ -26,7 +26,7 @@ use Rattle.wq_replay.specs.declared.world.World.{World}
 abbrev pub refused_data : Refused → RefusedData
 refused_data refused = record { root = refused.root; fault = refused.fault }
 
--- the code stands where the world does, and no call of it failed
+-- the code means this world, and no call of it failed
 pub record Stands (world : WorldData) (code : World) : Type 0 where
   pub run : world.run ≡ run_data code.run
   pub roots : IsTableOf world.events code.table
@@ -36,12 +36,12 @@ pub record Stands (world : WorldData) (code : World) : Type 0 where
   pub refused : world.refused ≡ option_map refused_data code.refused
   pub whole : code.spent ≡ false
 
--- what a root lists, or why it could not be read
+-- the listing of a root, or the fault of its reading
 abbrev pub crawl_data : Result (Bor PassData) CrawlFault → Result PassData CrawlFault
 crawl_data (Ok seen) = Ok seen.now
 crawl_data (Err fault) = Err fault
 
--- what happens
+-- a happening
 abbrev pub happening_data : Happening → HappeningData
 happening_data (Crawl root seen) = crawl root (crawl_data seen)
 happening_data (Watch root seen) = watching root (crawl_data seen)
@@ -50,22 +50,22 @@ happening_data (Idle client root) = idle client root
 happening_data (Round root succeeds) = round root succeeds
 happening_data (Ended run) = ended run
 
--- what is sent of one thing that happened
+-- the lines that the server sends for one happening
 abbrev pub sent_of : Sent → List SentData
 sent_of (ToClient told) = sent_to told.client told.out
 sent_of (OfRound lines) = map sent_note lines
 
--- what is sent of these, one after the other
+-- the lines that the server sends for these happenings, in turn
 abbrev pub all_sent : List Sent → List SentData
 all_sent [] = []
 all_sent (sent ∷ later) = sent_of sent ++ all_sent later
 
--- what is sent, if anything is
+-- the lines that the server sends, if there are any
 abbrev pub sent_if : Option Sent → List SentData
 sent_if None = []
 sent_if (Some sent) = sent_of sent
 
--- a world was led by what happened to where the code stands, and this was sent
+-- these happenings led a world to the one that the code means, and the server sent these lines
 abbrev pub Leads : WorldData → List HappeningData → List SentData → World → Type 0
 Leads first happenings sent code =
     (world : WorldData) × Runs first happenings sent world × Stands world code

@@ -17,7 +17,7 @@ abbrev pub vars_members : List (List ℕ × List ℕ) → Members
 vars_members [] = no_members
 vars_members (v ∷ vars) = member v.0 (string v.1) (vars_members vars)
 
--- the tokens of these members
+-- the tokens of these members of an object
 abbrev pub var_tokens : List (List ℕ × List ℕ) → List Token
 var_tokens [] = []
 var_tokens (v ∷ vars) = key v.0 ∷ string_token v.1 ∷ var_tokens vars

@@ -1,4 +1,4 @@
--- What the code's stage stands for, and what a step of a replay did there.
+-- The meaning of the code's stage, and the result of a step of a replay there.
 -- It is this server's own.
 use Rattle.std.specs.Prelude.{◌≡◌, ◌≢◌, ℕ, Bool, true, false, List, [], Option, option_map, Result, Ok, Err}
 use Rattle.std.specs.Io.KnownBytes.{Appends}
@@ -16,15 +16,15 @@ abbrev pub draft_data : Draft → DraftData
 draft_data draft =
     record { crawls = draft.crawls; second = draft.second; rows = draft.rows.items }
 
--- the code stands where the script does
+-- the code means this stage of the script
 pub record IsAt (code : Stage) (stage : StageData) : Type 0 where
   pub world : Stands stage.world code.world
   pub tree : stage.tree ≡ code.tree
   pub draft : stage.draft ≡ option_map draft_data code.draft
 
--- what a turn at a stage came to: it was taken, with this written and the code where it leads; or
--- it ends the server; or the line is malformed, or its reply was not written whole, or memory ran
--- out before anything
+-- the result of a turn at a stage. Either it was taken: this was written, and the code means the
+-- stage that it leads to. Or it ends the server, or the line is malformed, or its reply was not
+-- written whole. Or memory ran out before anything
 abbrev pub TakesTurn : StageData → Turn → Option (List ℕ) → Option (List ℕ)
     → Result Bool StepFault → Stage → Type 0
 TakesTurn at turn before after (Ok true) code = (written : List ℕ) × (next : StageData)
@@ -34,7 +34,7 @@ TakesTurn at turn before after (Err Malformed) code = (turn ≡ malformed) × Ap
 TakesTurn at turn before after (Err Write) code = StopsWriting at turn before after
 TakesTurn at turn before after (Err NoMemory) code = (turn ≢ malformed) × Appends before after []
 
--- the same of what happens at a stage, by which the server never ends
+-- the result of happenings at a stage. They never end the server
 abbrev pub TakesAll : StageData → List HappeningData → Option (List ℕ) → Option (List ℕ)
     → Result Bool StepFault → Stage → Type 0
 TakesAll at happenings before after (Ok true) code = (written : List ℕ) × (next : StageData)

@@ -1,5 +1,5 @@
--- The world that sessions play in: what happened to its roots, what all clients share, the
--- subscriptions of each client, and the commands that run; what may happen there.
+-- The world that sessions play in: the history of its roots, the shelf of all clients, the
+-- subscriptions of each client, and the running commands. Also the happenings of such a world.
 -- Crawls and watches are from Watchman's documentation of synchronisation (`sync_timeout`) and of
 -- `watch`; the rest is this server's own.
 use Rattle.std.specs.Prelude.{◌≡◌, ◌⊎◌, ℕ, ℤ, Bool, List, [], ◌∷◌, codes, is_some}
@@ -26,9 +26,9 @@ pub record RefusedData : Type 0 where
   pub root : List ℕ
   pub fault : CrawlFault
 
--- a world: the run of the server, what happened to roots, what all clients share, the subscriptions
--- of each client, the runs of commands, and the crawl or opening that came last, if it was refused
--- and nothing followed it
+-- a world: the run of the server, the history of the roots, the shelf of all clients, and the
+-- subscriptions of each client. Also the runs of commands, and the last crawl or opening, if it was
+-- refused and nothing followed it
 pub record WorldData : Type 0 where
   pub run : RunData
   pub events : List RootEvent
@@ -37,23 +37,23 @@ pub record WorldData : Type 0 where
   pub runs : RunSetData
   pub refused : Option RefusedData
 
--- what may happen
+-- a happening in a world
 pub data HappeningData : Type 0 where
-  -- a root is crawled: what it lists, or why it could not be
+  -- a crawl of a root: its listing, or the fault
   crawl : (root : List ℕ) → Result PassData CrawlFault → HappeningData
-  -- a root is opened, unless it is shown: what it lists, or why it could not be
+  -- the opening of a root, unless it is shown: its listing, or the fault
   watching : (root : List ℕ) → Result PassData CrawlFault → HappeningData
   -- a client asks, or leaves
   asked : (client : ℤ) → Ask → HappeningData
-  -- an idle moment of the root of this number: a client is told of its changes
+  -- an idle moment of the root of this number: a client hears of its changes
   idle : (client : ℤ) → (root : ℕ) → HappeningData
   -- a round of the triggers of a root, in which each start succeeds, or each fails
   round : (root : List ℕ) → (succeeds : Bool) → HappeningData
   -- the run of this number has ended
   ended : (run : ℕ) → HappeningData
 
--- a line that is sent: to a client a reply, or a list of a subscription; to none, a line about a
--- start
+-- a line that the server sends: to a client a reply, or a list of a subscription; to no client, a
+-- line about a start
 pub record SentData : Type 0 where
   pub client : Option ℤ
   -- without a newline
@@ -65,8 +65,8 @@ pub record SentData : Type 0 where
 abbrev pub root_text : List ℕ
 root_text = codes "/r"
 
--- a world before anything: this run of the server, and this socket. Its root is watched as root 1,
--- and no pass went over it
+-- a world before any happening, with this run of the server and this socket. Its root is watched as
+-- root 1, and no pass went over it
 abbrev pub new_world : RunData → List ℕ → WorldData
 new_world run sockname = record {
   run = run;
@@ -81,11 +81,11 @@ new_world run sockname = record {
 abbrev pub refusing : List ℕ → CrawlFault → WorldData → WorldData
 refusing root fault world = record world { refused = Some (record { root = root; fault = fault }) }
 
--- the world after something else
+-- the world after any other happening
 abbrev pub unrefused : WorldData → WorldData
 unrefused world = record world { refused = None }
 
--- the world where this happened to roots
+-- the world with this history of the roots
 abbrev pub at_events : List RootEvent → WorldData → WorldData
 at_events events world = record world { events = events }
 
@@ -93,8 +93,8 @@ at_events events world = record world { events = events }
 abbrev pub shows : List ℕ → TableData → Bool
 shows root table = is_some (number_by_text root table)
 
--- a crawl of a root that listed this. A root that is not shown stays so. Else the pass is added,
--- unless it tells nothing; or it is refused, since it wants for ticks
+-- a crawl of a root that listed this. A root that is not shown stays so. Otherwise the pass is
+-- added, unless it tells nothing. It is refused if the ticks are used up
 abbrev pub CrawlsAt : Option ℕ → WorldData → List ℕ → PassData → WorldData → Type 0
 CrawlsAt None world root pass after = after ≡ unrefused world
 CrawlsAt (Some number) world root pass after =
@@ -107,13 +107,13 @@ abbrev pub Crawls : WorldData → List ℕ → Result PassData CrawlFault → Wo
 Crawls world root (Ok pass) after = CrawlsAt (number_of root world.events) world root pass after
 Crawls world root (Err fault) after = after ≡ refusing root fault world
 
--- a root starts, by a watch that listed this; or the watch is refused
+-- a root starts by a watch with this listing, or the watch is refused
 abbrev pub Starts : WorldData → List ℕ → Result PassData CrawlFault → WorldData → Type 0
 Starts world root (Ok pass) after =
     after ≡ unrefused (at_events (with_start root pass world.events) world)
 Starts world root (Err fault) after = after ≡ refusing root fault world
 
--- a watch of a root that was found so: one that is shown stays as it is
+-- a watch of a root with this result: a root that is shown stays as it is
 abbrev pub WatchesAt : Place → WorldData → List ℕ → Result PassData CrawlFault → WorldData → Type 0
 WatchesAt (Shown number) world root seen after = after ≡ unrefused world
 WatchesAt Full world root seen after = after ≡ refusing root TooManyRoots world

@@ -2,7 +2,7 @@
 
 use wq_session::Session;
 
-/// The number of a client, and what is kept of it.
+/// The number of a client, and the session that is kept for it.
 #[derive(Drop)]
 pub(crate) struct Client {
     pub(crate) number: i64,

@@ -19,7 +19,7 @@ use wq_follow::{Subscription, Trigger};
 use wq_registry::Shelf;
 use wq_session::{Ask, At, Out, Session};
 
-/// What the ask of a client is answered. If there is no room to keep the client, nothing is done.
+/// The reply to the ask of a client. If there is no room to keep the client, nothing changes.
 pub(crate) fn answer(
     clients: &mut Vec<Client>,
     alloc: Global,
@@ -42,7 +42,8 @@ pub(crate) fn answer(
     Ok(out)
 }
 
-/// What is given out to a client at an idle moment of a root. If there is no room to keep the client, nothing is done.
+/// The lists that an idle moment of a root gives out to a client. If there is no room to keep the client, nothing
+/// changes.
 pub(crate) fn idle(
     clients: &mut Vec<Client>,
     alloc: Global,
@@ -61,7 +62,7 @@ pub(crate) fn idle(
     Ok(out)
 }
 
-/// Takes a client out, and gives its session: a new one, if nothing was kept of it.
+/// Takes a client out, and gives its session: a new one, if none was kept.
 fn take_out(clients: &mut Vec<Client>, alloc: Global, number: i64) -> Session
     ensures session { follows_of result ≡ follows_in number clients.old.items }
     ensures others { clients.new.items ≡ others number clients.old.items }
@@ -133,7 +134,7 @@ fn root_numbers(alloc: Global, subscriptions: &[Subscription]) -> Result<Vec<u64
     Ok(numbers)
 }
 
-/// Puts a number among numbers that ascend, if it is not there.
+/// Puts a number among ascending numbers, if it is not there.
 fn put_number(numbers: &mut Vec<u64>, number: u64) -> Result<(), AllocError>
     ensures { OnOk result (numbers.new.items ≡ with_number number numbers.old.items) }
 {
@@ -143,7 +144,7 @@ fn put_number(numbers: &mut Vec<u64>, number: u64) -> Result<(), AllocError>
     Ok(())
 }
 
-/// The place at which a number is put among numbers that ascend, if it is not there.
+/// The place for a number among ascending numbers, if it is not there.
 fn place_for(numbers: &[u64], number: u64) -> Option<usize>
     ensures there { IfNone result (numbers.now ≡ with_number number numbers.now) }
     ensures within { IfSome result (λ place. place ≤ length numbers.now) }

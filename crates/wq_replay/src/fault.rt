@@ -1,4 +1,4 @@
-//! Why a replay ends before its script does, and the parts of that: a step, and the taking of a line.
+//! The faults that end a replay before its script: of a step, and of the taking of a line.
 ghost use Rattle.std.specs.Prelude.{◌≡◌};
 ghost use Rattle.wq_replay.specs.Fault.{step_fault};
 
@@ -6,7 +6,7 @@ use std::alloc::{AllocError, AllocFailed};
 use std::io;
 use thiserror::Error;
 
-/// Why a replay ended before its script did.
+/// Why a replay ended before its script.
 #[derive(Clone, Copy, Debug, PartialEq, Eq, Drop, Error)]
 pub enum ReplayFault {
     /// The line of this number, counted from 1, is malformed.
@@ -21,19 +21,19 @@ pub enum ReplayFault {
     /// A reply could not be written.
     #[error("replay failed")]
     Write,
-    /// A growth was refused.
+    /// Memory ran out.
     #[error("replay failed")]
     Memory,
 }
 
-/// Why a line of a script was not done.
+/// Why a line of a script was not played.
 #[derive(Clone, Copy, Debug, PartialEq, Eq, Drop)]
 pub(crate) enum StepFault {
     /// It is malformed.
     Malformed,
     /// Its reply could not be written.
     Write,
-    /// A growth was refused.
+    /// Memory ran out.
     NoMemory,
 }
 
@@ -42,12 +42,12 @@ pub(crate) enum StepFault {
 pub(crate) enum TakeFault {
     /// The script could not be read.
     Read,
-    /// A growth was refused.
+    /// Memory ran out.
     NoMemory,
 }
 
 impl StepFault {
-    /// The end of a replay at the line of this number.
+    /// The fault of the replay, if its line of this number has this fault.
     pub(crate) fn at(self, number: u64) -> ReplayFault
         ensures { result ≡ step_fault number self }
     {

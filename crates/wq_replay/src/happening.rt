@@ -1,29 +1,30 @@
-//! What may happen in a world.
+//! The happenings that may come in a world.
 
 use wq_base::Text;
 use wq_crawl::CrawlFault;
 use wq_session::Ask;
 use wq_view::Pass;
 
-/// What may happen. A root is named without slashes at its end, but for `/`.
+/// Something that may happen. The name of a root has no slashes at its end, except for `/`.
 #[derive(Drop)]
 pub enum Happening<'a> {
-    /// A root is crawled: what it lists, or why it could not be. Nothing comes of it where the root is not shown.
+    /// A crawl of a root: its listing, or why it could not be crawled. Nothing comes of it if the root is not shown.
     Crawl {
         root: Text,
         seen: Result<&'a Pass, CrawlFault>,
     },
-    /// A root that is not shown is to be: what it lists, or why it could not be read. One that is shown stays so.
+    /// A watch of a root that is not shown: its listing, or why it could not be read. A root that is shown stays as it
+    /// is.
     Watch {
         root: Text,
         seen: Result<&'a Pass, CrawlFault>,
     },
-    /// A client asks. That it leaves is [`Ask::Leave`].
+    /// A client asks. If it leaves, its ask is [`Ask::Leave`].
     Asked {
         client: i64,
         ask: Ask,
     },
-    /// Nothing else happens for a while: a client is told of the changes of the root of this number.
+    /// Nothing else happens for a while: a client hears of the changes of the root of this number.
     Idle {
         client: i64,
         root: u64,

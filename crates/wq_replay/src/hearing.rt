@@ -1,5 +1,6 @@
-//! The happenings that a line of a script brings: the crawl or the watching that an ask needs, and the ask; idle
-//! moments; a round of triggers; or the end of a run. `playing` and `rounds` let them happen.
+//! The happenings that a line of a script brings. An ask brings the crawl or the watching that it needs, and
+//! then itself. Other lines bring idle moments, a round of triggers, or the end of a run. `playing` and `rounds`
+//! let them happen.
 ghost use Rattle.std.specs.Prelude.{◌≡◌, ◌++◌, ◌∷◌, [], IfOk, map, option_to_list};
 ghost use Rattle.wq_session.specs.Need.{need_of};
 ghost use Rattle.wq_session.specs.Needed.{need_data};
@@ -15,7 +16,7 @@ use wq_crawl::CrawlFault;
 use wq_session::{Ask, Need};
 use wq_view::Pass;
 
-/// What happens where a client asks this while `/r` lists that.
+/// The happenings if a client asks this while `/r` lists that.
 pub(crate) fn happenings(
     alloc: Global,
     tree: &Pass,
@@ -98,7 +99,7 @@ pub(crate) fn text(alloc: Global, text: &str) -> Result<Text, AllocError>
     Ok(Text::from_string(String::from_str(alloc, text)?))
 }
 
-/// What is listed of a root: of `/r` the tree that a script has set. No other root can be read.
+/// The listing of a root: for `/r`, the tree that a script has set. No other root can be read.
 fn listed<'a>(tree: &'a Pass, root: &str) -> Result<&'a Pass, CrawlFault>
     ensures { crawl_data result ≡ listed_root tree.now root.now }
 {

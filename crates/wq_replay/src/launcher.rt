@@ -1,4 +1,4 @@
-//! A launcher in memory: it starts nothing, gives each run its number, and keeps the starts that it was given.
+//! A launcher in memory: it starts nothing, gives each run its number, and keeps the starts that it got.
 
 use crate::runs::RunSet;
 use wq_follow::Start;
@@ -16,7 +16,7 @@ pub(crate) struct Tried {
 pub(crate) struct MemoryLauncher {
     /// The runs. A start gets the next number, and fails if none is left.
     pub(crate) runs: RunSet,
-    /// The starts that it was given.
+    /// The starts that it got.
     pub(crate) tried: Vec<Tried>,
     /// Whether memory ran out for a start.
     pub(crate) spent: bool,

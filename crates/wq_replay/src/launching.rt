@@ -55,7 +55,7 @@ impl RunSet {
         self.running.iter().any(|it| run == *it)
     }
 
-    /// A run has ended.
+    /// Ends a run.
     pub(crate) fn end(&mut self, run: u32)
         ensures { runs_data self.new ≡ run_ended run (runs_data self.old) }
     {
@@ -64,7 +64,7 @@ impl RunSet {
 }
 
 impl MemoryLauncher {
-    /// A launcher with these runs, which was given no start. Each start is to succeed, or each to fail.
+    /// A launcher with these runs, which got no start yet. Each start is to succeed, or each to fail.
     pub(crate) fn new(alloc: Global, runs: RunSet, succeeds: bool) -> MemoryLauncher
         ensures { launcher_shown result ≡ Some (launcher_at succeeds (runs_data runs)) }
     {

@@ -7,18 +7,18 @@ ghost use Rattle.wq_replay.specs.Playing.{RunsGoOn};
 
 use wq_session::{answers_are_calls, rounds_are_calls};
 
-/// What happens first, and what happens then, are one run.
+/// Two runs, one after the other, are one run.
 pub fn runs_go_on()
     ensures { RunsGoOn }
 {}
 
-/// What the lines of a script do is one run of its world, of which each reply is written.
+/// The lines of a script make one run of its world, and each reply of that run is written.
 pub fn scripts_are_runs()
     ensures { ScriptsAreRuns }
 {}
 
-/// What all clients of a world share is what the calls come to that were accepted of all that happened. So the laws of
-/// lists of accepted calls are laws of worlds.
+/// The shelf of a world is the result of the accepted calls of all that happened. So the laws of lists of accepted
+/// calls are laws of worlds.
 pub fn shelves_are_calls()
     ensures { ShelvesAreCalls }
 {
@@ -26,8 +26,8 @@ pub fn shelves_are_calls()
     rounds_are_calls();
 }
 
-/// Between a start of a trigger and the end of that run, as the launcher told it, no round starts the trigger. It may
-/// be replaced meanwhile, but not deleted.
+/// Between a start of a trigger and the end of that run, which the launcher reports, no round starts the trigger. A
+/// client may replace the trigger meanwhile, but not delete it.
 pub fn runs_do_not_overlap()
     ensures { RunsDoNotOverlap }
 {

@@ -1,6 +1,6 @@
-//! The world that sessions play in, without files, sockets and threads; and the replay of scripts in it, in which a tree
-//! of files is listed between the lines of clients. Files, the command line and exit statuses are left to the program
-//! above.
+//! The world that sessions play in, without files, sockets and threads; and the replay of scripts in it. A script lists
+//! a tree of files between the lines of clients. The program above this crate has files, the command line and exit
+//! statuses.
 #![tactic(auto)]
 
 mod client;

@@ -1,4 +1,4 @@
-//! What an ask, or an idle moment, finds of the roots of a world.
+//! The roots that an ask, or an idle moment, finds in a world.
 ghost use Rattle.std.specs.Prelude.{◌≡◌, List, option_map};
 ghost use Rattle.wq_clock.specs.Instance.{instance_data};
 ghost use Rattle.wq_live.specs.Table.{IsTableOf, number_by_text, root_by_text};
@@ -23,7 +23,7 @@ pub(crate) fn shows(table: &RootTable, root: &str) -> bool
     table.number_of(root).is_some()
 }
 
-/// Why the crawl or the watching was refused that an ask needs, if it needs one and that was refused.
+/// The fault of the crawl or the watching that an ask needs, if it needs one and that was refused.
 pub(crate) fn fault_for(
     need: Need<'_>,
     table: &RootTable,
@@ -70,7 +70,7 @@ fn shown(run: Run, table: &RootTable, root: &str) -> Option<Instance>
     Some(run.instance(number))
 }
 
-/// What is looked at for an ask that ends no root: the root that it names, if that is shown.
+/// The root that an ask looks at if it ends no root: the root that it names, if that is shown.
 pub(crate) fn looked<'a>(need: Need<'_>, run: Run, table: &'a RootTable) -> Option<At<'a>>
     ensures { option_map at_data result ≡ looked (need_data need.entry) (run_data run) table.now }
 {
@@ -80,7 +80,7 @@ pub(crate) fn looked<'a>(need: Need<'_>, run: Run, table: &'a RootTable) -> Opti
     }
 }
 
-/// The root of a number as it is looked at, if it is shown.
+/// The root of a number, as a session looks at it, if it is shown.
 pub(crate) fn numbered<'a>(number: u64, run: Run, table: &'a RootTable) -> Option<At<'a>>
     ensures { (events : List RootEvent) → IsTableOf events table.now
         → option_map at_data result ≡ numbered number (run_data run) table.now }
@@ -96,7 +96,7 @@ pub(crate) fn numbered<'a>(number: u64, run: Run, table: &'a RootTable) -> Optio
     })
 }
 
-/// A root as it is looked at, if it is shown.
+/// A root, as a session looks at it, if it is shown.
 fn at_root<'a>(run: Run, table: &'a RootTable, root: &str) -> Option<At<'a>>
     ensures { option_map at_data result
         ≡ option_map (at_root (run_data run)) (root_by_text root.now table.now) }

@@ -1,4 +1,4 @@
-//! The replay of a script: its lines one after the other, up to its end or to a fault.
+//! The replay of a script: it plays the lines in turn, up to the end or to a fault.
 ghost use Rattle.std.specs.Prelude.{IfSome};
 ghost use Rattle.wq_replay.specs.Replay.{Ends};
 ghost use Rattle.wq_replay.specs.Stage.{start};
@@ -15,11 +15,11 @@ use std::io::{BufRead, Write};
 pub const MAX_SCRIPT: usize = 1 << 30;
 
 /// Replays a script: answers the clients' lines in order, in a world that started at second 7 as process 9 and whose
-/// socket is `replay`. A line that asks for a crawl of the root `/r` is answered after one of the tree that the script
-/// has set.
+/// socket is `replay`. A line that asks for a crawl of the root `/r` is answered after a crawl of the tree that the
+/// script has set.
 ///
 /// Each reply is written as its client's number, a space, the reply and a newline. The first malformed line ends the
-/// replay, with the lines before it answered; and so does, with `Ok`, a line by which the server ends. So
+/// replay, after the replies to the lines before it. A line that ends the server ends the replay too, with `Ok`. So
 ///
 /// ```text
 /// pass 100

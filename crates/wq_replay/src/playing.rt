@@ -1,4 +1,4 @@
-//! What happens in a world: crawls and openings of roots, the answers to what clients ask, and idle moments. Rounds of
+//! The happenings in a world: crawls and openings of roots, answers to the asks of clients, and idle moments. Rounds of
 //! triggers and ends of runs are in `rounds`.
 ghost use Rattle.std.specs.Prelude.{◌≡◌, ◌+◌, ◌++◌, ◌∷◌, List, Ok, [], false, map, string_bytes, true};
 ghost use Rattle.std.specs.Prelude.{IfOk, IsErr, OnErr, OnOk};
@@ -37,8 +37,8 @@ use wq_view::{Pass, ViewFault};
 pub(crate) const ROOT: &str = "/r";
 
 impl World {
-    /// A world before anything, of this run of the server, whose socket has this name. The root `/r` is watched, and no
-    /// pass went over it.
+    /// A world before any happening, with this run of the server and a socket of this name. The root `/r` is watched,
+    /// and no pass went over it.
     pub fn new(alloc: Global, run: Run, sockname: String) -> Result<World, AllocError>
         ensures { IfOk result (Stands (new_world (run_data run) (string_bytes sockname))) }
     {
@@ -59,24 +59,24 @@ impl World {
         }
     }
 
-    /// Lets this happen, one after the other, and gives what is sent.
+    /// Plays these happenings in turn, and gives the lines that the server sends.
     ///
-    /// An ask that needs a crawl of a root, or has to watch it, is to come directly behind that. Where that was refused,
+    /// An ask that needs a crawl of a root, or has to watch it, has to come directly after that. If that was refused,
     /// so is the ask.
     ///
     /// # Errors
-    /// Where a growth is refused for a view, for the place of a client, or for the list of what is sent. From then on
-    /// every call is refused.
+    /// Memory ran out for a view, for the place of a client, or for the list of the lines. From then on every call is
+    /// refused.
     pub fn play(
         &mut self,
         alloc: Global,
         happenings: Vec<Happening<'_>>,
     ) -> Result<Vec<Sent>, AllocError>
-        // For every world that this one stands for:
+        // For every world that this one means:
         ensures runs { (before : WorldData) → Stands before self.old → IfOk result (λ sent.
             (after : WorldData) × Runs before (map happening_data happenings.entry.items)
             (all_sent sent.items) after × Stands after self.new) }
-        // For everything that led to it from a first one:
+        // For all happenings that led to it from a new one:
         ensures leads { (first : WorldData) (events : List HappeningData) (said : List SentData)
             → Leads first events said self.old → IfOk result (λ sent.
             Leads first (events ++ map happening_data happenings.entry.items)
@@ -94,7 +94,7 @@ impl World {
         sent
     }
 
-    /// The same, where memory suffices.
+    /// Plays these happenings in turn, if memory suffices.
     fn play_all(
         &mut self,
         alloc: Global,
@@ -113,7 +113,7 @@ impl World {
         Ok(sent)
     }
 
-    /// Lets one thing happen.
+    /// Plays one happening.
     fn happen(
         &mut self,
         alloc: Global,
@@ -151,7 +151,7 @@ impl World {
         }
     }
 
-    /// A root is crawled, and lists this, or could not be.
+    /// Crawls a root, with this listing or fault.
     fn crawl(&mut self, root: Text, seen: Result<&Pass, CrawlFault>) -> Result<(), AllocError>
         ensures { (before : WorldData) → Stands before self.old → OnOk result (
             (after : WorldData) × Crawls before root (crawl_data seen.entry) after
@@ -166,7 +166,7 @@ impl World {
         }
     }
 
-    /// A root is crawled, and lists this.
+    /// Crawls a root, with this listing.
     fn pass(&mut self, root: Text, pass: &Pass) -> Result<(), AllocError>
         ensures { (before : WorldData) → Stands before self.old → OnOk result (
             (after : WorldData) × Crawls before root (Ok pass.now) after × Stands after self.new) }
@@ -190,7 +190,7 @@ impl World {
         }
     }
 
-    /// A root that is not shown is opened, and lists this, or could not be read.
+    /// Opens a root that is not shown, with this listing or fault.
     fn watch(&mut self, root: Text, seen: Result<&Pass, CrawlFault>) -> Result<(), AllocError>
         ensures { (before : WorldData) → Stands before self.old → OnOk result (
             (after : WorldData) × Watches before root (crawl_data seen.entry) after
@@ -210,7 +210,7 @@ impl World {
         }
     }
 
-    /// A root that is not shown starts, and lists this, or could not be read.
+    /// Starts a root that is not shown, with this listing or fault.
     fn start(&mut self, root: Text, seen: Result<&Pass, CrawlFault>) -> Result<(), AllocError>
         requires new { root_by_text root self.old.table ≡ None }
         requires room { IsFullTable self.old.table → ⊥ }
@@ -227,7 +227,7 @@ impl World {
         }
     }
 
-    /// A root that is not shown starts with this pass.
+    /// Starts a root that is not shown with this pass.
     fn start_with(&mut self, root: Text, pass: &Pass) -> Result<(), AllocError>
         requires new { root_by_text root self.old.table ≡ None }
         requires room { IsFullTable self.old.table → ⊥ }
@@ -240,13 +240,13 @@ impl World {
                 self.refused = None;
                 Ok(())
             }
-            // A root may be started, so that only memory can be lacking.
+            // There is room for one more root, so only memory can run out.
             Err(_) => Err(AllocError),
         }
     }
 
-    /// What the ask of a client gets. One that needs a crawl of a root, or has to watch it, is to come directly behind
-    /// that.
+    /// The reply to the ask of a client. An ask that needs a crawl of a root, or has to watch it, has to come directly
+    /// after that.
     fn answer(&mut self, alloc: Global, client: i64, ask: Ask) -> Result<Out, AllocError>
         ensures { (before : WorldData) → Stands before self.old → IfOk result (λ out.
             (after : WorldData) × Gets client before ask out after × Stands after self.new) }
@@ -261,7 +261,7 @@ impl World {
         }
     }
 
-    /// What an ask gets that ends this root.
+    /// The reply to an ask that ends this root.
     fn answer_ended(
         &mut self,
         alloc: Global,
@@ -275,7 +275,7 @@ impl World {
             (after : WorldData) × EndsAt client instance.root before ask out after
             × Stands after self.new) }
     {
-        // The root is shown, so that only memory can be lacking.
+        // The root is shown, so only memory can run out.
         let Ok(Some(table)) = self.table.with_end(instance.root) else {
             return Ok(Out::refused(alloc, Refusal::NoMemory));
         };
@@ -295,7 +295,7 @@ impl World {
         Ok(out)
     }
 
-    /// What any other ask gets, at the root that it names.
+    /// The reply to any other ask, at the root that it names.
     fn answer_at(&mut self, alloc: Global, client: i64, ask: Ask) -> Result<Out, AllocError>
         requires followed { self.old.refused ≡ None }
         ensures { (before : WorldData) → Stands before self.old → IfOk result (λ out.
@@ -307,7 +307,7 @@ impl World {
         clients::answer(&mut self.clients, alloc, client, ask, at, &mut self.shelf)
     }
 
-    /// What an idle moment of the root of this number gives out to a client.
+    /// The lists that an idle moment of the root of this number gives out to a client.
     fn rest(&mut self, alloc: Global, client: i64, root: u64) -> Result<Out, AllocError>
         ensures { (before : WorldData) → Stands before self.old → IfOk result (λ out.
             (after : WorldData) × Rests client root before out after × Stands after self.new) }

@@ -14,7 +14,7 @@ use wq_base::{Table, Text};
 use wq_session::round;
 
 impl World {
-    /// A round of the triggers of a root, in which each start succeeds, or each fails.
+    /// Has a round of the triggers of a root, in which each start succeeds, or each fails.
     ///
     /// It gives a line about each start, without its newline.
     pub(crate) fn round(
@@ -47,7 +47,7 @@ impl World {
         Ok(lines)
     }
 
-    /// A run has ended.
+    /// Ends a run.
     pub(crate) fn end_run(&mut self, run: u32)
         ensures { (before : WorldData) → Stands before self.old
             → Stands (without_running run before) self.new }

@@ -1,5 +1,5 @@
-//! The commands of triggers that run in a world. Nothing is started there: a run has a number, and goes on until it is
-//! told that it has ended.
+//! The commands of triggers that run in a world. The world starts nothing: a run has a number, and goes on until a
+//! happening ends it.
 
 /// The commands that run.
 #[derive(Drop)]

@@ -1,4 +1,4 @@
-//! The lines of a script, each as what it says. What they do is left to `step`.
+//! The lines of a script, and their meanings. Their effects are in `step`.
 ghost use Rattle.std.specs.Prelude.{◌≡◌, option_map};
 ghost use Rattle.wq_replay.specs.Script.{ask_of, fire_of, first_word, idle_from, is_client, kind_of_word, leave_from};
 ghost use Rattle.wq_replay.specs.Script.{line_of, number_then, row_of};
@@ -8,12 +8,12 @@ use memchr::memchr;
 use wq_base::signed_number;
 use wq_view::Kind;
 
-/// What a line of a script says.
+/// The meaning of a line of a script.
 #[derive(Clone, Copy, Debug)]
 pub(crate) enum Line<'a> {
-    /// A listing begins, seen at this second of the Unix epoch, with which the root is crawled.
+    /// A listing begins, seen at this second of the Unix epoch. The root is crawled with it.
     Pass(i64),
-    /// A listing begins of what there is at this second, which no crawl has seen yet.
+    /// A listing begins of the files at this second, which no crawl has seen yet.
     Tree(i64),
     /// A row of the listing.
     Row(RowLine<'a>),
@@ -23,7 +23,7 @@ pub(crate) enum Line<'a> {
     Ask(i64, &'a [u8]),
     /// A client leaves.
     Leave(i64),
-    /// Nothing else happens for a while, and a client is told of what changed.
+    /// Nothing else happens for a while, and a client hears of changes.
     Idle(i64),
     /// The triggers of the root have a round, in which each start succeeds, or each fails.
     Fire(bool),
@@ -31,7 +31,7 @@ pub(crate) enum Line<'a> {
     Done(&'a [u8]),
 }
 
-/// A row of a listing: nothing of it is tested yet.
+/// A row of a listing, before any test of it.
 #[derive(Clone, Copy, Debug)]
 pub(crate) struct RowLine<'a> {
     pub(crate) kind: Kind,
@@ -42,7 +42,7 @@ pub(crate) struct RowLine<'a> {
     pub(crate) name: &'a [u8],
 }
 
-/// The words that head lines.
+/// The first words of lines.
 const PASS: &[u8] = b"pass";
 
 const TREE: &[u8] = b"tree";
@@ -62,7 +62,7 @@ const END: &[u8] = b"end";
 /// The greatest number of a client.
 const MAX_CLIENT: i64 = 32;
 
-/// What a line says, unless it is malformed.
+/// The meaning of a line, unless it is malformed.
 pub(crate) fn read_line(text: &[u8]) -> Option<Line<'_>>
     ensures { option_map line_data result ≡ line_of text.now }
 {
@@ -101,7 +101,7 @@ fn ask(text: &[u8]) -> Option<Line<'_>>
     }
 }
 
-/// That a client leaves.
+/// The line that a client leaves.
 fn leave<'a>(client: i64) -> Option<Line<'a>>
     ensures { option_map line_data result ≡ leave_from client }
 {
@@ -112,7 +112,7 @@ fn leave<'a>(client: i64) -> Option<Line<'a>>
     }
 }
 
-/// That nothing else happens for a while.
+/// The line that nothing else happens for a while.
 fn idle<'a>(client: i64) -> Option<Line<'a>>
     ensures { option_map line_data result ≡ idle_from client }
 {
@@ -155,7 +155,7 @@ fn row(kind: Kind, text: &[u8]) -> Option<Line<'_>>
     }))
 }
 
-/// The word before the first space, and what follows that space.
+/// The word before the first space, and the text after that space.
 fn first_word(text: &[u8]) -> Option<(&[u8], &[u8])>
     ensures { option_map (λ w. (w.0.now, w.1.now)) result ≡ first_word text.now }
 {
@@ -165,7 +165,7 @@ fn first_word(text: &[u8]) -> Option<(&[u8], &[u8])>
     Some((&text[..at], &text[at + 1..]))
 }
 
-/// A number, and what follows the space behind it.
+/// A number, and the text after the space that follows it.
 fn number_then(text: &[u8]) -> Option<(i64, &[u8])>
     ensures { option_map (λ n. (n.0, n.1.now)) result ≡ number_then text.now }
 {

@@ -1,4 +1,4 @@
-//! The lines that are sent to clients. Where a writer fails, what was written of a line is a front of it.
+//! The lines that are sent to clients. If a writer fails, it has written a front of a line.
 ghost use Rattle.std.specs.Prelude.{◌≡◌, ◌++◌, ◌&&◌, None, Some, codes, map, List, OnErr, OnOk, ℕ};
 ghost use Rattle.std.specs.Io.KnownBytes.{Appends};
 ghost use Rattle.wq_base.specs.Writing.{WritesFront};
@@ -16,7 +16,7 @@ use std::io::Write;
 use wq_base::{Table, write_all};
 use wq_session::Line;
 
-/// Sends what is sent to clients, and tells whether the server goes on.
+/// Sends these lines to clients, and tells whether the server goes on.
 pub(crate) fn send<W: Write>(writer: &mut W, sent: &[Sent]) -> Result<bool, StepFault>
     ensures { Sends (all_sent sent.now) (W.contents writer.old) (W.contents writer.new) result }
 {
@@ -35,7 +35,7 @@ fn both(first: bool, second: bool) -> bool
     first && second
 }
 
-/// Sends what is sent of one thing that happened, and tells whether the server goes on.
+/// Sends the lines for one happening, and tells whether the server goes on.
 fn send_one<W: Write>(writer: &mut W, sent: &Sent) -> Result<bool, StepFault>
     ensures { Sends (sent_of sent.now) (W.contents writer.old) (W.contents writer.new) result }
 {

@@ -1,19 +1,19 @@
-//! What is sent.
+//! The lines that the server sends.
 ghost use Rattle.std.specs.Prelude.{◌≡◌};
 
 use wq_base::Table;
 use wq_session::Out;
 
-/// What is sent of one thing that happened.
+/// The lines that the server sends for one happening.
 #[derive(Drop)]
 pub enum Sent {
-    /// A client is told something.
+    /// Lines to a client.
     ToClient(Told),
     /// A line, without its newline, about each start of a round, in the order of the triggers.
     OfRound(Table<Table<u8>>),
 }
 
-/// What a client is told: a reply, or none, and the lists of subscriptions that follow it.
+/// The lines to a client: a reply, or none, and then the lists of subscriptions.
 #[derive(Drop)]
 pub struct Told {
     pub(crate) client: i64,
@@ -28,7 +28,7 @@ impl Told {
         self.client
     }
 
-    /// What is given out: the lines, and whether the server is to end.
+    /// The lines, and whether the server is to end.
     pub fn out(&self) -> &Out
         ensures { result.now ≡ self.now.out }
     {

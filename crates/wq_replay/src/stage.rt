@@ -1,4 +1,5 @@
-//! Where a script stands: the world, what a crawl of `/r` would list, and the listing that is open.
+//! The stage of a script: the world, the listing that a crawl of `/r` would give, and the listing
+//! that is open.
 
 use crate::playing::no_files;
 use crate::world::World;
@@ -24,7 +25,7 @@ impl Stage {
     ghost use Rattle.wq_replay.specs.Stage.{start};
     ghost use Rattle.wq_replay.specs.Step.{IsAt};
 
-    /// Where a script starts: before anything, and with no listing open.
+    /// The first stage of a script: nothing has happened, and no listing is open.
     pub(crate) fn new(alloc: Global) -> Result<Stage, AllocError>
         ensures { IfOk result (λ stage. IsAt stage start) }
     {
@@ -38,7 +39,7 @@ impl Stage {
     }
 }
 
-/// A listing whose end has not come yet.
+/// A listing that has not ended yet.
 #[derive(Drop)]
 pub(crate) struct Draft {
     /// Whether the root is crawled at its end.

@@ -52,7 +52,7 @@ fn failed(alloc: Global, start: &Start) -> Result<Table<u8>, AllocError>
 fn started(alloc: Global, start: &Start) -> Result<Table<u8>, AllocError>
     ensures { IfOk result (λ line. line ≡ started_text (start_data start.now)) }
 {
-    // Names and JSON are UTF-8, so that only memory can be lacking.
+    // Names and JSON are UTF-8, so only memory can run out.
     let Ok(input) = str::from_utf8(start.input.as_slice()) else {
         return Err(AllocError);
     };
@@ -71,7 +71,7 @@ fn put_start(out: &mut Writer, start: &Start, input: &str) -> Result<(), AllocEr
     put_end(out, start.env.trigger.as_str(), input)
 }
 
-/// Prints the begin of a start, with its arguments.
+/// Prints the beginning of a start, with its arguments.
 fn put_args(out: &mut Writer, args: &[Text]) -> Result<(), AllocError>
     ensures { Appends result out.old out.new
         (begin_object ∷ key (codes "args") ∷ json_tokens (outline (texts_data args.now))) }

@@ -1,4 +1,4 @@
-//! One line of a script: what it does at the stage where the script stands.
+//! One line of a script, and its effect at the stage of the script.
 ghost use Rattle.std.specs.Prelude.{◌≡◌, ℕ, ℤ, [], List, Option, None, Some, IfOk, Ok, OnOk, map, true};
 ghost use Rattle.wq_stream.specs.Stream.{event_of, is_binary};
 ghost use Rattle.wq_stream.specs.declared.event.Event.{Event};
@@ -29,7 +29,7 @@ use wq_session::{Ask, Refusal};
 use wq_stream::{Event, MAX_LINE};
 use wq_view::{Pass, Seen};
 
-/// Does what a line of a script says, and tells whether the server goes on.
+/// Plays a line of a script, and tells whether the server goes on.
 pub(crate) fn step<W: Write>(
     alloc: Global,
     stage: &mut Stage,
@@ -52,7 +52,7 @@ pub(crate) fn step<W: Write>(
     }
 }
 
-/// Does what a line says outside of a listing.
+/// Plays a line outside of a listing.
 fn step_outside<W: Write>(
     alloc: Global,
     stage: &mut Stage,
@@ -92,7 +92,7 @@ fn begin(alloc: Global, stage: &mut Stage, crawls: bool, second: i64) -> bool
     true
 }
 
-/// Does what a line of a listing says.
+/// Plays a line of a listing.
 fn step_inside(
     alloc: Global,
     stage: &mut Stage,
@@ -162,7 +162,7 @@ fn crawl(alloc: Global, world: &mut World, tree: &Pass) -> Result<(), AllocError
     Ok(())
 }
 
-/// What a client's line asks.
+/// The ask of a client's line.
 fn ask_of(alloc: Global, line: &[u8]) -> Ask
     ensures { Asks (event_of line.now) result }
 {
@@ -259,7 +259,7 @@ fn ends_of<'a>(alloc: Global, world: &World, name: &[u8]) -> Result<Vec<Happenin
     }
 }
 
-/// Lets all of this happen, and sends what comes of it; the server goes on.
+/// Plays these happenings, and sends their lines; the server goes on.
 fn happen<W: Write>(
     alloc: Global,
     stage: &mut Stage,

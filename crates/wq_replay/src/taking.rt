@@ -1,5 +1,5 @@
-//! Takes the lines of a script from a reader. Of a line over the limit only a front is kept, so that no line needs
-//! more memory. What a line says is not looked at here.
+//! Takes the lines of a script from a reader. It keeps only a front of a line over the limit, so no line needs
+//! more memory. The meaning of a line is left to `script`.
 ghost use Rattle.std.specs.Prelude.{◌≡◌, ◌≤◌, true, false, [], length, IfOk, IfSome, OnErr, OnOk};
 ghost use Rattle.std.specs.Io.BufRead.{strip_last};
 ghost use Rattle.std.specs.Io.KnownBytes.{Keeps};
@@ -13,12 +13,12 @@ use std::io::{BufRead, Error, ErrorKind};
 /// How many bytes a line of a script may have, without its newline.
 pub const MAX_SCRIPT_LINE: usize = 1_048_640;
 
-/// How many bytes of a line are kept, its newline counted. One byte over the limit shows that a line is too long.
+/// How many bytes of a line are kept, with its newline. One byte over the limit shows that a line is too long.
 const MAX_KEPT: usize = MAX_SCRIPT_LINE + 1;
 
 /// Takes the next line of a script, without its newline, and says how many bytes were taken: none at the end.
 ///
-/// Of a line over the limit a front is taken that is over the limit too.
+/// If the line is over the limit, a front of it is taken that is over the limit too.
 pub(crate) fn next_line<R: BufRead>(reader: &mut R, line: &mut Vec<u8>) -> Result<usize, TakeFault>
     ensures done { IfOk result (λ taken. IfSome (R.remaining reader.old) (λ bytes.
         TakesLine bytes taken line.new.items (R.remaining reader.new))) }
@@ -51,7 +51,7 @@ fn take_line<R: BufRead>(reader: &mut R, line: &mut Vec<u8>) -> Result<(), TakeF
     Err(TakeFault::Read)
 }
 
-/// Takes what the reader shows of a line, and says whether that was its last part.
+/// Takes the part of a line that the reader shows, and says whether that was the last part.
 fn take_part<R: BufRead>(reader: &mut R, line: &mut Vec<u8>) -> Result<bool, TakeFault>
     requires { length line.old.items ≤ max_kept }
     ensures done { IfOk result (λ last. IfSome (R.remaining reader.old) (λ bytes.
@@ -72,7 +72,7 @@ fn take_part<R: BufRead>(reader: &mut R, line: &mut Vec<u8>) -> Result<bool, Tak
     Ok(is_last)
 }
 
-/// How many of the bytes that are shown are taken for the line, and whether nothing is taken after them.
+/// How many of the shown bytes are taken for the line, and whether nothing is taken after them.
 fn part(shown: &[u8], room: usize) -> (usize, bool)
     ensures count { result.0 ≡ length (kept_line room shown.now) }
     ensures last { result.1 ≡ is_last_line room shown.now }

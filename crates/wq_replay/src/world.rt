@@ -1,5 +1,5 @@
-//! The world that sessions play in, without files, sockets and threads: its roots, what all clients share, and the
-//! sessions of clients. What happens there is left to `playing`.
+//! The world that sessions play in, without files, sockets and threads: its roots, the shelf of all clients, and
+//! the sessions of clients. Its happenings are in `playing`.
 
 use crate::client::Client;
 use crate::refused::Refused;
@@ -20,8 +20,8 @@ pub struct World {
     pub(crate) clients: Vec<Client>,
     /// The commands of triggers that run.
     pub(crate) runs: RunSet,
-    /// The crawl or the watching that came last, if it was refused and nothing followed it.
+    /// The last crawl or watching, if it was refused and nothing followed it.
     pub(crate) refused: Option<Refused>,
-    /// Whether memory ran out over a list of what was sent.
+    /// Whether memory ran out in a call, so that every later call is refused.
     pub(crate) spent: bool,
 }

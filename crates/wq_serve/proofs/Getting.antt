@@ -1,4 +1,4 @@
--- What the parts of answering an ask come to, for each thing that an ask may need.
+-- The results of the parts of answering an ask, for each need.
 use Rattle.std.proofs.Common.{◌≡◌, ℕ, List, Option, Some, None, Result, Ok, Err, refl, sym, ap, subst}
 use Rattle.wq_clock.specs.Instance.{InstanceData}
 use Rattle.wq_live.specs.declared.event.RootEvent.{RootEvent}
@@ -30,7 +30,7 @@ module _ (run : Run) (ask : Ask) (seen after : List RootEvent) (stand left : Sta
     answers,
   )
 
-  -- an ask for which the roots are asked first
+  -- an ask that the roots are asked for first
   heard_first : (root : List ℕ) (request : RootRequestData) (told : Result (Option (List RootEvent)) CrawlFault) (given later : Option CrawlerData)
       → ((heard : List RootEvent) (at : Option AtData) → SeesNeeded run (need_of ask) heard at after → SeesNeeded run (look root) heard at after)
       → RootsGive given request told later → AnswersAfter run ask told seen stand out after left
@@ -56,7 +56,7 @@ module _ (run : Run) (ask : Ask) (seen after : List RootEvent) (stand left : Sta
       let it = heard_first root (showing root) told given later (λ heard at sees. subst (λ n. SeesNeeded run n heard at after) (sym need) sees) gives answers in
       (it.0, subst (λ n. Readies run n (known given seen) it.0 (known later after)) need it.1, it.2)
 
-  -- what holds where a root is to be retired
+  -- facts if a root is to be retired
   if_retires : (P : Type 0) (need : NeedData) → ((root : List ℕ) → need ≡ unwatch root → P) → IfUnwatches need P
   if_retires P none by = tt
   if_retires P (look root) by = tt

@@ -15,7 +15,7 @@ use Rattle.wq_base.specs.Writing.{WritesFront}
 use Rattle.wq_base.proofs.Fronts.{appends_then}
 use Rattle.wq_clock.specs.declared.run.Run.{Run}
 
--- an event that is no idle moment asks something, which is answered
+-- an event that is no idle moment asks something, and the session answers it
 pub does_other : (run : Run) (event : Event) (before : KnownData) (stand : StandData) (out : OutData) (after : KnownData) (left : StandData)
     → ((root : ℕ) → event ≡ Idle root → ⊥) → (ask : Ask) → Asks event ask → IsAnswered run ask before stand out after left
     → Does run event before stand out after left
@@ -68,7 +68,7 @@ ends_well run before old mid new events lines now event out after shut few goes 
       wrote = appends_then old mid new lines (written_for out) first second;
     })
 
--- a session ends with an event the lines for which were not written whole
+-- a session ends with an event whose lines were not written whole
 pub ends_within : (run : Run) (before : PlaceData) (old mid new : Option (List ℕ)) (events : List Event) (lines : List ℕ) (now : PlaceData) (event : Event)
     (out : OutData) (after : PlaceData) (shut : Bool) → length events < max_events → GoesOn run before events lines now → Serves run now event out after
     → shut ≡ out.shuts → Appends old mid lines → WritesFront mid new (written_for out)

@@ -1,4 +1,4 @@
--- What is taken at a shelf and then finished is answered there.
+-- Taking at a shelf and then finishing is an answer there.
 use Rattle.std.proofs.Common.{◌≡◌, List, Option, Some, None, option_map, refl, sym, ap, subst, ◌∙◌}
 use Rattle.wq_follow.specs.Subscription.{SubscriptionData}
 use Rattle.wq_registry.specs.Shelf.{cursor_unset}
@@ -13,7 +13,7 @@ use Rattle.wq_session.proofs.Finishing.{can_finish}
 use Rattle.wq_serve.specs.Desk.{AnswersShelf, HoldsShelf, Unsets}
 
 module _ (ask : Ask) (at : Option AtData) (follows left : List SubscriptionData) (work : WorkData) (out given : OutData) where
-  -- where no cursor is named, nothing more is done
+  -- if no cursor is named, nothing more is done
   pub none_unset : (shelf next : ShelfNow) → TakesAsk ask at shelf work next → Finishes work at follows out left
       → given ≡ settled out → out.unset ≡ None → AnswersAsk ask at shelf follows given next left
   none_unset shelf next takes done is none =
@@ -28,7 +28,7 @@ module _ (ask : Ask) (at : Option AtData) (follows left : List SubscriptionData)
   kept_answer None mid (shelf, next, reached, takes, shown) done is none =
       (shelf, next, reached, none_unset shelf next takes done is none, shown)
 
-  -- where one is named, it is unset
+  -- if one is named, it is unset
   pub unset_answer : (old mid after : Option ShelfNow) (cursor : Cursor) → HoldsShelf old ask at work mid
       → Finishes work at follows out left → given ≡ settled out → out.unset ≡ Some cursor → Unsets mid cursor after
       → AnswersShelf old follows ask at given after left
@@ -45,7 +45,7 @@ module _ (ask : Ask) (at : Option AtData) (follows left : List SubscriptionData)
     unsets ∙ ap (option_map (cursor_unset cursor.root cursor.name)) shown,
   )
 
--- what was taken can be finished
+-- work that was taken can be finished
 pub held_finish : (old mid : Option ShelfNow) (ask : Ask) (at : Option AtData) (work : WorkData) → HoldsShelf old ask at work mid
     → CanFinish work at
 held_finish (Some shelf) mid ask at work (next, takes, shown) = can_finish ask at shelf work next takes

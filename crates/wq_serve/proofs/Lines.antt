@@ -8,13 +8,13 @@ use Rattle.wq_base.proofs.Fronts.{appends_then, front_before, front_behind}
 use Rattle.std.proofs.lemmas.Option.{same_Some}
 use Rattle.wq_serve.specs.Serving.{line_for, lines_for}
 
--- a line that there is, is the reply's
+-- if there is a line, it is the reply's
 pub line_is : (reply : Option (List ℕ)) (line : List ℕ) → Some line ≡ option_map (λ text. text ++ codes "\n") reply
     → line ≡ line_for reply
 line_is None line is = absurd (cc is)
 line_is (Some text) line is = same_Some line (text ++ codes "\n") is
 
--- where there is none, there is no reply
+-- if there is none, there is no reply
 pub no_line : (reply : Option (List ℕ)) → None ≡ option_map (λ text. text ++ codes "\n") reply → [] ≡ line_for reply
 no_line None is = refl
 no_line (Some text) is = absurd (cc is)
@@ -57,7 +57,7 @@ module _ (a b c : Option (List ℕ)) (lists : List (List ℕ)) (i : ℕ) (text :
       (front_added a b c (take i lists) text (drop (suc i) lists) whole front)
 
 module _ {T E : Type 0} (result : Result T E) (a b c : Option (List ℕ)) (xs ys : List ℕ) (whole : Appends a b xs) where
-  -- what was written well after others
+  -- lines that were written whole after others
   pub well_behind : OnOk result (Appends b c ys) → OnOk result (Appends a c (xs ++ ys))
   well_behind = at result
     where
@@ -65,7 +65,7 @@ module _ {T E : Type 0} (result : Result T E) (a b c : Option (List ℕ)) (xs ys
       at (Ok value) written = appends_then a b c xs ys whole written
       at (Err fault) written = tt
 
-  -- what was written in part after others
+  -- lines that were written in part after others
   pub part_after : OnErr result (WritesFront b c ys) → OnErr result (WritesFront a c (xs ++ ys))
   part_after = at result
     where

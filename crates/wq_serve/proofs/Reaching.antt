@@ -1,4 +1,4 @@
--- What sessions and rounds do at a shelf leads on from there, and is what accepted calls do.
+-- Sessions and rounds at a shelf lead on from there, as accepted calls do.
 use Rattle.std.proofs.Common.{◌≡◌, ℕ, List, [], ◌∷◌, ◌++◌, Option, inl, refl, sym, ap, subst, ◌∙◌}
 use Rattle.wq_clock.specs.Instance.{InstanceData}
 use Rattle.wq_follow.specs.Launcher.{LauncherData}
@@ -15,7 +15,7 @@ use Rattle.wq_serve.specs.Reached.{TurnData, takes, unsets, rounds, Turns, Leads
 use Rattle.wq_session.proofs.Ending.{none_named}
 use Rattle.wq_serve.proofs.Held.{none_unset}
 
--- a shelf on which nothing stands
+-- an empty shelf
 pub blank_reached : (sockname : List ℕ) → IsReached (blank sockname)
 unfolding IsReached
 blank_reached sockname = (sockname, [], refl)

@@ -14,7 +14,7 @@ pub root_found : (found : Option Root) (number : ℕ) → Some number ≡ option
 root_found None number is = absurd cc
 root_found (Some root) number is = (root, refl, cc is)
 
--- what is looked at, from what the look of a lawful list gives
+-- the root that is looked at, from the look of a lawful list
 pub shows_it : (run : Run) (text : List ℕ) (events : List RootEvent) (number : ℕ) (at : AtData) (view : ViewData)
     → IsLawfulList events → Some number ≡ option_map (λ (root : Root). root.number) (shown_root text events)
     → at.instance ≡ instance_of (run_data run) number → at.view ≡ Some view → IsViewOf (passes_over number events) view

@@ -1,5 +1,5 @@
--- What the parts of answering an ask come to.
--- No public document is behind it.
+-- The results of the parts of answering an ask.
+-- It is this server's own.
 use Rattle.std.specs.Prelude.{◌≡◌, ◌⊎◌, List, Option, Some, None, Result, Ok, Err, option_map}
 use mathlib.Core.List.{IsPrefix}
 use Rattle.wq_clock.specs.Instance.{InstanceData, instance_data}
@@ -20,18 +20,18 @@ use Rattle.wq_clock.specs.declared.run.Run.{Run}
 use Rattle.wq_serve.specs.declared.client.Client.{Client}
 use Rattle.wq_serve.specs.declared.looking.SharedAt.{SharedAt}
 
--- what is looked at, of a root with a share of its view
+-- the root that is looked at, as data, with a share of its view
 abbrev pub shared_data : SharedAt → AtData
 shared_data shared = record {
   instance = instance_data shared.instance;
   view = Some (shared.view).value;
 }
 
--- what stands when a client is answered: the shelf, if one is shown, and the client's subscriptions
+-- the state when a client is answered: the shelf, if one is shown, and the client's subscriptions
 abbrev pub stand_of : Option ShelfNow → Client → StandData
 stand_of shelf client = record { shelf = shelf; follows = follows_of client.session }
 
--- what is known of the roots, from its parts
+-- the knowledge of the roots, from its parts
 abbrev pub known : Option CrawlerData → List RootEvent → KnownData
 known roots seen = record { roots = roots; seen = seen }
 
@@ -43,18 +43,18 @@ ShowsNeeded run (crawl root) events at = ShowsAt run root events at
 ShowsNeeded run (watch root) events at = ShowsAt run root events at
 ShowsNeeded run (unwatch root) events at = ShowsAt run root events at
 
--- the root that an ask needs is looked at, or the look is refused
+-- the session looks at the root that an ask needs, or the look is refused
 abbrev pub SeesNeeded : Run → NeedData → List RootEvent → Option AtData → List RootEvent → Type 0
 SeesNeeded run need before at after =
     (IsPrefix before after × ShowsNeeded run need after at) ⊎ ((after ≡ before) × (at ≡ None))
 
--- the root is looked at, and the ask is answered at it
+-- the session looks at the root, and answers the ask at it
 abbrev pub SeesFirst : Run → Ask → List RootEvent → StandData → OutData → List RootEvent
     → StandData → Type 0
 SeesFirst run ask before stand out after left =
     (at : Option AtData) × SeesNeeded run (need_of ask) before at after × AnswersAt stand ask at out left
 
--- the roots told this, and then the root is looked at, and the ask is answered
+-- the roots told this; then the session looks at the root, and answers the ask
 abbrev pub AnswersAfter : Run → Ask → Result (Option (List RootEvent)) CrawlFault → List RootEvent
     → StandData → OutData → List RootEvent → StandData → Type 0
 AnswersAfter run ask (Ok told) before stand out after left =
@@ -63,14 +63,14 @@ AnswersAfter run ask (Ok told) before stand out after left =
 AnswersAfter run ask (Err fault) before stand out after left =
     MayRefuse (crawl_refusal fault) out × (after ≡ before) × (left ≡ stand)
 
--- the number of the root that an ask needs is looked for
+-- the session looks for the number of the root that an ask needs
 abbrev pub SeesNumber : Run → NeedData → List RootEvent → Option InstanceData → List RootEvent
     → Type 0
 SeesNumber run need before instance after =
     (at : Option AtData) × SeesNeeded run need before at after
     × (instance ≡ option_map (λ at. at.instance) at)
 
--- the end of a root of this number was told, or refused, and then the ask is answered
+-- the end of a root of this number was told, or refused; then the session answers the ask
 abbrev pub AnswersEnd : InstanceData → Ask → Result (List RootEvent) CrawlFault → List RootEvent
     → StandData → OutData → List RootEvent → StandData → Type 0
 AnswersEnd instance ask (Ok told) before stand out after left =
@@ -79,7 +79,7 @@ AnswersEnd instance ask (Ok told) before stand out after left =
 AnswersEnd instance ask (Err fault) before stand out after left =
     MayRefuse (crawl_refusal fault) out × (after ≡ before) × (left ≡ stand)
 
--- this holds where an ask needs that a root is retired
+-- this holds if an ask needs the retirement of a root
 abbrev pub IfUnwatches : NeedData → Type 0 → Type 0
 IfUnwatches (unwatch root) fact = fact
 IfUnwatches _ fact = Unit {0}

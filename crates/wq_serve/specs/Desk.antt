@@ -1,5 +1,5 @@
--- What happens at the shelf that all clients share, while it is held for one of them.
--- No public document is behind it.
+-- The events at the shelf that all clients share, while it is held for one of them.
+-- It is this server's own.
 use Rattle.std.specs.Prelude.{◌≡◌, List, Option, Some, None, option_map}
 use Rattle.wq_follow.specs.Subscription.{SubscriptionData}
 use Rattle.wq_registry.specs.Shelf.{cursor_unset}
@@ -11,8 +11,8 @@ use Rattle.wq_session.specs.declared.ask.Ask.{Ask}
 use Rattle.wq_session.specs.declared.cursor.Cursor.{Cursor}
 use Rattle.wq_serve.specs.Reached.{IsReached}
 
--- an ask is taken at a shelf: at the one that is shown, and what it leaves is then shown; or, where
--- none is shown, at some shelf to which leads what sessions did
+-- an ask is taken at a shelf. If a shelf is shown, that one is used, and the result is then shown.
+-- If none is shown, it is some shelf that the acts of sessions lead to
 abbrev pub HoldsShelf : Option ShelfNow → Ask → Option AtData → WorkData → Option ShelfNow → Type 0
 HoldsShelf (Some shelf) ask at work after =
     (left : ShelfNow) × TakesAsk ask at shelf work left × (after ≡ Some left)
@@ -23,14 +23,14 @@ HoldsShelf None ask at work after =
 abbrev pub Unsets : Option ShelfNow → Cursor → Option ShelfNow → Type 0
 Unsets shelf cursor after = after ≡ option_map (cursor_unset cursor.root cursor.name) shelf
 
--- what stands when a session answers: the shelf, if one is shown, and the session's subscriptions
+-- the state when a session answers: the shelf, if one is shown, and the session's subscriptions
 pub record StandData : Type 0 where
   pub shelf : Option ShelfNow
   pub follows : List SubscriptionData
 
--- an ask is answered at a shelf: at the one that is shown, and what it leaves is then shown; or,
--- where none is shown, at some shelf to which leads what sessions did. The subscriptions of the
--- session are these, and then those that are left
+-- an ask is answered at a shelf. If a shelf is shown, that one is used, and the result is then
+-- shown. If none is shown, it is some shelf that the acts of sessions lead to. The subscriptions of
+-- the session are these, and then those that are left
 abbrev pub AnswersShelf : Option ShelfNow → List SubscriptionData → Ask → Option AtData → OutData
     → Option ShelfNow → List SubscriptionData → Type 0
 AnswersShelf (Some shelf) follows ask at out after left =
@@ -39,7 +39,7 @@ AnswersShelf None follows ask at out after left =
     (shelf : ShelfNow) × (next : ShelfNow) × IsReached shelf
     × AnswersAsk ask at shelf follows out next left × (after ≡ None)
 
--- an ask is answered where this stands
+-- an ask is answered in this state
 abbrev pub AnswersAt : StandData → Ask → Option AtData → OutData → StandData → Type 0
 AnswersAt stand ask at out after =
     AnswersShelf stand.shelf stand.follows ask at out after.shelf after.follows

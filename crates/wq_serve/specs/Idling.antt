@@ -1,7 +1,7 @@
--- An idle moment of a root in a session: the root is looked at, and the session's subscriptions are
--- told of its changes.
--- From Watchman's documentation of `subscribe`; that a refused look leaves the moment undone is this
--- server's own.
+-- An idle moment of a root in a session: the session looks at the root, and tells its subscriptions
+-- the changes.
+-- From Watchman's documentation of `subscribe`. If the look is refused, the moment is skipped: this
+-- is this server's own.
 use Rattle.std.specs.Prelude.{◌≡◌, ◌⊎◌, ℕ, true, List, Option}
 use mathlib.Core.List.{IsPrefix}
 use Rattle.wq_clock.specs.declared.run.Run.{Run}
@@ -14,8 +14,8 @@ use Rattle.wq_serve.specs.Desk.{StandData}
 use Rattle.wq_serve.specs.Ready.{KnownData}
 use Rattle.wq_serve.specs.Run.{ShowsNumber}
 
--- the root of this number is looked at, in a list that begins with all that was known, and its
--- subscriptions are told; or the look is refused, and nothing is given out
+-- the session looks at the root of this number, in a list that begins with all that it knew, and
+-- tells its subscriptions; or the look is refused, and there is no output
 abbrev pub SeesMoment : Run → ℕ → List RootEvent → List SubscriptionData → OutData
     → List RootEvent → List SubscriptionData → Type 0
 SeesMoment run root before follows out after left =
@@ -23,7 +23,7 @@ SeesMoment run root before follows out after left =
     × Idles root at follows out left)
     ⊎ ((after ≡ before) × (out ≡ silence true) × (left ≡ follows))
 
--- the same of all that stands: the roots are asked nothing, and the shelf stays
+-- the same for the whole state: the session does not ask the roots, and the shelf stays
 abbrev pub IsIdled : Run → ℕ → KnownData → StandData → OutData → KnownData → StandData → Type 0
 IsIdled run root before stand out after left =
     (after.roots ≡ before.roots) × (left.shelf ≡ stand.shelf)

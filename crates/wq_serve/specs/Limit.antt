@@ -2,6 +2,6 @@
 -- No public document names one.
 use Rattle.std.specs.Prelude.{ℕ, ◌^◌}
 
--- how many events a session takes
+-- the most events that a session takes
 abbrev pub max_events : ℕ
 max_events = 2 ^ 62

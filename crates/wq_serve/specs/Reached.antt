@@ -1,5 +1,5 @@
--- Shelves that may be found if many sessions share one.
--- No public document is behind it.
+-- The shelves that sessions may find when many share one.
+-- It is this server's own.
 use Rattle.std.specs.Prelude.{◌≡◌, ℕ, List, [], ◌∷◌, Option}
 use Rattle.wq_clock.specs.Instance.{InstanceData}
 use Rattle.wq_follow.specs.Launcher.{LauncherData}
@@ -13,32 +13,32 @@ use Rattle.wq_session.specs.Work.{WorkData}
 use Rattle.wq_session.specs.At.{AtData, ShelfNow}
 use Rattle.wq_session.specs.declared.ask.Ask.{Ask}
 
--- what is done at a shelf: a session takes an ask, at a root that is looked at or at none, and work
--- is begun; or it unsets a cursor; or the triggers of a root have a round, at a view of it
+-- an act at a shelf: a session takes an ask, at a root that is looked at or at none, and begins
+-- work; or it unsets a cursor; or the triggers of a root have a round, at a view of it
 pub data TurnData : Type 0 where
   takes : Ask → Option AtData → WorkData → TurnData
   unsets : (root : ℕ) (name : List ℕ) → TurnData
   rounds : InstanceData → ViewData → (shown : Option LauncherData) → (left : Option LauncherData)
       → TurnData
 
--- one of them leads from a shelf to another
+-- an act leads from one shelf to another
 abbrev pub Turns : TurnData → ShelfNow → ShelfNow → Type 0
 Turns (takes ask at work) before after = TakesAsk ask at before work after
 Turns (unsets root name) before after = after ≡ cursor_unset root name before
 Turns (rounds instance view shown left) before after = IsRound instance view before shown after left
 
--- they lead to the shelf, one after the other, from one on which nothing stands; the last is said
--- first
+-- the acts, one after the other, lead from an empty shelf to this one; the last is first in the
+-- list
 abbrev pub LeadsToShelf : List ℕ → List TurnData → ShelfNow → Type 0
 LeadsToShelf sockname [] shelf = shelf ≡ blank sockname
 LeadsToShelf sockname (last ∷ earlier) shelf =
     (before : ShelfNow) × LeadsToShelf sockname earlier before × Turns last before shelf
 
--- what sessions and rounds did leads to the shelf
+-- the acts of sessions and rounds lead to the shelf
 unfoldable pub IsReached : ShelfNow → Type 0
 IsReached shelf = (sockname : List ℕ) × (turns : List TurnData) × LeadsToShelf sockname turns shelf
 
--- so accepted calls lead there
+-- so accepted calls lead to each such shelf
 abbrev pub ReachedByCalls : Type 0
 ReachedByCalls = (shelf : ShelfNow) → IsReached shelf
     → (sockname : List ℕ) × (calls : List CallNow) × (shelf ≡ after_all calls (blank sockname))

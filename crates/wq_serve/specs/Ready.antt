@@ -1,5 +1,5 @@
--- What is done before the shelf is held for an ask: what the roots tell is learnt, and the root is
--- looked at.
+-- The steps before the shelf is held for an ask: the session learns what the roots tell, and looks
+-- at the root.
 -- From Watchman's documentation of synchronisation (`sync_timeout`), `watch` and `watch-del`.
 use Rattle.std.specs.Prelude.{◌≡◌, ◌⊎◌, List, ℕ, Option, Some, None, Result, Ok, Err}
 use mathlib.Core.List.{IsPrefix}
@@ -13,68 +13,69 @@ use Rattle.wq_crawl.specs.Roots.{RootRequestData, RootsGive, passing, showing, e
 use Rattle.wq_serve.specs.Run.{ShowsAt}
 use Rattle.wq_clock.specs.declared.run.Run.{Run}
 
--- what a session knows of the roots: the crawler that they go by, where it is shown, and the list
--- of events with which its next look begins
+-- a session's knowledge of the roots: the crawler that they go by, if it is shown, and the list of
+-- events that its next look begins with
 pub record KnownData : Type 0 where
   pub roots : Option CrawlerData
   pub seen : List RootEvent
 
--- what is looked at for an ask, if anything; or why its root could not be crawled, opened or
+-- the root that is looked at for an ask, if there is one; or why it could not be crawled, opened or
 -- retired
 abbrev pub ReadyData : Type 0
 ReadyData = Result (Option AtData) CrawlFault
 
--- a list that was told is learnt: the next look begins with it too
+-- the session learns a list that was told: the next look begins with it too
 abbrev pub Learns : List RootEvent → Result (Option (List RootEvent)) CrawlFault
     → List RootEvent → Type 0
 Learns before (Ok (Some told)) after = IsPrefix before after × IsPrefix told after
 Learns before (Ok None) after = after ≡ before
 Learns before (Err fault) after = after ≡ before
 
--- the roots are asked something, give this answer, and the list is learnt that was told
+-- the session asks the roots something, they give this answer, and it learns the list that they
+-- told
 abbrev pub Hears : KnownData → RootRequestData → Result (Option (List RootEvent)) CrawlFault
     → KnownData → Type 0
 Hears before request told after =
     RootsGive before.roots request told after.roots × Learns before.seen told after.seen
 
--- a root is looked at, in a list that begins with all that was known; or the look is refused, and
--- nothing is looked at
+-- the session looks at a root, in a list that begins with all that it knew; or the look is refused,
+-- and there is no root to look at
 abbrev pub Looks : Run → List ℕ → KnownData → Option AtData → KnownData → Type 0
 Looks run root before at after =
     (after.roots ≡ before.roots)
     × ((IsPrefix before.seen after.seen × ShowsAt run root after.seen at)
     ⊎ ((after.seen ≡ before.seen) × (at ≡ None)))
 
--- the roots told this of a root: it is looked at, unless they refused
+-- the roots told this of a root: the session looks at it, unless they refused
 abbrev pub LooksAfter : Run → List ℕ → Result (Option (List RootEvent)) CrawlFault → KnownData
     → ReadyData → KnownData → Type 0
 LooksAfter run root (Ok told) before ready after =
     (at : Option AtData) × Looks run root before at after × (ready ≡ Ok at)
 LooksAfter run root (Err fault) before ready after = (ready ≡ Err fault) × (after ≡ before)
 
--- the roots are asked for a root first, and then it is looked at
+-- the session first asks the roots for a root, and then looks at it
 abbrev pub HearsFirst : Run → List ℕ → RootRequestData → KnownData → ReadyData → KnownData → Type 0
 HearsFirst run root request before ready after =
     (told : Result (Option (List RootEvent)) CrawlFault) × (heard : KnownData)
     × Hears before request told heard × LooksAfter run root told heard ready after
 
--- what is looked at of a root that has ended: its number
+-- a root that has ended, as it is looked at: its number
 abbrev pub ended : InstanceData → AtData
 ended instance = record { instance = instance; view = None }
 
--- the number of a root whose end was told, or why it was refused
+-- the number of a root whose end was told, or why the end was refused
 abbrev pub ended_by : AtData → Result (List RootEvent) CrawlFault → ReadyData
 ended_by at (Ok told) = Ok (Some (ended at.instance))
 ended_by at (Err fault) = Err fault
 
--- a root that was looked at is retired; nothing is, where none was
+-- the session retires a root that it looked at; it retires none if it looked at none
 abbrev pub Unwatches : Option AtData → KnownData → ReadyData → KnownData → Type 0
 Unwatches None before ready after = (ready ≡ Ok None) × (after ≡ before)
 Unwatches (Some at) before ready after =
     (told : Result (List RootEvent) CrawlFault)
     × Hears before (ending (at.instance).root) (tells told) after × (ready ≡ ended_by at told)
 
--- what an ask needs is done
+-- the session does what an ask needs
 abbrev pub Readies : Run → NeedData → KnownData → ReadyData → KnownData → Type 0
 Readies run none before ready after = (ready ≡ Ok None) × (after ≡ before)
 Readies run (look root) before ready after =

@@ -1,4 +1,4 @@
--- What a session does of the events that it takes, one after the other, and what it writes.
+-- The answers of a session to its events, one after the other, and the lines that it writes.
 -- A reply to each line is from Watchman's documentation of its socket interface; the rest is this
 -- server's own.
 use Rattle.std.specs.Prelude.{◌≡◌, ◌⊎◌, ◌<◌, ℕ, Bool, true, false, List, [], ◌∷◌, ◌++◌, length}
@@ -26,7 +26,7 @@ use Rattle.wq_serve.specs.Ready.{KnownData, ReadyData, Readies}
 use Rattle.wq_crawl.specs.Crawl.{CrawlerData}
 use Rattle.wq_clock.specs.declared.run.Run.{Run}
 
--- what the ends of a session show: the events that are left, what is known of the roots, and the
+-- the state of the ends of a session: the events that are left, the knowledge of the roots, and the
 -- shelf; and the subscriptions of the session
 pub record PlaceData : Type 0 where
   pub left : Option (List Event)
@@ -34,50 +34,50 @@ pub record PlaceData : Type 0 where
   pub shelf : Option ShelfNow
   pub follows : List SubscriptionData
 
--- what stands there when the session answers
+-- the part of that state which an answer uses
 abbrev pub stand_at : PlaceData → StandData
 stand_at place = record { shelf = place.shelf; follows = place.follows }
 
--- an ask that is ready is answered at the shelf; or its line is refused since its root could not be
--- crawled, opened or retired, which leaves the shelf and the subscriptions
+-- an ask that is ready is answered at the shelf; or its line is refused because its root could not
+-- be crawled, opened or retired, which leaves the shelf and the subscriptions
 abbrev pub Replies : ReadyData → Ask → StandData → OutData → StandData → Type 0
 Replies (Ok at) ask stand out after = AnswersAt stand ask at out after
 Replies (Err fault) ask stand out after = MayRefuse (crawl_refusal fault) out × (after ≡ stand)
 
--- an ask is answered, when what it needs was done
+-- an ask is answered after its needs are met
 abbrev pub IsAnswered : Run → Ask → KnownData → StandData → OutData → KnownData → StandData → Type 0
 IsAnswered run ask before stand out after left =
     (ready : ReadyData) × Readies run (need_of ask) before ready after
     × Replies ready ask stand out left
 
--- what an event comes to: at an idle moment the subscriptions of a root are told, and each other
--- event asks something, which is answered
+-- the result of an event: at an idle moment the session tells the subscriptions of a root; any
+-- other event asks something, and the session answers it
 abbrev pub Does : Run → Event → KnownData → StandData → OutData → KnownData → StandData → Type 0
 Does run (Idle root) before stand out after left = IsIdled run root before stand out after left
 Does run event before stand out after left =
     (ask : Ask) × Asks event ask × IsAnswered run ask before stand out after left
 
--- an event is taken: this is given out for it, and the ends are then so
+-- the session takes an event: this is the output for it, and the ends are then in this state
 abbrev pub Serves : Run → PlaceData → Event → OutData → PlaceData → Type 0
 Serves run before event out after =
     Hands before.left event after.left
     × Does run event before.known (stand_at before) out after.known (stand_at after)
 
--- what is written of a reply, if there is one: its text and a newline
+-- the line of a reply, if there is one: its text and a newline
 abbrev pub line_for : Option (List ℕ) → List ℕ
 line_for None = []
 line_for (Some text) = text ++ codes "\n"
 
--- what is written of lists: each one's text and a newline
+-- the lines of lists: each one's text and a newline
 abbrev pub lines_for : List (List ℕ) → List ℕ
 lines_for [] = []
 lines_for (text ∷ later) = (text ++ codes "\n") ++ lines_for later
 
--- what is written of what is given out: the reply, and then the lists
+-- the lines of an output: the reply, and then the lists
 abbrev pub written_for : OutData → List ℕ
 written_for out = line_for out.reply ++ lines_for out.lists
 
--- these events are taken one after the other; after each the session goes on; this is written
+-- the session takes these events one after the other, and goes on after each; it writes this
 abbrev pub GoesOn : Run → PlaceData → List Event → List ℕ → PlaceData → Type 0
 GoesOn run before [] written after = (written ≡ []) × (after ≡ before)
 GoesOn run before (event ∷ later) written after =
@@ -95,22 +95,22 @@ place left roots seen shelf follows = record {
   follows = follows;
 }
 
--- how a session came to its end
+-- the end of a session
 pub record EndData : Type 0 where
-  -- the server is to end
+  -- whether the server is to end
   pub shut : Bool
-  -- the writer failed
+  -- whether the writer failed
   pub fault : Bool
 
--- what the writer holds at the end of a session: all that was to be written, unless it failed
--- within the lines of the last event
+-- the writer's content at the end of a session: all the lines, unless it failed within the lines of
+-- the last event
 abbrev pub Wrote : Bool → Option (List ℕ) → Option (List ℕ) → List ℕ → List ℕ → Type 0
 Wrote false before after lines last = Appends before after (lines ++ last)
 Wrote true before after lines last =
     (between : Option (List ℕ)) × Appends before between lines × WritesFront between after last
 
--- a session ends with an event, after which it does not go on, or the lines for which are not written
--- whole; after the events before it, it goes on
+-- a session ends with an event after which it does not go on, or whose lines it cannot write whole;
+-- it goes on after each event before that
 pub record EndsBy (run : Run) (before : PlaceData) (old new : Option (List ℕ)) (after : PlaceData)
     (how : EndData) : Type 0 where
   pub events : List Event
@@ -125,7 +125,7 @@ pub record EndsBy (run : Run) (before : PlaceData) (old new : Option (List ℕ))
   pub shuts : how.shut ≡ out.shuts
   pub wrote : Wrote how.fault old new lines (written_for out)
 
--- a session ends since it took as many events as may be
+-- a session ends because it took the most events that a session may take
 pub record EndsFull (run : Run) (before : PlaceData) (old new : Option (List ℕ)) (after : PlaceData)
     (how : EndData) : Type 0 where
   pub events : List Event

@@ -1,4 +1,4 @@
-//! The answer to an ask: what it needs is done, its root is looked at, and the shelf is held.
+//! The answer to an ask: the session does what the ask needs, looks at its root, and holds the shelf.
 ghost use Rattle.std.specs.Prelude.{◌≡◌, Ok, Some, option_map};
 ghost use Rattle.wq_clock.specs.Instance.{instance_data};
 ghost use Rattle.wq_serve.specs.Answering.{AnswersAfter, AnswersEnd, IfUnwatches, SeesFirst};
@@ -26,7 +26,7 @@ use wq_eval::OpenGate;
 use wq_live::{Named, Seat, Told};
 use wq_session::{Ask, At, Need, Out, Prepared, Refusal, Work};
 
-/// Does what an ask needs, and answers it.
+/// Meets the need of an ask, and answers it.
 pub(crate) fn answer<T: Threads + Sync, N: Named, R: Roots<N>, D: Desk>(
     crew: &Crew<'_, T>,
     client: &mut Client,
@@ -65,7 +65,7 @@ fn watch<N: Named, R: Roots<N>>(roots: &mut R, root: &str) -> Result<Option<Told
     }
 }
 
-/// Answers an ask at a root, or at none: the shelf is held while it is taken, and not while it is finished.
+/// Answers an ask at a root, or at none. The shelf is held while the ask is taken, and not while it is finished.
 #[tactic(auto, using(crate::proofs::Held::held_finish))]
 fn hold<T: Threads + Sync, D: Desk>(
     crew: &Crew<'_, T>,
@@ -98,7 +98,7 @@ fn take<D: Desk>(alloc: Global, ask: Ask, at: Option<At<'_>>, desk: &mut D) -> W
     desk.hold(alloc, prepared)
 }
 
-/// An ask with its query read, and the program of that found at the desk, or compiled and kept there.
+/// An ask with its query read. The program of the query is found at the desk, or compiled and kept there.
 fn prepare<'a, D: Desk>(alloc: Global, ask: Ask, at: Option<At<'a>>, desk: &mut D) -> Prepared<'a>
     ensures prepared { IsPrepared result }
     ensures ask { asked result ≡ ask }
@@ -119,8 +119,8 @@ fn prepare<'a, D: Desk>(alloc: Global, ask: Ask, at: Option<At<'a>>, desk: &mut 
 
 /// Looks at the root that an ask needs, and answers it.
 ///
-/// The look is left before the shelf is held: a share of the root's view outlives it, so that no publish waits while a reply
-/// is made. Where no share can be had, the look is open for as long as that takes.
+/// The look ends before the shelf is held. A share of the root's view outlives it, so that no publish waits while a
+/// reply is made. If there is no share, the look is open for as long as that takes.
 fn look_and_hold<T: Threads + Sync, N: Named, D: Desk>(
     crew: &Crew<'_, T>,
     client: &mut Client,
@@ -163,7 +163,7 @@ fn hold_shared<T: Threads + Sync, D: Desk>(
     }
 }
 
-/// Answers an ask for which the roots told this.
+/// Answers an ask after the roots told this.
 fn learn_and_hold<T: Threads + Sync, N: Named, D: Desk>(
     crew: &Crew<'_, T>,
     client: &mut Client,
@@ -208,7 +208,7 @@ fn unwatch_and_hold<T: Threads + Sync, N: Named, R: Roots<N>, D: Desk>(
     }
 }
 
-/// Answers an ask at the number of a root, the end of which was told.
+/// Answers an ask at the number of a root, after its end was told.
 fn hold_at_end<T: Threads + Sync, N: Named, D: Desk>(
     crew: &Crew<'_, T>,
     client: &mut Client,
@@ -236,8 +236,8 @@ fn hold_at_end<T: Threads + Sync, N: Named, D: Desk>(
     }
 }
 
-/// Learns what was told, and looks at once, so that the seat keeps nothing of it that is shown by then. Else it would keep the
-/// views of all roots as they were told, for as long as its client asks nothing that looks.
+/// Learns the list that was told, and looks at once, so that the seat keeps nothing of it that is shown by then.
+/// Otherwise it would keep the views of all roots as they were told, until its client asks something that looks.
 #[tactic(auto, using(crate::proofs::Beginnings::begins_later))]
 fn learn_and_leave<N: Named>(seat: Seat<N>, told: Told<N>) -> Seat<N>
     ensures { Learns seat (Ok (Some told)) result }
@@ -248,7 +248,7 @@ fn learn_and_leave<N: Named>(seat: Seat<N>, told: Told<N>) -> Seat<N>
     }
 }
 
-/// The reply to a line, the root of which could not be crawled, opened or retired.
+/// The reply to a line if its root could not be crawled, opened or retired.
 fn refuse(client: &Client, fault: CrawlFault) -> Out
     ensures { MayRefuse (crawl_refusal fault) result }
 {

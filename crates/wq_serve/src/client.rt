@@ -4,7 +4,7 @@ use std::alloc::Global;
 use wq_clock::Run;
 use wq_session::Session;
 
-/// What a server has for one client.
+/// The server's record of one client.
 #[derive(Drop)]
 pub(crate) struct Client {
     pub(crate) alloc: Global,

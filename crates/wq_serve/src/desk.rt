@@ -1,4 +1,4 @@
-//! Where a session finds the shelf.
+//! The desk: a session finds the shelf there.
 ghost use Rattle.std.specs.Prelude.{◌≡◌, IfSome};
 ghost use Rattle.wq_registry.specs.Kept.{StandsFor};
 ghost use Rattle.wq_serve.specs.Desk.{HoldsShelf, Unsets};
@@ -12,18 +12,18 @@ use wq_registry::{CacheKey, Compiled, Shelf};
 use wq_session::{Cursor, Prepared, Work};
 use wq_verify::Program;
 
-/// What holds the shelf for a session: for an ask, where a cursor is to be unset, and where a program is found in the cache or
-/// kept there. Each is a hold of its own, so that nothing is read or compiled while the shelf is held.
+/// A session's way to the shelf. It is held for an ask, to unset a cursor, and to find a program in the cache or keep
+/// one there. Each is a hold of its own, so that nothing is read or compiled while the shelf is held.
 ///
 /// It may show its shelf.
 pub trait Desk {
     ghost use Rattle.std.specs.Prelude.{Option};
     ghost use Rattle.wq_session.specs.At.{ShelfNow};
 
-    // The shelf, where it is shown.
+    // The shelf, if it is shown.
     ghost shelf: { Self → Option ShelfNow };
 
-    /// The program that the shelf's cache keeps of an expression ([`Cache::get`](wq_registry::Cache::get)).
+    /// The program that the shelf's cache keeps for an expression ([`Cache::get`](wq_registry::Cache::get)).
     fn find(&mut self, key: &CacheKey) -> Option<Arc<Program>>
         ensures found { IfSome result (λ program.
             StandsFor key.now.instance key.now.text program.value) }
@@ -33,13 +33,13 @@ pub trait Desk {
     fn keep(&mut self, compiled: Compiled)
         ensures { shelf self.new ≡ shelf self.old };
 
-    /// Takes an ask ([`Prepared::take`]) at the shelf as it stands.
+    /// Takes an ask ([`Prepared::take`]) at the shelf as it is.
     fn hold(&mut self, alloc: Global, prepared: Prepared<'_>) -> Work
         requires { IsPrepared prepared }
         ensures { HoldsShelf (shelf self.old) (asked prepared.entry) (asked_at prepared.entry)
             (work_data result) (shelf self.new) };
 
-    /// Unsets a cursor ([`Shelf::unset_cursor`]) on the shelf as it stands, and gives what only that makes.
+    /// Unsets a cursor ([`Shelf::unset_cursor`]) on the shelf as it is, and gives the receipt that only this makes.
     fn unset(&mut self, cursor: Cursor) -> Unset
         ensures unset { Unsets (shelf self.old) cursor (shelf self.new) }
         ensures named { result ≡ cursor };

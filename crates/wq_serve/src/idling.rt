@@ -1,4 +1,4 @@
-//! An idle moment of a root: it is looked at, and the client is told of its changes.
+//! An idle moment of a root: the session looks at it, and tells the client its changes.
 ghost use Rattle.std.specs.Prelude.{◌≡◌, option_map};
 ghost use Rattle.wq_serve.specs.Answering.{shared_data};
 ghost use Rattle.wq_serve.specs.Idling.{SeesMoment};
@@ -10,9 +10,9 @@ use crate::looking::{SharedAt, number_at, share_of_number};
 use wq_live::{Named, Seat};
 use wq_session::Out;
 
-/// Tells a client of the changes of the root of this number, or that it is watched no longer.
+/// Tells a client the changes of the root of this number, or that it is no longer watched.
 ///
-/// The look is left before lists are made, as before a reply is. Where it is refused, the moment is left undone.
+/// The look ends before lists are made, as before a reply is. If it is refused, the moment is skipped.
 pub(crate) fn idle<N: Named>(client: &mut Client, root: u64, seat: Seat<N>) -> (Seat<N>, Out)
     ensures idles { SeesMoment client.old.run root seat (follows_of client.old.session) result.1
         result.0 (follows_of client.new.session) }
@@ -31,7 +31,7 @@ pub(crate) fn idle<N: Named>(client: &mut Client, root: u64, seat: Seat<N>) -> (
     }
 }
 
-/// Tells a client of the changes of a root with a share of its view, or that it is watched no longer.
+/// Tells a client the changes of a root with a share of its view, or that it is no longer watched.
 fn idle_shared(client: &mut Client, root: u64, shared: Option<SharedAt>) -> Out
     ensures idles { Idles root (option_map shared_data shared) (follows_of client.old.session)
         result (follows_of client.new.session) }

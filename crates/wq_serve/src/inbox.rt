@@ -1,18 +1,18 @@
-//! Where a session's events come from.
+//! The inbox: a session's events come from there.
 ghost use Rattle.std.specs.Prelude.{◌≡◌};
 
 use std::collections::VecDeque;
 use wq_stream::Event;
 
-/// What hands out the events of a client.
+/// The source of the events of a client.
 ///
-/// It may show the events that are left. After the last of those it says that the client has gone.
+/// It may show the events that are left. After the last event it says that the client has gone.
 pub trait Inbox {
     ghost use Rattle.std.specs.Prelude.{List, Option};
     ghost use Rattle.wq_stream.specs.declared.event.Event.{Event};
     ghost use Rattle.wq_serve.specs.Inbox.{Hands};
 
-    // The events that are left, where they are shown.
+    // The events that are left, if they are shown.
     ghost left: { Self → Option (List Event) };
 
     /// The next event. It may wait for one.
@@ -20,7 +20,7 @@ pub trait Inbox {
         ensures { Hands (left self.old) result (left self.new) };
 }
 
-/// Events that came already.
+/// Events that have come already.
 #[derive(Drop)]
 pub struct MemoryInbox {
     events: VecDeque<Event>,

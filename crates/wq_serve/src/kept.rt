@@ -2,11 +2,11 @@
 
 use wq_follow::Trigger;
 
-/// A trigger that a shelf keeps. Contracts see what it means.
+/// A trigger that a shelf keeps. Contracts see its meaning.
 pub trait Kept {
     ghost use Rattle.wq_follow.specs.Round.{TriggerData};
 
-    // The trigger that it is.
+    // The trigger itself.
     ghost data: { Self → TriggerData };
 }
 

@@ -1,9 +1,9 @@
-//! Serving one client: a session over all its events, at ends that are handed in. An inbox hands out the events, a
-//! writer takes the replies, a seat shows the views of roots, the roots are crawled, and a desk holds the shelf that all
-//! clients share.
+//! Serving one client: a session over all its events, through ends that the caller hands in. An inbox hands out the
+//! events, and a writer takes the replies. A seat shows the views of roots, the roots are crawled, and a desk holds the
+//! shelf that all clients share.
 //!
-//! Nothing here knows a socket or a file. A handle that is handed in starts the threads that look for the files of a query.
-//! What waits does so behind one of the ends.
+//! Nothing here knows a socket or a file. The caller hands in the handle that starts the threads which look for the
+//! files of a query. All waiting is in one of the ends.
 #![tactic(auto)]
 
 mod answering;

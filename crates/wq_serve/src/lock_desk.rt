@@ -18,7 +18,7 @@ pub struct LockDesk<R: Wait + Drop> {
 }
 
 impl<R: Wait + Drop> LockDesk<R> {
-    /// A desk over this shelf, for which it waits by this handle.
+    /// A desk over this shelf. It waits for the shelf by this handle.
     pub fn new(shelf: Arc<Mutex<SharedShelf>>, rt: R) -> LockDesk<R>
         ensures { (result.shelf ≡ shelf) × (result.rt ≡ rt) }
     {

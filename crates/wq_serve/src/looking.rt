@@ -1,4 +1,4 @@
-//! What a session looks at for an ask, and for an idle moment.
+//! The root that a session looks at for an ask, and for an idle moment.
 ghost use Rattle.std.specs.Prelude.{◌≡◌, IfOk, Option, Some, option_map};
 ghost use Rattle.wq_serve.specs.Answering.{SeesNumber, ShowsNeeded, shared_data};
 ghost use Rattle.wq_serve.specs.Run.{ShowsAt, ShowsNumber};
@@ -22,7 +22,7 @@ pub(crate) struct SharedAt {
 }
 
 impl SharedAt {
-    /// What is looked at for an answer.
+    /// The meaning of this root for an answer.
     pub(crate) fn at(&self) -> At<'_>
         ensures { at_data result ≡ shared_data self.now }
     {
@@ -45,7 +45,7 @@ pub(crate) fn look_for<'a, N: Named>(run: Run, ask: &Ask, look: &'a Look<N>) -> 
     }
 }
 
-/// The same with a share of the root's view. Refused where no share can be had.
+/// The same with a share of the root's view. It is refused if there is no share.
 pub(crate) fn share_for<N: Named>(
     run: Run,
     ask: &Ask,
@@ -90,7 +90,8 @@ pub(crate) fn root_at<'a, N: Named>(run: Run, root: &str, look: &'a Look<N>) -> 
     })
 }
 
-/// The root of this number with a share of its view, as a look shows it, if it does. Refused where no share can be had.
+/// The root of this number with a share of its view, as a look shows it, if it does. It is refused if there is no
+/// share.
 pub(crate) fn share_of_number<N: Named>(
     run: Run,
     number: u64,

@@ -1,4 +1,4 @@
-//! A shelf that one session has for itself.
+//! A shelf of one session alone.
 ghost use Rattle.std.specs.Prelude.{◌≡◌};
 
 use crate::desk::Desk;
@@ -10,7 +10,7 @@ use wq_registry::{CacheKey, Compiled, Shelf};
 use wq_session::{Cursor, Prepared, Work};
 use wq_verify::Program;
 
-/// A desk over a shelf that nothing else has. It shows the shelf.
+/// A desk over a shelf that this session has alone. It shows the shelf.
 #[derive(Drop)]
 pub struct MemoryDesk {
     /// The shelf.

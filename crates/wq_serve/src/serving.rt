@@ -22,13 +22,13 @@ use wq_live::{Named, Seat};
 use wq_session::{Ask, Out, Session};
 use wq_stream::Event;
 
-/// How many events a session takes, 2^62.
+/// The most events that a session takes, 2^62.
 pub const MAX_EVENTS: u64 = 1 << 62;
 
-/// How a session came to its end.
+/// The end of a session.
 #[derive(Drop)]
 pub struct Ended<N: Named> {
-    /// The seat from which it looked.
+    /// The seat that the session looked from.
     pub seat: Seat<N>,
     /// Whether the server is to end.
     pub shut: bool,
@@ -39,18 +39,18 @@ pub struct Ended<N: Named> {
 /// Serves one client: takes its events one after the other, and writes a line for each reply, and for each list of a
 /// subscription.
 ///
-/// For each line it first does what that needs: the roots are asked, and what they told is learnt; then it looks at the
-/// root; then the shelf is held while the line is taken. No look is open while the roots are asked, nor while a reply is
-/// made and written, unless memory is wanted for a share of the root's view. Where a look is refused, the line is answered as
-/// at a root that is not watched.
+/// For each line it first does what the line needs: it asks the roots, and learns what they told. Then it looks at the
+/// root. Then it holds the shelf while the line is taken. No look is open while it asks the roots. None is open
+/// while it makes and writes a reply, unless memory runs out for a share of the root's view. If a look is refused, the
+/// line is answered as if its root were not watched.
 ///
-/// At an idle moment of a root it looks at that, and tells the client what changed since the last lists of its
-/// subscriptions. Where the look is refused, it tells that at a later moment.
+/// At an idle moment of a root it looks at the root, and tells the client the changes since the last lists of its
+/// subscriptions. If the look is refused, it tells them at a later moment.
 ///
-/// As many threads as the roots say may look for the files of a query. The handle starts them, and they end before the
-/// reply is made.
+/// As many threads as the roots allow may look for the files of a query. The handle starts them, and they end before
+/// the reply is made.
 ///
-/// It ends where the client has gone, by a line with which a session ends, where the writer fails, and after 2^62 events.
+/// It ends if the client has gone, after a line that ends a session, if the writer fails, and after 2^62 events.
 pub fn serve<T: Threads + Sync, N: Named, I: Inbox, W: Write, R: Roots<N>, D: Desk>(
     rt: &T,
     alloc: Global,

@@ -22,8 +22,8 @@ use wq_session::{Cursor, Prepared, Work, answers_are_calls, round, rounds_are_ca
 use wq_verify::Program;
 use wq_view::View;
 
-/// A shelf that sessions change, by the asks that they take and the cursors that they unset there, and rounds of triggers;
-/// and nothing else does. So that leads to it, from a shelf with nothing on it.
+/// A shelf that sessions change, by the asks that they take and the cursors that they unset there, and rounds of
+/// triggers. Nothing else changes it. So these lead to it from an empty shelf.
 #[derive(Drop)]
 pub struct ReachedShelf<K: Kept + Drop> {
     shelf: Shelf<K>,
@@ -45,7 +45,7 @@ impl<K: Kept + Drop> Model for ReachedShelf<K> {
 }
 
 impl ReachedShelf<Trigger> {
-    /// A shelf with nothing on it but this cache, of a server whose socket has this name.
+    /// An empty shelf with this cache, of a server whose socket has this name.
     pub fn new(alloc: Global, cache: Cache, sockname: String) -> SharedShelf
         ensures { result ≡ blank (string_bytes sockname) }
     {
@@ -78,7 +78,7 @@ impl ReachedShelf<Trigger> {
         prepared.take(alloc, &mut self.shelf)
     }
 
-    /// The program that the cache keeps of an expression.
+    /// The program that the cache keeps for an expression.
     pub(crate) fn find(&mut self, key: &CacheKey) -> Option<Arc<Program>>
         ensures found { IfSome result (λ program.
             StandsFor key.now.instance key.now.text program.value) }
@@ -119,7 +119,8 @@ impl ReachedShelf<Trigger> {
     }
 }
 
-/// Accepted calls lead to a shelf to which sessions and rounds led. So the laws of lists of accepted calls hold there.
+/// Accepted calls lead to each shelf that sessions and rounds lead to. So the laws of lists of accepted calls hold
+/// there.
 pub fn reached_by_calls()
     ensures { ReachedByCalls }
 {

@@ -1,4 +1,4 @@
-//! That a cursor was unset.
+//! The receipt for unsetting a cursor.
 ghost use Rattle.std.specs.Prelude.{◌≡◌};
 ghost use Rattle.wq_registry.specs.Shelf.{cursor_unset};
 ghost use Rattle.wq_session.specs.Shelved.{shelf_data};
@@ -8,8 +8,8 @@ use wq_follow::Trigger;
 use wq_registry::Shelf;
 use wq_session::Cursor;
 
-/// That a cursor was unset on a shelf. Nothing but unsetting it makes one, so a desk that never comes to a shelf has none
-/// to give.
+/// The receipt for unsetting a cursor on a shelf. Only unsetting makes one, so a desk that never comes to a shelf has
+/// none to give.
 #[derive(Drop)]
 pub struct Unset {
     cursor: Cursor,

@@ -1,4 +1,4 @@
-//! The lines of what is given out. Where a writer fails, what was written is a front of them.
+//! Writing the lines of an output. If a writer fails, it has written a front of them.
 ghost use Rattle.std.specs.Prelude.{OnErr, OnOk};
 ghost use Rattle.std.specs.Io.KnownBytes.{Appends};
 ghost use Rattle.wq_base.specs.Writing.{WritesFront};
@@ -20,7 +20,7 @@ pub(crate) fn write_out<W: Write>(writer: &mut W, out: &Out) -> io::Result<()>
     write_lists(writer, out.lists())
 }
 
-/// Writes a reply and a newline, at once, if there is a reply.
+/// Writes a reply and a newline in one piece, if there is a reply.
 #[tactic(auto, using(crate::proofs::Lines::line_is, crate::proofs::Lines::no_line))]
 fn write_reply<W: Write>(writer: &mut W, out: &Out) -> io::Result<()>
     ensures done { OnOk result
@@ -34,7 +34,7 @@ fn write_reply<W: Write>(writer: &mut W, out: &Out) -> io::Result<()>
     }
 }
 
-/// Writes each list and a newline, at once.
+/// Writes each list and a newline in one piece.
 fn write_lists<W: Write>(writer: &mut W, lists: &[Line]) -> io::Result<()>
     ensures done { OnOk result
         (Appends (W.contents writer.old) (W.contents writer.new) (lines_for lists.now)) }

@@ -1,4 +1,4 @@
--- What an ask leaves of the shelf, as the calls that are accepted of it.
+-- The shelf that an ask leaves, as the result of the calls that are accepted of it.
 use Rattle.std.proofs.Common.{◌≡◌, ℕ, Bool, true, false, not, if◌then◌else◌, List, [], ◌∷◌, ◌++◌, Option, Some, None, Result, Ok, Err, inl, inr, refl, sym, ap, subst, ◌∙◌}
 use Rattle.serde_json.specs.Data.{Data}
 use Rattle.serde_json.specs.View.{view as data_of}
@@ -36,7 +36,7 @@ use Rattle.wq_session.specs.declared.cursor.Cursor.{Cursor}
 use Rattle.wq_session.specs.declared.refusal.Refusal.{Refusal}
 use Rattle.wq_session.specs.declared.refusal.Refusal.TheVariants.{NotWatched, Query as BadQuery, ShelfFull, TooManyRoots, BadName, TooManyTriggers}
 
--- what is begun leaves the shelf to which these calls lead
+-- begun work leaves the shelf that these calls lead to
 abbrev Leads : List CallNow → ShelfNow → Result BegunData Refusal → Type 0
 Leads calls shelf (Ok b) = b.shelf ≡ after_all calls shelf
 Leads calls shelf (Err refusal) = Unit {0}
@@ -74,13 +74,13 @@ module _ (shelf : ShelfNow) where
   with_view instance d None = tt
   with_view instance d (Some view) = with_query instance.root view.tick (queries instance d)
 
-  -- what is said of a view leaves the shelf
+  -- output of a view leaves the shelf
   of_view : (view : Option ViewData) (out : ViewData → OutData)
       → Leads [] shelf (or_fault NotWatched view (λ view. Ok (saying (out view) shelf)))
   of_view None out = tt
   of_view (Some view) out = refl
 
-  -- what `subscribe` comes to leaves the shelf
+  -- the beginning of `subscribe` leaves the shelf
   with_subscription : (root name : List ℕ) (instance : InstanceData) (d : Data) (view : Option ViewData)
       → Leads [] shelf (or_fault NotWatched view (λ view. unless_fault BadName (is_name name) (
       or_its_fault BadQuery (subscription_of instance d) (λ q. begun_subscription root name instance.root q shelf))))
@@ -98,7 +98,7 @@ module _ (shelf : ShelfNow) where
       by true (Err fault) = tt
       by true (Ok q) = found q (program_for q shelf)
 
-  -- what `trigger` comes to leads to the shelf with the trigger
+  -- the beginning of `trigger` leads to the shelf with the trigger
   with_definition : (root : List ℕ) (number : ℕ) (d : Result DefinitionData Refusal) (view : Option ViewData)
       → Leads (definition_calls root number d shelf) shelf (or_fault NotWatched view (λ view.
       or_own_fault d (λ definition. begun_trigger root number definition shelf)))
@@ -113,13 +113,13 @@ module _ (shelf : ShelfNow) where
           unless TooManyTriggers (not (has_no_trigger_place number (name_in d) shelf))
           (adds_trigger number (name_in d) (trigger_in root number d program shelf) ∷ []) shelf _ refl
 
-  -- what follows where the root is watched
+  -- the consequences if the root is watched
   where_watched : (at : AtData) (test : Bool) (calls : List CallNow) (next : AtData → Result BegunData Refusal)
       → Leads calls shelf (next at) → Leads calls shelf (or_fault NotWatched (if test then Some at else None) next)
   where_watched at false calls next so = tt
   where_watched at true calls next so = so
 
--- what an ask leaves is what its calls lead to, where it is not refused
+-- an ask that is not refused leaves the shelf that its calls lead to
 leads : (ask : Ask) (at : Option AtData) (shelf : ShelfNow) → Leads (calls_of ask at shelf) shelf (tried ask at shelf)
 leads (Refused refusal) at shelf = tt
 leads (Watch root) None shelf = tt
@@ -182,7 +182,7 @@ one_more [] (Some cursor) shelf = refl
 one_more (c ∷ cs) cursor shelf = one_more cs cursor _
 
 module _ (ask : Ask) (at : Option AtData) (shelf : ShelfNow) (follows : List SubscriptionData) where
-  -- the answer, by what came of the ask
+  -- the answer, by the result of the ask
   whole : (r : Result BegunData Refusal) → tried ask at shelf ≡ r → Leads (calls_of ask at shelf) shelf r
       → (calls : List CallNow) × Accepts ask at shelf follows (finished (or_refused r shelf).work at follows).out calls
       × ((or_refused r shelf).shelf ≡ after_all calls shelf)

@@ -27,7 +27,7 @@ is_there text number (r ∷ rs) there = at (bytes_eq text r.text) (is_there text
     at true rest there = rw there refl
     at false rest there = later _ _ (rest there)
 
--- to watch a root again changes nothing
+-- watching a root again changes nothing
 pub watching_again_changes_nothing : WatchingAgainChangesNothing
 watching_again_changes_nothing root at shelf there =
     rw (is_there root (at.instance).root shelf.roots there) refl

@@ -1,4 +1,4 @@
--- What `query` comes to, of a query that was read before.
+-- The beginning of `query`, of a query that was read before.
 use Rattle.std.proofs.Common.{◌≡◌, ℕ, Bool, true, false, List, Option, Some, None, Result, Ok, Err, IfOk, if◌then◌else◌, refl, sym, ap, subst, ◌∙◌}
 use Rattle.std.specs.Prelude.{codes, not}
 use Rattle.serde_json.specs.Data.{Data, null}
@@ -49,7 +49,7 @@ use Rattle.wq_session.specs.declared.refusal.Refusal.TheVariants.{ProgramTooLarg
 use Rattle.wq_session.specs.declared.refusal.Refusal.TheVariants.{WrongFile, WrongProgram}
 use Rattle.wq_session.specs.declared.work.Work.{Work}
 
--- what was read of an object is known
+-- an object that was read is known
 pub are_read : (reads : Reads) (d : Data) (at : Option AtData) (read : Option (Result ReadQuery Refusal))
     → IsReadBy reads d at read → AreRead read
 are_read reads d (Some at) (Some (Ok read)) is = of at.view is
@@ -61,12 +61,12 @@ are_read reads d None (Some (Ok read)) is = elim is [ ]
 are_read reads d at (Some (Err refusal)) is = tt
 are_read reads d at None is = tt
 
--- if none was read nothing has to be known
+-- if none was read, nothing has to be known
 none_read : (read : Option (Result ReadQuery Refusal)) → read ≡ None → AreRead read
 none_read None is = tt
 none_read (Some read) is = absurd cc
 
--- what was read of an ask is known
+-- the query of an ask that was read is known
 pub asked_read : (ask : Ask) (at : Option AtData) (read : Option (Result ReadQuery Refusal)) → IsReadFor ask at read → AreRead read
 asked_read (AsksQuery root crawl q) at read is = are_read queries (data_of q) at read is
 asked_read (Subscribe root name q) at read is = are_read subscribes (data_of q) at read is
@@ -88,7 +88,7 @@ asked_read (DeleteTrigger root name) at read is = none_read read is
 asked_read Leave at read is = none_read read is
 asked_read Nothing at read is = none_read read is
 
--- what was read of the object of a trigger is known
+-- the object of a trigger that was read is known
 pub are_defined : (d : Data) (at : Option AtData) (read : Option (Result ReadTrigger Refusal)) → IsDefinedAt d at read → AreDefined read
 are_defined d (Some at) (Some (Ok read)) is = of at.view is
   where
@@ -103,7 +103,7 @@ none_defined : (read : Option (Result ReadTrigger Refusal)) → read ≡ None �
 none_defined None is = tt
 none_defined (Some read) is = absurd cc
 
--- what was read of an ask is known
+-- the trigger of an ask that was read is known
 pub asked_defined : (ask : Ask) (at : Option AtData) (read : Option (Result ReadTrigger Refusal)) → IsDefinedFor ask at read → AreDefined read
 asked_defined (AddTrigger root t) at read is = are_defined (data_of t) at read is
 asked_defined (AsksQuery root crawl q) at read is = none_defined read is
@@ -125,7 +125,7 @@ asked_defined (DeleteTrigger root name) at read is = none_defined read is
 asked_defined Leave at read is = none_defined read is
 asked_defined Nothing at read is = none_defined read is
 
--- what is watched is what is looked at
+-- the watched root is the one that is looked at
 there : (root : List ℕ) (at : Option AtData) (shelf : ShelfNow) (a : AtData) → watched root at shelf ≡ Some a → at ≡ Some a
 there root (Some at) shelf a is = picked (is_watched root at shelf) is
   where
@@ -150,7 +150,7 @@ module _ (root : List ℕ) (d : Data) (at : Option AtData) (shelf : ShelfNow) (a
   read_there view shown read said =
       subst (λ v. IsReadOf queries d a.instance v read) shown (subst (λ at. IsReadAt d at read) (there root at shelf a is) said)
 
-  -- so what is begun of the query that was read is what `query` comes to
+  -- so the query that was read begins as `query` does
   pub begins_read : (view : ViewData) → a.view ≡ Some view → (read : ReadQuery) → IsReadAt d at (Some (Ok read))
       → (tick : ℕ) → tick ≡ view.tick → (result : Result Work Refusal) (after : ShelfNow)
       → Begins (begun_query (a.instance).root tick (asked_of read.query) shelf) shelf result after
@@ -162,7 +162,7 @@ module _ (root : List ℕ) (d : Data) (at : Option AtData) (shelf : ShelfNow) (a
       ∙ ap (λ t. begun_query (a.instance).root t (asked_of read.query) shelf) (sym told)))
       begins
 
--- the fault of an object that was read is why a line is refused
+-- the fault of an object that was read is the reason to refuse a line
 refused_for : (asked : Result QueryData QueryFault) (next : QueryData → Result BegunData Refusal) (shelf : ShelfNow) (refusal : Refusal)
     → GivesRead (Err refusal) asked → Begins (or_its_fault BadQuery asked next) shelf (Err refusal) shelf
 refused_for asked next shelf NoMemory said = refl
@@ -193,7 +193,7 @@ refused_for asked next shelf (WrongProgram fault place) said = elim said [ ]
 
 module _ (root name : List ℕ) (d : Data) (at : Option AtData) (shelf : ShelfNow) (a : AtData) (is : watched root at shelf ≡ Some a)
     (named : is_name name ≡ true) where
-  -- what `subscribe` comes to at a root that is shown
+  -- the beginning of `subscribe` at a root that is shown
   subscribed_at : (view : ViewData) → a.view ≡ Some view
       → try_subscribe root name d at shelf
       ≡ or_its_fault BadQuery (subscribes a.instance d) (λ q. begun_subscription root name (a.instance).root q shelf)
@@ -211,7 +211,7 @@ module _ (root name : List ℕ) (d : Data) (at : Option AtData) (shelf : ShelfNo
   object_there view shown read said =
       subst (λ v. IsReadOf subscribes d a.instance v read) shown (subst (λ at. IsSubscribedAt d at read) (there root at shelf a is) said)
 
-  -- what is begun of the query of a subscription, which was read, is what `subscribe` comes to
+  -- the query of a subscription that was read begins as `subscribe` does
   pub begins_subscribed : (view : ViewData) → a.view ≡ Some view → (read : ReadQuery) → IsSubscribedAt d at (Some (Ok read))
       → (result : Result Work Refusal)
       → Begins (begun_subscription root name (a.instance).root (asked_of read.query) shelf) shelf result shelf
@@ -223,7 +223,7 @@ module _ (root name : List ℕ) (d : Data) (at : Option AtData) (shelf : ShelfNo
       (object_there view shown (Some (Ok read)) said).0))
       begins
 
-  -- and its fault is why `subscribe` is refused
+  -- and its fault is the reason to refuse `subscribe`
   pub refuses_subscribed : (view : ViewData) → a.view ≡ Some view → (refusal : Refusal) → IsSubscribedAt d at (Some (Err refusal))
       → Begins (try_subscribe root name d at shelf) shelf (Err refusal) shelf
   refuses_subscribed view shown refusal said =
@@ -231,7 +231,7 @@ module _ (root name : List ℕ) (d : Data) (at : Option AtData) (shelf : ShelfNo
       (refused_for (subscribes a.instance d) (λ q. begun_subscription root name (a.instance).root q shelf) shelf refusal
       (object_there view shown (Some (Err refusal)) said))
 
--- the fault of a trigger that was read is why a line is refused
+-- the fault of a trigger that was read is the reason to refuse a line
 refused_defined : (said : Result DefinitionData Refusal) (next : DefinitionData → Result BegunData Refusal) (shelf : ShelfNow) (refusal : Refusal)
     → GivesDefined (Err refusal) said → Begins (or_own_fault said next) shelf (Err refusal) shelf
 refused_defined said next shelf NoMemory is = refl
@@ -261,7 +261,7 @@ refused_defined said next shelf (WrongFile fault) is = (ap (λ r. or_own_fault r
 refused_defined said next shelf (WrongProgram fault place) is = (ap (λ r. or_own_fault r next) is, refl)
 
 module _ (root : List ℕ) (d : Data) (at : Option AtData) (shelf : ShelfNow) (a : AtData) (is : watched root at shelf ≡ Some a) where
-  -- what `trigger` comes to at a root that is shown
+  -- the beginning of `trigger` at a root that is shown
   triggered_at : (view : ViewData) → a.view ≡ Some view
       → try_trigger root d at shelf ≡ or_own_fault (defined_by a.instance d) (λ definition. begun_trigger root (a.instance).root definition shelf)
   triggered_at view shown =
@@ -276,7 +276,7 @@ module _ (root : List ℕ) (d : Data) (at : Option AtData) (shelf : ShelfNow) (a
   trigger_there view shown read said =
       subst (λ v. IsDefinedOf d a.instance v read) shown (subst (λ at. IsDefinedAt d at read) (there root at shelf a is) said)
 
-  -- what is begun of the trigger that was read is what `trigger` comes to
+  -- the trigger that was read begins as `trigger` does
   pub begins_defined : (view : ViewData) → a.view ≡ Some view → (read : ReadTrigger) → IsDefinedAt d at (Some (Ok read))
       → (result : Result Work Refusal) (after : ShelfNow)
       → Begins (begun_trigger root (a.instance).root (definition_data read.definition) shelf) shelf result after
@@ -288,7 +288,7 @@ module _ (root : List ℕ) (d : Data) (at : Option AtData) (shelf : ShelfNow) (a
       (trigger_there view shown (Some (Ok read)) said).0))
       begins
 
-  -- and its fault is why `trigger` is refused
+  -- and its fault is the reason to refuse `trigger`
   pub refuses_defined : (view : ViewData) → a.view ≡ Some view → (refusal : Refusal) → IsDefinedAt d at (Some (Err refusal))
       → Begins (try_trigger root d at shelf) shelf (Err refusal) shelf
   refuses_defined view shown refusal said =
@@ -305,7 +305,7 @@ abbrev query_in : QueryData → Result DefinitionData TriggerFault → QueryData
 query_in q (Ok definition) = definition.query
 query_in q (Err fault) = q
 
--- the query of a definition is what its object asks
+-- the query of a definition is the one that its object asks
 pub definition_asks : (instance : InstanceData) (d : Data) (definition : DefinitionData) → defines instance d ≡ Ok definition
     → queries instance definition.object ≡ Ok definition.query
 definition_asks instance d definition is =
@@ -321,7 +321,7 @@ definition_asks instance d definition is =
     by true (Ok shape) (Ok query) asked is =
         ap (queries instance) (sym (ap object_in is)) ∙ asked ∙ ap (λ r. Ok (query_in query r)) is
 
--- what a subscription asks is asked as a query
+-- the ask of a subscription is asked as a query
 pub asked_plain : (instance : InstanceData) (d : Data) (q : QueryData) → subscribes instance d ≡ Ok q → queries instance d ≡ Ok q
 asked_plain instance d q is = by (queries instance d) (has_generator d) (has_cursor d) is
   where
@@ -339,13 +339,13 @@ asked_plain instance d q is = by (queries instance d) (has_generator d) (has_cur
         of false false true is = absurd cc
         of false false false is = is
 
--- what was read of the object of a subscription was read as a query
+-- the object of a subscription was read as a query
 pub plain_read : (instance : InstanceData) (d : Data) (query : Result Query QueryFault) → GivesQuery query (subscribes instance d)
     → IfOk query (λ query. queries instance d ≡ Ok (asked_of query))
 plain_read instance d (Ok query) is = asked_plain instance d (asked_of query) is
 plain_read instance d (Err fault) is = tt
 
--- what is taken of an ask that was prepared is taken of that ask
+-- taking a prepared ask takes that ask
 pub taken_as : (ask asked : Ask) (at asked_at : Option AtData) (shelf same : ShelfNow) (work : WorkData) (after : ShelfNow) → asked ≡ ask
     → asked_at ≡ at → same ≡ shelf → TakesAsk asked asked_at same work after → TakesAsk ask at shelf work after
 taken_as ask asked at asked_at shelf same work after is_ask is_at is_shelf takes =

@@ -1,4 +1,4 @@
--- What stands behind the first word.
+-- The words after the first.
 use Rattle.std.proofs.Common.{◌≡◌, ℕ, suc, false, List, [], ◌∷◌, length, leb, ◌==◌, refl, sym, arith}
 use Rattle.std.proofs.lemmas.Bool.Decides.{nat_tests}
 use mathlib.Core.Bool.{false≢true}
@@ -11,7 +11,7 @@ use Rattle.wq_session.specs.Argument.{are_none, are_options, behind}
 two_are_more : (n : ℕ) → leb (suc (suc n)) 1 ≡ false
 two_are_more n = grind (arith, nat_tests)
 
--- nothing is behind one word, or none
+-- nothing follows one word, or none
 pub none_behind : (words : List Value) → leb (length words) 1 ≡ are_none (behind (items_view words))
 none_behind [] = refl
 none_behind (word ∷ []) = refl
@@ -26,7 +26,7 @@ two_values (string text) e ds = refl
 two_values (array items) e ds = refl
 two_values (object ms) e ds = refl
 
--- behind the options nothing may stand
+-- nothing may follow the options
 pub more_options : (value : Value) (rest values : List Value) → values ≡ value ∷ rest → (length rest == 0) ≡ false
     → false ≡ are_options (items_view values)
 more_options value [] values is more = absurd (false≢true (sym more))

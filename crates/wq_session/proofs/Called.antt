@@ -123,7 +123,7 @@ module _ {A : Type 0} where
       (ap (λ xs. x ∷ xs) (removed_between front s later (length front) refl))
 
 module _ {A B : Type 0} (f : A → B) where
-  -- what is found among what is made of elements is found among them
+  -- a search among the elements gives the same as one among their images
   position_of_made : (test : B → Bool) (xs : List A) → position_or_len (λ x. test (f x)) xs ≡ position_or_len test (map f xs)
   position_of_made test [] = refl
   position_of_made test (x ∷ xs) = ap (λ i. cond (not (test (f x))) (1 + i) 0) (position_of_made test xs)

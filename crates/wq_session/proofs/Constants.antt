@@ -1,4 +1,4 @@
--- Replies that are always the same.
+-- Fixed replies.
 use Rattle.std.proofs.Common.{◌≡◌, ℕ, Bool, true, false, not, ◌||◌, List, [], Option, Some, None, refl, ap, ◌∙◌}
 use mathlib.Core.Bool.{false≢true}
 use Rattle.json.specs.Print.{escape_byte}
@@ -52,7 +52,7 @@ goes_on refusal is = by (ends_session refusal) is
     by true is = absurd (false≢true is)
     by false is = refl
 
--- what is given out of the line that is kept of a refusal
+-- the output of the line that is kept for a refusal
 pub fixed_said : (refusal : Refusal) (line : List ℕ) (ends : Bool) → line ≡ reply_line (error_data refusal)
     → ends ≡ ends_session refusal
     → (record { reply = Some (text_of line); lists = []; goes_on = not ends; shuts = false; unset = None }) ≡ refuses refusal

@@ -1,4 +1,4 @@
--- What is taken and then finished is the answer.
+-- Taking and then finishing gives the answer.
 use Rattle.std.proofs.Common.{◌≡◌, inl, inr, Bool, true, false, if◌then◌else◌, List, Option, Some, None, refl, sym, ap, subst, ◌∙◌}
 use Rattle.std.specs.Option.{option_map_or}
 use Rattle.wq_query.specs.Query.{PlanData}
@@ -18,7 +18,7 @@ use Rattle.wq_session.specs.Work.{BegunData, WorkData, says, evaluates, begins, 
 use Rattle.wq_session.specs.declared.ask.Ask.{Ask}
 use Rattle.wq_session.specs.declared.cursor.Cursor.{Cursor}
 
--- what is listed names no cursor
+-- the output of a listing names no cursor
 none_listed : (plan : PlanData) (at : Option AtData) → (listed plan at).unset ≡ None
 none_listed plan None = refl
 none_listed plan (Some at) = by at.view
@@ -27,7 +27,7 @@ none_listed plan (Some at) = by at.view
     by None = refl
     by (Some view) = refl
 
--- what is given out when a subscription begins names none
+-- the output when a subscription begins names none
 none_begun : (s : SubscriptionData) (at : Option AtData) (follows : List SubscriptionData)
     → (following s at follows).out.unset ≡ None
 none_begun s at follows = by (has_no_room s.number s.name follows) at
@@ -43,18 +43,18 @@ none_begun s at follows = by (has_no_room s.number s.name follows) at
     by false None = refl
     by false (Some at) = shown at.instance at.view
 
--- what is finished names no cursor
+-- the output of finished work names no cursor
 pub none_named : (work : WorkData) (at : Option AtData) (follows : List SubscriptionData) → (finished work at follows).out.unset ≡ None
 none_named (says out) at follows = refl
 none_named (evaluates plan cursor) at follows = none_listed plan at
 none_named (begins s) at follows = none_begun s at follows
 none_named (drops number name) at follows = refl
 
--- where no cursor is named, nothing more is done
+-- if no cursor is named, nothing more is done
 nothing_more : (out : OutData) (shelf : ShelfNow) → out.unset ≡ None → without_cursor out.unset shelf ≡ shelf
 nothing_more out shelf none = ap (λ cursor. without_cursor cursor shelf) none
 
--- and what is given out is that
+-- and that is the output
 all_given : (out : OutData) → out.unset ≡ None → settled out ≡ out
 all_given out none =
     ap (λ cursor. record { reply = out.reply; lists = out.lists; goes_on = out.goes_on; shuts = out.shuts; unset = cursor }) (sym none)
@@ -117,7 +117,7 @@ module _ (ask : Ask) (at : Option AtData) (shelf : ShelfNow) (follows : List Sub
       subst (λ (o : OutData). AnswersAsk ask at shelf follows (settled o) (without_cursor o.unset after) left) (sym is.0)
       (inr (inl (takes, refl, same, is.1)))
 
-  -- what is taken and then finished is the answer
+  -- taking and then finishing gives the answer
   pub answered : (work : WorkData) (after : ShelfNow) (out : OutData) (left : List SubscriptionData)
       → TakesAsk ask at shelf work after → Finishes work at follows out left
       → AnswersAsk ask at shelf follows (settled out) (without_cursor out.unset after) left
@@ -129,7 +129,7 @@ module _ (ask : Ask) (at : Option AtData) (shelf : ShelfNow) (follows : List Sub
   answered work after out left (inr refused) done =
       untaken after out left refused.0 refused.2 (subst (λ w. Finishes w at follows out left) refused.1 done)
 
-  -- and where a cursor is named, it is unset
+  -- and if a cursor is named, it is unset
   pub answered_with : (work : WorkData) (after : ShelfNow) (out given : OutData) (left : List SubscriptionData)
       (cursor : Cursor) (kept : ShelfNow) → TakesAsk ask at shelf work after → Finishes work at follows out left → given ≡ settled out
       → out.unset ≡ Some cursor → kept ≡ cursor_unset cursor.root cursor.name after → AnswersAsk ask at shelf follows given kept left
@@ -138,7 +138,7 @@ module _ (ask : Ask) (at : Option AtData) (shelf : ShelfNow) (follows : List Sub
       subst (λ (o : OutData). AnswersAsk ask at shelf follows o kept left) (sym is)
       (subst (λ (s : ShelfNow). AnswersAsk ask at shelf follows (settled out) s left) (sym same) (answered work after out left takes done))
 
-  -- and where none is named, nothing is
+  -- and if none is named, nothing is unset
   pub answered_plain : (work : WorkData) (after : ShelfNow) (out given : OutData) (left : List SubscriptionData)
       → TakesAsk ask at shelf work after → Finishes work at follows out left → given ≡ settled out → out.unset ≡ None
       → AnswersAsk ask at shelf follows given after left

@@ -1,4 +1,4 @@
--- Where files are to be listed, there is a view of which they can be.
+-- If files are to be listed, there is a view to list them at.
 use Rattle.std.proofs.Common.{◌≡◌, ℕ, Bool, true, false, not, is_some, if◌then◌else◌, List, Option, Some, None, Result, Ok, Err, inl, inr, refl, sym, ap, subst}
 use Rattle.serde_json.specs.Data.{Data}
 use Rattle.serde_json.specs.View.{view as data_of}
@@ -32,25 +32,25 @@ use Rattle.wq_session.specs.declared.ask.Ask.TheVariants.{DeleteProgram, Leave, 
 use Rattle.wq_session.specs.declared.refusal.Refusal.{Refusal}
 use Rattle.wq_session.specs.declared.refusal.Refusal.TheVariants.{NotWatched, Query as BadQuery, ShelfFull, TooManyRoots, BadName, TooManyTriggers}
 
--- what is begun can be finished at what is looked at
+-- begun work can be finished at the root that is looked at
 abbrev Fits : Option AtData → Result BegunData Refusal → Type 0
 Fits at (Ok b) = CanFinish b.work at
 Fits at (Err refusal) = Unit {0}
 
--- what is said can be
+-- output alone can be finished
 unless_said : (refusal : Refusal) (test : Bool) (out : OutData) (after : ShelfNow) (at : Option AtData)
     → Fits at (unless_fault refusal test (Ok (record { work = says out; shelf = after })))
 unless_said refusal false out after at = tt
 unless_said refusal true out after at = tt
 
 module _ (at : AtData) (shelf : ShelfNow) where
-  -- what follows where the root is watched
+  -- the consequences if the root is watched
   where_watched : (test : Bool) (next : AtData → Result BegunData Refusal) → Fits (Some at) (next at)
       → Fits (Some at) (or_fault NotWatched (if test then Some at else None) next)
   where_watched false next so = tt
   where_watched true next so = so
 
-  -- what is said of a view
+  -- the output of a view
   of_view : (view : Option ViewData) (out : ViewData → OutData)
       → Fits (Some at) (or_fault NotWatched view (λ view. Ok (saying (out view) shelf)))
   of_view None out = tt
@@ -85,7 +85,7 @@ module _ (at : AtData) (shelf : ShelfNow) where
   with_view d None is = tt
   with_view d (Some view) is = with_query (at.instance).root view.tick (queries at.instance d) (ap is_some is)
 
-  -- what `subscribe` comes to can be
+  -- the beginning of `subscribe` can be finished
   with_subscription : (root name : List ℕ) (d : Data) (view : Option ViewData) → at.view ≡ view
       → Fits (Some at) (or_fault NotWatched view (λ view. unless_fault BadName (is_name name) (
       or_its_fault BadQuery (subscription_of at.instance d) (λ q. begun_subscription root name (at.instance).root q shelf))))
@@ -103,7 +103,7 @@ module _ (at : AtData) (shelf : ShelfNow) where
       by true (Err fault) = tt
       by true (Ok q) = found q (program_for q shelf)
 
-  -- what `trigger` comes to can be
+  -- the beginning of `trigger` can be finished
   with_definition : (root : List ℕ) (number : ℕ) (d : Result DefinitionData Refusal) (view : Option ViewData)
       → Fits (Some at) (or_fault NotWatched view (λ view.
       or_own_fault d (λ definition. begun_trigger root number definition shelf)))
@@ -116,13 +116,13 @@ module _ (at : AtData) (shelf : ShelfNow) where
       found (Err refusal) = tt
       found (Ok program) = unless_said TooManyTriggers (not (has_no_trigger_place number (name_in d) shelf)) _ _ (Some at)
 
-  -- what `unsubscribe` comes to can be
+  -- the beginning of `unsubscribe` can be finished
   with_name : (number : ℕ) (name : List ℕ) (test : Bool)
       → Fits (Some at) (unless_fault BadName test (Ok (record { work = drops number name; shelf = shelf })))
   with_name number name false = tt
   with_name number name true = tt
 
--- what an ask comes to can be finished
+-- the beginning of an ask can be finished
 tried_fits : (ask : Ask) (at : Option AtData) (shelf : ShelfNow) → Fits at (tried ask at shelf)
 tried_fits (Refused refusal) at shelf = tt
 tried_fits (Watch root) None shelf = tt

@@ -46,7 +46,7 @@ Stays ask shelf (Ok b) = is_followed b.work ≡ true → (takes_memory ask ≡ t
 Stays ask shelf (Err refusal) = Unit {0}
 
 module _ (ask : Ask) (shelf : ShelfNow) where
-  -- what is said does not
+  -- output alone does not
   said : (out : OutData) (after : ShelfNow) → Stays ask shelf (Ok (record { work = says out; shelf = after }))
   said out after = λ is. absurd (false≢true is)
 
@@ -55,13 +55,13 @@ module _ (ask : Ask) (shelf : ShelfNow) where
   unless_said refusal false out after = tt
   unless_said refusal true out after = said out after
 
-  -- what follows if the root is watched
+  -- the consequences if the root is watched
   if_watched : (at : AtData) (test : Bool) (next : AtData → Result BegunData Refusal) → Stays ask shelf (next at)
       → Stays ask shelf (or_fault NotWatched (if test then Some at else None) next)
   if_watched at false next so = tt
   if_watched at true next so = so
 
-  -- what is said of a view
+  -- the output of a view
   of_view : (view : Option ViewData) (out : ViewData → OutData)
       → Stays ask shelf (or_fault NotWatched view (λ view. Ok (saying (out view) shelf)))
   of_view None out = tt
@@ -96,7 +96,7 @@ module _ (ask : Ask) (shelf : ShelfNow) where
   with_view instance d None = tt
   with_view instance d (Some view) = with_query instance.root view.tick (queries instance d)
 
-  -- what `trigger` comes to
+  -- the beginning of `trigger`
   with_definition : (root : List ℕ) (number : ℕ) (d : Result DefinitionData Refusal) (view : Option ViewData)
       → Stays ask shelf (or_fault NotWatched view (λ view.
       or_own_fault d (λ definition. begun_trigger root number definition shelf)))
@@ -110,7 +110,7 @@ module _ (ask : Ask) (shelf : ShelfNow) where
       put (Ok program) = unless_said TooManyTriggers (not (has_no_trigger_place number (name_in d) shelf)) _ _
 
   module _ (takes : takes_memory ask ≡ true) where
-    -- what `subscribe` comes to
+    -- the beginning of `subscribe`
     found : (root name : List ℕ) (number : ℕ) (q : QueryData) (program : Result (Option Raw) Refusal)
         → Stays ask shelf (or_own_fault program (λ program.
         Ok (record { work = begins (subscribed name root number (first_plan q program)); shelf = shelf })))
@@ -131,13 +131,13 @@ module _ (ask : Ask) (shelf : ShelfNow) where
     with_subscription root name instance d (Some view) =
         subscribed_as root name instance.root (is_name name) (subscription_of instance d)
 
-    -- what `unsubscribe` comes to
+    -- the beginning of `unsubscribe`
     with_name : (number : ℕ) (name : List ℕ) (test : Bool)
         → Stays ask shelf (unless_fault BadName test (Ok (record { work = drops number name; shelf = shelf })))
     with_name number name false = tt
     with_name number name true = λ is. (takes, refl)
 
--- what an ask comes to
+-- the beginning of an ask
 stays : (ask : Ask) (at : Option AtData) (shelf : ShelfNow) → Stays ask shelf (tried ask at shelf)
 stays (Refused refusal) at shelf = tt
 stays (Watch root) None shelf = tt
@@ -184,7 +184,7 @@ stays (DeleteTrigger root name) (Some at) shelf =
 stays Leave at shelf = λ is. absurd (false≢true is)
 stays Nothing at shelf = λ is. absurd (false≢true is)
 
--- so where such work was begun
+-- so if such work was begun
 pub followed_stays : (ask : Ask) (at : Option AtData) (shelf : ShelfNow) → is_followed (begun ask at shelf).work ≡ true
     → (takes_memory ask ≡ true) × ((begun ask at shelf).shelf ≡ shelf)
 followed_stays ask at shelf is = by (tried ask at shelf) (stays ask at shelf) is

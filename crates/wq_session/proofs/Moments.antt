@@ -17,7 +17,7 @@ use Rattle.wq_session.specs.Out.{OutData, tells_lists}
 use Rattle.wq_session.proofs.Called.{removed_between, set_between, set_made}
 
 module _ {A B : Type 0} (f : A → B) where
-  -- what is made of the element at a place
+  -- the result for the element at a place
   get_made : (xs : List A) (i : ℕ) (d : A) → f (get_or xs i d) ≡ get_or (map f xs) i (f d)
   get_made [] i d = refl
   get_made (x ∷ xs) zero d = refl
@@ -30,7 +30,7 @@ module _ {A B : Type 0} (f : A → B) where
   remove_made (x ∷ xs) zero = refl
   remove_made (x ∷ xs) (suc i) = ap (λ ys. f x ∷ ys) (remove_made xs i)
 
-  -- as many are made
+  -- there are as many results
   pub length_made : (xs : List A) → length (map f xs) ≡ length xs
   length_made [] = refl
   length_made (x ∷ xs) = ap suc (length_made xs)

@@ -3,7 +3,7 @@ use Rattle.std.proofs.Common.{◌≡◌, ◌≤◌, ℕ, ◌-◌, List, ◌++◌
 use Rattle.std.proofs.Math.Seq.{take-append_seam}
 use Rattle.wq_session.specs.Line.{IsLine, text_of}
 
--- what is before the newline that was put to a text
+-- the text before the newline that was put to it
 pub text_before : (text : List ℕ) → text_of (text ++ codes "\n") ≡ text
 text_before text =
     let count : length (text ++ codes "\n") - 1 ≡ length text = omega (arith, length-append text (codes "\n")) in
@@ -17,7 +17,7 @@ is_line text = ap (λ t. t ++ codes "\n") (sym (text_before text))
 pub not_empty : (line : List ℕ) → IsLine line → 1 ≤ length line
 not_empty line is = subst (λ l. 1 ≤ length l) (sym is) (omega (arith, length-append (text_of line) (codes "\n")))
 
--- a line that is kept for a text says it
+-- a line that is kept for a text has that text
 pub kept_text : (text line : List ℕ) → line ≡ text ++ codes "\n" → text_of line ≡ text
 kept_text text line is = ap text_of is ∙ text_before text
 

@@ -1,4 +1,4 @@
--- The subscriptions of a session, as lists in which one is called by its root and its name.
+-- The subscriptions of a session, as lists in which each is known by its root and its name.
 use Rattle.std.proofs.Common.{◌≡◌, ℕ, Bool, true, false, List, [], ◌∷◌, ◌++◌, map, None, Some, Option, if◌then◌else◌, refl, ap, slice_set, position, ◌∙◌}
 use Rattle.wq_follow.specs.Followed.{subscription_data}
 use Rattle.wq_follow.specs.Subscription.{SubscriptionData}
@@ -19,7 +19,7 @@ as_replaced s (first ∷ later) = by (is_called s.number s.name first) (as_repla
     by true rest = refl
     by false rest = ap (λ follows. first ∷ follows) rest
 
--- a place that was found among the subscriptions is one among what they are
+-- a place that was found among the subscriptions is a place among their data
 pub found_as : (items : List Subscription) (number : ℕ) (name : List ℕ) (s : Subscription) (result : Option ℕ)
     → number ≡ s.number → name ≡ s.name → result ≡ position (λ x. is_called number name (subscription_data x)) items
     → result ≡ position (is_called s.number s.name) (map subscription_data items)
@@ -28,7 +28,7 @@ found_as items number name s result is_number is_name is =
     ∙ ap (λ n. position (is_called n name) (map subscription_data items)) is_number
     ∙ ap (λ n. position (is_called s.number n) (map subscription_data items)) is_name
 
--- one is put in the place of the one that is called as it is
+-- one is put in the place of the one with the same root and name
 pub put_there : (items : List Subscription) (s : Subscription) (place : ℕ)
     → position (is_called s.number s.name) (map subscription_data items) ≡ Some place
     → map subscription_data (slice_set items place s) ≡ with_subscription (subscription_data s) (map subscription_data items)

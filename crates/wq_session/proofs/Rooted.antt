@@ -1,4 +1,4 @@
--- A root that has a text stands under its number.
+-- A root that has a text is under its number.
 use Rattle.std.proofs.Common.{◌≡◌, ℕ, Bool, true, false, List, [], ◌∷◌, Some, nat_eq, is_none, refl, sym, subst, if◌then◌else◌}
 use Rattle.std.specs.Str.{bytes_eq}
 use Rattle.std.proofs.lemmas.Option.{same_Some}
@@ -10,7 +10,7 @@ module _ {T : Type 0} where
       → is_none (numbered number (r ∷ rs)) ≡ false
   first_there number r rs same = rw same refl
 
-  -- a number that is there is there behind another root
+  -- a number that is there is also there after another root
   later_there : (number : ℕ) (r : RootData T) (rs : List (RootData T)) → is_none (numbered number rs) ≡ false
       → is_none (numbered number (r ∷ rs)) ≡ false
   later_there number r rs there = at (nat_eq number r.number) there

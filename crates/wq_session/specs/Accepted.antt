@@ -1,5 +1,5 @@
--- The calls of the shelf that are accepted of an ask, and that they are all that its answer does there.
--- No public document is behind it.
+-- The calls of the shelf that an ask leads to. They are all that its answer does there.
+-- It is this server's own.
 use Rattle.std.specs.Prelude.{◌≡◌, ◌⊎◌, ℕ, true, List, [], ◌∷◌, ◌++◌, Option, Some, None, Result, Ok, Err}
 use Rattle.serde_json.specs.Data.{Data}
 use Rattle.serde_json.specs.View.{view as data_of}
@@ -33,12 +33,12 @@ use Rattle.wq_session.specs.declared.refusal.Refusal.{Refusal}
 abbrev pub CallNow : Type 0
 CallNow = Call TriggerData
 
--- the use of a cursor of a root at a tick, if the bound is that of a cursor
+-- the use of a cursor of a root at a tick, if the bound has a cursor
 abbrev pub cursor_calls : ℕ → SinceData → ℕ → List CallNow
 cursor_calls root (at_bound bound) tick = []
 cursor_calls root (at_cursor name) tick = uses_cursor root name tick ∷ []
 
--- the calls of a query of a root at a tick of it: that its cursor is used there
+-- the calls of a query of a root at a tick: its cursor is used there
 abbrev pub query_calls : ℕ → ℕ → Result QueryData QueryFault → List CallNow
 query_calls root tick (Ok q) = cursor_calls root q.since tick
 query_calls root tick (Err fault) = []
@@ -48,7 +48,7 @@ abbrev pub shown_calls : InstanceData → Option ViewData → Data → List Call
 shown_calls instance None d = []
 shown_calls instance (Some view) d = query_calls instance.root view.tick (queries instance d)
 
--- the calls of a definition with its program: that the trigger is put under its name
+-- the calls of a definition with its program: the trigger is put under its name
 abbrev pub made_calls : List ℕ → ℕ → DefinitionData → Result (Option Raw) Refusal → ShelfNow
     → List CallNow
 made_calls root number d (Ok program) shelf =
@@ -82,14 +82,14 @@ calls_of (AddProgram name program) at shelf = adds_program name program ∷ []
 calls_of (DeleteProgram name) at shelf = removes_program name ∷ []
 calls_of ask at shelf = looked_calls ask at shelf
 
--- that a cursor is unset, if there is one
+-- the unsetting of a cursor, if there is one
 abbrev pub unset_calls : Option Cursor → List CallNow
 unset_calls None = []
 unset_calls (Some cursor) = unsets_cursor cursor.root cursor.name ∷ []
 
--- these calls were accepted of an ask that was answered so: its own; or none, where the line was
--- refused or memory ran out first; or, where it ran out over the files, its own and then that the
--- cursor is unset
+-- these calls were accepted of an ask that was answered so. They are its own; or none, if the line
+-- was refused or memory ran out first; or its own and then the unsetting of the cursor, if memory
+-- ran out over the files
 abbrev pub Accepts : Ask → Option AtData → ShelfNow → List SubscriptionData → OutData → List CallNow
     → Type 0
 Accepts ask at shelf follows out calls =
@@ -103,7 +103,7 @@ Accepts ask at shelf follows out calls =
     × (tried ask at shelf ≡ Ok begun) × (begun.work ≡ evaluates plan cursor)
     × (out ≡ runs_out None) × (calls ≡ calls_of ask at shelf ++ unset_calls cursor))
 
--- what an answer leaves of the shelf is what the calls come to that were accepted of the ask
+-- an answer leaves the shelf that results from the calls that were accepted of the ask
 abbrev pub AnswersAreCalls : Type 0
 AnswersAreCalls = (ask : Ask) (at : Option AtData) (shelf : ShelfNow)
     (follows : List SubscriptionData) (out : OutData) (after : ShelfNow)

@@ -1,6 +1,6 @@
--- The answer to an ask, whole: what is begun while the shelf is held, and finished without it. And
--- what it may come to where memory runs out.
--- It is this server's own that a cursor is unset whose reply could not be made.
+-- The whole answer to an ask: its beginning while the shelf is held, and its end without the shelf.
+-- And the results if memory runs out.
+-- If the reply of a cursor could not be made, the cursor is unset: this is this server's own.
 use Rattle.std.specs.Prelude.{◌≡◌, ◌⊎◌, ℕ, true, false, is_some, List, Option, Some, None}
 use Rattle.std.specs.Prelude.{if◌then◌else◌}
 use Rattle.std.specs.Option.{option_map_or}
@@ -22,13 +22,13 @@ use Rattle.wq_session.specs.declared.cursor.Cursor.{Cursor}
 use Rattle.wq_session.specs.declared.refusal.Refusal.{Refusal}
 use Rattle.wq_session.specs.declared.refusal.Refusal.TheVariants.{TooManySubscriptions}
 
--- the files of a plan, of what is looked at
+-- the files of a plan, of the root that is looked at
 abbrev pub listed : PlanData → Option AtData → OutData
 listed plan None = silence true
 listed plan (Some at) =
     option_map_or (λ view. replies (reply_of plan at.instance view)) at.view (silence true)
 
--- what is given out with no cursor to unset
+-- the output with no cursor to unset
 abbrev pub settled : OutData → OutData
 settled out = record {
   reply = out.reply;
@@ -38,23 +38,24 @@ settled out = record {
   unset = None;
 }
 
--- what is given out when work is done, and the subscriptions of the session then
+-- the output when the work is done, and the subscriptions of the session then
 pub record DoneData : Type 0 where
   pub out : OutData
   pub follows : List SubscriptionData
 
--- this is given out, and the subscriptions stay
+-- this is the output, and the subscriptions stay
 abbrev pub giving : OutData → List SubscriptionData → DoneData
 giving out follows = record { out = out; follows = follows }
 
--- a subscription began, at a view of its root: it is kept, and its first list was told
+-- a subscription began at a view of its root: the session keeps it, and the client has its first
+-- list
 abbrev pub begun_at : SubscriptionData → InstanceData → ViewData → List SubscriptionData → DoneData
 begun_at s instance view follows = record {
   out = replies_with (subscribe_data instance view s.name) (list_of instance view s);
   follows = with_subscription (caught_up view s) follows;
 }
 
--- the same at what is looked at, which shows a view
+-- the same at the root that is looked at, which shows a view
 abbrev pub begun_by : SubscriptionData → Option AtData → List SubscriptionData → DoneData
 begun_by s None follows = giving (silence true) follows
 begun_by s (Some at) follows =
@@ -67,21 +68,22 @@ following s at follows =
     if has_no_room s.number s.name follows then giving (refuses TooManySubscriptions) follows
     else begun_by s at follows
 
--- the subscription that is called so ended, if there is one
+-- the subscription of this name and root ended, if there is one
 abbrev pub dropped : ℕ → List ℕ → List SubscriptionData → DoneData
 dropped number name follows = record {
   out = replies (unsubscribe_data name (has_called number name follows));
   follows = without_called number name follows;
 }
 
--- what is given out when the work is done, and the subscriptions then
+-- the output when the work is done, and the subscriptions then
 abbrev pub finished : WorkData → Option AtData → List SubscriptionData → DoneData
 finished (says out) at follows = giving (settled out) follows
 finished (evaluates plan cursor) at follows = giving (listed plan at) follows
 finished (begins s) at follows = following s at follows
 finished (drops number name) at follows = dropped number name follows
 
--- what a refusal may come to: it is said; or memory ran out, but not where the session ends with it
+-- the possible results of a refusal: the reply says it; or memory ran out, but not if the session
+-- ends with it
 abbrev pub MayRefuse : Refusal → OutData → Type 0
 MayRefuse refusal out =
     (out ≡ refuses refusal) ⊎ ((ends_session refusal ≡ false) × (out ≡ runs_out None))
@@ -91,40 +93,40 @@ pub record AnswerData : Type 0 where
   pub done : DoneData
   pub shelf : ShelfNow
 
--- the answer to an ask, at a root that is looked at, a shelf and the subscriptions of a session
+-- the answer to an ask, for the root that is looked at, a shelf and the subscriptions of a session
 abbrev pub answer : Ask → Option AtData → ShelfNow → List SubscriptionData → AnswerData
 answer ask at shelf follows = record {
   done = finished (begun ask at shelf).work at follows;
   shelf = (begun ask at shelf).shelf;
 }
 
--- what was begun of an ask: the work and the shelf are those of the answer; or memory ran out, and
+-- the beginning of an ask: the work and the shelf are those of the answer; or memory ran out, and
 -- nothing changed
 abbrev pub TakesAsk : Ask → Option AtData → ShelfNow → WorkData → ShelfNow → Type 0
 TakesAsk ask at shelf work after =
     (begun ask at shelf ≡ record { work = work; shelf = after })
     ⊎ ((takes_memory ask ≡ true) × (work ≡ says (runs_out None)) × (after ≡ shelf))
 
--- what work comes to where memory runs out
+-- the result of work if memory runs out
 abbrev pub unmade : WorkData → OutData
 unmade (says out) = settled out
 unmade (evaluates plan cursor) = runs_out cursor
 unmade (begins s) = runs_out None
 unmade (drops number name) = runs_out None
 
--- what work was finished to, with the subscriptions of the session before and after: without memory
--- they stay
+-- the result of finished work, with the subscriptions of the session before and after; without
+-- memory they stay
 abbrev pub Finishes : WorkData → Option AtData → List SubscriptionData → OutData
     → List SubscriptionData → Type 0
 Finishes work at follows out left =
     (finished work at follows ≡ giving out left) ⊎ ((out ≡ unmade work) × (left ≡ follows))
 
--- a view is looked at
+-- the session looks at a view
 abbrev pub HasView : Option AtData → Type 0
 HasView None = ⊥
 HasView (Some at) = is_some at.view ≡ true
 
--- files can be listed of what is looked at, if any are to be listed
+-- files of the root that is looked at can be listed, if any are to be listed
 abbrev pub CanFinish : WorkData → Option AtData → Type 0
 CanFinish (says out) at = Unit {0}
 CanFinish (evaluates plan cursor) at = HasView at
@@ -136,8 +138,8 @@ abbrev pub without_cursor : Option Cursor → ShelfNow → ShelfNow
 without_cursor None shelf = shelf
 without_cursor (Some cursor) shelf = cursor_unset cursor.root cursor.name shelf
 
--- what an ask was answered: its answer; or that memory ran out, before anything changed, or when the
--- files were listed: then the cursor is unset which the answer would have moved
+-- the result of an ask: its answer; or memory ran out, before anything changed, or when the files
+-- were listed. In the last case the cursor that the answer would have moved is unset
 abbrev pub AnswersAsk : Ask → Option AtData → ShelfNow → List SubscriptionData → OutData → ShelfNow
     → List SubscriptionData → Type 0
 AnswersAsk ask at shelf follows out after left =

@@ -1,5 +1,5 @@
--- What is looked at for an answer, and whether it is the root that a line names.
--- No public document is behind it.
+-- The root that is looked at for an answer, and whether it is the root that a line names.
+-- It is this server's own.
 use Rattle.std.specs.Prelude.{ℕ, Bool, false, nat_eq, if◌then◌else◌, List}
 use Rattle.std.specs.Prelude.{Option, Some, None, option_map}
 use Rattle.std.specs.Option.{option_map_or}
@@ -14,24 +14,24 @@ use Rattle.wq_session.specs.declared.at.At.{At}
 abbrev pub ShelfNow : Type 0
 ShelfNow = ShelfData TriggerData
 
--- a root that is looked at: which one of which run of the server, and its view, unless it has ended
+-- a root that is looked at: its instance and its view, unless it has ended
 pub record AtData : Type 0 where
   pub instance : InstanceData
   pub view : Option ViewData
 
--- what is looked at
+-- the meaning of the code's root that is looked at
 abbrev pub at_data : At → AtData
 at_data at = record {
   instance = instance_data at.instance;
   view = option_map (λ view. view.now) at.view;
 }
 
--- whether what is looked at is this root, under its number on the shelf
+-- whether the root that is looked at is this root, under its number on the shelf
 abbrev pub is_watched : List ℕ → AtData → ShelfNow → Bool
 is_watched root at shelf =
     option_map_or (λ r. nat_eq (at.instance).root r.number) (called root shelf.roots) false
 
--- what is looked at, if it is this root under its number on the shelf
+-- the root that is looked at, if it is this root under its number on the shelf
 abbrev pub watched : List ℕ → Option AtData → ShelfNow → Option AtData
 watched root None shelf = None
 watched root (Some at) shelf = if is_watched root at shelf then Some at else None

@@ -1,4 +1,4 @@
--- What is begun of an ask while the shelf is held: the table of the commands.
+-- The beginnings of asks while the shelf is held: the table of the commands.
 -- From Watchman's documentation of its commands; those of programs are this server's own.
 use Rattle.std.specs.Prelude.{Bool, true, false, not, Option, Result, Ok, Err}
 use Rattle.serde_json.specs.View.{view as data_of}
@@ -22,7 +22,8 @@ use Rattle.wq_session.specs.declared.ask.Ask.TheVariants.{Subscribe, Unsubscribe
 use Rattle.wq_session.specs.declared.ask.Ask.TheVariants.{ListTriggers, DeleteTrigger}
 use Rattle.wq_session.specs.declared.refusal.Refusal.{Refusal}
 
--- what an ask comes to at a root that is looked at and a shelf, or why the line is refused there
+-- the beginning of an ask at a root that is looked at and a shelf, or the reason to refuse the line
+-- there
 abbrev pub tried : Ask → Option AtData → ShelfNow → Result BegunData Refusal
 tried (Refused refusal) at shelf = Err refusal
 tried (Watch root) at shelf = try_watch root at shelf
@@ -44,16 +45,16 @@ tried (DeleteTrigger root name) at shelf = try_delete_trigger root name at shelf
 tried Leave at shelf = Ok (saying (silence false) shelf)
 tried Nothing at shelf = Ok (saying (silence true) shelf)
 
--- what was begun, or that the line is refused, which leaves the shelf
+-- the work that was begun, or the refusal of the line, which leaves the shelf
 abbrev pub or_refused : Result BegunData Refusal → ShelfNow → BegunData
 or_refused (Ok begun) shelf = begun
 or_refused (Err refusal) shelf = saying (refuses refusal) shelf
 
--- what an ask comes to
+-- the beginning of an ask
 abbrev pub begun : Ask → Option AtData → ShelfNow → BegunData
 begun ask at shelf = or_refused (tried ask at shelf) shelf
 
--- whether memory is taken for what an ask comes to: not for what is always the same
+-- whether the beginning of an ask takes memory: fixed replies take none
 abbrev pub takes_memory : Ask → Bool
 takes_memory (Refused refusal) = not (ends_session refusal)
 takes_memory Version = false
@@ -62,7 +63,7 @@ takes_memory Leave = false
 takes_memory Nothing = false
 takes_memory _ = true
 
--- whether an ask hands in something that the shelf is to keep
+-- whether an ask gives the shelf something to keep
 abbrev pub hands_in : Ask → Bool
 hands_in (AddProgram name program) = true
 hands_in (AddTrigger root trigger) = true

@@ -1,4 +1,4 @@
--- `clock`: which pass over a root was the last.
+-- `clock`: the last pass over a root.
 -- From Watchman's documentation of this command.
 use Rattle.std.specs.Prelude.{ℕ, pos, Bool, false, int_lt, List, codes}
 use Rattle.std.specs.Prelude.{Option, Some, None, option_and_then, Result, Ok}
@@ -20,13 +20,13 @@ use Rattle.wq_session.specs.declared.ask.Ask.TheVariants.{Clock}
 use Rattle.wq_session.specs.declared.refusal.Refusal.{Refusal}
 use Rattle.wq_session.specs.declared.refusal.Refusal.TheVariants.{WrongArguments, NotWatched}
 
--- whether the options of `clock` ask that the root is crawled first: by a whole number above 0
+-- whether the options of `clock` ask for a crawl of the root first: by a whole number above 0
 abbrev pub asks_crawl : Data → Bool
 asks_crawl options =
     option_map_or (int_lt (pos 0))
     (option_and_then whole_number_of (get (codes "sync_timeout") options)) false
 
--- the root of `clock`, behind which an object of options may stand, and whether it is to be crawled
+-- the root of `clock`, which an object of options may follow, and whether it is to be crawled
 abbrev pub clock_arguments : Items → Option (List ℕ × Bool)
 clock_arguments (item (string root) no_items) = Some (root, false)
 clock_arguments (item (string root) (item (object members) no_items)) =
@@ -45,7 +45,7 @@ clock_data instance view =
     object (member (codes "clock") (string (clock_text instance view.tick))
     (member (codes "version") (string version) no_members))
 
--- what `clock` comes to
+-- the beginning of `clock`
 abbrev pub try_clock : List ℕ → Option AtData → ShelfNow → Result BegunData Refusal
 try_clock root at shelf =
     or_fault NotWatched (watched root at shelf) (λ at.

@@ -1,5 +1,5 @@
--- How a line is refused whose root could not be crawled, opened or retired.
--- No public document is behind it.
+-- The refusal of a line if its root could not be crawled, opened or retired.
+-- It is this server's own.
 use Rattle.wq_crawl.specs.declared.fault.CrawlFault.{CrawlFault}
 use Rattle.wq_crawl.specs.declared.fault.CrawlFault.TheVariants.{Unreadable, TooManyFiles as TooManyRows}
 use Rattle.wq_crawl.specs.declared.fault.CrawlFault.TheVariants.{TooManyRoots as TooManyShown}
@@ -8,7 +8,7 @@ use Rattle.wq_session.specs.declared.refusal.Refusal.{Refusal}
 use Rattle.wq_session.specs.declared.refusal.Refusal.TheVariants.{UnreadableRoot, TooManyFiles, TooManyRoots}
 use Rattle.wq_session.specs.declared.refusal.Refusal.TheVariants.{TicksSpent, NoMemory}
 
--- why the line is refused
+-- the refusal of the line
 abbrev pub crawl_refusal : CrawlFault → Refusal
 crawl_refusal Unreadable = UnreadableRoot
 crawl_refusal TooManyRows = TooManyFiles

@@ -1,5 +1,5 @@
--- The subscriptions of a session, in the order in which they began; one is called by the number of its
--- root and its name.
+-- The subscriptions of a session, in the order in which they began. Each is known by the number of
+-- its root and its name.
 -- From Watchman's documentation of `subscribe`; the limit is this server's own.
 use Rattle.std.specs.Prelude.{ℕ, Bool, not, ◌&&◌, nat_eq, nat_le, List, [], ◌∷◌, length, map}
 use Rattle.std.specs.Prelude.{filter, if◌then◌else◌}
@@ -14,11 +14,11 @@ use Rattle.wq_session.specs.declared.session.Session.{Session}
 abbrev pub follows_of : Session → List SubscriptionData
 follows_of session = map subscription_data session.subscriptions.items
 
--- whether a subscription is called so
+-- whether a subscription has this root and name
 abbrev pub is_called : ℕ → List ℕ → SubscriptionData → Bool
 is_called number name s = nat_eq number s.number && bytes_eq name s.name
 
--- whether one of them is
+-- whether one of them has this root and name
 abbrev pub has_called : ℕ → List ℕ → List SubscriptionData → Bool
 has_called number name follows = list_any (is_called number name) follows
 
@@ -27,12 +27,13 @@ abbrev pub has_no_room : ℕ → List ℕ → List SubscriptionData → Bool
 has_no_room number name follows =
     not (has_called number name follows) && nat_le max_subscriptions (length follows)
 
--- with one more: in the place of the one that is called as it is, or at the end
+-- the list with one more subscription: in the place of the one with the same root and name, or at
+-- the end
 abbrev pub with_subscription : SubscriptionData → List SubscriptionData → List SubscriptionData
 with_subscription s [] = s ∷ []
 with_subscription s (first ∷ later) =
     if is_called s.number s.name first then s ∷ later else first ∷ with_subscription s later
 
--- without the one that is called so
+-- the list without the subscription of this root and name
 abbrev pub without_called : ℕ → List ℕ → List SubscriptionData → List SubscriptionData
 without_called number name follows = filter (λ s. not (is_called number name s)) follows

@@ -1,5 +1,5 @@
 -- Laws of answers, each of which follows from the definitions.
--- No public document is behind it.
+-- It is this server's own.
 use Rattle.std.specs.Prelude.{◌≡◌, ℕ, true, List, Some}
 use Rattle.wq_session.specs.Begun.{begun}
 use Rattle.wq_session.specs.Out.{replies}
@@ -8,7 +8,7 @@ use Rattle.wq_session.specs.Watch.{watch_data}
 use Rattle.wq_session.specs.Work.{saying}
 use Rattle.wq_session.specs.declared.ask.Ask.TheVariants.{Watch}
 
--- to watch a root again changes nothing, and is answered as the first time
+-- watching a root again changes nothing, and has the same answer as the first time
 abbrev pub WatchingAgainChangesNothing : Type 0
 WatchingAgainChangesNothing = (root : List ℕ) (at : AtData) (shelf : ShelfNow)
     → is_watched root at shelf ≡ true

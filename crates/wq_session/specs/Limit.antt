@@ -1,5 +1,5 @@
--- The limits of what a line may name, which are this server's own.
--- No public document is behind it.
+-- The limits of what a line may name.
+-- They are this server's own.
 use Rattle.std.specs.Prelude.{ℕ}
 
 -- the most bytes of a root, as it is given

@@ -1,5 +1,5 @@
 -- A line: a text, and the newline at its end.
--- No public document is behind it.
+-- It is this server's own.
 use Rattle.std.specs.Prelude.{◌≡◌, ℕ, ◌-◌, List, ◌++◌, length, take, codes}
 
 -- a line without the newline at its end

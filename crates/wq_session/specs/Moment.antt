@@ -1,7 +1,7 @@
--- An idle moment of a root: each subscription of it is told of the changes since its last list, or that
--- the root is no longer watched, which ends it.
--- From Watchman's documentation of `subscribe`; that a root of another number is another is this
--- server's own.
+-- An idle moment of a root: the server tells each subscription of it the changes since its last
+-- list, or that the root is no longer watched, which ends it.
+-- From Watchman's documentation of `subscribe`. A root with another number is another root: this is
+-- this server's own.
 use Rattle.std.specs.Prelude.{◌≡◌, ◌+◌, ℕ, true, false, nat_eq, List, [], ◌∷◌, ◌++◌, length}
 use Rattle.std.specs.Prelude.{Option, Some, None, option_map, Result, Ok, Err, if◌then◌else◌}
 use Rattle.std.specs.Borrow.{Bor}
@@ -15,7 +15,7 @@ use Rattle.wq_view.specs.View.{ViewData}
 use Rattle.wq_session.specs.At.{AtData}
 use Rattle.wq_session.specs.Out.{OutData, tells_lists}
 
--- a root that is shown: where it is looked at, and its view
+-- a root that is shown: its place, and its view
 abbrev pub Shown : Type 0
 Shown = Option (InstanceData × ViewData)
 
@@ -24,7 +24,7 @@ abbrev pub shown_in : Option AtData → Shown
 shown_in None = None
 shown_in (Some at) = option_map (λ view. (at.instance, view)) at.view
 
--- what a subscription is told, and what is left of it
+-- the list that a subscription is given, and the subscription that is left
 pub record ToldData : Type 0 where
   pub lists : List (List ℕ)
   pub left : List SubscriptionData
@@ -34,7 +34,7 @@ abbrev pub listed_once : Option (List ℕ) → List (List ℕ)
 listed_once None = []
 listed_once (Some list) = list ∷ []
 
--- what it is told at the view of its root, or that the root is watched no longer
+-- its list at the view of its root, or the notice that the root is no longer watched
 abbrev pub told_at : Shown → SubscriptionData → ToldData
 told_at None s = record { lists = compact_text (canceled_data s.root s.name) ∷ []; left = [] }
 told_at (Some (instance, view)) s = record {
@@ -42,17 +42,17 @@ told_at (Some (instance, view)) s = record {
   left = caught_up view s ∷ [];
 }
 
--- what it is told at an idle moment of the root of this number: nothing, if its root is another
+-- its list at an idle moment of the root of this number; it gets nothing if its root is another
 abbrev pub told_of : ℕ → Shown → SubscriptionData → ToldData
 told_of root shown s =
     if nat_eq root s.number then told_at shown s else record { lists = []; left = s ∷ [] }
 
--- what these are told, one after the other
+-- the lists of these, one after the other
 abbrev pub lists_of : ℕ → Shown → List SubscriptionData → List (List ℕ)
 lists_of root shown [] = []
 lists_of root shown (s ∷ later) = (told_of root shown s).lists ++ lists_of root shown later
 
--- what is left of them
+-- the subscriptions that are left
 abbrev pub left_of : ℕ → Shown → List SubscriptionData → List SubscriptionData
 left_of root shown [] = []
 left_of root shown (s ∷ later) = (told_of root shown s).left ++ left_of root shown later
@@ -62,16 +62,17 @@ abbrev pub MayRunOut : Shown → SubscriptionData → Type 0
 MayRunOut None s = Unit {0}
 MayRunOut (Some (instance, view)) s = is_told (s.follower).last view.tick ≡ false
 
--- memory may run out for a subscription only if it has something to be told
+-- memory may run out for a subscription only if there is something to tell it
 abbrev pub WantsMemory : ℕ → Shown → SubscriptionData → Type 0
 WantsMemory root shown s = (nat_eq root s.number ≡ true) × MayRunOut shown s
 
--- these subscriptions are not polled: there are none, or memory ran out at the first of them
+-- the server polls none of these subscriptions: there are none, or memory ran out at the first of
+-- them
 abbrev pub AreLeft : ℕ → Shown → List SubscriptionData → Type 0
 AreLeft root shown [] = Unit {0}
 AreLeft root shown (s ∷ later) = WantsMemory root shown s
 
--- an idle moment: the first subscriptions are told, and the others are as they were
+-- an idle moment: the first subscriptions get their lists, and the others are as before
 pub record Idles (root : ℕ) (at : Option AtData) (follows : List SubscriptionData) (out : OutData)
     (after : List SubscriptionData) : Type 0 where
   pub polled : List SubscriptionData
@@ -81,8 +82,9 @@ pub record Idles (root : ℕ) (at : Option AtData) (follows : List SubscriptionD
   pub left : after ≡ left_of root (shown_in at) polled ++ later
   pub short : AreLeft root (shown_in at) later
 
--- one subscription is told, between those that were told before it and those to come: what it is told
--- is put to the lists, and what is left of it to the front; or memory ran out, and nothing changed
+-- one subscription is told, between those that were told before it and those to come. Its list is
+-- put to the lists, and the subscription that is left to the front; or memory ran out, and nothing
+-- changed
 abbrev pub TellsOne : ℕ → Shown → List SubscriptionData → SubscriptionData
     → List SubscriptionData → List (List ℕ) → Result ℕ AllocError → List SubscriptionData
     → List (List ℕ) → Type 0
@@ -93,7 +95,7 @@ TellsOne root shown front s later lists (Ok next) after told =
 TellsOne root shown front s later lists (Err short) after told =
     (after ≡ front ++ s ∷ later) × (told ≡ lists) × WantsMemory root shown s
 
--- what the code's root that is shown is
+-- the meaning of the code's root that is shown
 abbrev pub shown_data : Option (Instance × Bor ViewData) → Shown
 shown_data None = None
 shown_data (Some (instance, view)) = Some (instance_data instance, view.now)

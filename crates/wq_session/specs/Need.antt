@@ -1,5 +1,5 @@
--- What has to come before an ask is answered: nothing; a look at the view of a root, also after a
--- crawl of it, or after it was opened; or its retirement.
+-- What the server does before it answers an ask: nothing; a look at the view of a root, perhaps
+-- after a crawl of it, or after it was opened; or the retirement of a root.
 -- From Watchman's documentation of synchronisation (`sync_timeout`), `watch` and `watch-del`.
 use Rattle.std.specs.Prelude.{ℕ, Bool, true, false, List}
 use Rattle.wq_session.specs.declared.ask.Ask.{Ask}
@@ -7,17 +7,17 @@ use Rattle.wq_session.specs.declared.ask.Ask.TheVariants.{Watch, Unwatch, Query,
 use Rattle.wq_session.specs.declared.ask.Ask.TheVariants.{Subscribe, Unsubscribe, AddTrigger}
 use Rattle.wq_session.specs.declared.ask.Ask.TheVariants.{ListTriggers, DeleteTrigger}
 
--- what is needed first
+-- the first step
 pub data NeedData : Type 0 where
   -- nothing
   none : NeedData
-  -- the view of a root as it stands
+  -- a look at the current view of a root
   look : (root : List ℕ) → NeedData
-  -- a crawl of a root, and then its view
+  -- a crawl of a root, and then a look at its view
   crawl : (root : List ℕ) → NeedData
-  -- a root is listed and shown, unless it is shown; and then its view
+  -- listing and showing a root, unless it is shown, and then a look at its view
   watch : (root : List ℕ) → NeedData
-  -- a look at a root, which is then shown no more
+  -- a look at a root, which is then no longer shown
   unwatch : (root : List ℕ) → NeedData
 
 -- the view of a root, crawled first or not
@@ -25,7 +25,7 @@ abbrev pub seen : Bool → List ℕ → NeedData
 seen true root = crawl root
 seen false root = look root
 
--- what an ask needs
+-- the need of an ask
 abbrev pub need_of : Ask → NeedData
 need_of (Watch root) = watch root
 need_of (Unwatch root) = unwatch root

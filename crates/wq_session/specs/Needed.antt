@@ -1,5 +1,5 @@
--- What the needs of the code stand for.
--- No public document is behind it.
+-- The meaning of the needs of the code.
+-- It is this server's own.
 use Rattle.wq_session.specs.Need.{NeedData, none, look, crawl, watch, unwatch}
 use Rattle.wq_session.specs.declared.need.Need.{Need as NeedNow}
 use Rattle.wq_session.specs.declared.need.Need.TheVariants.{None, Look, Crawl, Watch, Unwatch}

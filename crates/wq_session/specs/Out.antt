@@ -1,4 +1,4 @@
--- What a session gives out for an event.
+-- The output of a session for an event.
 -- A reply to each line is from Watchman's documentation of its socket interface; the rest is this
 -- server's own.
 use Rattle.std.specs.Prelude.{ℕ, Bool, true, false, not, List, [], ◌∷◌, Option, Some, None}
@@ -10,7 +10,7 @@ use Rattle.wq_session.specs.declared.refusal.Refusal.{Refusal}
 use Rattle.wq_session.specs.declared.refusal.Refusal.TheVariants.{NoMemory}
 use Rattle.wq_session.specs.Refusal.{ends_session}
 
--- what is given out
+-- the output
 pub record OutData : Type 0 where
   -- the text of the reply, without a newline
   pub reply : Option (List ℕ)
@@ -20,10 +20,10 @@ pub record OutData : Type 0 where
   pub goes_on : Bool
   -- whether the server is to end
   pub shuts : Bool
-  -- the cursor that was moved for a reply that memory did not suffice for
+  -- the cursor that was moved for a reply, if memory ran out for that reply
   pub unset : Option Cursor
 
--- a text, after which the session goes on
+-- a text, and then the session goes on
 abbrev pub saying_text : List ℕ → OutData
 saying_text text = record {
   reply = Some text;
@@ -33,7 +33,7 @@ saying_text text = record {
   unset = None;
 }
 
--- a reply, after which the session goes on
+-- a reply, and then the session goes on
 abbrev pub replies : Data → OutData
 replies d = saying_text (compact_text d)
 
@@ -47,7 +47,7 @@ shuts_with d = record {
   unset = None;
 }
 
--- that a line is refused
+-- the reply that refuses a line
 abbrev pub refuses : Refusal → OutData
 refuses refusal = record {
   reply = Some (compact_text (error_data refusal));
@@ -57,11 +57,11 @@ refuses refusal = record {
   unset = None;
 }
 
--- nothing, and whether the session goes on
+-- no reply, and whether the session goes on
 abbrev pub silence : Bool → OutData
 silence goes_on = record { reply = None; lists = []; goes_on = goes_on; shuts = false; unset = None }
 
--- that memory ran out, with the cursor that was moved
+-- memory ran out, with the cursor that was moved
 abbrev pub runs_out : Option Cursor → OutData
 runs_out cursor = record {
   reply = Some (compact_text (error_data NoMemory));
@@ -71,7 +71,7 @@ runs_out cursor = record {
   unset = cursor;
 }
 
--- a text and the list that follows it, after which the session goes on
+-- a text and the list that follows it, and then the session goes on
 abbrev pub saying_with : List ℕ → List ℕ → OutData
 saying_with text list = record {
   reply = Some text;
@@ -81,11 +81,11 @@ saying_with text list = record {
   unset = None;
 }
 
--- a reply and the list that follows it, after which the session goes on
+-- a reply and the list that follows it, and then the session goes on
 abbrev pub replies_with : Data → Data → OutData
 replies_with d list = saying_with (compact_text d) (compact_text list)
 
--- lists alone, after which the session goes on
+-- lists alone, and then the session goes on
 abbrev pub tells_lists : List (List ℕ) → OutData
 tells_lists lists = record {
   reply = None;

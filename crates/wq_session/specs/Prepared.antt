@@ -1,5 +1,5 @@
--- Asks that are prepared: with all that is read of them before the shelf is held.
--- No public document is behind it.
+-- Prepared asks: each has all that can be read of it before the shelf is held.
+-- It is this server's own.
 use Rattle.std.specs.Prelude.{◌≡◌, Option, Some, None, option_map, Result, Ok, Err, IfSome}
 use Rattle.std.specs.declared.alloc.Global.{Global}
 use Rattle.std.specs.declared.sync.Arc.{Arc}
@@ -30,19 +30,20 @@ use Rattle.wq_session.specs.declared.read_trigger.ReadTrigger.{ReadTrigger}
 use Rattle.wq_session.specs.declared.refusal.Refusal.{Refusal}
 use Rattle.wq_session.specs.declared.refusal.Refusal.TheVariants.{NoMemory, Query}
 
--- what is known of the program of an expression: whether it would be too large, the key that says
--- the expression, and a program that answers what the expression means, as far as they are there
+-- the knowledge of the program of an expression: whether the program would be too large, the key
+-- that says the expression, and a program that answers what the expression means. The last two may
+-- be missing
 abbrev pub IsLookup : ExprData → Lookup → Type 0
 IsLookup expression lookup =
     (lookup.is_large ≡ is_too_large expression)
     × IfSome lookup.key (λ key. Says key expression)
     × IfSome lookup.program (λ program. AnswersMeaning program.value expression)
 
--- what is known of the program of a query that was read
+-- the knowledge of the program of a query that was read
 abbrev pub IsRead : ReadQuery → Type 0
 IsRead read = IsLookup (asked_of read.query).expression read.lookup
 
--- what is known of the program of a trigger that was read
+-- the knowledge of the program of a trigger that was read
 abbrev pub IsReadTrigger : ReadTrigger → Type 0
 IsReadTrigger read =
     IsLookup ((definition_data read.definition).query).expression read.lookup
@@ -54,11 +55,12 @@ GivesRead (Err NoMemory) said = Unit {0}
 GivesRead (Err (Query fault)) said = said ≡ Err fault
 GivesRead (Err _) said = ⊥
 
--- how an object is read as a query
+-- a way to read an object as a query
 abbrev pub Reads : Type 0
 Reads = InstanceData → Data → Result QueryData QueryFault
 
--- the query of an object was read at an instance, if a view of the root is shown, and else it was not
+-- the query of an object was read at an instance if a view of the root is shown, and otherwise it
+-- was not
 abbrev pub IsReadOf : Reads → Data → InstanceData → Option ViewData
     → Option (Result ReadQuery Refusal) → Type 0
 IsReadOf reads d instance (Some view) (Some read) = GivesRead read (reads instance d)
@@ -66,7 +68,7 @@ IsReadOf reads d instance (Some view) None = ⊥
 IsReadOf reads d instance None (Some read) = ⊥
 IsReadOf reads d instance None None = Unit {0}
 
--- the query of an object was read so at what is looked at, if there is something
+-- the query of an object was read so at the root that is looked at, if there is one
 abbrev pub IsReadBy : Reads → Data → Option AtData → Option (Result ReadQuery Refusal) → Type 0
 IsReadBy reads d (Some at) read = IsReadOf reads d at.instance at.view read
 IsReadBy reads d None (Some read) = ⊥
@@ -80,7 +82,7 @@ IsReadAt = IsReadBy queries
 abbrev pub IsSubscribedAt : Data → Option AtData → Option (Result ReadQuery Refusal) → Type 0
 IsSubscribedAt = IsReadBy subscribes
 
--- what is known of a query, if it was read
+-- the knowledge of the program of a query, if the query was read
 abbrev pub AreRead : Option (Result ReadQuery Refusal) → Type 0
 AreRead (Some (Ok read)) = IsRead read
 AreRead _ = Unit {0}
@@ -91,8 +93,8 @@ GivesDefined (Ok read) said = (said ≡ Ok (definition_data read.definition)) ×
 GivesDefined (Err NoMemory) said = Unit {0}
 GivesDefined (Err refusal) said = said ≡ Err refusal
 
--- the trigger of an object was read at an instance, if a view of the root is shown, and else it was
--- not
+-- the trigger of an object was read at an instance if a view of the root is shown, and otherwise it
+-- was not
 abbrev pub IsDefinedOf : Data → InstanceData → Option ViewData
     → Option (Result ReadTrigger Refusal) → Type 0
 IsDefinedOf d instance (Some view) (Some read) = GivesDefined read (defined_by instance d)
@@ -100,24 +102,24 @@ IsDefinedOf d instance (Some view) None = ⊥
 IsDefinedOf d instance None (Some read) = ⊥
 IsDefinedOf d instance None None = Unit {0}
 
--- an object was read so as a trigger at what is looked at, if there is something
+-- an object was read so as a trigger at the root that is looked at, if there is one
 abbrev pub IsDefinedAt : Data → Option AtData → Option (Result ReadTrigger Refusal) → Type 0
 IsDefinedAt d (Some at) read = IsDefinedOf d at.instance at.view read
 IsDefinedAt d None (Some read) = ⊥
 IsDefinedAt d None None = Unit {0}
 
--- what is known of a trigger, if it was read
+-- the knowledge of the program of a trigger, if the trigger was read
 abbrev pub AreDefined : Option (Result ReadTrigger Refusal) → Type 0
 AreDefined (Some (Ok read)) = IsReadTrigger read
 AreDefined _ = Unit {0}
 
--- the query of an ask was read, if it has one, and else none was
+-- the query of an ask was read if the ask has one, and otherwise no query was read
 abbrev pub IsReadFor : Ask → Option AtData → Option (Result ReadQuery Refusal) → Type 0
 IsReadFor (AsksQuery root crawl q) at read = IsReadAt (data_of q) at read
 IsReadFor (Subscribe root name q) at read = IsSubscribedAt (data_of q) at read
 IsReadFor _ at read = read ≡ None
 
--- a trigger that was read is the same one, of whose program more may be known; nothing else changed
+-- the same trigger, after more became known of its program; nothing else changed
 abbrev pub IsSameDefined : Option (Result ReadTrigger Refusal)
     → Option (Result ReadTrigger Refusal) → Type 0
 IsSameDefined (Some (Ok read)) (Some (Ok after)) =
@@ -125,7 +127,7 @@ IsSameDefined (Some (Ok read)) (Some (Ok after)) =
 IsSameDefined (Some (Ok read)) _ = ⊥
 IsSameDefined before after = after ≡ before
 
--- the trigger of an ask was read, if it has one, and else none was
+-- the trigger of an ask was read if the ask has one, and otherwise no trigger was read
 abbrev pub IsDefinedFor : Ask → Option AtData → Option (Result ReadTrigger Refusal) → Type 0
 IsDefinedFor (AddTrigger root t) at read = IsDefinedAt (data_of t) at read
 IsDefinedFor _ at read = read ≡ None
@@ -134,7 +136,7 @@ IsDefinedFor _ at read = read ≡ None
 abbrev pub asked : Prepared → Ask
 asked prepared = prepared.ask
 
--- at what it was prepared
+-- the root at which it was prepared, if any
 abbrev pub asked_at : Prepared → Option AtData
 asked_at prepared = option_map at_data prepared.at
 
@@ -144,12 +146,12 @@ IsPrepared prepared =
     IsReadFor (asked prepared) (asked_at prepared) prepared.query
     × IsDefinedFor (asked prepared) (asked_at prepared) prepared.trigger
 
--- the key under which the program of a trigger is kept that was read
+-- the key that keeps the program of a trigger that was read
 abbrev pub trigger_key : Option (Result ReadTrigger Refusal) → Option CacheKeyData
 trigger_key (Some (Ok read)) = (read.lookup).key
 trigger_key _ = None
 
--- the key of a query that was read, or else that of a trigger
+-- the key of a query that was read, or otherwise that of a trigger
 abbrev pub key_from : Option (Result ReadQuery Refusal) → Option (Result ReadTrigger Refusal)
     → Option CacheKeyData
 key_from (Some (Ok read)) trigger = (read.lookup).key
@@ -159,7 +161,7 @@ key_from _ trigger = trigger_key trigger
 abbrev pub key_in : Prepared → Option CacheKeyData
 key_in prepared = key_from prepared.query prepared.trigger
 
--- a program that was found stands for the text of the key, if there is one
+-- a program that was found has the meaning of the key's text, if there is a key
 abbrev pub IsFoundFor : Option CacheKeyData → Option (Arc Raw Global) → Type 0
 IsFoundFor key None = Unit {0}
 IsFoundFor None (Some program) = ⊥

@@ -1,5 +1,5 @@
--- `program-add`, `program-list` and `program-del`: programs are kept under names.
--- Base64 is that of RFC 4648; the rest is this server's own.
+-- `program-add`, `program-list` and `program-del`: the server keeps programs under names.
+-- Base64 is as in RFC 4648; the rest is this server's own.
 use Rattle.std.specs.Prelude.{◌≡◌, ℕ, Bool, not, ◌&&◌, nat_le, List, length, codes, map, is_some}
 use Rattle.std.specs.Prelude.{Result, Ok, Err, Vec}
 use Rattle.std.specs.declared.alloc.Global.{Global}
@@ -29,21 +29,21 @@ use Rattle.wq_session.specs.declared.refusal.Refusal.TheVariants.{NotBase64, She
 abbrev pub is_name : List ℕ → Bool
 is_name name = nat_le 1 (length name) && nat_le (length name) max_program_name
 
--- that the program of a base64 text is kept under a name
+-- the server is asked to keep the program of a base64 text under a name
 abbrev pub adding : List ℕ × List ℕ → Result RequestData Refusal
 adding (name, text) =
     unless_fault BadName (is_name name) (
     or_its_fault (λ _. NotBase64) (decode_of standard text) (λ file.
     Ok (adds name file)))
 
--- the result is the bytes of a base64 text, or that it is none, or memory ran out
+-- the result is the bytes of a base64 text, or the text is not base64, or memory ran out
 abbrev pub DecodesTo : Result (List ℕ) DecodeError → Result (Vec ℕ Global) Refusal → Type 0
 DecodesTo said (Ok bytes) = said ≡ Ok bytes.items
 DecodesTo said (Err NotBase64) = (error : DecodeError) × (said ≡ Err error)
 DecodesTo said (Err NoMemory) = Unit {0}
 DecodesTo said (Err _) = ⊥
 
--- `program-add` requests that
+-- the request of `program-add`
 abbrev pub add_request : Items → Result RequestData Refusal
 add_request arguments = or_fault WrongArguments (two_texts arguments) adding
 
@@ -52,13 +52,14 @@ abbrev pub names_request : Items → Result RequestData Refusal
 names_request arguments =
     unless_fault WrongArguments (are_none arguments) (Ok (complete ListPrograms))
 
--- `program-del` requests that a program is kept no more
+-- `program-del` requests that the server no longer keeps a program
 abbrev pub delete_request : Items → Result RequestData Refusal
 delete_request arguments =
     or_fault WrongArguments (one_text arguments) (λ name.
     unless_fault BadName (is_name name) (Ok (complete (DeleteProgram name))))
 
--- that a program of so many instructions is kept under a name, and whether it replaced one
+-- the reply that a program of so many instructions is kept under a name, and whether it replaced
+-- one
 abbrev pub added_data : List ℕ → ℕ → Bool → Data
 added_data name instructions replaced =
     object (member (codes "instructions") (number (unsigned instructions))
@@ -66,20 +67,20 @@ added_data name instructions replaced =
     (member (codes "replaced") (boolean replaced)
     (member (codes "version") (string version) no_members))))
 
--- the names of the programs
+-- the reply with the names of the programs
 abbrev pub programs_data : List (List ℕ) → Data
 programs_data names =
     object (member (codes "programs") (array (items_of (map string names)))
     (member (codes "version") (string version) no_members))
 
--- that no program is kept under a name, and whether one was
+-- the reply that no program is kept under a name, and whether one was
 abbrev pub deleted_data : List ℕ → Bool → Data
 deleted_data name deleted =
     object (member (codes "deleted") (boolean deleted)
     (member (codes "program-del") (string name)
     (member (codes "version") (string version) no_members)))
 
--- what `program-add` comes to
+-- the beginning of `program-add`
 abbrev pub try_add : List ℕ → Raw → ShelfNow → Result BegunData Refusal
 try_add name program shelf =
     unless_fault ShelfFull (not (has_no_place max_programs name shelf.programs)) (
@@ -89,11 +90,11 @@ try_add name program shelf =
       shelf = with_program name program shelf;
     }))
 
--- what `program-list` comes to
+-- the beginning of `program-list`
 abbrev pub listing_programs : ShelfNow → BegunData
 listing_programs shelf = saying (replies (programs_data (names shelf.programs))) shelf
 
--- what `program-del` comes to
+-- the beginning of `program-del`
 abbrev pub deleting : List ℕ → ShelfNow → BegunData
 deleting name shelf = record {
   work = says (replies (deleted_data name (is_some (under name shelf.programs))));

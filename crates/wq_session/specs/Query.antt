@@ -1,5 +1,5 @@
--- `query`: which files there are, and which of them changed. What it takes from the shelf, and what it
--- leaves there: its program and its cursor.
+-- `query`: the files of a root, or those that changed. This is what the query takes from the shelf,
+-- and leaves there: its program and its cursor.
 -- From Watchman's documentation of `query`, of synchronisation (`sync_timeout`) and of named cursors;
 -- programs are this server's own.
 use Rattle.std.specs.Prelude.{◌≡◌, ℕ, pos, Bool, true, false, not, List, codes}
@@ -37,38 +37,38 @@ query_arguments (item (string root) (item (object members) no_items)) =
     Some (root, object members)
 query_arguments _ = None
 
--- whether a query is answered after a crawl: unless it says 0, or no whole number
+-- whether the server crawls before it answers a query: unless the key says 0, or is no whole number
 abbrev pub synchronises : Option Data → Bool
 synchronises None = true
 synchronises (Some d) = option_map_or (λ n. not (int_eq n (pos 0))) (whole_number_of d) false
 
--- whether the query of an object is
+-- whether the server crawls before it answers the query of an object
 abbrev pub crawls_first : Data → Bool
 crawls_first d = synchronises (get (codes "sync_timeout") d)
 
--- `query` requests which files of a root there are
+-- `query` requests the files of a root
 abbrev pub query_request : Items → Result RequestData Refusal
 query_request arguments =
     or_fault WrongArguments (query_arguments arguments) (λ (root, d).
     Ok (queries (root_named root) (crawls_first d) d))
 
--- what is asked where files are queried
+-- the ask of a query for files
 abbrev pub IsQuerying : List ℕ → Bool → Data → Ask → Type 0
 IsQuerying root crawl d (AsksQuery r c q) = (r ≡ root) × (c ≡ crawl) × (data_of q ≡ d)
 IsQuerying root crawl d _ = ⊥
 
--- the program of a name, which a query may have; where it has none its expression is to have one
+-- the program of a name, if a query has one; without a name its expression needs a program
 abbrev pub program_named : Option (List ℕ) → QueryData → ShelfNow → Result (Option Raw) Refusal
 program_named None q shelf =
     unless_fault ProgramTooLarge (not (is_too_large q.expression)) (Ok None)
 program_named (Some name) q shelf =
     or_fault NoSuchProgram (under name shelf.programs) (λ raw. Ok (Some raw))
 
--- the program that says which files match a query, or none where its expression says it
+-- the program that selects the files of a query; there is none if the expression selects them
 abbrev pub program_for : QueryData → ShelfNow → Result (Option Raw) Refusal
 program_for q shelf = program_named q.program q shelf
 
--- the bound of a tick that a cursor may have: at its first use nothing is known to the client
+-- the bound of a cursor with this tick, if it has one: at its first use the client knows nothing
 abbrev pub since_tick : Option ℕ → Bound
 since_tick None = Fresh
 since_tick (Some tick) = Tick tick
@@ -83,7 +83,7 @@ abbrev pub has_place : ℕ → SinceData → ShelfNow → Bool
 has_place root (at_bound bound) shelf = true
 has_place root (at_cursor name) shelf = not (has_no_place max_cursors name (cursors_of root shelf))
 
--- the shelf when a query was answered at a tick: its cursor, if it has one, was used there
+-- the shelf after a query was answered at a tick: its cursor, if it has one, was used there
 abbrev pub used_at : ℕ → SinceData → ℕ → ShelfNow → ShelfNow
 used_at root (at_bound bound) tick shelf = shelf
 used_at root (at_cursor name) tick shelf = cursor_used root name tick shelf
@@ -98,7 +98,7 @@ abbrev pub plan_at : ℕ → QueryData → Option Raw → ShelfNow → PlanData
 plan_at root q program shelf =
     record { query = q; bound = bound_at root q.since shelf; program = program }
 
--- the files of a query that was read, of a root, at a tick of it
+-- the files of a query that was read, of a root at a tick
 abbrev pub begun_query : ℕ → ℕ → QueryData → ShelfNow → Result BegunData Refusal
 begun_query root tick q shelf =
     or_own_fault (program_for q shelf) (λ program.
@@ -108,7 +108,7 @@ begun_query root tick q shelf =
       shelf = used_at root q.since tick shelf;
     })))
 
--- what `query` comes to
+-- the beginning of `query`
 abbrev pub try_query : List ℕ → Data → Option AtData → ShelfNow → Result BegunData Refusal
 try_query root d at shelf =
     or_fault NotWatched (watched root at shelf) (λ at.

@@ -1,4 +1,4 @@
--- What the lines of a client ask: the first reason to refuse a line, or its command.
+-- The asks of the lines of a client: each line has a command, or a first reason to refuse it.
 -- From Watchman's documentation of its commands. The refusals are this server's own.
 use Rattle.std.specs.Prelude.{◌≡◌, ◌⊎◌, ℕ, if◌then◌else◌, List}
 use Rattle.std.specs.Prelude.{Option, Some, None, Result, Ok, Err}
@@ -55,7 +55,7 @@ words_of (array (item (string name) arguments)) =
     Some (record { name = name; arguments = arguments })
 words_of _ = None
 
--- what a command with these arguments requests
+-- the request of a command with these arguments
 abbrev pub request_of : Command → Items → Result RequestData Refusal
 request_of Watch arguments = watch_request arguments
 request_of WatchProject arguments = watch_request arguments
@@ -75,26 +75,26 @@ request_of AddTrigger arguments = trigger_request arguments
 request_of ListTriggers arguments = list_triggers_request arguments
 request_of DeleteTrigger arguments = delete_trigger_request arguments
 
--- what the value of a line requests
+-- the request of the value of a line
 abbrev pub request_of_value : Data → Result RequestData Refusal
 request_of_value value =
     or_fault NotACommand (words_of value) (λ words.
     or_fault UnknownCommand (command_named words.name) (λ command.
     request_of command words.arguments))
 
--- what a line requests
+-- the request of a line
 abbrev pub requested : List ℕ → Result RequestData Refusal
 requested line = or_fault NotJson (value_of line) request_of_value
 
--- what is asked where the program of a file is to be kept: a program that may run, or the first
--- fault of the file or of its program
+-- the ask if the program of a file is to be kept: a program that may run, or the first fault of the
+-- file or of its program
 abbrev pub IsAdding : List ℕ → Result Raw FileFault → Ask → Type 0
 IsAdding name (Err fault) ask = ask ≡ Refused (WrongFile fault)
 IsAdding name (Ok raw) (AsksAddProgram n program) = (n ≡ name) × (program ≡ raw) × IsValid raw
 IsAdding name (Ok raw) (Refused (WrongProgram fault at)) = IsFirstFault raw fault at
 IsAdding name (Ok raw) _ = ⊥
 
--- what is asked by a request
+-- the ask of a request
 abbrev pub IsRequested : Result RequestData Refusal → Ask → Type 0
 IsRequested (Err refusal) ask = ask ≡ Refused refusal
 IsRequested (Ok (complete asked)) ask = ask ≡ asked
@@ -103,19 +103,19 @@ IsRequested (Ok (subscribes root name d)) ask = IsSubscribing root name d ask
 IsRequested (Ok (triggers root d)) ask = IsTriggering root d ask
 IsRequested (Ok (adds name file)) ask = IsAdding name (file_at file) ask
 
--- the result is what is asked by a request, or memory ran out
+-- the result is the ask of a request, or memory ran out
 abbrev pub Requests : Result RequestData Refusal → Result Ask Refusal → Type 0
 Requests request (Ok ask) = IsRequested request ask
 Requests request (Err NoMemory) = Unit {0}
 Requests request (Err refusal) = IsRequested request (Refused refusal)
 
--- the value is the line's, or the line has none, unless memory ran out
+-- the line has this value, or no value; or memory ran out
 abbrev pub GivesValue : Result Value Refusal → Option Data → Type 0
 GivesValue (Ok value) said = said ≡ Some (data_of value)
 GivesValue (Err NoMemory) _ = Unit {0}
 GivesValue (Err refusal) said = (said ≡ None) × (refusal ≡ NotJson)
 
--- what an event asks; of a line it may be that memory ran out
+-- the ask of an event; for a line, memory may also run out
 abbrev pub Asks : Event → Ask → Type 0
 Asks (Line line) ask = IsRequested (requested line) ask ⊎ (ask ≡ Refused NoMemory)
 Asks Long ask = ask ≡ Refused LineTooLong

@@ -1,4 +1,5 @@
--- The texts by which lines of clients are refused, each with its number. They are this server's own.
+-- The texts with which the server refuses lines of clients, each with its number. They are this
+-- server's own.
 use Rattle.std.specs.Prelude.{ℕ, Bool, true, false, ◌||◌, List, ◌++◌, codes}
 use Rattle.std.specs.Fmt.{decimal}
 use Rattle.wq_code.specs.FileFault.{file_fault_number as file_number}
@@ -22,7 +23,7 @@ use Rattle.wq_session.specs.declared.refusal.Refusal.TheVariants.{NoSuchProgram,
 use Rattle.wq_session.specs.declared.refusal.Refusal.TheVariants.{TooManySubscriptions, BadTrigger}
 use Rattle.wq_session.specs.declared.refusal.Refusal.TheVariants.{TooManyTriggers}
 
--- why an expression is refused
+-- the reason to refuse an expression
 abbrev pub term_text : TermFault → List ℕ
 term_text UnknownTerm = codes "E24: unknown term"
 term_text WrongTermArguments = codes "E25: wrong term arguments"
@@ -32,7 +33,7 @@ term_text CursorInTerm = codes "E27: cursor in a term"
 term_text PatternTooLong = codes "E28: pattern too long"
 term_text NoTermMemory = codes "E60: no memory"
 
--- why a query is refused
+-- the reason to refuse a query
 abbrev pub query_text : QueryFault → List ℕ
 query_text LeftOutKey = codes "E20: query key is left out"
 query_text ExpressionAndProgram = codes "E29: expression and program"
@@ -43,7 +44,7 @@ query_text BadClockSpec = codes "E23: bad clockspec"
 query_text WrongValue = codes "E37: wrong query value"
 query_text NoQueryMemory = codes "E60: no memory"
 
--- why a line is refused
+-- the reason to refuse a line
 abbrev pub refusal_text : Refusal → List ℕ
 refusal_text LineTooLong = codes "E1: line too long"
 refusal_text NotJson = codes "E2: not JSON"
@@ -72,7 +73,8 @@ refusal_text TooManyTriggers = codes "E42: too many triggers"
 refusal_text BadTrigger = codes "E43: bad trigger"
 refusal_text NoMemory = codes "E60: no memory"
 
--- whether a session ends where it refuses a line so, or there is none: nothing of its stream follows
+-- whether a session ends when it refuses a line so, or there is no session: no more of its stream
+-- follows
 abbrev pub ends_session : Refusal → Bool
 ends_session LineTooLong = true
 ends_session Bser = true
@@ -84,6 +86,6 @@ abbrev pub is_no_memory : Refusal → Bool
 is_no_memory NoMemory = true
 is_no_memory _ = false
 
--- whether the line of a refusal is kept, so that it takes no memory
+-- whether the line of a refusal is kept in the code, so that it takes no memory
 abbrev pub is_fixed : Refusal → Bool
 is_fixed refusal = ends_session refusal || is_no_memory refusal

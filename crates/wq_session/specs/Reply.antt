@@ -1,5 +1,5 @@
--- Replies as data; their texts are the compact texts of that data, keys in byte order. What a
--- command replies is said with it.
+-- Replies as data; their texts are the compact texts of that data, with keys in byte order. The
+-- reply of a command is defined with the command.
 -- The text of a refusal is this server's own.
 use Rattle.std.specs.Prelude.{◌≡◌, ℕ, false, List, ◌++◌, codes}
 use Rattle.serde_json.specs.Data.{Data, string, object, no_members, member}
@@ -10,7 +10,7 @@ use Rattle.wq_base.specs.Version.{version}
 use Rattle.wq_session.specs.Refusal.{refusal_text}
 use Rattle.wq_session.specs.declared.refusal.Refusal.{Refusal}
 
--- that a line is refused
+-- the reply that refuses a line
 abbrev pub error_data : Refusal → Data
 error_data refusal =
     object (member (codes "error") (string (refusal_text refusal))

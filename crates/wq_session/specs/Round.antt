@@ -1,5 +1,5 @@
--- A round of the triggers of a root: each in turn starts its command, if that does not run and files
--- changed.
+-- A round of the triggers of a root: each in turn starts its command, if that is not running and
+-- files changed.
 -- From Watchman's documentation of `trigger`; the rounds are this server's own.
 use Rattle.std.specs.Prelude.{◌≡◌, ℕ, List, [], ◌∷◌, ◌++◌, length, Option}
 use Rattle.wq_clock.specs.Instance.{InstanceData}
@@ -12,7 +12,7 @@ use Rattle.wq_view.specs.View.{ViewData}
 use Rattle.wq_session.specs.Accepted.{CallNow}
 use Rattle.wq_session.specs.At.{ShelfNow}
 
--- the part of a round that is for one trigger: its name, what was done, and the trigger then
+-- the part of a round for one trigger: its name, the action, and the trigger then
 pub record TurnData : Type 0 where
   pub name : List ℕ
   pub fired : FiredData
@@ -22,7 +22,8 @@ pub record TurnData : Type 0 where
 abbrev pub with_triggers : ℕ → ByName TriggerData → ShelfNow → ShelfNow
 with_triggers root ts shelf = root_changed root (λ r. record r { triggers = ts }) shelf
 
--- the trigger between these others has its turn, on a shelf, at a place; the launcher is then so
+-- the trigger between these others has its turn, on a shelf, at a place; the launcher is then in
+-- this state
 abbrev pub HasTurn : InstanceData → ViewData → ShelfNow → ℕ → Option LauncherData → ShelfNow
     → Option LauncherData → Type 0
 HasTurn instance view shelf place shown after left =
@@ -32,7 +33,8 @@ HasTurn instance view shelf place shown after left =
     × Agrees turn.fired (t.1).running shown left
     × (after ≡ with_triggers instance.root (front ++ (t.0, turn.after) ∷ later) shelf)
 
--- each trigger had its turn, one after the other, at a view; the launcher, if it is shown, is then so
+-- each trigger had its turn, one after the other, at a view; the launcher, if it is shown, is
+-- then in this state
 abbrev pub HaveTurns : InstanceData → ViewData → ByName TriggerData → Option LauncherData
     → List TurnData → Option LauncherData → Type 0
 HaveTurns instance view [] shown [] left = left ≡ shown
@@ -54,12 +56,12 @@ pub record IsRound (instance : InstanceData) (view : ViewData) (shelf : ShelfNow
   pub had : HaveTurns instance view (triggers_of instance.root shelf) shown turns left
   pub is : after ≡ with_triggers instance.root (after_turns turns) shelf
 
--- the calls of turns: each trigger is put under its name again
+-- the calls of turns: each puts its trigger under its name again
 abbrev pub turn_calls : ℕ → List TurnData → List CallNow
 turn_calls root [] = []
 turn_calls root (turn ∷ turns) = adds_trigger root turn.name turn.after ∷ turn_calls root turns
 
--- a round on a shelf to which calls lead is a list of calls: what it leaves is what they come to
+-- a round on a shelf that calls lead to is a list of calls: it leaves the result of those calls
 abbrev pub RoundsAreCalls : Type 0
 RoundsAreCalls = (instance : InstanceData) (view : ViewData) (calls : List CallNow)
     (sockname : List ℕ) (shown : Option LauncherData) (after : ShelfNow)

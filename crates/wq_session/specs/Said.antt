@@ -1,5 +1,5 @@
--- What the lines of replies stand for.
--- No public document is behind it.
+-- The meaning of the lines of replies.
+-- It is this server's own.
 use Rattle.std.specs.Prelude.{ℕ, List, []}
 use Rattle.std.specs.Prelude.{Option, Some, None as Nothing, Vec}
 use Rattle.std.specs.declared.alloc.Global.{Global}

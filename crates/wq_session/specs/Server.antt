@@ -27,30 +27,30 @@ abbrev pub shutdown_request : Items → Result RequestData Refusal
 shutdown_request arguments =
     unless_fault WrongArguments (are_none arguments) (Ok (complete ShutDown))
 
--- the version alone
+-- the reply with the version alone
 abbrev pub version_data : Data
 version_data = object (member (codes "version") (string version) no_members)
 
--- the name of the server's socket
+-- the reply with the name of the server's socket
 abbrev pub socket_data : List ℕ → Data
 socket_data name =
     object (member (codes "sockname") (string name)
     (member (codes "version") (string version) no_members))
 
--- that the server ends
+-- the reply that the server ends
 abbrev pub shutdown_data : Data
 shutdown_data =
     object (member (codes "shutdown-server") (boolean true)
     (member (codes "version") (string version) no_members))
 
--- what `version` comes to
+-- the beginning of `version`
 abbrev pub telling_version : ShelfNow → BegunData
 telling_version shelf = saying (replies version_data) shelf
 
--- what `get-sockname` comes to
+-- the beginning of `get-sockname`
 abbrev pub telling_socket : ShelfNow → BegunData
 telling_socket shelf = saying (replies (socket_data shelf.sockname)) shelf
 
--- what `shutdown-server` comes to
+-- the beginning of `shutdown-server`
 abbrev pub shutting_down : ShelfNow → BegunData
 shutting_down shelf = saying (shuts_with shutdown_data) shelf

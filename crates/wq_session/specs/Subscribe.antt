@@ -1,5 +1,5 @@
--- `subscribe` and `unsubscribe`: a client is told of changes without asking. What they request, and what
--- they begin while the shelf is held, which stays as it is.
+-- `subscribe` and `unsubscribe`: the server tells a client of changes without being asked. These
+-- are the requests, and the beginning of each while the shelf is held, which leaves the shelf.
 -- From Watchman's documentation of these commands.
 use Rattle.std.specs.Prelude.{◌≡◌, ℕ, Bool, List, codes, Option, Some, None, Result, Ok}
 use Rattle.serde_json.specs.Data.{Data, boolean, string, object, Items, no_items, item}
@@ -34,20 +34,20 @@ subscribe_arguments (item (string root) (item (string name) (item (object member
     Some (root, (name, object members))
 subscribe_arguments _ = None
 
--- `subscribe` requests that the client is told of the files of a root that an object asks for, under
--- a name
+-- `subscribe` requests that the server tells the client of the files of a root that an object asks
+-- for, under a name
 abbrev pub subscribe_request : Items → Result RequestData Refusal
 subscribe_request arguments =
     or_fault WrongArguments (subscribe_arguments arguments) (λ (root, (name, d)).
     Ok (subscribes (root_named root) name d))
 
--- `unsubscribe` requests that it is told no more of that name
+-- `unsubscribe` requests that the server no longer tells the client under that name
 abbrev pub unsubscribe_request : Items → Result RequestData Refusal
 unsubscribe_request arguments =
     or_fault WrongArguments (two_texts arguments) (λ (root, name).
     Ok (complete (Unsubscribe (root_named root) name)))
 
--- what is asked if the client is to be told
+-- the ask to tell the client
 abbrev pub IsSubscribing : List ℕ → List ℕ → Data → Ask → Type 0
 IsSubscribing root name d (Subscribe r n q) = (r ≡ root) × (n ≡ name) × (data_of q ≡ d)
 IsSubscribing root name d _ = ⊥
@@ -71,7 +71,7 @@ begun_subscription root name number q shelf =
       shelf = shelf;
     }))
 
--- what `subscribe` begins
+-- the beginning of `subscribe`
 abbrev pub try_subscribe : List ℕ → List ℕ → Data → Option AtData → ShelfNow
     → Result BegunData Refusal
 try_subscribe root name d at shelf =
@@ -81,21 +81,21 @@ try_subscribe root name d at shelf =
     or_its_fault Query (subscription_of at.instance d) (λ q.
     begun_subscription root name (at.instance).root q shelf))))
 
--- what `unsubscribe` begins
+-- the beginning of `unsubscribe`
 abbrev pub try_unsubscribe : List ℕ → List ℕ → Option AtData → ShelfNow → Result BegunData Refusal
 try_unsubscribe root name at shelf =
     or_fault NotWatched (watched root at shelf) (λ at.
     unless_fault BadName (is_name name) (
     Ok (record { work = drops (at.instance).root name; shelf = shelf })))
 
--- that the client is told from now on
+-- the reply that the subscription has begun
 abbrev pub subscribe_data : InstanceData → ViewData → List ℕ → Data
 subscribe_data instance view name =
     object (member (codes "clock") (string (clock_text instance view.tick))
     (member (codes "subscribe") (string name)
     (member (codes "version") (string version) no_members)))
 
--- that it is told no more, and whether it was
+-- the reply that the subscription has ended, and whether there was one
 abbrev pub unsubscribe_data : List ℕ → Bool → Data
 unsubscribe_data name deleted =
     object (member (codes "deleted") (boolean deleted)

@@ -1,5 +1,5 @@
--- What the parts of taking a query come to: its program, and the bound that its cursor sets.
--- No public document is behind it.
+-- The results of the parts of taking a query: its program, and the bound that its cursor sets.
+-- It is this server's own.
 use Rattle.std.specs.Prelude.{◌≡◌, ℕ, true, false, List, Some, None, option_map, Result, Ok, Err}
 use Rattle.std.specs.declared.alloc.Global.{Global}
 use Rattle.std.specs.declared.sync.Arc.{Arc}
@@ -15,8 +15,8 @@ use Rattle.wq_session.specs.declared.refusal.Refusal.{Refusal}
 use Rattle.wq_session.specs.declared.refusal.Refusal.TheVariants.{NoSuchProgram, ProgramTooLarge}
 use Rattle.wq_session.specs.declared.refusal.Refusal.TheVariants.{ShelfFull, NoMemory}
 
--- the program of a query: the one that it names, or one that answers what its expression means; or
--- why there is none; or memory ran out
+-- the program of a query: the one that the query names, or one that answers what its expression
+-- means; or the reason why there is none; or memory ran out
 abbrev pub FindsProgram : QueryData → ShelfNow → Result (Arc Raw Global) Refusal → Type 0
 FindsProgram q shelf (Ok program) =
     (program_for q shelf ≡ Ok (option_map (λ _. program.value) q.program))
@@ -39,8 +39,8 @@ FindsCompiled q (Err NoMemory) = Unit {0}
 FindsCompiled q (Err ProgramTooLarge) = is_too_large q.expression ≡ true
 FindsCompiled q (Err _) = ⊥
 
--- the bound that a query sets, with the shelf on which its cursor was moved; or that there is no
--- place for the cursor, or memory ran out, which leave the shelf
+-- the bound that a query sets, with the shelf on which its cursor was moved; or there is no place
+-- for the cursor, or memory ran out, and the shelf stays
 abbrev pub MovesCursor : SinceData → ℕ → ℕ → ShelfNow → Result Bound Refusal → ShelfNow → Type 0
 MovesCursor since root tick shelf (Ok bound) after =
     (has_place root since shelf ≡ true) × (bound ≡ bound_at root since shelf)

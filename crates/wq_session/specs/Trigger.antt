@@ -1,5 +1,5 @@
--- `trigger`, `trigger-list` and `trigger-del`: commands are started for the files of a root, told, and
--- started no more.
+-- `trigger`, `trigger-list` and `trigger-del`: the server starts commands for the files of a root,
+-- lists them, and no longer starts them.
 -- From Watchman's documentation of these commands; programs and the order of faults are this server's own.
 use Rattle.std.specs.Prelude.{◌≡◌, ℕ, Bool, true, false, not, List, codes, map}
 use Rattle.std.specs.Prelude.{Option, Some, None, is_some, Result, Ok}
@@ -39,7 +39,7 @@ trigger_arguments (item (string root) (item (object members) no_items)) =
     Some (root, object members)
 trigger_arguments _ = None
 
--- `trigger` requests that a command is started for the files of a root, as an object says
+-- `trigger` requests that the server starts a command for the files of a root, as an object says
 abbrev pub trigger_request : Items → Result RequestData Refusal
 trigger_request arguments =
     or_fault WrongArguments (trigger_arguments arguments) (λ (root, d).
@@ -51,7 +51,7 @@ list_triggers_request arguments =
     or_fault WrongArguments (one_text arguments) (λ root.
     Ok (complete (ListTriggers (root_named root))))
 
--- `trigger-del` requests that a trigger of a root is no more
+-- `trigger-del` requests that the server drops a trigger of a root
 abbrev pub delete_trigger_request : Items → Result RequestData Refusal
 delete_trigger_request arguments =
     or_fault WrongArguments (two_texts arguments) (λ (root, name).
@@ -62,14 +62,14 @@ abbrev pub IsTriggering : List ℕ → Data → Ask → Type 0
 IsTriggering root d (AddTrigger r t) = (r ≡ root) × (data_of t ≡ d)
 IsTriggering root d _ = ⊥
 
--- a line is refused so for the fault of a trigger's object
+-- the line is refused for this fault of a trigger's object
 abbrev pub trigger_refusal : TriggerFault → Refusal
 trigger_refusal BadTriggerName = BadName
 trigger_refusal BadShape = BadTrigger
 trigger_refusal (BadQuery fault) = Query fault
 trigger_refusal NoTriggerMemory = NoMemory
 
--- the definition that an object says at an instance, or why the line is refused
+-- the definition of an object at an instance, or the refusal of the line
 abbrev pub defined_by : InstanceData → Data → Result DefinitionData Refusal
 defined_by instance d = or_its_fault trigger_refusal (defines instance d) Ok
 
@@ -85,16 +85,16 @@ trigger_called root name shelf = under name (triggers_of root shelf)
 abbrev pub has_no_trigger_place : ℕ → List ℕ → ShelfNow → Bool
 has_no_trigger_place root name shelf = has_no_place max_triggers name (triggers_of root shelf)
 
--- the run of the command of a trigger that is replaced, if there is one and its command runs
+-- the run of the command of the trigger that is replaced, if there is one and its command runs
 abbrev pub run_in : Option TriggerData → Option ℕ
 run_in replaced = option_and_then (λ t. t.running) replaced
 
--- the word for what became of the trigger
+-- the word for the change of the trigger
 abbrev pub disposition : Bool → List ℕ
 disposition false = codes "created"
 disposition true = codes "replaced"
 
--- that there is a trigger of this name, and whether it replaced one
+-- the reply that there is a trigger of this name, and whether it replaced one
 abbrev pub trigger_reply : List ℕ → Bool → Data
 trigger_reply name replaced =
     object (member (codes "disposition") (string (disposition replaced))
@@ -111,7 +111,7 @@ triggers_reply objects =
     object (member (codes "triggers") (array (items_of objects))
     (member (codes "version") (string version) no_members))
 
--- that there is no trigger of this name, and whether there was one
+-- the reply that there is no trigger of this name, and whether there was one
 abbrev pub trigger_deleted_reply : List ℕ → Bool → Data
 trigger_deleted_reply name deleted =
     object (member (codes "deleted") (boolean deleted)
@@ -123,8 +123,8 @@ abbrev pub trigger_in : List ℕ → ℕ → DefinitionData → Option Raw → S
 trigger_in root number d program shelf =
     triggered d root program (run_in (trigger_called number (name_in d) shelf))
 
--- the trigger of a definition, with its program, of a root with this text and number, is put under its
--- name
+-- the trigger of a definition, with its program, is put under its name for a root with this text
+-- and number
 abbrev pub put_trigger : List ℕ → ℕ → DefinitionData → Option Raw → ShelfNow
     → Result BegunData Refusal
 put_trigger root number d program shelf =
@@ -139,7 +139,7 @@ abbrev pub begun_trigger : List ℕ → ℕ → DefinitionData → ShelfNow → 
 begun_trigger root number d shelf =
     or_own_fault (program_for d.query shelf) (λ program. put_trigger root number d program shelf)
 
--- what `trigger` comes to
+-- the beginning of `trigger`
 abbrev pub try_trigger : List ℕ → Data → Option AtData → ShelfNow → Result BegunData Refusal
 try_trigger root d at shelf =
     or_fault NotWatched (watched root at shelf) (λ at.
@@ -147,13 +147,13 @@ try_trigger root d at shelf =
     or_own_fault (defined_by at.instance d) (λ definition.
     begun_trigger root (at.instance).root definition shelf)))
 
--- what `trigger-list` comes to
+-- the beginning of `trigger-list`
 abbrev pub try_list_triggers : List ℕ → Option AtData → ShelfNow → Result BegunData Refusal
 try_list_triggers root at shelf =
     or_fault NotWatched (watched root at shelf) (λ at.
     Ok (saying (replies (triggers_reply (objects_of (triggers_of (at.instance).root shelf)))) shelf))
 
--- what `trigger-del` comes to
+-- the beginning of `trigger-del`
 abbrev pub try_delete_trigger : List ℕ → List ℕ → Option AtData → ShelfNow
     → Result BegunData Refusal
 try_delete_trigger root name at shelf =

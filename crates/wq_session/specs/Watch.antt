@@ -1,5 +1,5 @@
--- `watch`, `watch-project`, `watch-list` and `watch-del`: roots are watched, told, and watched no
--- more.
+-- `watch`, `watch-project`, `watch-list` and `watch-del`: the server watches roots, lists them, and
+-- no longer watches them.
 -- From Watchman's documentation of these commands.
 use Rattle.std.specs.Prelude.{ℕ, true, not, List, codes, map, Option, Result, Ok}
 use Rattle.serde_json.specs.Data.{Data, boolean, string, array, object, Items, no_members, member}
@@ -18,25 +18,25 @@ use Rattle.wq_session.specs.declared.refusal.Refusal.{Refusal}
 use Rattle.wq_session.specs.declared.refusal.Refusal.TheVariants.{WrongArguments, RootNotAbsolute}
 use Rattle.wq_session.specs.declared.refusal.Refusal.TheVariants.{NotWatched, TooManyRoots}
 
--- `watch` and `watch-project` request that a root is watched: an absolute one
+-- `watch` and `watch-project` request that the server watches an absolute root
 abbrev pub watch_request : Items → Result RequestData Refusal
 watch_request arguments =
     or_fault WrongArguments (one_text arguments) (λ root.
     unless_fault RootNotAbsolute (is_absolute root) (
     Ok (complete (Watch (root_named root)))))
 
--- `watch-list` requests the roots that are watched
+-- `watch-list` requests the watched roots
 abbrev pub list_request : Items → Result RequestData Refusal
 list_request arguments =
     unless_fault WrongArguments (are_none arguments) (Ok (complete ListRoots))
 
--- `watch-del` requests that a root is watched no more
+-- `watch-del` requests that the server no longer watches a root
 abbrev pub unwatch_request : Items → Result RequestData Refusal
 unwatch_request arguments =
     or_fault WrongArguments (one_text arguments) (λ root.
     Ok (complete (Unwatch (root_named root))))
 
--- that a root is watched: by listing it again and again
+-- the reply that a root is watched: the server lists it again and again
 abbrev pub watch_data : List ℕ → Data
 watch_data root =
     object (member (codes "version") (string version)
@@ -47,20 +47,20 @@ watch_data root =
 abbrev pub root_texts : {T : Type 0} → List (RootData T) → List (List ℕ)
 root_texts roots = map (λ r. r.text) roots
 
--- the roots that are watched
+-- the reply with the watched roots
 abbrev pub roots_data : List (List ℕ) → Data
 roots_data roots =
     object (member (codes "roots") (array (items_of (map string roots)))
     (member (codes "version") (string version) no_members))
 
--- that a root is watched no more
+-- the reply that a root is no longer watched
 abbrev pub root_deleted_data : List ℕ → Data
 root_deleted_data root =
     object (member (codes "root") (string root)
     (member (codes "version") (string version)
     (member (codes "watch-del") (boolean true) no_members)))
 
--- what `watch` comes to: what is looked at stands on the shelf as this root
+-- the beginning of `watch`: the root that is looked at is on the shelf as this root
 abbrev pub try_watch : List ℕ → Option AtData → ShelfNow → Result BegunData Refusal
 try_watch root at shelf =
     or_fault NotWatched at (λ at.
@@ -71,11 +71,11 @@ try_watch root at shelf =
       shelf = root_added root (at.instance).root shelf;
     })))
 
--- what `watch-list` comes to
+-- the beginning of `watch-list`
 abbrev pub listing_roots : ShelfNow → BegunData
 listing_roots shelf = saying (replies (roots_data (root_texts shelf.roots))) shelf
 
--- what `watch-del` comes to
+-- the beginning of `watch-del`
 abbrev pub try_unwatch : List ℕ → Option AtData → ShelfNow → Result BegunData Refusal
 try_unwatch root at shelf =
     or_fault NotWatched (watched root at shelf) (λ at.

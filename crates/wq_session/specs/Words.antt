@@ -1,10 +1,10 @@
--- The words behind the first of a line.
--- No public document is behind it.
+-- The words of a line after the first.
+-- It is this server's own.
 use Rattle.std.specs.Prelude.{ℕ, List, [], ◌∷◌, Option, Some, None}
 use Rattle.serde_json.specs.Data.{Data, string}
 use Rattle.serde_json.specs.declared.value.Value.{Value}
 
--- the text that a value is
+-- the text, if the value is one
 abbrev pub as_text : Data → Option (List ℕ)
 as_text (string text) = Some text
 as_text _ = None

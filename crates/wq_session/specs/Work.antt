@@ -1,6 +1,6 @@
--- The part of an answer that needs the shelf: what is said at once, or how files are to be listed;
--- and the shelf then.
--- No public document is behind it.
+-- The part of an answer that needs the shelf: the output at once, or the way to list files; and the
+-- shelf then.
+-- It is this server's own.
 use Rattle.std.specs.Prelude.{◌≡◌, ℕ, List, Option, Result, Ok, Err}
 use Rattle.wq_follow.specs.Followed.{subscription_data}
 use Rattle.wq_follow.specs.Subscription.{SubscriptionData}
@@ -14,23 +14,23 @@ use Rattle.wq_session.specs.declared.work.Work.{Work}
 use Rattle.wq_session.specs.declared.work.Work.TheVariants.{Says, Evaluates}
 use Rattle.wq_session.specs.declared.work.Work.TheVariants.{Begins as BeginsFollowing, Drops}
 
--- what is left to do of an answer
+-- the rest of the work of an answer
 pub data WorkData : Type 0 where
-  -- nothing: this is given out
+  -- nothing: this is the output
   says : OutData → WorkData
-  -- the files of a plan are to be listed; this cursor was moved for it
+  -- listing the files of a plan; this cursor was moved for it
   evaluates : PlanData → Option Cursor → WorkData
-  -- a subscription is to begin, and its first list to be made
+  -- beginning a subscription, and making its first list
   begins : SubscriptionData → WorkData
-  -- the subscription of this root and name is to end
+  -- ending the subscription of this root and name
   drops : (root : ℕ) → (name : List ℕ) → WorkData
 
--- what an ask comes to while the shelf is held
+-- the beginning of an ask while the shelf is held
 pub record BegunData : Type 0 where
   pub work : WorkData
   pub shelf : ShelfNow
 
--- this is said, and the shelf stays
+-- this is the output, and the shelf stays
 abbrev pub saying : OutData → ShelfNow → BegunData
 saying out shelf = record { work = says out; shelf = shelf }
 
@@ -41,8 +41,8 @@ work_data (Evaluates plan cursor) = evaluates (planned plan) cursor
 work_data (BeginsFollowing s) = begins (subscription_data s)
 work_data (Drops root name) = drops root name
 
--- the result is what was begun, with the shelf as it is then; or why it is refused, or that memory
--- ran out, which leave the shelf
+-- the result is the work that was begun, with the shelf then; or a reason to refuse it; or memory
+-- ran out. In the last two cases the shelf stays
 abbrev pub Begins : Result BegunData Refusal → ShelfNow → Result Work Refusal → ShelfNow → Type 0
 Begins begun shelf (Ok work) after =
     begun ≡ Ok (record { work = work_data work; shelf = after })

@@ -1,4 +1,4 @@
-//! What is asked of a session.
+//! The asks of a session.
 
 use crate::refusal::Refusal;
 use crate::root::RootText;
@@ -6,29 +6,28 @@ use serde_json::Value;
 use wq_base::Text;
 use wq_verify::Program;
 
-/// What an event asks of a session, or why a line is refused whatever stands on the shelf.
+/// The ask of an event, or the reason to refuse a line whatever the shelf holds.
 #[derive(Drop)]
 pub enum Ask {
     /// This is the first reason to refuse the line.
     Refused(Refusal),
-    /// That a root is watched.
+    /// The server watches a root.
     Watch {
         root: RootText,
     },
     /// The roots that are watched.
     ListRoots,
-    /// That a root is watched no more.
+    /// The server no longer watches a root.
     Unwatch {
         root: RootText,
     },
-    /// Which files of a root there are, and which of them changed, as the object says; and whether the root is crawled
-    /// first.
+    /// The files of a root, or those that changed, as the object says; and whether the server crawls the root first.
     Query {
         root: RootText,
         crawl: bool,
         query: Value,
     },
-    /// The clock of a root, and whether the root is crawled first.
+    /// The clock of a root, and whether the server crawls the root first.
     Clock {
         root: RootText,
         crawl: bool,
@@ -37,31 +36,31 @@ pub enum Ask {
     Version,
     /// The name of the server's socket.
     SocketName,
-    /// That the server ends.
+    /// The server ends.
     ShutDown,
-    /// That the program is kept under a name.
+    /// The server keeps the program under a name.
     AddProgram {
         name: Text,
         program: Program,
     },
     /// The names of the programs.
     ListPrograms,
-    /// That the program under a name is kept no more.
+    /// The server no longer keeps the program under a name.
     DeleteProgram {
         name: Text,
     },
-    /// That the client is told of the files of a root that the object asks for, under a name.
+    /// The server tells the client of the files of a root that the object asks for, under a name.
     Subscribe {
         root: RootText,
         name: Text,
         query: Value,
     },
-    /// That the client is told no more of what it subscribed to under a name.
+    /// The server no longer tells the client of the files that it subscribed to under a name.
     Unsubscribe {
         root: RootText,
         name: Text,
     },
-    /// That a command is started for the files of a root, as the object says.
+    /// The server starts a command for the files of a root, as the object says.
     AddTrigger {
         root: RootText,
         trigger: Value,
@@ -70,7 +69,7 @@ pub enum Ask {
     ListTriggers {
         root: RootText,
     },
-    /// That the trigger of a name is no more.
+    /// The server drops the trigger of a name.
     DeleteTrigger {
         root: RootText,
         name: Text,

@@ -1,4 +1,4 @@
-//! What is looked at for an answer.
+//! The root that is looked at for an answer.
 ghost use Rattle.std.specs.Prelude.{◌≡◌, false, is_none, option_map, IfSome};
 ghost use Rattle.wq_registry.specs.Root.{numbered};
 ghost use Rattle.wq_session.specs.At.{at_data, watched};
@@ -19,7 +19,7 @@ pub struct At<'a> {
     pub view: Option<&'a View>,
 }
 
-/// What is looked at, if it is this root, under its number on the shelf.
+/// The root that is looked at, if it is this root, under its number on the shelf.
 #[tactic(auto, using(crate::proofs::Rooted::number_there))]
 pub(crate) fn watched<'a>(
     root: &RootText,

@@ -1,5 +1,5 @@
-//! The commands that a client may give, in tables: their names, what each of them asks, what an ask needs, and what is
-//! begun of it. Each command has a file of its own for its arguments, its reply and what it does.
+//! The commands that a client may give, in tables: their names, the ask of each, the need of each ask, and the
+//! beginning of its answer. Each command has a file of its own for its arguments, its reply and its work.
 ghost use Rattle.std.specs.Prelude.{◌≡◌, option_map, true, false, IfErr};
 ghost use Rattle.serde_json.specs.View.{items_view};
 ghost use Rattle.wq_session.specs.Argument.{behind};
@@ -51,17 +51,17 @@ use wq_registry::Shelf;
 /// A command, by its name alone.
 #[derive(Clone, Copy, Debug, PartialEq, Eq)]
 pub(crate) enum Command {
-    /// A root is watched.
+    /// The server watches a root.
     Watch,
     /// The same.
     WatchProject,
-    /// The roots that are watched.
+    /// The watched roots.
     ListRoots,
-    /// A root is watched no more.
+    /// The server no longer watches a root.
     Unwatch,
-    /// Which files there are, and which of them changed.
+    /// The files of a root, or those that changed.
     Query,
-    /// Which pass was the last.
+    /// The last pass over a root.
     Clock,
     /// The version.
     Version,
@@ -69,21 +69,21 @@ pub(crate) enum Command {
     SocketName,
     /// The end of the server.
     ShutDown,
-    /// A program is kept under a name.
+    /// The server keeps a program under a name.
     AddProgram,
     /// The names of the programs.
     ListPrograms,
-    /// A program is kept no more.
+    /// The server no longer keeps a program.
     DeleteProgram,
-    /// A client is told of changes.
+    /// The server tells a client of changes.
     Subscribe,
-    /// It is told no more.
+    /// The server no longer tells the client.
     Unsubscribe,
-    /// A command is started if files changed.
+    /// The server starts a command if files changed.
     AddTrigger,
     /// The triggers of a root.
     ListTriggers,
-    /// A command is started no more.
+    /// The server no longer starts a command.
     DeleteTrigger,
 }
 
@@ -114,7 +114,7 @@ impl Command {
         }
     }
 
-    /// What the command asks with these words, of which the first is its name.
+    /// The ask of the command with these words, of which the first is its name.
     pub(crate) fn asked(self, alloc: Global, words: Vec<Value>) -> Result<Ask, Refusal>
         ensures { Requests (request_of self (behind (items_view words.items))) result }
     {
@@ -140,8 +140,8 @@ impl Command {
 }
 
 impl Ask {
-    /// What has to come before this is answered. A line that needs a crawl is answered after that crawl, at the view
-    /// that it left; one that watches a root, at the view of that root; one that unwatches it, at its number.
+    /// The step before this is answered. A line that needs a crawl is answered after that crawl, at the view that it
+    /// left. A line that watches a root is answered at the view of that root; one that unwatches it, at its number.
     pub fn need(&self) -> Need<'_>
         ensures { need_data result ≡ need_of self.now }
     {
@@ -171,7 +171,7 @@ fn seen(crawl: bool, root: &RootText) -> Need<'_>
     }
 }
 
-/// What is begun of an ask while the shelf is held, or why the line is refused.
+/// The beginning of an ask while the shelf is held, or the reason to refuse the line.
 pub(crate) fn tried(
     alloc: Global,
     ask: Ask,
@@ -194,7 +194,7 @@ pub(crate) fn tried(
     }
 }
 
-/// The same of an ask that hands in nothing that the shelf is to keep.
+/// The same for an ask that gives the shelf nothing to keep.
 fn tried_as(
     alloc: Global,
     ask: &Ask,

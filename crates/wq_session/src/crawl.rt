@@ -1,4 +1,4 @@
-//! How the line is refused whose root could not be crawled, watched or unwatched.
+//! The refusal of a line if its root could not be crawled, watched or unwatched.
 
 use crate::refusal::Refusal;
 use wq_crawl::CrawlFault;

@@ -1,4 +1,4 @@
-//! The subscriptions of a session: how one begins and ends.
+//! The subscriptions of a session: the beginning and the end of each.
 ghost use Rattle.std.specs.Prelude.{◌≡◌, IfOk, OnErr, OnOk, Option, Some, map, position};
 ghost use Rattle.wq_clock.specs.Instance.{instance_data};
 ghost use Rattle.wq_follow.specs.Followed.{subscription_data};
@@ -21,7 +21,7 @@ use wq_clock::Instance;
 use wq_follow::Subscription;
 use wq_view::View;
 
-/// How many subscriptions a session may have.
+/// The most subscriptions that a session may have.
 pub const MAX_SUBSCRIPTIONS: usize = 64;
 
 impl Session {
@@ -46,7 +46,7 @@ impl Session {
         }
     }
 
-    /// Begins a subscription, for which there is room. It is kept when all that is given out is made.
+    /// Begins a subscription, for which there is room. The session keeps it when all its output is made.
     fn begun(
         &mut self,
         alloc: Global,
@@ -98,7 +98,7 @@ impl Session {
     }
 }
 
-/// Keeps a subscription: in the place of the one that is called as it is, or at the end.
+/// Keeps a subscription: in the place of the one with the same root and name, or at the end.
 fn keep(subscriptions: &mut Vec<Subscription>, subscription: Subscription) -> Result<(), AllocError>
     ensures kept { OnOk result (map subscription_data subscriptions.new.items
         ≡ with_subscription (subscription_data subscription)
@@ -145,7 +145,7 @@ fn is_called(number: u64, name: &str, subscription: &Subscription) -> bool
     number == subscription.number() && name == subscription.name()
 }
 
-/// That the client is told no more, and whether it was.
+/// The reply that the subscription has ended, and whether there was one.
 fn dropped(alloc: Global, name: &str, deleted: bool) -> Result<Out, AllocError>
     ensures { IfOk result (λ out. out ≡ replies (unsubscribe_data name.now deleted)) }
 {

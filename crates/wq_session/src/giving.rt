@@ -1,4 +1,4 @@
-//! What is given out: replies that were made, and those that are always the same.
+//! The output of a session: replies that were made, and fixed ones.
 ghost use Rattle.std.specs.Prelude.{◌≡◌, ◌⊎◌, ◌++◌, codes, ℕ, List, Some, None, false, option_map, IfOk, MatchResult};
 ghost use Rattle.wq_session.specs.Answer.{MayRefuse};
 ghost use Rattle.wq_session.specs.Out.{refuses, replies, runs_out, saying_text, saying_with};
@@ -27,7 +27,7 @@ impl Out {
         }
     }
 
-    /// The text of the reply and the newline behind it, in one piece.
+    /// The text of the reply and the newline after it, in one piece.
     pub fn line(&self) -> Option<&[u8]>
         ensures { option_map (λ line. line.now) result
             ≡ option_map (λ text. text ++ codes "\n") self.now.reply }
@@ -63,7 +63,7 @@ impl Out {
         self.shuts
     }
 
-    /// The reply of this text, to which a newline is put, and after which the session goes on.
+    /// The reply of this text, with a newline put to it, and then the session goes on.
     pub(crate) fn of_text(text: Vec<u8>) -> Result<Out, AllocError>
         ensures { IfOk result (λ out. out ≡ saying_text text.items) }
     {
@@ -92,7 +92,7 @@ impl Out {
         }
     }
 
-    /// A reply, and the list that follows it, of these texts, after which the session goes on.
+    /// A reply, and the list that follows it, of these texts, and then the session goes on.
     pub(crate) fn with_list(alloc: Global, text: Vec<u8>, list: Vec<u8>) -> Result<Out, AllocError>
         ensures { IfOk result (λ out. out ≡ saying_with text.items list.items) }
     {
@@ -107,7 +107,7 @@ impl Out {
         })
     }
 
-    /// Lists alone, after which the session goes on.
+    /// Lists alone, and then the session goes on.
     pub(crate) fn of_lists(lists: Vec<Line>) -> Out
         ensures { result ≡ tells_lists lists.items }
     {
@@ -134,7 +134,7 @@ impl Out {
         }
     }
 
-    /// That the server ends.
+    /// The reply that the server ends.
     #[tactic(auto, using(crate::proofs::Newlines::kept_line, crate::proofs::Constants::shuts_down))]
     pub(crate) fn shutdown() -> Out
         ensures { result ≡ shuts_with shutdown_data }
@@ -161,7 +161,7 @@ impl Out {
         }
     }
 
-    /// That memory ran out, with the cursor that was moved for the reply.
+    /// Memory ran out, with the cursor that was moved for the reply.
     #[tactic(auto, using(crate::proofs::Newlines::kept_line, crate::proofs::Constants::ran_out))]
     pub(crate) fn runs_out(cursor: Option<Cursor>) -> Out
         ensures { result ≡ runs_out cursor }
@@ -175,7 +175,7 @@ impl Out {
         }
     }
 
-    /// That a line is refused; or, where memory does not suffice for the reply, that it ran out.
+    /// The reply that refuses a line; or, if memory does not suffice for the reply, that memory ran out.
     #[tactic(auto, using(crate::proofs::Constants::goes_on, crate::proofs::Newlines::kept_text, crate::proofs::Newlines::kept_line))]
     pub fn refused(alloc: Global, refusal: Refusal) -> Out
         ensures { MayRefuse refusal result }
@@ -196,7 +196,7 @@ impl Out {
     }
 }
 
-/// That a line is refused, where its text is made.
+/// The reply that refuses a line, if its text is made.
 fn error(alloc: Global, refusal: Refusal) -> Result<Out, AllocError>
     ensures { IfOk result (λ out. out ≡ replies (error_data refusal)) }
 {

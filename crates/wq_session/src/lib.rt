@@ -1,6 +1,6 @@
-//! Sessions of clients: what an event asks, what has to come before it is answered, and the answer, at a view of the
-//! root that it names and at what all clients share. How a stream becomes events, and where views come from, is not
-//! said here.
+//! Sessions of clients: the ask of an event, its needs before the answer, and the answer. An answer is from a view of
+//! the root that the ask names, and from the state that all clients share. Other crates say how a stream becomes
+//! events, and where views come from.
 #![tactic(auto)]
 
 mod ask;

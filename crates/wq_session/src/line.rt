@@ -1,11 +1,11 @@
-//! A line that is given out: its text, and the newline at its end, in one piece.
+//! A line of output: its text, and the newline at its end, in one piece.
 ghost use Rattle.std.specs.Prelude.{◌≡◌, ◌++◌, IfOk, codes};
 
 use std::alloc::AllocError;
 use std::marker::Model;
 use wq_base::Table;
 
-/// A text with a newline at its end, so that both are written at once.
+/// A text with a newline at its end, so that the server writes both at once.
 #[derive(Drop)]
 pub struct Line {
     bytes: Table<u8>,
@@ -23,7 +23,7 @@ impl Model for Line {
 }
 
 impl Line {
-    /// The line of this text, to which a newline is put.
+    /// The line of this text, with a newline put to it.
     #[tactic(auto, using(crate::proofs::Newlines::text_before, crate::proofs::Newlines::is_line))]
     pub(crate) fn of_text(text: Vec<u8>) -> Result<Line, AllocError>
         ensures { IfOk result (λ line. line ≡ text.items) }

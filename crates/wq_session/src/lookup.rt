@@ -1,4 +1,4 @@
-//! How far the program of an expression is known before the shelf is held.
+//! The knowledge of the program of an expression, before the shelf is held.
 ghost use Rattle.std.specs.Prelude.{◌≡◌, Ok, Some, false, IfSome};
 ghost use Rattle.serde_json.specs.View.{view as data_of};
 ghost use Rattle.wq_clock.specs.Instance.{instance_data};
@@ -18,13 +18,13 @@ use wq_query::Query;
 use wq_registry::{CacheKey, Compiled, compile_shared};
 use wq_verify::Program;
 
-/// How far the program of an expression is known.
+/// The knowledge of the program of an expression.
 #[derive(Drop)]
 pub(crate) struct Lookup {
-    /// Whether the expression has no program, since that would be too large.
+    /// Whether the expression has no program because it would be too large.
     pub(crate) is_large: bool,
-    /// The key under which the program of the expression is kept. There is none if every file is
-    /// asked for, or memory ran out.
+    /// The key that keeps the program of the expression. There is none if the query asks for every file, or memory ran
+    /// out.
     pub(crate) key: Option<CacheKey>,
     /// A program that answers what the expression means, once it is found or compiled.
     pub(crate) program: Option<Arc<Program>>,
@@ -44,9 +44,8 @@ impl Lookup {
         }
     }
 
-    /// The program of a query's expression: the one that was found, or one that is compiled now, and
-    /// is then given for the cache as well. There is none if the query names a program, if it would
-    /// be too large, or if memory ran out.
+    /// The program of a query's expression: the one that was found, or one that is compiled now, and is then also given
+    /// for the cache. There is none if the query names a program, if it would be too large, or if memory ran out.
     pub(crate) fn compiled(
         self,
         alloc: Global,
@@ -66,7 +65,7 @@ impl Lookup {
         }
     }
 
-    /// A program that is compiled now, which is given for the cache as well.
+    /// A program that is compiled now, and also given for the cache.
     fn compiled_now(self, alloc: Global, query: &Query) -> (Lookup, Option<Compiled>)
         requires lookup { IsLookup (asked_of query.now).expression self }
         requires small { self.is_large ≡ false }

@@ -1,4 +1,4 @@
-//! Idle moments: the subscriptions of a root are told of the changes since their last lists.
+//! Idle moments: the server tells the subscriptions of a root the changes since their last lists.
 ghost use Rattle.std.specs.Prelude.{◌≡◌, ◌++◌, ◌∷◌, ◌<◌, List, OnErr, OnOk, false, length, map, option_map};
 ghost use Rattle.wq_clock.specs.Instance.{instance_data};
 ghost use Rattle.wq_follow.specs.Batch.{is_told};
@@ -18,8 +18,8 @@ use wq_follow::Subscription;
 use wq_view::View;
 
 impl Session {
-    /// An idle moment of the root of this number, which is looked at, or watched no longer: each subscription of it is
-    /// told of the changes since its last list, or that it ends.
+    /// An idle moment of the root of this number, which is looked at, or no longer watched. Each subscription of it is
+    /// told the changes since its last list, or that it ends.
     ///
     /// If memory runs out for one, that one and all after it have not moved, and are told at a later moment.
     pub fn idle(&mut self, alloc: Global, root: u64, at: Option<At<'_>>) -> Out
@@ -88,7 +88,7 @@ fn tell_one(
     }
 }
 
-/// Puts the list of a subscription at a view to the others, if files changed. It moves when its list is there.
+/// Puts the list of a subscription at a view to the others, if files changed. It moves when its list is made.
 fn tell(
     alloc: Global,
     subscription: &mut Subscription,

@@ -1,11 +1,11 @@
-//! What a session gives out for an event.
+//! The output of a session for an event.
 
 use crate::cursor::Cursor;
 use crate::line::Line;
 use std::marker::Model;
 
-/// What a session gives out for an event: a reply or none, the lists of subscriptions that follow it, and whether the
-/// session goes on. Each is compact JSON with keys in byte order, and a newline.
+/// The output of a session for an event: a reply or none, the lists of subscriptions that follow it, and whether the
+/// session goes on. The reply and each list are compact JSON with keys in byte order, and a newline.
 #[derive(Drop)]
 pub struct Out {
     pub(crate) reply: Reply,
@@ -15,14 +15,14 @@ pub struct Out {
     pub(crate) unset: Option<Cursor>,
 }
 
-/// The line of a reply: its text and a newline, so that both are written at once.
+/// The line of a reply: its text and a newline, so that the server writes both at once.
 #[derive(Drop)]
 pub(crate) enum Reply {
-    /// There is none.
+    /// There is no reply.
     None,
-    /// One that was made.
+    /// A reply that was made.
     Made(Line),
-    /// One that is always the same, and takes no memory.
+    /// A fixed reply, which takes no memory.
     Fixed(&'static [u8]),
 }
 

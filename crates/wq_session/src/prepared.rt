@@ -1,4 +1,4 @@
-//! Asks that are prepared: with all that is read of them before the shelf is held, so that it is held for looking up
+//! Prepared asks: each has all that can be read of it before the shelf is held. So the shelf is held for looking up
 //! names alone.
 ghost use Rattle.std.specs.Prelude.{◌≡◌, option_map};
 ghost use Rattle.serde_json.specs.View.{view as data_of};
@@ -22,15 +22,15 @@ use wq_verify::Program;
 pub struct Prepared<'a> {
     pub(crate) ask: Ask,
     pub(crate) at: Option<At<'a>>,
-    /// The query, if a view is shown at which it is read.
+    /// The query, if a view is shown to read it at.
     pub(crate) query: Option<Result<ReadQuery, Refusal>>,
-    /// The trigger, if a view is shown at which it is read.
+    /// The trigger, if a view is shown to read it at.
     pub(crate) trigger: Option<Result<ReadTrigger, Refusal>>,
 }
 
 impl Ask {
-    /// Reads all of the ask that can be read without the shelf: its query or its trigger, at the instance that is looked
-    /// at. If that has a fault, or memory runs out, [`take`](Prepared::take) says so.
+    /// Reads all of the ask that it can read without the shelf: its query or its trigger, at the instance that is
+    /// looked at. If that has a fault, or memory runs out, [`take`](Prepared::take) says so.
     pub fn prepare(self, alloc: Global, at: Option<At<'_>>) -> Prepared<'_>
         ensures prepared { IsPrepared result }
         ensures ask { asked result ≡ self }
@@ -48,8 +48,7 @@ impl Ask {
 }
 
 impl<'a> Prepared<'a> {
-    /// The expression that a program has to be found for. There is none if the ask has no expression, or the key could
-    /// not be made.
+    /// The expression that needs a program. There is none if the ask has no expression, or its key could not be made.
     pub fn key(&self) -> Option<&CacheKey>
         ensures { option_map (λ key. key.now) result ≡ key_in self.now }
     {
@@ -70,7 +69,7 @@ impl<'a> Prepared<'a> {
     }
 
     /// The ask with the program of its expression: the one that was found for its [`key`](Prepared::key), or one that
-    /// is compiled now, which is then given for the cache as well. If memory runs out it has none, and
+    /// is compiled now, which is then also given for the cache. If memory runs out it has no program, and
     /// [`take`](Prepared::take) says so.
     pub fn compiled(
         self,
@@ -115,7 +114,7 @@ impl<'a> Prepared<'a> {
     }
 }
 
-/// A trigger, if one was read, with the program of its expression, as far as that can be had.
+/// A trigger, if one was read, with the program of its expression, if there is one.
 fn compiled_trigger(
     alloc: Global,
     trigger: Option<Result<ReadTrigger, Refusal>>,
@@ -134,7 +133,7 @@ fn compiled_trigger(
     }
 }
 
-/// The query of an ask, at what is looked at.
+/// The query of an ask, at the root that is looked at.
 fn query_of(alloc: Global, ask: &Ask, at: Option<At<'_>>) -> Option<Result<ReadQuery, Refusal>>
     ensures { IsReadFor ask.now (option_map at_data at.entry) result }
 {
@@ -145,7 +144,7 @@ fn query_of(alloc: Global, ask: &Ask, at: Option<At<'_>>) -> Option<Result<ReadQ
     }
 }
 
-/// The query of an object, at what is looked at.
+/// The query of an object, at the root that is looked at.
 fn read_at(alloc: Global, object: &Value, at: Option<At<'_>>) -> Option<Result<ReadQuery, Refusal>>
     ensures { IsReadAt (data_of object.now) (option_map at_data at.entry) result }
 {
@@ -156,7 +155,7 @@ fn read_at(alloc: Global, object: &Value, at: Option<At<'_>>) -> Option<Result<R
     Some(ReadQuery::read(alloc, object, &at.instance))
 }
 
-/// The query of the object of a subscription, at what is looked at.
+/// The query of the object of a subscription, at the root that is looked at.
 fn subscribed_at(
     alloc: Global,
     object: &Value,
@@ -171,7 +170,7 @@ fn subscribed_at(
     Some(ReadQuery::read_subscription(alloc, object, &at.instance))
 }
 
-/// The trigger of an ask, at what is looked at.
+/// The trigger of an ask, at the root that is looked at.
 fn trigger_of(alloc: Global, ask: &Ask, at: Option<At<'_>>) -> Option<Result<ReadTrigger, Refusal>>
     ensures { IsDefinedFor ask.now (option_map at_data at.entry) result }
 {
@@ -181,7 +180,7 @@ fn trigger_of(alloc: Global, ask: &Ask, at: Option<At<'_>>) -> Option<Result<Rea
     }
 }
 
-/// The trigger of an object, at what is looked at.
+/// The trigger of an object, at the root that is looked at.
 fn defined_at(
     alloc: Global,
     object: &Value,

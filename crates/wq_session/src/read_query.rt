@@ -1,4 +1,4 @@
-//! A query that is read before the shelf is held, and how far its program is known.
+//! A query that is read before the shelf is held, and the knowledge of its program.
 ghost use Rattle.std.specs.Prelude.{◌≡◌, Ok, Result, IfOk};
 ghost use Rattle.serde_json.specs.View.{view as data_of};
 ghost use Rattle.wq_clock.specs.Instance.{instance_data};
@@ -19,7 +19,7 @@ use wq_query::{Query, QueryFault};
 use wq_registry::Compiled;
 use wq_verify::Program;
 
-/// A query that was read, and how far its program is known.
+/// A query that was read, and the knowledge of its program.
 #[derive(Drop)]
 pub(crate) struct ReadQuery {
     pub(crate) query: Query,
@@ -79,8 +79,8 @@ impl ReadQuery {
         }
     }
 
-    /// The query with the program of its expression, as far as that can be had, and the program for
-    /// the cache if it was compiled now.
+    /// The query with the program of its expression, if there is one, and the program for the cache if it was compiled
+    /// now.
     pub(crate) fn compiled(
         self,
         alloc: Global,

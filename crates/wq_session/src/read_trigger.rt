@@ -1,4 +1,4 @@
-//! A trigger that is read before the shelf is held, and how far its program is known.
+//! A trigger that is read before the shelf is held, and the knowledge of its program.
 ghost use Rattle.std.specs.Prelude.{◌≡◌};
 ghost use Rattle.serde_json.specs.View.{view as data_of};
 ghost use Rattle.wq_clock.specs.Instance.{instance_data};
@@ -16,7 +16,7 @@ use wq_follow::{Definition, TriggerFault};
 use wq_registry::Compiled;
 use wq_verify::Program;
 
-/// A trigger that was read, and how far its program is known.
+/// A trigger that was read, and the knowledge of its program.
 #[derive(Drop)]
 pub(crate) struct ReadTrigger {
     pub(crate) definition: Definition,
@@ -45,8 +45,8 @@ impl ReadTrigger {
         }
     }
 
-    /// The trigger with the program of its expression, as far as that can be had, and the program for
-    /// the cache if it was compiled now.
+    /// The trigger with the program of its expression, if there is one, and the program for the cache if it was
+    /// compiled now.
     pub(crate) fn compiled(
         self,
         alloc: Global,

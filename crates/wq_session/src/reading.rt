@@ -1,4 +1,4 @@
-//! What an event asks.
+//! The asks of events.
 ghost use Rattle.serde_json.specs.View.{view as data_of};
 ghost use Rattle.wq_session.specs.Reading.{Asks, GivesValue, Requests, request_of_value, requested, value_of};
 
@@ -10,10 +10,10 @@ use std::alloc::Global;
 use wq_stream::Event;
 
 impl Ask {
-    /// What an event asks. A line whose text, words, root or program are wrong is refused here, whatever is asked; of
-    /// several faults the one counts that stands first in [`Refusal`].
+    /// The ask of an event. A line with a wrong text, words, root or program is refused here, whatever it asks. If it
+    /// has several faults, the first one in [`Refusal`] counts.
     ///
-    /// Where memory runs out over a line, that is refused for it.
+    /// If memory runs out over a line, the line is refused for that.
     pub fn read(alloc: Global, event: Event) -> Ask
         ensures { Asks event result }
     {
@@ -30,7 +30,7 @@ impl Ask {
     }
 }
 
-/// What a line asks.
+/// The ask of a line.
 fn asked(alloc: Global, line: &[u8]) -> Result<Ask, Refusal>
     ensures { Requests (requested line.now) result }
 {
@@ -49,7 +49,7 @@ fn read_value(alloc: Global, line: &[u8]) -> Result<Value, Refusal>
     }
 }
 
-/// What the value of a line asks.
+/// The ask of the value of a line.
 fn asked_by(alloc: Global, value: Value) -> Result<Ask, Refusal>
     ensures { Requests (request_of_value (data_of value)) result }
 {

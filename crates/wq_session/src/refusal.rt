@@ -1,4 +1,4 @@
-//! Why lines of clients are refused, and the texts that clients read.
+//! The reasons to refuse lines of clients, and the texts that clients read.
 ghost use Rattle.std.specs.Prelude.{◌≡◌, IfOk, string_bytes};
 ghost use Rattle.wq_session.specs.Refusal.{ends_session, query_text, refusal_text, term_text};
 
@@ -8,33 +8,33 @@ use wq_query::QueryFault;
 use wq_term::TermFault;
 use wq_verify::ProgramFault;
 
-/// Why a line of a client is not carried out. The variants stand in the order in which they are looked for, so that of
-/// several reasons the first is told; but a line that begins with byte 0 is [`Bser`](Refusal::Bser), however long it is. A
-/// growth may be refused before any of them but the first two.
+/// The reason to refuse a line of a client. The variants are in the order in which they are looked for, so that the
+/// first of several reasons is told. But a line that begins with byte 0 is [`Bser`](Refusal::Bser), however long it is.
+/// A growth may be refused before any of them but the first two.
 #[derive(Clone, Copy, Debug, Drop)]
 pub enum Refusal {
     /// A line of over [`MAX_LINE`](wq_stream::MAX_LINE) bytes.
     LineTooLong,
     /// The line begins with byte 0, as Watchman's binary messages do.
     Bser,
-    /// A line in which there is something else than one JSON value, or bytes that are no UTF-8.
+    /// The line is more than one JSON value, or none, or has bytes that are no UTF-8.
     NotJson,
-    /// The value is no array headed by a text.
+    /// The value is no array with a text as its first item.
     NotACommand,
     /// No command has this name.
     UnknownCommand,
-    /// The number or the kinds of the arguments are not the command's.
+    /// The command takes another number or other kinds of arguments.
     WrongArguments,
-    /// The root that is to be watched is no absolute path, or has over [`MAX_ROOT`](crate::MAX_ROOT) bytes as it is
-    /// given, or a byte 0.
+    /// The root to watch is no absolute path, or has over [`MAX_ROOT`](crate::MAX_ROOT) bytes as it is given, or a byte
+    /// 0.
     RootNotAbsolute,
     /// The root is not watched.
     NotWatched,
-    /// The name of a program, a subscription or a trigger has not 1 to 255 bytes.
+    /// The name of a program, a subscription or a trigger is empty or has over 255 bytes.
     BadName,
-    /// As many roots are watched as may be, or as many were ever watched as there are numbers for.
+    /// The greatest number of roots is watched, or every number for a root is used.
     TooManyRoots,
-    /// As many sessions are open as may be. It is no line's, and told in the place of a session.
+    /// The greatest number of sessions is open. This is the reply to no line: it is told in place of a session.
     TooManySessions,
     /// The root could not be read when it was crawled for the line.
     UnreadableRoot,
@@ -42,7 +42,7 @@ pub enum Refusal {
     TooManyFiles,
     /// The root was crawled 2^62 times with changes.
     TicksSpent,
-    /// The object of a trigger has a key that is left out, no name or command, or a value of another shape.
+    /// The object of a trigger has an unsupported key, no name or command, or a value of another shape.
     BadTrigger,
     /// The query is refused.
     Query(QueryFault),
@@ -50,9 +50,9 @@ pub enum Refusal {
     NoSuchProgram,
     /// The query's expression has no program: its code or a list in it is too long.
     ProgramTooLarge,
-    /// The session has as many subscriptions as may be.
+    /// The session has the most subscriptions that it may have.
     TooManySubscriptions,
-    /// The root has as many triggers as may be.
+    /// The root has the most triggers that it may have.
     TooManyTriggers,
     /// The text of a program is not base64.
     NotBase64,
@@ -60,14 +60,14 @@ pub enum Refusal {
     WrongFile(FileFault),
     /// The program may not run, for this fault of the instruction at this place, counted from 0.
     WrongProgram { fault: ProgramFault, at: usize },
-    /// As many programs are kept as may be, or as many cursors of the root.
+    /// The greatest number of programs, or of cursors of the root, is kept.
     ShelfFull,
     /// A growth was refused.
     NoMemory,
 }
 
 impl Refusal {
-    /// Whether the session ends where a line is refused so, or there is none.
+    /// Whether the session ends after a line is refused so, or there is no session.
     pub fn ends_session(self) -> bool
         ensures { result ≡ ends_session self }
     {

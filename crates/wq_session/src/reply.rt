@@ -1,4 +1,4 @@
-//! Replies that are made: each is a value, and is printed here, as compact JSON with keys in byte order.
+//! Replies as values, and how they are printed: as compact JSON with keys in byte order.
 ghost use Rattle.std.specs.Prelude.{◌≡◌, false, IfOk};
 ghost use Rattle.serde_json.specs.View.{view as data_of};
 ghost use Rattle.serde_json.specs.Written.{has_float};
@@ -13,7 +13,7 @@ use serde_json::{Value, json};
 use std::alloc::{AllocError, Global};
 use wq_base::VERSION;
 
-/// A reply without floats, after which the session goes on.
+/// A reply without floats, and then the session goes on.
 pub(crate) fn print(alloc: Global, reply: &Value) -> Result<Out, AllocError>
     ensures { has_float (data_of reply.now) ≡ false
         → IfOk result (λ out. out ≡ replies (data_of reply.now)) }
@@ -21,7 +21,7 @@ pub(crate) fn print(alloc: Global, reply: &Value) -> Result<Out, AllocError>
     Out::of_text(reply.to_vec(alloc)?)
 }
 
-/// That this reply without floats is given out, and nothing is left to do.
+/// The output of this reply without floats, with no work left.
 pub(crate) fn saying(alloc: Global, reply: &Value) -> Result<Work, AllocError>
     ensures { has_float (data_of reply.now) ≡ false
         → IfOk result (λ work. work_data work ≡ says (replies (data_of reply.now))) }
@@ -29,7 +29,7 @@ pub(crate) fn saying(alloc: Global, reply: &Value) -> Result<Work, AllocError>
     Ok(Work::Says(print(alloc, reply)?))
 }
 
-/// That a line is refused.
+/// The reply that refuses a line.
 pub(crate) fn error_reply(alloc: Global, refusal: Refusal) -> Result<Value, AllocError>
     ensures { IfOk result (IsReply (error_data refusal)) }
 {

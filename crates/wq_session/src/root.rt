@@ -7,11 +7,11 @@ use std::marker::Model;
 use wq_base::Text;
 use wq_term::without_end_slashes;
 
-/// How many bytes the text of a root may have where it is to be watched, as it is given.
+/// The most bytes that the text of a root to watch may have, as it is given.
 pub const MAX_ROOT: usize = 4096;
 
-/// The text of a root: without the slashes at its end, but `/` where there is nothing else. They are dropped when this is
-/// made, and by nothing else.
+/// The text of a root: without the slashes at its end, but `/` if nothing else is left. Only the making of this text
+/// drops them.
 #[derive(Drop)]
 pub struct RootText {
     text: Text,
@@ -26,7 +26,7 @@ impl Model for RootText {
 }
 
 impl RootText {
-    /// The root that a text names. It takes no memory where the text has no slashes that are dropped.
+    /// The root that a text names. It takes no memory if the text has no slashes to drop.
     pub fn named(alloc: Global, text: Text) -> Result<RootText, AllocError>
         ensures { IfOk result (λ root. root ≡ root_named text) }
     {
@@ -48,7 +48,7 @@ impl RootText {
     }
 }
 
-/// The root that a text names: without the slashes at its end, but `/` where there is nothing else.
+/// The root that a text names: without the slashes at its end, but `/` if nothing else is left.
 fn root_named(text: &str) -> &str
     ensures { result.now ≡ root_named text.now }
 {
@@ -60,8 +60,8 @@ fn root_named(text: &str) -> &str
     }
 }
 
-/// Whether a text may name a root that is to be watched: an absolute path, of at most [`MAX_ROOT`] bytes as it is
-/// given, in which no byte is 0.
+/// Whether a text may name a root to watch: an absolute path, of at most [`MAX_ROOT`] bytes as it is given, in which no
+/// byte is 0.
 pub(crate) fn is_absolute(text: &Text) -> bool
     ensures { result ≡ is_absolute text.now }
 {

@@ -1,5 +1,5 @@
-//! A session's step: the part of an answer that needs what all clients share, the part that needs only the view and what
-//! the session keeps, and what is to be unset where memory did not suffice for that one.
+//! A session's step, in three parts: the first needs the state that all clients share, the second only the view and the
+//! session's own state. The third unsets a cursor if memory ran out in the second.
 ghost use Rattle.std.specs.Prelude.{◌≡◌, [], Some, map, option_map};
 ghost use Rattle.wq_base.specs.Limit.{AreFew};
 ghost use Rattle.wq_clock.specs.Instance.{instance_data};
@@ -29,15 +29,14 @@ use wq_query::Plan;
 use wq_registry::Shelf;
 use wq_view::View;
 
-/// What a server keeps of one client: its subscriptions. What is asked of a session depends on nothing else that came
-/// before.
+/// A server's record of one client: its subscriptions. An ask of a session depends on nothing else that came before.
 #[derive(Drop)]
 pub struct Session {
     pub(crate) subscriptions: Vec<Subscription>,
 }
 
 impl Session {
-    /// The session of a client of which nothing has come. It takes no memory.
+    /// The session of a client that has sent nothing yet. It takes no memory.
     pub fn new(alloc: Global) -> Session
         ensures { follows_of result ≡ [] }
     {
@@ -53,11 +52,11 @@ impl Session {
         self.subscriptions.as_slice()
     }
 
-    /// The part of an answer for which the shelf is not held: the files are listed and the text is made; a subscription
-    /// is kept once its first list is made, or ends. What is looked at is what the ask was
+    /// The part of an answer that does not hold the shelf: it lists the files and makes the text. The session keeps a
+    /// subscription once its first list is made, or ends it. The root is the one that the ask was
     /// [prepared](crate::Ask::prepare) at.
     ///
-    /// Where memory runs out, that is given out, and the subscriptions stay.
+    /// If memory runs out, the output says so, and the subscriptions stay.
     pub fn finish(&mut self, alloc: Global, work: Work, at: Option<At<'_>>) -> Out
         requires { CanFinish (work_data work) (option_map at_data at) }
         ensures { Finishes (work_data work) (option_map at_data at.entry) (follows_of self.old)
@@ -156,8 +155,8 @@ impl Session {
         listed_workers(rt, alloc, gate, workers, plan, cursor, instance, view)
     }
 
-    /// What stands to be undone on the shelf: a cursor that was moved for a reply which memory did not suffice for.
-    /// Before the next event it is to be unset there.
+    /// The cursor to unset on the shelf: memory ran out for its reply after it was moved. The caller unsets it before
+    /// the next event.
     pub fn settle(&self, out: &mut Out) -> Option<Cursor>
         ensures named { result ≡ out.old.unset }
         ensures taken { out.new ≡ settled out.old }
@@ -165,8 +164,8 @@ impl Session {
         out.unset.take()
     }
 
-    /// The answer whole: [`prepare`](Ask::prepare), [`take`](Prepared::take), [`finish`](Session::finish),
-    /// [`settle`](Session::settle), and the cursor unset that it names.
+    /// The whole answer: [`prepare`](Ask::prepare), [`take`](Prepared::take), [`finish`](Session::finish),
+    /// [`settle`](Session::settle), and the unsetting of the cursor that it names.
     #[tactic(auto, using(crate::proofs::Finishing::can_finish))]
     pub fn on(
         &mut self,
@@ -188,12 +187,12 @@ impl Session {
 }
 
 impl Prepared<'_> {
-    /// The part of an answer for which the shelf is held: names are looked up, a cursor is moved, a command is done. No
-    /// file is looked at, and no query read or compiled. A command that speaks of a root is refused where nothing is
-    /// looked at, and also, but for `watch`, where the root does not stand on the shelf under the number of what is looked
-    /// at. `watch` puts it there under that number.
+    /// The part of an answer that holds the shelf: it looks up names, moves a cursor, or does a command. It looks at no
+    /// file, and reads or compiles no query. A command that names a root is refused if no root is looked at. All but
+    /// `watch` are also refused if the root is not on the shelf under the number of the one that is looked at. `watch`
+    /// puts it there under that number.
     ///
-    /// Where memory runs out, that is the answer, and the shelf is as it was.
+    /// If memory runs out, the answer says so, and the shelf is as before.
     pub fn take(self, alloc: Global, shelf: &mut Shelf<Trigger>) -> Work
         requires { IsPrepared self }
         ensures { TakesAsk (asked self.entry) (asked_at self.entry) (shelf_data shelf.old)
@@ -212,7 +211,7 @@ impl Prepared<'_> {
     }
 }
 
-/// The work of an ask that is prepared first.
+/// The work of an ask, which is prepared first.
 fn prepare_and_take(alloc: Global, ask: Ask, at: Option<At<'_>>, shelf: &mut Shelf<Trigger>) -> Work
     ensures { TakesAsk ask (option_map at_data at.entry) (shelf_data shelf.old) (work_data result)
         (shelf_data shelf.new) }
@@ -221,7 +220,7 @@ fn prepare_and_take(alloc: Global, ask: Ask, at: Option<At<'_>>, shelf: &mut She
     prepared.take(alloc, shelf)
 }
 
-/// An ask with its query read, and the program of that found in the cache of a shelf, or compiled and kept there.
+/// An ask with its query read. The program of the query is found in the cache of a shelf, or compiled and kept there.
 fn prepare<'a>(
     alloc: Global,
     ask: Ask,

@@ -1,4 +1,4 @@
-//! Rounds of triggers: the command of each trigger of a root is started, if it does not run and files changed.
+//! Rounds of triggers: the command of each trigger of a root is started, if it is not running and files changed.
 ghost use Rattle.std.specs.Prelude.{◌≡◌, ◌<◌, length};
 ghost use Rattle.wq_clock.specs.Instance.{instance_data};
 ghost use Rattle.wq_registry.specs.Shelf.{triggers_of};
@@ -55,7 +55,7 @@ fn fire_at<L: Launch>(
         (L.shown launcher.old) (shelf_data shelf.new) (L.shown launcher.new) }
 {
     if let Some(trigger) = shelf.trigger_mut(instance.root, k) {
-        // Without memory it has not moved, and has its turn in a later round.
+        // If memory ran out, it has not moved, and has its turn in a later round.
         let _ = trigger.fire(alloc, instance, view, launcher);
     }
 }

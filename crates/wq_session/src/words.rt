@@ -1,4 +1,4 @@
-//! The words of a line, of which the first is the command's name, as arguments.
+//! The words of a line as arguments. The first word is the command's name.
 ghost use Rattle.std.specs.Prelude.{◌≡◌};
 ghost use Rattle.serde_json.specs.View.{view as data_of, items_view};
 ghost use Rattle.wq_session.specs.Argument.{are_none, are_options, behind, one_text, two_texts};
@@ -7,7 +7,7 @@ ghost use Rattle.wq_session.specs.Words.{as_text, one_behind, three_behind, two_
 use serde_json::Value;
 use wq_base::Text;
 
-/// Whether nothing stands behind the first word, or one object.
+/// Whether nothing follows the first word, or one object.
 pub(crate) fn are_options(words: &[Value]) -> bool
     ensures { result ≡ are_options (behind (items_view words.now)) }
 {
@@ -27,21 +27,21 @@ fn are_options_alone(values: &[Value]) -> bool
     }
 }
 
-/// Whether nothing stands behind the first word.
+/// Whether nothing follows the first word.
 pub(crate) fn are_none(words: &[Value]) -> bool
     ensures { result ≡ are_none (behind (items_view words.now)) }
 {
     words.len() <= 1
 }
 
-/// The one text behind the first word.
+/// The one text after the first word.
 pub(crate) fn one_text(words: Vec<Value>) -> Option<Text>
     ensures { result ≡ one_text (behind (items_view words.items)) }
 {
     text(one_behind(words)?)
 }
 
-/// The two texts behind the first word.
+/// The two texts after the first word.
 pub(crate) fn two_texts(words: Vec<Value>) -> Option<(Text, Text)>
     ensures { result ≡ two_texts (behind (items_view words.items)) }
 {
@@ -49,7 +49,7 @@ pub(crate) fn two_texts(words: Vec<Value>) -> Option<(Text, Text)>
     Some((text(first)?, text(second)?))
 }
 
-/// The text that a value is.
+/// The text, if the value is one.
 pub(crate) fn text(value: Value) -> Option<Text>
     ensures { result ≡ as_text (data_of value) }
 {
@@ -59,7 +59,7 @@ pub(crate) fn text(value: Value) -> Option<Text>
     }
 }
 
-/// The one word behind the first.
+/// The one word after the first.
 pub(crate) fn one_behind(mut words: Vec<Value>) -> Option<Value>
     ensures { result ≡ one_behind words.items }
 {
@@ -69,7 +69,7 @@ pub(crate) fn one_behind(mut words: Vec<Value>) -> Option<Value>
     words.pop()
 }
 
-/// The two words behind the first.
+/// The two words after the first.
 pub(crate) fn two_behind(mut words: Vec<Value>) -> Option<(Value, Value)>
     ensures { result ≡ two_behind words.items }
 {

@@ -1,4 +1,4 @@
-//! What is left to do of an answer when the shelf is not held any more.
+//! The rest of the work of an answer, when the shelf is no longer held.
 
 use crate::cursor::Cursor;
 use crate::outcome::Out;
@@ -6,15 +6,15 @@ use wq_base::Text;
 use wq_follow::Subscription;
 use wq_query::Plan;
 
-/// What is left to do of an answer.
+/// The rest of the work of an answer.
 #[derive(Drop)]
 pub enum Work {
-    /// Nothing: this is given out.
+    /// Nothing: this is the output.
     Says(Out),
-    /// The files of a plan are to be listed; this cursor was moved for it.
+    /// Listing the files of a plan; this cursor was moved for it.
     Evaluates(Plan, Option<Cursor>),
-    /// A subscription begins: its first list is to be made.
+    /// Beginning a subscription, and making its first list.
     Begins(Subscription),
-    /// The subscription of the root of this number and of this name ends.
+    /// Ending the subscription of this name, of the root of this number.
     Drops(u64, Text),
 }

@@ -12,7 +12,7 @@ const SCRIPT: &[u8] =
 const WRITTEN: &[u8] =
     b"1 {\"clock\":\"c:7:9:1:1\",\"files\":[\"a\"],\"is_fresh_instance\":true,\"version\":\"wq-1\"}\n2 {\"error\":\"E2: not JSON\",\"version\":\"wq-1\"}\n";
 
-/// A call that no device comes to.
+/// The number of a call that no device reaches.
 const NEVER: usize = 0;
 
 /// Gives a text in pieces of four bytes, and fails at the call of this number.
@@ -44,7 +44,8 @@ impl BufRead for Broken {
     }
 }
 
-/// Keeps what is written, three bytes at most a call, and fails at the call of this number.
+/// Keeps the bytes that are written, at most three for each call, and fails at the call of this
+/// number.
 #[derive(Drop)]
 struct Full {
     kept: Vec<u8>,
@@ -66,7 +67,7 @@ impl Write for Full {
     }
 }
 
-/// A replay of the script: how it ended, what was written, and how often each device was called.
+/// A replay of the script: its end, the bytes that it wrote, and how often it called each device.
 #[derive(Drop)]
 struct Outcome {
     ended: Result<(), ReplayFault>,
@@ -97,7 +98,7 @@ fn play(alloc: Global, read_fails: usize, fault: ErrorKind, write_fails: usize) 
     }
 }
 
-/// Asserts how a replay ended, and that all that it wrote is the front of what it would write.
+/// Asserts the end of a replay, and that its output is a front of the full output.
 fn check(rt: &impl Abort, outcome: &Outcome, ended: Result<(), ReplayFault>, call: usize) {
     assert_eq!(rt; outcome.ended, ended, "at call {call}");
     assert!(rt; WRITTEN.starts_with(&outcome.written), "at call {call}");
@@ -108,7 +109,7 @@ fn devices_that_work_give_each_reply(rt: HostRuntime) {
     let outcome = play(rt.alloc(), NEVER, ErrorKind::BrokenPipe, NEVER);
     check(&rt, &outcome, Ok(()), NEVER);
     assert_eq!(rt; outcome.written.as_slice(), WRITTEN);
-    // Each byte of the script, and each written one, takes a part of a call.
+    // Each byte of the script, and each byte that is written, takes a part of a call.
     assert!(rt; outcome.reads > SCRIPT.len() / 4 && outcome.writes > WRITTEN.len() / 3);
 }
 
@@ -130,7 +131,7 @@ fn tells_a_writer_that_fails_at_any_call(rt: HostRuntime) {
     }
 }
 
-/// A read that a signal interrupts is tried again.
+/// If a signal interrupts a read, the replay tries it again.
 #[test]
 fn reads_on_where_a_read_is_interrupted(rt: HostRuntime) {
     let calls = play(rt.alloc(), NEVER, ErrorKind::Interrupted, NEVER).reads;
@@ -163,7 +164,7 @@ impl BufRead for Endless {
     }
 }
 
-/// Of a line without an end no more is taken than shows that it is too long.
+/// From a line without an end, the replay takes only enough bytes to show that it is too long.
 #[test]
 fn ends_at_a_line_without_an_end(rt: HostRuntime) {
     let mut reader = Endless { taken: 0 };
@@ -183,7 +184,7 @@ fn play_line(alloc: Global, length: usize) -> Result<(Vec<u8>, Result<(), Replay
     Ok((writer, ended))
 }
 
-/// A line of the limit is answered, and one of a byte more ends the replay.
+/// A line at the limit is answered, and a line of one byte more ends the replay.
 #[test]
 fn takes_script_lines_up_to_the_limit(rt: HostRuntime) -> Result<(), Fail> {
     let (written, ended) = play_line(rt.alloc(), MAX_SCRIPT_LINE)?;

@@ -1,4 +1,4 @@
-//! The words of faults that replies do not give as they are.
+//! The words of the faults that replies do not repeat literally.
 
 use std::alloc::Global;
 use std::fmt::Display;

@@ -1,6 +1,6 @@
-//! Tests of what no script and no case shows: devices that fail, limits of a million, shared names,
-//! and calls that no program makes. Worked examples are data: `tests/scripts`, and the standard
-//! input of `wq_cases`.
+//! Tests of things that no script and no case shows: devices that fail, limits of a million, shared
+//! names, and calls that no program makes. Worked examples are data: `tests/scripts`, and the
+//! standard input of `wq_cases`.
 #![tactic(auto)]
 
 #[cfg(test)]

@@ -1,4 +1,4 @@
-//! The limits, as the user's reference names them.
+//! The limits that the user's reference names.
 
 use std::process::Abort;
 use wq_base::MAX_NUMBER;

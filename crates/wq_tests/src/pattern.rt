@@ -1,4 +1,4 @@
-//! The content of a pattern, and when two are equal.
+//! The content of a pattern, and the equality of two patterns.
 
 use std::test::Fail;
 use wq_glob::{Flags, Pattern};

@@ -4,13 +4,13 @@ use std::alloc::Global;
 use wq_base::Table;
 use wq_code::{Op, Raw, encode};
 
-/// The bytes before the code of a file without constants, but for the count of instructions.
+/// The bytes before the code of a file without constants, except for the count of instructions.
 const START: &[u8] = b"WQPF\x01\0\0\0\0\0\0\0\0";
 
 /// The instruction `not`.
 const NOT: &[u8] = b"\x15\0\0\0";
 
-/// The file of a program of so many instructions `not`, if it may have one.
+/// The file of a program of so many instructions `not`, if such a file may exist.
 fn file_of(alloc: Global, instructions: usize) -> Option<Vec<u8>> {
     let mut code = Table::new(alloc);
     for _ in 0..instructions {
@@ -30,7 +30,7 @@ fn file_of(alloc: Global, instructions: usize) -> Option<Vec<u8>> {
     }
 }
 
-/// How many instructions `not` these bytes are, if they are no others.
+/// The number of instructions `not` in these bytes, if they have no others.
 fn nots_in(bytes: &[u8]) -> Option<usize> {
     let mut count: usize = 0;
     for word in bytes.chunks(4) {
@@ -42,7 +42,7 @@ fn nots_in(bytes: &[u8]) -> Option<usize> {
     Some(count)
 }
 
-/// The count of a file without constants, and how many instructions `not` follow it.
+/// The count of a file without constants, and the number of instructions `not` after it.
 fn counts_of(file: &[u8]) -> Option<(u8, u8, usize)> {
     let (start, rest) = file.split_at_checked(START.len())?;
     if start != START {

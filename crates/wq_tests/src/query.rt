@@ -1,5 +1,5 @@
-//! Queries as they are read: their bound or cursor, their expression or program, and their fields;
-//! and a reply as a value.
+//! The reading of queries: their bound or cursor, their expression or program, and their fields.
+//! Also a reply as a value.
 
 use crate::tree::pass;
 use serde_json::Value;
@@ -64,7 +64,7 @@ fn since_sets_a_bound(rt: HostRuntime) -> Result<(), Fail> {
             (r#"{"since":0}"#, Some(Second(0))),
             (r#"{"since":100}"#, Some(Second(100))),
             (r#"{"since":4611686018427387904}"#, Some(Second(MAX_SIGNED))),
-            // That of a cursor is known where the roots are.
+            // Only the code that has the roots knows the bound of a cursor.
             (r#"{"since":"n:c:1:2"}"#, None),
         ],
     )
@@ -135,7 +135,7 @@ fn a_query_may_name_neither(rt: HostRuntime) -> Result<(), Fail> {
     check_names(&rt, rt.alloc(), text, None, None)
 }
 
-/// Asserts the name of each field, and that it names the field.
+/// Asserts the name of each field, and that the name gives the field.
 fn check_fields(rt: &impl Abort, rows: &[(&str, Field)]) {
     for (name, field) in rows {
         let is_named = field.name() == *name && Field::named(name) == Some(*field);
@@ -162,13 +162,13 @@ fn fields_have_names(rt: HostRuntime) {
     assert_eq!(rt; Field::named("kind"), None);
 }
 
-/// The plan of a query at a fresh bound.
+/// The plan of a query with a fresh bound.
 fn planned(alloc: Global, query: Query) -> Result<Plan, Fail> {
     let program = compile(alloc, query.expr())?;
     Ok(query.plan(Fresh, Arc::new(alloc, program)?))
 }
 
-/// The plan of a query that names a program, at a fresh bound and by this program.
+/// The plan of a query that names a program, with a fresh bound and this program.
 fn planned_by(alloc: Global, query: Query, program: Program) -> Result<Option<Plan>, Fail> {
     if query.program().is_none() {
         return Ok(None);
@@ -197,14 +197,14 @@ fn program_of(alloc: Global, text: &str) -> Result<Program, Fail> {
     Ok(compile(alloc, query.expr())?)
 }
 
-/// The plan of a query by a program's name. It is that of all files of a suffix.
+/// The plan of a query by a program's name. The program matches all files of a suffix.
 fn plan_by_name(alloc: Global) -> Result<Option<Plan>, Fail> {
     let program = program_of(alloc, r#"{"expression":["suffix","c"]}"#)?;
     let query = read(alloc, r#"{"program":"p","fields":["name"]}"#)?;
     planned_by(alloc, query, program)
 }
 
-/// The program of the name that the query has says which files match.
+/// The program whose name is in the query decides which files match.
 #[test]
 fn a_program_answers_for_its_name(rt: HostRuntime) -> Result<(), Fail> {
     let Some(plan) = plan_by_name(rt.alloc())? else {

@@ -8,8 +8,8 @@ const TRIGGERS: &str = r#"["trigger","/r",{"name":"t","command":["r"],"append_fi
 
 const TRIGGERS_AT_Q: &str = r#"["trigger","/q",{"name":"t","command":["q"],"append_files":true}]"#;
 
-/// A round is one of a root: the triggers of another one have no turn, nor is there a round of a root that was never
-/// there. A trigger whose command runs is passed over, until that run has ended; a start that failed has no number.
+/// A round is for one root: the triggers of another root have no turn, and a root that was never there has no round.
+/// The round passes over a trigger whose command runs, until that run has ended. A start that failed has no number.
 #[test]
 fn a_round_is_one_of_a_root(rt: HostRuntime) -> Result<(), Fail> {
     check(
@@ -49,7 +49,8 @@ fn a_round_is_one_of_a_root(rt: HostRuntime) -> Result<(), Fail> {
     )
 }
 
-/// A crawl that was refused is that of the line directly behind it: a round, or the end of a run, stands between.
+/// A refused crawl counts only for the line directly after it. If a round, or the end of a run, comes between, it no
+/// longer counts.
 #[test]
 fn a_round_follows_a_refused_crawl(rt: HostRuntime) -> Result<(), Fail> {
     let answer =

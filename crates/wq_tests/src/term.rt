@@ -1,4 +1,4 @@
-//! Expressions as they are read, and times before 1970 in `since`.
+//! The reading of expressions, and times before 1970 in `since`.
 
 use crate::query::INSTANCE;
 use crate::tree::view_of_one;
@@ -32,7 +32,7 @@ fn check_flags(rt: &impl Abort, alloc: Global, rows: &[(&str, [bool; 4])]) -> Re
     Ok(())
 }
 
-/// The flags are those that the term's name, the scope and the object say.
+/// The term's name, the scope and the object decide the flags.
 #[test]
 fn match_keeps_its_pattern_and_flags(rt: HostRuntime) -> Result<(), Fail> {
     check_flags(

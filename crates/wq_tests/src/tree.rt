@@ -24,7 +24,7 @@ pub(crate) fn pass(alloc: Global, names: &[&[u8]], second: i64) -> Result<Pass, 
     Ok(Pass::new(rows, second)?)
 }
 
-/// The rows of a tree that has this one alone.
+/// The rows of a tree that has only this row.
 pub(crate) fn only(alloc: Global, row: Seen) -> Result<Vec<Seen>, AllocError> {
     let mut rows = Vec::new(alloc);
     rows.push(row)?;

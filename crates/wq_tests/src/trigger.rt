@@ -1,4 +1,4 @@
-//! Triggers on a shelf, which no session puts there yet.
+//! Triggers on a shelf, put there without a session.
 
 use std::alloc::Global;
 use wq_registry::{Cache, Shelf};
@@ -13,7 +13,8 @@ fn with_triggers(alloc: Global) -> Option<Shelf<u64>> {
     Some(shelf)
 }
 
-/// Puts another trigger under `a`, changes the second, and removes both: what each call gives back.
+/// Puts another trigger under `a`, changes the second trigger, and removes both. Gives the trigger
+/// that each call took away.
 fn given_back(alloc: Global) -> Option<[u64; 3]> {
     let mut shelf = with_triggers(alloc)?;
     let replaced = shelf.add_trigger(1, "a", 5).ok()??;

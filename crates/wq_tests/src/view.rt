@@ -1,4 +1,4 @@
-//! Views: names that are kept once, copies, and the greatest pass.
+//! Views: names in memory once, copies, and the greatest pass.
 
 use crate::tree::{file, only, pass};
 use itoa::Buffer;
@@ -19,8 +19,8 @@ fn sharing_pass(alloc: Global, name: &ArcSlice<u8>, size: i64) -> Result<Pass, F
     Ok(Pass::new(only(alloc, row)?, size)?)
 }
 
-/// A name's bytes are kept once: beside their first owner a pass and a view own them, and then the
-/// view alone.
+/// A name's bytes are in memory once. Besides their first owner a pass and a view own them, and
+/// then the view alone.
 #[test]
 fn a_view_keeps_each_name_once(rt: HostRuntime) -> Result<(), Fail> {
     let name = ArcSlice::from_slice(rt.alloc(), b"src/a.c")?;
@@ -43,7 +43,7 @@ fn view_of_name(alloc: Global, name: &ArcSlice<u8>) -> Result<View, Fail> {
     Ok(view)
 }
 
-/// A copy shares the records themselves, so that no name gets another owner.
+/// A copy shares the records themselves, so no name gets another owner.
 #[test]
 fn a_copy_shares_records(rt: HostRuntime) -> Result<(), Fail> {
     let name = ArcSlice::from_slice(rt.alloc(), b"src/a.c")?;
@@ -59,8 +59,7 @@ fn first_name(view: &View) -> Result<Name, Fail> {
     Ok(record.name.copy()?)
 }
 
-/// A copy of a view keeps the name when the view is gone, and a copy of its name is the same bytes
-/// again.
+/// A copy of a view keeps the name after the view is gone. A copy of its name has the same bytes.
 #[test]
 fn a_copied_name_is_shared(rt: HostRuntime) -> Result<(), Fail> {
     let name = ArcSlice::from_slice(rt.alloc(), b"src/a.c")?;
@@ -84,7 +83,7 @@ fn are_same(a: &View, b: &View) -> bool {
         && a.records().zip(b.records()).all(|(a, b)| is_same(a, b))
 }
 
-/// A copy has what the view had, and stays so as the view goes on.
+/// A copy has the records of the view, and stays the same while the view goes on.
 #[test]
 fn a_copy_stays_as_it_is(rt: HostRuntime) -> Result<(), Fail> {
     let first = pass(rt.alloc(), &[b"a", b"a/b", b"a-b", b"b"], 1)?;
@@ -119,7 +118,7 @@ fn falling_rows(alloc: Global) -> Result<Vec<Seen>, AllocError> {
     Ok(rows)
 }
 
-/// Asserts at which place a view has each name.
+/// Asserts the place of each name in a view.
 fn check_places(rt: &impl Abort, view: &View, rows: &[(&str, Option<usize>)]) {
     for (name, place) in rows {
         assert_eq!(rt; view.find(name), *place, "at {name}");
@@ -144,7 +143,7 @@ fn takes_in_a_million_rows(rt: HostRuntime) -> Result<(), Fail> {
     Ok(())
 }
 
-/// One row too many, each of them with this name and size.
+/// One row more than the limit, each with this name and size.
 fn too_many_rows(alloc: Global, name: &[u8], size: i64) -> Result<Vec<Seen>, AllocError> {
     let name = ArcSlice::from_slice(alloc, name)?;
     let mut rows = Vec::with_capacity(alloc, 1_000_001)?;
@@ -169,8 +168,8 @@ fn check_too_many(rt: &impl Abort, alloc: Global, table: &[(&[u8], i64, i64)]) -
     Ok(())
 }
 
-/// Too many rows are told before a name that is there twice, a name that is not valid, a size and a
-/// second out of range.
+/// Too many rows are reported before all other faults. These are a name that is there twice, a name
+/// that is not valid, and a size or a second out of range.
 #[test]
 fn tells_a_row_too_many_first(rt: HostRuntime) -> Result<(), Fail> {
     check_too_many(

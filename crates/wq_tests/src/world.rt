@@ -1,5 +1,5 @@
-//! Worlds that are played: crawls and openings of roots, lines of clients, idle moments, rounds of triggers and ends of
-//! their commands, one after the other. The tests of rounds are in `round`.
+//! Tests that play worlds: crawls and openings of roots, lines of clients, idle moments, rounds of triggers and ends of
+//! their commands, in turn. The tests of rounds are in `round`.
 
 use crate::tree::pass;
 use itoa::Buffer;
@@ -14,14 +14,13 @@ use wq_session::Ask;
 use wq_stream::Event;
 use wq_view::Pass;
 
-/// Something that happens. A root and a client's line are texts, and what a root lists is one of
-/// the trees below.
+/// Something that happens. A root and a client's line are texts, and the listing of a root is one of the trees below.
 #[derive(Clone, Copy)]
 pub(crate) enum Step {
     Crawl(&'static str, Result<usize, CrawlFault>),
     Watch(&'static str, Result<usize, CrawlFault>),
     Line(i64, &'static str),
-    /// A line that is too long, by which the client's session ends.
+    /// A line that is too long. It ends the client's session.
     Long(i64),
     /// The client has gone.
     End(i64),
@@ -33,7 +32,7 @@ pub(crate) enum Step {
     Ended(u32),
 }
 
-/// The trees that are listed: none of the files, and one.
+/// The trees that a root may list: one without files, and two with one file each.
 pub(crate) const NONE: usize = 0;
 
 pub(crate) const A: usize = 1;
@@ -58,13 +57,13 @@ fn new_world(alloc: Global) -> Result<World, AllocError> {
     World::new(alloc, run, String::from_str(alloc, "socket")?)
 }
 
-/// The lines that such a world sends while this happens.
+/// The lines that such a world sends while it plays these happenings.
 fn play(alloc: Global, happenings: Vec<Happening<'_>>) -> Result<Vec<Sent>, AllocError> {
     let mut world = new_world(alloc)?;
     world.play(alloc, happenings)
 }
 
-/// The same of these steps.
+/// The lines that such a world sends in these steps.
 fn played(alloc: Global, steps: &[Step]) -> Result<Vec<Sent>, Fail> {
     let trees = trees(alloc)?;
     let happenings = happenings(alloc, &trees, steps)?;
@@ -140,7 +139,7 @@ fn seen(trees: &[Pass], tree: Result<usize, CrawlFault>) -> Result<&Pass, CrawlF
     }
 }
 
-/// What was sent, as lines.
+/// The lines that were sent, as a text.
 fn shown(alloc: Global, sent: &[Sent]) -> Result<Vec<u8>, AllocError> {
     let mut written = Vec::new(alloc);
     for one in sent {
@@ -152,8 +151,8 @@ fn shown(alloc: Global, sent: &[Sent]) -> Result<Vec<u8>, AllocError> {
     Ok(written)
 }
 
-/// Of the reply and of each list the client's number, a space, the text and a newline, with `!` before a reply by which
-/// the server ends.
+/// For the reply and for each list: the client's number, a space, the text and a newline. Before a reply that ends the
+/// server there is a `!`.
 fn show_told(told: &Told, written: &mut Vec<u8>) -> Result<(), AllocError> {
     if told.out().shuts() {
         written.push(b'!')?;
@@ -184,7 +183,7 @@ fn show(client: i64, line: &[u8], written: &mut Vec<u8>) -> Result<(), AllocErro
     Ok(())
 }
 
-/// Asserts what a world sends while this happens.
+/// Asserts the lines that a world sends while it plays these happenings.
 pub(crate) fn check(
     rt: &impl Abort,
     alloc: Global,
@@ -196,8 +195,8 @@ pub(crate) fn check(
     Ok(())
 }
 
-/// The files that a crawl saw are shown from then on, to a line that synchronises and to one that
-/// does not wait for a crawl.
+/// The files that a crawl saw are shown from then on, to lines that synchronise and to lines that do not wait for a
+/// crawl.
 #[test]
 fn a_crawl_is_seen_by_each_line_behind_it(rt: HostRuntime) -> Result<(), Fail> {
     check(
@@ -220,8 +219,8 @@ fn a_crawl_is_seen_by_each_line_behind_it(rt: HostRuntime) -> Result<(), Fail> {
     )
 }
 
-/// A line that synchronises is refused as the crawl before it was; then that is forgotten, and the
-/// view is as before.
+/// If a crawl was refused, the next line that synchronises is refused too. Then the refusal is forgotten, and the view
+/// is as before.
 #[test]
 fn a_refused_crawl_refuses_the_line_behind_it(rt: HostRuntime) -> Result<(), Fail> {
     check(
@@ -244,8 +243,8 @@ fn a_refused_crawl_refuses_the_line_behind_it(rt: HostRuntime) -> Result<(), Fai
     )
 }
 
-/// One that does not wait for a crawl is answered at the passes so far; and any other line stands
-/// between.
+/// A line that does not wait for a crawl is answered at the passes so far. It also separates a refused crawl from the
+/// lines after it.
 #[test]
 fn a_refused_crawl_refuses_no_other_line(rt: HostRuntime) -> Result<(), Fail> {
     check(
@@ -269,7 +268,7 @@ fn a_refused_crawl_refuses_no_other_line(rt: HostRuntime) -> Result<(), Fail> {
     )
 }
 
-/// A world goes on after the line that ends the server; its player is told which that was.
+/// A world goes on after the line that ends the server. Its player hears which line that was.
 #[test]
 fn a_line_behind_the_end_of_the_server_is_answered(rt: HostRuntime) -> Result<(), Fail> {
     check(
@@ -283,8 +282,8 @@ fn a_line_behind_the_end_of_the_server_is_answered(rt: HostRuntime) -> Result<()
     )
 }
 
-/// A session ends by a line that is too long, and where its client has gone, which is sent nothing.
-/// A later line of the same number is that of a new session.
+/// A session ends by a line that is too long, and if its client has gone. Such a client is sent nothing. A later line
+/// of the same number belongs to a new session.
 #[test]
 fn a_line_behind_the_end_of_a_session_begins_another(rt: HostRuntime) -> Result<(), Fail> {
     check(
@@ -304,7 +303,7 @@ fn a_line_behind_the_end_of_a_session_begins_another(rt: HostRuntime) -> Result<
     )
 }
 
-/// A root is started once, under the next number; a watch finds it, or is refused as its start was.
+/// A root is started once, under the next number. A watch finds it, or is refused with the fault of its start.
 #[test]
 fn a_root_is_opened_for_its_watch(rt: HostRuntime) -> Result<(), Fail> {
     let watch = r#"["watch","/q/"]"#;
@@ -333,7 +332,7 @@ fn a_root_is_opened_for_its_watch(rt: HostRuntime) -> Result<(), Fail> {
     )
 }
 
-/// A root that was deleted is crawled no more, and has another number when it is watched again.
+/// A root that was deleted is no longer crawled. It has another number when it is watched again.
 #[test]
 fn a_root_is_deleted_and_watched_again(rt: HostRuntime) -> Result<(), Fail> {
     check(
@@ -359,7 +358,7 @@ fn a_root_is_deleted_and_watched_again(rt: HostRuntime) -> Result<(), Fail> {
     )
 }
 
-/// A seventeenth root is refused before it is listed; when another was deleted, it has a place.
+/// A seventeenth root is refused before it is listed. After another root was deleted, there is a place for it.
 #[test]
 fn sixteen_roots_are_shown(rt: HostRuntime) -> Result<(), Fail> {
     check(
@@ -399,8 +398,8 @@ fn sixteen_roots_are_shown(rt: HostRuntime) -> Result<(), Fail> {
 
 const SUBSCRIBES: &str = r#"["subscribe","/r","s",{"fields":["name"]}]"#;
 
-/// An idle moment is one of a root: the subscriptions of another are not told. It sends nothing to a
-/// client without subscriptions, nor of a root that was never there.
+/// An idle moment is for one root: the subscriptions of another root get nothing. It sends nothing to a client without
+/// subscriptions, and nothing about a root that was never there.
 #[test]
 fn an_idle_moment_is_one_of_a_root(rt: HostRuntime) -> Result<(), Fail> {
     check(
@@ -431,7 +430,7 @@ fn an_idle_moment_is_one_of_a_root(rt: HostRuntime) -> Result<(), Fail> {
     )
 }
 
-/// A crawl that was refused is that of the line directly behind it: an idle moment stands between.
+/// A refused crawl counts only for the line directly after it. If an idle moment comes between, it no longer counts.
 #[test]
 fn an_idle_moment_follows_a_refused_crawl(rt: HostRuntime) -> Result<(), Fail> {
     check(
@@ -446,7 +445,7 @@ fn an_idle_moment_follows_a_refused_crawl(rt: HostRuntime) -> Result<(), Fail> {
     )
 }
 
-/// A session that ended has no subscriptions, and neither has the next one of its number.
+/// A session that ended has no subscriptions, and the next session of its number has none either.
 #[test]
 fn a_session_ends_with_its_subscriptions(rt: HostRuntime) -> Result<(), Fail> {
     check(

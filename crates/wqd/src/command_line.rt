@@ -8,7 +8,7 @@ use std::alloc::{AllocError, AllocFailed, Global};
 use wq_base::{MAX_NUMBER, MAX_WORKERS, Workers, unsigned_number};
 use wq_clock::Run;
 
-/// How many milliseconds lie between two rounds of crawls, where the command line does not say it.
+/// How many milliseconds lie between two rounds of crawls, if the command line does not say it.
 const INTERVAL: u64 = 1_000;
 
 /// The fewest milliseconds that may lie between two rounds of crawls.
@@ -33,11 +33,11 @@ pub(crate) enum Task {
 pub(crate) enum CommandLineFault {
     /// Its words are not those of a command, or they ask for help.
     Wrong,
-    /// A growth was refused.
+    /// Memory ran out.
     NoMemory,
 }
 
-/// The task that these words ask for, the first of which is the program's name.
+/// The task that these words ask for. The first of them is the program's name.
 pub(crate) fn task_of(alloc: Global, words: &[String]) -> Result<Task, CommandLineFault> {
     let matches = match command(alloc)?.try_get_matches_from(words) {
         Ok(matches) => matches,

@@ -1,4 +1,4 @@
-//! The server as the command line asks for it: what it works with on this machine.
+//! The server that the command line asks for, with its parts on this machine.
 
 use std::alloc::Global;
 use std::io;
@@ -20,7 +20,7 @@ pub(crate) struct Settings {
     /// The path of its socket.
     pub(crate) sockname: String,
     pub(crate) run: Run,
-    /// How many milliseconds it waits between two rounds of crawls.
+    /// How many milliseconds the server waits between two rounds of crawls.
     pub(crate) interval: u64,
     /// How many threads may look for the files of a query.
     pub(crate) workers: Workers,
@@ -35,7 +35,7 @@ pub(crate) struct StandardError<R: Eprint + Drop> {
 impl<R: Eprint + Drop> Notices for StandardError<R> {
     fn tell(&self, line: &str) {
         let rt = &self.rt;
-        // A standard error that cannot be written is not told of anywhere.
+        // If standard error cannot be written, nobody hears of it.
         eprintln!(rt; "{line}").ok();
     }
 }
@@ -50,7 +50,7 @@ pub(crate) struct Machine<T: Tree + Drop, S: Seconds + Drop, O: Notices + Drop, 
 }
 
 /// Serves clients until one of them asks that the server ends, and gives the exit status. Threads
-/// wait by the second handle.
+/// wait through the second handle.
 pub(crate) fn serve<R, T, S, O, P>(
     rt: &HostRuntime,
     threads: R,

@@ -1,6 +1,6 @@
 //! The file watch server's program: the command line, files, standard streams and exit statuses.
 //! `wq_daemon` has the server, `wq_walk` walks trees for it and `wq_launch` starts commands for it;
-//! `wq_replay` replays a script, and `wq_check` says what program files are.
+//! `wq_replay` replays a script, and `wq_check` describes program files.
 #![tactic(auto)]
 
 mod command_line;
@@ -42,7 +42,7 @@ fn main(rt: HostRuntime) -> ExitCode {
     }
 }
 
-/// The task that the command line asks for, if its words are in UTF-8 and ask for something.
+/// The task that the command line asks for, if its words are in UTF-8 and ask for a task.
 fn task(rt: &HostRuntime) -> Result<Task, CommandLineFault> {
     let alloc = rt.alloc();
     let mut words = Vec::new(alloc);
@@ -60,7 +60,7 @@ fn task(rt: &HostRuntime) -> Result<Task, CommandLineFault> {
     command_line::task_of(alloc, &words)
 }
 
-/// The status of a replay that ended so. A fault is named on standard error.
+/// The exit status of a replay that ended so. It names a fault on standard error.
 fn replay_status(rt: &HostRuntime, done: Result<(), ReplayFault>) -> ExitCode {
     match done {
         Ok(()) => ExitCode::SUCCESS,
@@ -71,7 +71,7 @@ fn replay_status(rt: &HostRuntime, done: Result<(), ReplayFault>) -> ExitCode {
     }
 }
 
-/// Replays the script on standard input, with the answers to standard output.
+/// Replays the script on standard input, and writes the answers to standard output.
 fn replay_script(rt: &HostRuntime) -> Result<(), ReplayFault> {
     let alloc = rt.alloc();
     let mut reader = BufReader::new(alloc, rt.reader()).map_err(|_| ReplayFault::Memory)?;
@@ -83,7 +83,7 @@ fn replay_script(rt: &HostRuntime) -> Result<(), ReplayFault> {
     done
 }
 
-/// Says on standard output what the program file of this path is, and gives the exit status.
+/// Describes the program file of this path on standard output, and gives the exit status.
 fn check_file(rt: &HostRuntime, path: &str) -> u8 {
     let Some(bytes) = file_bytes(rt, path) else {
         eprintln!(rt; "cannot read").ok();
@@ -92,8 +92,8 @@ fn check_file(rt: &HostRuntime, path: &str) -> u8 {
     check(rt.alloc(), &bytes, &mut io::writer(rt))
 }
 
-/// The bytes of a file, if it can be read and has at most [`MAX_FILE`] of them. No more than one
-/// byte over that is read.
+/// The bytes of a file, if it can be read and has at most [`MAX_FILE`] of them. It reads at most
+/// one byte more than that.
 fn file_bytes(rt: &HostRuntime, path: &str) -> Option<Vec<u8>> {
     let mut bytes = Vec::new(rt.alloc());
     let file = File::open(rt, path).ok()?;

@@ -1,4 +1,4 @@
-//! `clock`: which pass over a root was the last.
+//! `clock`: the last pass over a root.
 ghost use Rattle.std.specs.Prelude.{◌≡◌, option_map, IfOk};
 ghost use Rattle.serde_json.specs.View.{view as data_of, items_view};
 ghost use Rattle.wq_clock.specs.Instance.{instance_data};
@@ -26,7 +26,7 @@ use wq_registry::Shelf;
 use wq_term::whole_number;
 use wq_view::View;
 
-/// What `clock` asks with these words.
+/// The ask of `clock` with these words.
 pub(super) fn ask_clock(alloc: Global, words: Vec<Value>) -> Result<Ask, Refusal>
     ensures { Requests (clock_request (behind (items_view words.items))) result }
 {
@@ -37,7 +37,7 @@ pub(super) fn ask_clock(alloc: Global, words: Vec<Value>) -> Result<Ask, Refusal
     Ok(Ask::Clock { root, crawl })
 }
 
-/// The root of `clock`, and whether it is to be crawled first.
+/// The root of `clock`, and whether the server crawls it first.
 fn clock_arguments(words: Vec<Value>) -> Option<(Text, bool)>
     ensures { result ≡ clock_arguments (behind (items_view words.items)) }
 {
@@ -52,7 +52,7 @@ fn clock_arguments(words: Vec<Value>) -> Option<(Text, bool)>
     Some((text(root)?, asks_crawl(&options)))
 }
 
-/// Whether options ask that the root is crawled first: by a whole number above 0.
+/// Whether options ask the server to crawl the root first: by a whole number above 0.
 fn asks_crawl(options: &Value) -> bool
     ensures { result ≡ asks_crawl (data_of options.now) }
 {

@@ -1,5 +1,5 @@
-//! `program-add`, `program-list` and `program-del`: programs are kept under names. From the text of a file to a program
-//! that may run.
+//! `program-add`, `program-list` and `program-del`: the server keeps programs under names. This has the way from the
+//! text of a file to a program that may run.
 ghost use Rattle.std.specs.Prelude.{◌≡◌, ◌≢◌, map, IfOk, IfErr, Ok, Err};
 ghost use Rattle.base64.specs.GeneralPurpose.{decode_of};
 ghost use Rattle.base64.specs.Engines.{standard};
@@ -31,10 +31,10 @@ use wq_follow::Trigger;
 use wq_registry::{Shelf, ShelfFault};
 use wq_verify::{Program, ProgramFault, verify};
 
-/// How many bytes the name of a program may have.
+/// The most bytes that the name of a program may have.
 const MAX_PROGRAM_NAME: usize = 255;
 
-/// What `program-add` asks with these words.
+/// The ask of `program-add` with these words.
 pub(super) fn ask_add(alloc: Global, words: Vec<Value>) -> Result<Ask, Refusal>
     ensures { Requests (add_request (behind (items_view words.items))) result }
 {
@@ -44,7 +44,7 @@ pub(super) fn ask_add(alloc: Global, words: Vec<Value>) -> Result<Ask, Refusal>
     }
 }
 
-/// What `program-list` asks with these words.
+/// The ask of `program-list` with these words.
 pub(super) fn ask_names(words: &[Value]) -> Result<Ask, Refusal>
     ensures { Requests (names_request (behind (items_view words.now))) result }
 {
@@ -54,7 +54,7 @@ pub(super) fn ask_names(words: &[Value]) -> Result<Ask, Refusal>
     Ok(Ask::ListPrograms)
 }
 
-/// What `program-del` asks with these words.
+/// The ask of `program-del` with these words.
 pub(super) fn ask_delete(words: Vec<Value>) -> Result<Ask, Refusal>
     ensures { Requests (delete_request (behind (items_view words.items))) result }
 {
@@ -65,7 +65,7 @@ pub(super) fn ask_delete(words: Vec<Value>) -> Result<Ask, Refusal>
     }
 }
 
-/// That the program of a base64 text is kept under a name.
+/// The server keeps the program of a base64 text under a name.
 fn adding(alloc: Global, name: Text, text: &Text) -> Result<Ask, Refusal>
     ensures { Requests (adding (name, text.now)) result }
 {
@@ -84,7 +84,7 @@ pub(super) fn is_name(name: &Text) -> bool
     1 <= length && length <= MAX_PROGRAM_NAME
 }
 
-/// The bytes that a base64 text stands for.
+/// The bytes of a base64 text.
 fn bytes_of(alloc: Global, text: &Text) -> Result<Vec<u8>, Refusal>
     ensures { DecodesTo (decode_of standard text.now) result }
 {
@@ -95,7 +95,7 @@ fn bytes_of(alloc: Global, text: &Text) -> Result<Vec<u8>, Refusal>
     }
 }
 
-/// That the program of a file is kept under a name.
+/// The server keeps the program of a file under a name.
 fn added(alloc: Global, name: Text, file: &[u8]) -> Result<Ask, Refusal>
     ensures { Requests (Ok (adds name file.now)) result }
 {
@@ -116,7 +116,7 @@ fn added(alloc: Global, name: Text, file: &[u8]) -> Result<Ask, Refusal>
     }
 }
 
-/// That a program of so many instructions is kept under a name, and whether it replaced one.
+/// The reply that a program of so many instructions is kept under a name, and whether it replaced one.
 fn add_reply(
     alloc: Global,
     name: &str,
@@ -133,7 +133,7 @@ fn add_reply(
     })
 }
 
-/// That no program is kept under a name, and whether one was.
+/// The reply that no program is kept under a name, and whether one was.
 fn delete_reply(alloc: Global, name: &str, there: bool) -> Result<Value, AllocError>
     ensures { IfOk result (IsReply (deleted_data name.now there)) }
 {
@@ -169,7 +169,7 @@ pub(super) fn begin_names(alloc: Global, shelf: &Shelf<Trigger>) -> Result<Work,
     Ok(saying(alloc, &reply)?)
 }
 
-/// `program-add`. The reply is made first, so that nothing is kept where memory runs out.
+/// `program-add`. The reply is made first, so that nothing is kept if memory runs out.
 pub(super) fn begin_add(
     alloc: Global,
     name: &Text,
@@ -190,7 +190,7 @@ pub(super) fn begin_add(
     }
 }
 
-/// `program-del`. The reply is made first, so that the program stays where memory runs out.
+/// `program-del`. The reply is made first, so that the program stays if memory runs out.
 pub(super) fn begin_delete(
     alloc: Global,
     name: &Text,

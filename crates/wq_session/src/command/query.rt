@@ -1,5 +1,5 @@
-//! `query`: which files there are, and which of them changed. It is read, and its expression compiled, before the
-//! shelf is held; while it is held a program is looked up by its name and the cursor moved; the files are listed without it.
+//! `query`: the files of a root, or those that changed. The query is read, and its expression compiled, before the
+//! shelf is held. The shelf is held to look up a program by its name and to move the cursor, and not to list the files.
 ghost use Rattle.std.specs.Prelude.{◌≡◌, List, Some, false, is_none, option_map, IfOk};
 ghost use Rattle.serde_json.specs.Data.{Data};
 ghost use Rattle.serde_json.specs.View.{view as data_of, items_view};
@@ -44,7 +44,7 @@ use wq_term::whole_number;
 use wq_verify::Program;
 use wq_view::View;
 
-/// What `query` asks with these words.
+/// The ask of `query` with these words.
 pub(super) fn ask_query(alloc: Global, words: Vec<Value>) -> Result<Ask, Refusal>
     ensures { Requests (query_request (behind (items_view words.items))) result }
 {
@@ -68,14 +68,14 @@ fn query_arguments(words: Vec<Value>) -> Option<(Text, Value)>
     Some((text(root)?, query))
 }
 
-/// Whether the query of an object is answered after a crawl.
+/// Whether the server crawls before it answers the query of an object.
 fn crawls_first(query: &Value) -> bool
     ensures { result ≡ crawls_first (data_of query.now) }
 {
     synchronises(query.get("sync_timeout"))
 }
 
-/// Whether a query is answered after a crawl: unless its key says 0, or no whole number.
+/// Whether the server crawls before it answers a query: unless its key is 0, or no whole number.
 fn synchronises(value: Option<&Value>) -> bool
     ensures { result ≡ synchronises (option_map (λ v. data_of v.now) value.entry) }
 {
@@ -88,7 +88,7 @@ fn synchronises(value: Option<&Value>) -> bool
     }
 }
 
-/// `query`, of the root that it names, as it was read at what is looked at.
+/// `query`, of the root that it names, as it was read at the root that is looked at.
 pub(super) fn begin_query(
     alloc: Global,
     root: &RootText,
@@ -133,7 +133,7 @@ fn begin_read(
     Ok(Work::Evaluates(read.query.plan(bound, program), cursor))
 }
 
-/// The program that says which files match a query.
+/// The program that selects the files of a query.
 pub(super) fn program_for(
     query: &Query,
     lookup: &Lookup,
@@ -222,7 +222,7 @@ pub(crate) fn listed(
     Out::of_answer(answer_bytes(alloc, plan, instance, view), cursor)
 }
 
-/// The output that [`listed`] gives, of files that up to so many threads find.
+/// The output of [`listed`], with the files that up to so many threads find.
 pub(crate) fn listed_workers<R: Threads + Sync, G: Gate + Sync>(
     rt: &R,
     alloc: Global,

@@ -1,5 +1,5 @@
-//! `version`, `get-sockname` and `shutdown-server`: the server itself. The replies of the first and the last are always
-//! the same, and take no memory.
+//! `version`, `get-sockname` and `shutdown-server`: the server itself. The replies of the first and the last are fixed,
+//! and take no memory.
 ghost use Rattle.std.specs.Prelude.{◌≡◌, Ok, IfOk};
 ghost use Rattle.serde_json.specs.View.{items_view};
 ghost use Rattle.wq_session.specs.Argument.{behind};
@@ -21,7 +21,7 @@ use wq_base::VERSION;
 use wq_follow::Trigger;
 use wq_registry::Shelf;
 
-/// What `version` asks with these words.
+/// The ask of `version` with these words.
 pub(super) fn ask_version(words: &[Value]) -> Result<Ask, Refusal>
     ensures { Requests (version_request (behind (items_view words.now))) result }
 {
@@ -31,7 +31,7 @@ pub(super) fn ask_version(words: &[Value]) -> Result<Ask, Refusal>
     Ok(Ask::Version)
 }
 
-/// What `get-sockname` asks with these words.
+/// The ask of `get-sockname` with these words.
 pub(super) fn ask_socket(words: &[Value]) -> Result<Ask, Refusal>
     ensures { Requests (socket_request (behind (items_view words.now))) result }
 {
@@ -41,7 +41,7 @@ pub(super) fn ask_socket(words: &[Value]) -> Result<Ask, Refusal>
     Ok(Ask::SocketName)
 }
 
-/// What `shutdown-server` asks with these words.
+/// The ask of `shutdown-server` with these words.
 pub(super) fn ask_shutdown(words: &[Value]) -> Result<Ask, Refusal>
     ensures { Requests (shutdown_request (behind (items_view words.now))) result }
 {

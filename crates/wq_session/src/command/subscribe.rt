@@ -1,6 +1,6 @@
-//! `subscribe` and `unsubscribe`: a client is told of changes without asking. The object of `subscribe` is read, and its
-//! expression compiled, before the shelf is held; while it is held a program is looked up by its name. The session keeps
-//! the subscription after that, when its first list is made.
+//! `subscribe` and `unsubscribe`: the server tells a client of changes without being asked. The object of `subscribe`
+//! is read, and its expression compiled, before the shelf is held. The shelf is held to look up a program by its name.
+//! The session keeps the subscription after that, when its first list is made.
 ghost use Rattle.std.specs.Prelude.{◌≡◌, Some, false, is_none, option_map, IfOk};
 ghost use Rattle.serde_json.specs.Data.{Data};
 ghost use Rattle.serde_json.specs.View.{view as data_of, items_view};
@@ -33,7 +33,7 @@ use wq_follow::{Subscription, Trigger};
 use wq_registry::Shelf;
 use wq_view::View;
 
-/// What `subscribe` asks with these words.
+/// The ask of `subscribe` with these words.
 pub(super) fn ask_subscribe(alloc: Global, words: Vec<Value>) -> Result<Ask, Refusal>
     ensures { Requests (subscribe_request (behind (items_view words.items))) result }
 {
@@ -58,7 +58,7 @@ fn subscribe_arguments(words: Vec<Value>) -> Option<(Text, Text, Value)>
     Some((root, name, query))
 }
 
-/// What `unsubscribe` asks with these words.
+/// The ask of `unsubscribe` with these words.
 pub(super) fn ask_unsubscribe(alloc: Global, words: Vec<Value>) -> Result<Ask, Refusal>
     ensures { Requests (unsubscribe_request (behind (items_view words.items))) result }
 {
@@ -69,7 +69,7 @@ pub(super) fn ask_unsubscribe(alloc: Global, words: Vec<Value>) -> Result<Ask, R
     Ok(Ask::Unsubscribe { root, name })
 }
 
-/// That the client is told from now on.
+/// The reply that the subscription has begun.
 pub(crate) fn subscribe_reply(
     alloc: Global,
     instance: &Instance,
@@ -83,7 +83,7 @@ pub(crate) fn subscribe_reply(
     json!(in alloc; { "clock": clock.as_str(), "subscribe": name, "version": VERSION })
 }
 
-/// That the client is told no more, and whether it was.
+/// The reply that the subscription has ended, and whether there was one.
 pub(crate) fn unsubscribe_reply(
     alloc: Global,
     name: &str,
@@ -94,7 +94,7 @@ pub(crate) fn unsubscribe_reply(
     json!(in alloc; { "deleted": deleted, "unsubscribe": name, "version": VERSION })
 }
 
-/// `subscribe`, of the root that it names, as its object was read at what is looked at.
+/// `subscribe`, of the root that it names, as its object was read at the root that is looked at.
 pub(super) fn begin_subscribe(
     alloc: Global,
     root: &RootText,

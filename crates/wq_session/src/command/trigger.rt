@@ -1,6 +1,6 @@
-//! `trigger`, `trigger-list` and `trigger-del`: commands are started if files of a root changed. The object of `trigger` is
-//! read, and its expression compiled, before the shelf is held; while it is held a program is looked up by its name, and
-//! the trigger is put under its own.
+//! `trigger`, `trigger-list` and `trigger-del`: the server starts commands if files of a root changed. The object of
+//! `trigger` is read, and its expression compiled, before the shelf is held. The shelf is held to look up a program by
+//! its name, and to put the trigger under its own.
 ghost use Rattle.std.specs.Prelude.{◌≡◌, None, false, is_none, map, option_map, IfOk};
 ghost use Rattle.serde_json.specs.Data.{Data};
 ghost use Rattle.serde_json.specs.View.{items_of, items_view, view as data_of};
@@ -42,7 +42,7 @@ use wq_follow::{Definition, Trigger};
 use wq_registry::{Root, Shelf, ShelfFault};
 use wq_verify::Program;
 
-/// What `trigger` asks with these words.
+/// The ask of `trigger` with these words.
 pub(super) fn ask_trigger(alloc: Global, words: Vec<Value>) -> Result<Ask, Refusal>
     ensures { Requests (trigger_request (behind (items_view words.items))) result }
 {
@@ -65,7 +65,7 @@ fn trigger_arguments(words: Vec<Value>) -> Option<(Text, Value)>
     Some((text(root)?, trigger))
 }
 
-/// What `trigger-list` asks with these words.
+/// The ask of `trigger-list` with these words.
 pub(super) fn ask_list_triggers(alloc: Global, words: Vec<Value>) -> Result<Ask, Refusal>
     ensures { Requests (list_triggers_request (behind (items_view words.items))) result }
 {
@@ -76,7 +76,7 @@ pub(super) fn ask_list_triggers(alloc: Global, words: Vec<Value>) -> Result<Ask,
     Ok(Ask::ListTriggers { root })
 }
 
-/// What `trigger-del` asks with these words.
+/// The ask of `trigger-del` with these words.
 pub(super) fn ask_delete_trigger(alloc: Global, words: Vec<Value>) -> Result<Ask, Refusal>
     ensures { Requests (delete_trigger_request (behind (items_view words.items))) result }
 {
@@ -164,7 +164,7 @@ fn add(
     }
 }
 
-/// That there is a trigger of this name, and whether it replaced one.
+/// The reply that there is a trigger of this name, and whether it replaced one.
 fn trigger_reply(alloc: Global, name: &str, replaced: bool) -> Result<Value, AllocError>
     ensures { IfOk result (IsReply (trigger_reply name.now replaced)) }
 {
@@ -225,7 +225,7 @@ fn objects_of(alloc: Global, root: &Root<Trigger>) -> Result<Vec<Value>, AllocEr
     Ok(objects)
 }
 
-/// That there is no trigger of this name, and whether there was one.
+/// The reply that there is no trigger of this name, and whether there was one.
 fn trigger_deleted_reply(alloc: Global, name: &str, deleted: bool) -> Result<Value, AllocError>
     ensures { IfOk result (IsReply (trigger_deleted_reply name.now deleted)) }
 {

@@ -1,4 +1,5 @@
-//! `watch`, `watch-project`, `watch-list` and `watch-del`: roots are watched, told, and watched no more.
+//! `watch`, `watch-project`, `watch-list` and `watch-del`: the server watches roots, lists them, and no longer watches
+//! them.
 ghost use Rattle.std.specs.Prelude.{◌≡◌, ◌⊎◌, Ok, false, map, option_map, true, IfErr, IfOk, OnErr, OnOk};
 ghost use Rattle.serde_json.specs.Data.{string};
 ghost use Rattle.serde_json.specs.View.{view as data_of, items_view};
@@ -28,7 +29,7 @@ use wq_base::VERSION;
 use wq_follow::Trigger;
 use wq_registry::{Root, Shelf, ShelfFault};
 
-/// What `watch` and `watch-project` ask with these words.
+/// The ask of `watch` and `watch-project` with these words.
 pub(super) fn ask_watch(alloc: Global, words: Vec<Value>) -> Result<Ask, Refusal>
     ensures { Requests (watch_request (behind (items_view words.items))) result }
 {
@@ -42,7 +43,7 @@ pub(super) fn ask_watch(alloc: Global, words: Vec<Value>) -> Result<Ask, Refusal
     Ok(Ask::Watch { root })
 }
 
-/// What `watch-list` asks with these words.
+/// The ask of `watch-list` with these words.
 pub(super) fn ask_list(words: &[Value]) -> Result<Ask, Refusal>
     ensures { Requests (list_request (behind (items_view words.now))) result }
 {
@@ -52,7 +53,7 @@ pub(super) fn ask_list(words: &[Value]) -> Result<Ask, Refusal>
     Ok(Ask::ListRoots)
 }
 
-/// What `watch-del` asks with these words.
+/// The ask of `watch-del` with these words.
 pub(super) fn ask_unwatch(alloc: Global, words: Vec<Value>) -> Result<Ask, Refusal>
     ensures { Requests (unwatch_request (behind (items_view words.items))) result }
 {
@@ -63,14 +64,14 @@ pub(super) fn ask_unwatch(alloc: Global, words: Vec<Value>) -> Result<Ask, Refus
     Ok(Ask::Unwatch { root })
 }
 
-/// That a root is watched.
+/// The reply that a root is watched.
 fn watch_reply(alloc: Global, root: &str) -> Result<Value, AllocError>
     ensures { IfOk result (IsReply (watch_data root.now)) }
 {
     json!(in alloc; { "version": VERSION, "watch": root, "watcher": "poll" })
 }
 
-/// The roots that are watched, by their texts.
+/// The reply with the watched roots, by their texts.
 fn list_reply(alloc: Global, shelf: &Shelf<Trigger>) -> Result<Value, AllocError>
     ensures { IfOk result (λ value.
         data_of value ≡ roots_data (root_texts (shelf_data shelf.now).roots)) }
@@ -98,15 +99,15 @@ fn texts(alloc: Global, roots: &[Root<Trigger>]) -> Result<Vec<Value>, AllocErro
     Ok(values)
 }
 
-/// That a root is watched no more.
+/// The reply that a root is no longer watched.
 fn unwatch_reply(alloc: Global, root: &str) -> Result<Value, AllocError>
     ensures { IfOk result (IsReply (root_deleted_data root.now)) }
 {
     json!(in alloc; { "root": root, "version": VERSION, "watch-del": true })
 }
 
-/// `watch` and `watch-project`: what is looked at stands on the shelf as this root. The reply is made first, so that
-/// nothing changes where memory runs out.
+/// `watch` and `watch-project`: the root that is looked at is on the shelf as this root. The reply is made first, so
+/// that nothing changes if memory runs out.
 pub(super) fn begin_watch(
     alloc: Global,
     root: &RootText,
@@ -149,7 +150,7 @@ pub(super) fn begin_list(alloc: Global, shelf: &Shelf<Trigger>) -> Result<Work, 
     Ok(saying(alloc, &reply)?)
 }
 
-/// `watch-del`. The reply is made first, so that the root stays where memory runs out.
+/// `watch-del`. The reply is made first, so that the root stays if memory runs out.
 pub(super) fn begin_unwatch(
     alloc: Global,
     root: &RootText,

@@ -1,4 +1,4 @@
--- The session is told, and kept.
+-- The session gets the lists, and is kept.
 use Rattle.std.proofs.Common.{rules, ◌≡◌, ℤ, List, ◌++◌, option_map, ap, subst, ◌∙◌}
 use mir.Facts.{to_z-of_z}
 use Rattle.wq_follow.specs.Subscription.{SubscriptionData}

@@ -1,4 +1,4 @@
--- The number of one subscription more.
+-- The number of one more subscription.
 use Rattle.std.proofs.Common.{map}
 use Rattle.std.proofs.lemmas.List.{drop_all}
 use Rattle.wq_follow.specs.Followed.{subscription_data}

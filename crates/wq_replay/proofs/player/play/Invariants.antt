@@ -1,4 +1,4 @@
--- Where the playing of the script stands.
+-- The state of the playing of the script.
 use Rattle.std.proofs.Common.{◌≤◌}
 use Rattle.wq_replay.specs.Limit.{max_script}
 use Rattle.wq_replay.proofs.Ending.{Holds}

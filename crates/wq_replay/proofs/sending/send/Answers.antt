@@ -1,4 +1,4 @@
--- All is written one after the other.
+-- All lines are written, one after the other.
 use Rattle.std.proofs.Common.{◌+◌, ◌&&◌, Result, Bool, drop, ap, subst, ◌∙◌}
 use Rattle.std.proofs.lemmas.List.{drop_all}
 use Rattle.wq_replay.specs.Sending.{Sends}

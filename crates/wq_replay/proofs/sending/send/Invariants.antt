@@ -1,4 +1,4 @@
--- What is sent before these was written.
+-- The lines before these were written.
 use Rattle.std.proofs.Common.{drop}
 use Rattle.wq_replay.specs.Stands.{all_sent}
 use Rattle.wq_replay.proofs.Sendings.{SentSoFar}

@@ -1,4 +1,4 @@
--- A line about one start more.
+-- A line about one more start.
 use Rattle.std.proofs.Common.{map}
 use Rattle.wq_replay.specs.Launched.{all_tried}
 use Rattle.wq_replay.specs.StartLine.{tried_text}

@@ -1,4 +1,4 @@
--- All was played, and what was sent of it is written.
+-- All was played, and its lines are written.
 use Rattle.std.proofs.Common.{Bool, List, Result, map, subst}
 use Rattle.wq_replay.specs.Sending.{Sends}
 use Rattle.wq_replay.specs.Stands.{all_sent, happening_data}

@@ -1,4 +1,4 @@
--- A row is put behind the others.
+-- A row is put after the others.
 use Rattle.std.proofs.Common.{[], ◌∷◌, ◌++◌, Some, Ok, true, sym, ap, subst, ◌∙◌}
 use Rattle.wq_replay.proofs.Steps.{draft_open, rows_are}
 use Rattle.wq_replay.specs.LineData.{line_data}

@@ -1,4 +1,4 @@
--- The line that stands before the newline.
+-- The line before the newline.
 use Rattle.std.proofs.Common.{◌≡◌, length, rules}
 use Rattle.wq_replay.proofs.Parts.{line_taken}
 use Rattle.wq_replay.proofs.taking.next_line.Goals as goal

@@ -1,4 +1,4 @@
--- What was taken of the line, that more of it may come, and that its end was not taken.
+-- The bytes that were taken of the line. More of it may come, and its end was not taken.
 use Rattle.std.proofs.Common.{◌≤◌, false, [], length, IfSome}
 use Rattle.wq_replay.specs.Replay.{StopsWithin}
 use Rattle.wq_replay.specs.Taken.{TakesPart, max_kept}

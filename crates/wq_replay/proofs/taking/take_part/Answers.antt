@@ -1,4 +1,4 @@
--- What the reader showed is taken as far as it is kept.
+-- The bytes that the reader showed are taken as far as they are kept.
 use Rattle.std.proofs.Common.{◌≡◌, ◌-◌, length, sym, ap, subst, ◌∙◌, rules, length-take-le}
 use Rattle.std.specs.Io.BufRead.{FillKeeps}
 use Rattle.std.proofs.BufReadLemmas.{Consumes_shown}

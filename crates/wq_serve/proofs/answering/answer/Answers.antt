@@ -1,4 +1,4 @@
--- What the ask needs was done, and it was answered.
+-- The need of the ask was met, and the ask was answered.
 use Rattle.wq_serve.proofs.Getting.{gets_at_none, gets_by_crawl, gets_by_look, gets_by_watch}
 use Rattle.wq_serve.specs.Answering.{known}
 use Rattle.wq_serve.proofs.answering.answer.Goals as goal

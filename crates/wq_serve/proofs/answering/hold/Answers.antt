@@ -1,4 +1,4 @@
--- What was taken and finished is the answer.
+-- Taking and finishing gave the answer.
 use Rattle.std.proofs.Common.{option_map, sym, ◌∙◌}
 use Rattle.wq_session.specs.At.{at_data}
 use Rattle.wq_session.specs.Followed.{follows_of}

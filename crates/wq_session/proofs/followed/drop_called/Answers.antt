@@ -1,4 +1,4 @@
--- The subscriptions that are not called so are left.
+-- The subscriptions with another root or name are left.
 use Rattle.std.proofs.Common.{rules, ap, map, not, ◌∙◌}
 use Rattle.std.proofs.lemmas.Fn.{filter_same}
 use Rattle.wq_follow.specs.Followed.{subscription_data}

@@ -1,4 +1,4 @@
--- It is put in the place of the one that is called as it is, or at the end.
+-- It is put in the place of the one with the same root and name, or at the end.
 use Rattle.std.proofs.Common.{ap, sym, map, position, [], ◌∷◌, ◌∙◌}
 use Rattle.std.proofs.lemmas.List.{map-append}
 use Rattle.wq_follow.specs.Followed.{subscription_data}

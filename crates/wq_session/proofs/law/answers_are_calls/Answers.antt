@@ -1,4 +1,4 @@
--- What an answer leaves is what its calls lead to.
+-- An answer leaves the shelf that its calls lead to.
 use Rattle.wq_session.proofs.Accepting.{answers_are_calls}
 use Rattle.wq_session.proofs.law.answers_are_calls.Goals as goal
 

@@ -1,4 +1,4 @@
--- What an answer leaves is what its calls lead to.
+-- An answer leaves the shelf that its calls lead to.
 use Rattle.wq_session.proofs.Rounds.{rounds_are_calls}
 use Rattle.wq_session.proofs.law.rounds_are_calls.Goals as goal
 

@@ -1,4 +1,4 @@
--- Whether there is the trigger of the name.
+-- Whether there is a trigger of the name.
 use Rattle.std.proofs.Common.{ap, is_some, sym, ◌∙◌}
 use Rattle.wq_follow.specs.Followed.{trigger_data}
 use Rattle.wq_session.proofs.Shelves.{some_same}

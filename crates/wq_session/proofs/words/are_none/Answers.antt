@@ -1,4 +1,4 @@
--- Nothing is behind one word, or none.
+-- Nothing follows one word, or none.
 use Rattle.wq_session.proofs.Behind.{none_behind}
 use Rattle.wq_session.proofs.words.are_none.Goals as goal
 

@@ -1,4 +1,4 @@
--- Behind the options nothing may stand.
+-- Nothing may follow the options.
 use Rattle.std.proofs.Common.{sym, ◌∙◌}
 use Rattle.wq_session.proofs.Behind.{more_options}
 use Rattle.wq_session.proofs.words.are_options_alone.Goals as goal

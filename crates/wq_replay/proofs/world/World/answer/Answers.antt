@@ -1,4 +1,5 @@
--- The answer is the refusal of the crawl or the watching, that of a root that ends, or any other.
+-- The answer is the refusal of the crawl or the watching, the answer of a root that ends, or any
+-- other answer.
 use mir.Facts.{to_z-of_z}
 use Rattle.std.proofs.Common.{ℤ, IfOk, subst, option_map, sym, ap, ◌∙◌}
 use Rattle.wq_clock.specs.Instance.{instance_data}

@@ -1,4 +1,4 @@
--- The answer at what is looked at.
+-- The answer at the root that is looked at.
 use Rattle.std.proofs.Common.{ℤ, List, IfOk, option_map, refl, sym, ap, subst}
 use mir.Facts.{to_z-of_z}
 use Rattle.wq_follow.specs.Subscription.{SubscriptionData}

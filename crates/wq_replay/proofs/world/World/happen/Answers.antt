@@ -1,4 +1,4 @@
--- What happens is what the arm says.
+-- The happening is that of the arm.
 use Rattle.std.proofs.Common.{ℤ, FitsSigned, w64, rules, [], map, refl, sym, subst}
 use mir.Facts.{to_z-of_z}
 use Rattle.wq_replay.specs.Stands.{Stands, happening_data}

@@ -1,4 +1,4 @@
--- What a pass over a root adds, if it adds anything.
+-- The addition of a pass over a root, if it adds anything.
 use Rattle.std.proofs.Common.{◌≡◌, ◌<◌, length, ◌∷◌, ◌++◌, [], Some, None, Err, refl, sym, ap, subst, ◌∙◌, inl, inr}
 use Rattle.wq_live.specs.Event.{number_of, passes_over}
 use Rattle.wq_live.specs.Table.{IsNews, IsNoNews, IsTableOf}

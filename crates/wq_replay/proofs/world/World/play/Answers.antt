@@ -1,4 +1,4 @@
--- What led to the world goes on.
+-- The happenings that led to the world go on.
 use Rattle.wq_replay.proofs.Worlds.{leads_on}
 use Rattle.wq_replay.proofs.world.World.play.Goals as goal
 

@@ -1,4 +1,4 @@
--- What was played, whatever is played behind it.
+-- The happenings that were played, whatever is played after them.
 use Rattle.std.proofs.Common.{map}
 use Rattle.wq_replay.specs.Stands.{Stands, all_sent, happening_data}
 use Rattle.wq_replay.specs.World.{WorldData}

@@ -1,4 +1,4 @@
--- A watch that is refused leaves what happened to roots.
+-- A watch that is refused leaves the history of the roots.
 use Rattle.std.proofs.Common.{OnOk, refl, sym, ap, subst}
 use Rattle.wq_replay.specs.Stands.{Stands, crawl_data}
 use Rattle.wq_replay.specs.World.{Starts, WorldData, refusing}

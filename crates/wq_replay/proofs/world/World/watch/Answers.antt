@@ -1,4 +1,4 @@
--- What a watch leads to: of a root that is shown, where no other may be, and else.
+-- The world after a watch: of a root that is shown, without room for another root, and with room.
 use Rattle.std.proofs.Common.{refl, sym, subst}
 use Rattle.wq_crawl.specs.Publish.{IsPlace}
 use Rattle.wq_crawl.specs.declared.fault.CrawlFault.TheVariants.{TooManyRoots}

@@ -1,4 +1,4 @@
--- Nothing has to be done for a shelf with nothing on it.
+-- Nothing has to be done for an empty shelf.
 use Rattle.std.proofs.Common.{ap, sym, subst}
 use Rattle.wq_session.specs.Shelved.{shelf_data}
 use Rattle.wq_serve.specs.Reached.{IsReached}

@@ -1,4 +1,4 @@
--- The query was read at what is looked at.
+-- The query was read at the root that is looked at.
 use Rattle.std.proofs.Common.{rules, ◌≡◌, Ok, Some, ap, option_map, subst, sym}
 use Rattle.wq_session.proofs.Before.{begins_read}
 use Rattle.wq_session.specs.At.{at_data}

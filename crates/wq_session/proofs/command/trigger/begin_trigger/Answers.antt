@@ -1,4 +1,4 @@
--- The object was read at what is looked at.
+-- The object was read at the root that is looked at.
 use Rattle.std.proofs.Common.{rules, ◌≡◌, Ok, Err, Some, ap, option_map, subst, sym}
 use Rattle.wq_session.proofs.Before.{begins_defined, refuses_defined}
 use Rattle.wq_session.specs.At.{at_data}

@@ -1,4 +1,4 @@
--- The line that is kept of a refusal is its reply's.
+-- The line that is kept for a refusal is that of its reply.
 use Rattle.std.proofs.Common.{inl}
 use Rattle.serde_json.specs.Written.{compact_text}
 use Rattle.wq_session.specs.Reply.{error_data}

@@ -1,4 +1,4 @@
--- The line that is kept is the reply's.
+-- The line that is kept is that of the reply.
 use Rattle.wq_session.proofs.Constants.{ran_out_said}
 use Rattle.wq_session.proofs.outcome.Out.runs_out.Goals as goal
 

@@ -1,4 +1,4 @@
--- What was read of the ask is known.
+-- The query or the trigger of the ask that was read is known.
 use Rattle.std.proofs.Common.{rules, ◌≡◌, Ok, Some, subst}
 use Rattle.wq_session.proofs.Before.{asked_read}
 use Rattle.wq_session.specs.Prepared.{AreRead, asked_at}

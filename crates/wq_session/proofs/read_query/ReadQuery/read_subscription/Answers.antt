@@ -1,4 +1,4 @@
--- What was read as a subscription was read as a query.
+-- An object that was read as a subscription was read as a query.
 use Rattle.serde_json.specs.View.{view as data_of}
 use Rattle.wq_clock.specs.Instance.{instance_data}
 use Rattle.wq_session.proofs.Before.{plain_read}

@@ -1,4 +1,4 @@
--- The query of a definition is what its object asks.
+-- The query of a definition is the one that its object asks.
 use Rattle.std.proofs.Common.{ap, sym, ◌∙◌, Ok}
 use Rattle.serde_json.specs.View.{view as data_of}
 use Rattle.wq_clock.specs.Instance.{instance_data}

@@ -1,4 +1,4 @@
--- What is ended is what the work comes to.
+-- The end is the result of the work.
 use Rattle.std.proofs.Common.{ap, option_map, subst, sym}
 use Rattle.wq_session.specs.Answer.{Finishes}
 use Rattle.wq_session.specs.At.{at_data}

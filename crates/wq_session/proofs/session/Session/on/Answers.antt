@@ -1,4 +1,4 @@
--- What is taken and then finished is the answer.
+-- Taking and then finishing gives the answer.
 use Rattle.std.proofs.Common.{rules, ◌≡◌, None, ap, sym, ◌∙◌, option_map}
 use Rattle.wq_registry.specs.Shelf.{cursor_unset}
 use Rattle.wq_session.specs.At.{at_data}
