@@ -3,7 +3,7 @@
 
 usage() {
     cat << 'END'
-usage: wqd serve --sockname PATH --start N --pid N [--interval MS] [--workers N]
+usage: wqd serve --sockname PATH --start N --pid N [--interval MS] [--share P] [--workers N]
        wqd replay < SCRIPT
        wqd check FILE
        wqd --help | --version
@@ -16,6 +16,8 @@ usage: wqd serve --sockname PATH --start N --pid N [--interval MS] [--workers N]
   --start N         the second of the start and
   --pid N           the number of the process: they name this run in clock ids. Each is 0 to 2^62
   --interval MS     the pause between two rounds of crawls in milliseconds, 10 to 3600000. It is 1000 if left out
+  --share P         how much of one processor rounds may take at most, in percent: 1 to 100. There is no limit if it is
+                    left out. A query that synchronises never waits for the pause that this makes
   --workers N       how many threads a query may use, 1 to 16. It is 1 if left out
 
 To start a server:
@@ -52,8 +54,8 @@ serve_fault() {
     seen=
     while [ "$#" -gt 0 ]; do
         case "$1" in
-            --sockname=* | --start=* | --pid=* | --interval=* | --workers=*) name=${1%%=*} value=${1#*=} ;;
-            --sockname | --start | --pid | --interval | --workers)
+            --sockname=* | --start=* | --pid=* | --interval=* | --share=* | --workers=*) name=${1%%=*} value=${1#*=} ;;
+            --sockname | --start | --pid | --interval | --share | --workers)
                 if [ "$#" -eq 1 ]; then say "$1 needs a value"; return; fi
                 name=$1 value=$2
                 shift ;;
@@ -74,6 +76,7 @@ value_fault() {
     case "$name" in
         --start | --pid) is_number 0 4611686018427387904 || { say "$name takes a number from 0 to 2^62"; return 1; } ;;
         --interval) is_number 10 3600000 || { say "$name takes a number from 10 to 3600000"; return 1; } ;;
+        --share) is_number 1 100 || { say "$name takes a number from 1 to 100"; return 1; } ;;
         --workers) is_number 1 16 || { say "$name takes a number from 1 to 16"; return 1; } ;;
     esac
 }
@@ -141,6 +144,7 @@ except OSError:
 # environment says otherwise.
 run() {
     export MALLOC_ARENA_MAX="${MALLOC_ARENA_MAX:-2}" MALLOC_MMAP_THRESHOLD_="${MALLOC_MMAP_THRESHOLD_:-131072}"
+    export GLIBC_TUNABLES="${GLIBC_TUNABLES:-glibc.malloc.tcache_count=0}"
     refused=2
     fault=$(word_fault "$@")
     if [ -z "$fault" ] && [ "$1" = serve ]; then

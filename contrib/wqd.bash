@@ -10,8 +10,9 @@ _wqd() {
             --start) choices=$(date +%s) ;;
             --pid) choices=$$ ;;
             --interval) choices="1000 60000 600000" ;;
+            --share) choices="5 10 25 50 100" ;;
             --workers) choices=1 ;;
-            *) choices="--sockname --start --pid --interval --workers" ;;
+            *) choices="--sockname --start --pid --interval --share --workers" ;;
         esac
     elif [ "$command" = check ] && [ "$COMP_CWORD" -eq 2 ]; then
         mapfile -t COMPREPLY < <(compgen -f -- "$word")

@@ -50,13 +50,14 @@ def commands(tree: Tree) -> List[Tuple[str, List[object]]]:
         ("the same by `relative_root`",
          query(path=[{"path": "", "depth": 0}], relative_root=tree.directories[0], fields=["name"])),
         ("all names", query(fields=["name"])),
+        ("all names below a directory, by `relative_root`", query(relative_root=tree.directories[0], fields=["name"])),
         ("four fields of all", query(fields=["name", "exists", "new", "size"])),
         ("the fields by default of all", query()),
     ]
 
 
 def cost(name: str, command: List[object], server: Peer, through: Peer, load: Load, seconds: float) -> Cost:
-    """The least of some medians, which are taken in turn. The server is asked for what the bridge asks it for."""
+    """The least of some medians, which are taken in turn. The server itself is not asked for a `relative_root`."""
     codec = find_codec()
     line = json.dumps(command).encode() + b"\n"
     found: Dict[str, List[float]] = {"itself": [], "json": [], "bser": []}

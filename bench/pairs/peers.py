@@ -15,7 +15,9 @@ PATIENCE = 300.0
 TICKS = os.sysconf("SC_CLK_TCK")
 AN_HOUR = 3_600_000
 # The variables that ./wqd adds to the environment.
-MALLOC = {"MALLOC_ARENA_MAX": "2", "MALLOC_MMAP_THRESHOLD_": "131072"}
+MALLOC = {
+    "MALLOC_ARENA_MAX": "2", "MALLOC_MMAP_THRESHOLD_": "131072", "GLIBC_TUNABLES": "glibc.malloc.tcache_count=0",
+}
 Value = Dict[str, object]
 
 

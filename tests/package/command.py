@@ -11,7 +11,7 @@ import built
 from client import PATIENCE, PLAIN, Server, same
 from installed import call
 
-GOOD = {"sockname": "/nothing/here", "start": "0", "pid": str(2**62), "interval": "10", "workers": "16"}
+GOOD = {"sockname": "/nothing/here", "start": "0", "pid": str(2**62), "interval": "10", "share": "1", "workers": "16"}
 WRONG: List[Tuple[List[str], str]] = [
     ([], "there is no command; wqd --help says which there are"),
     (["frob"], "there is no command frob; wqd --help says which there are"),
@@ -26,11 +26,12 @@ WRONG: List[Tuple[List[str], str]] = [
     (["serve", "--frob", "1"], "serve takes no word --frob"),
     (["serve", "--sockname"], "--sockname needs a value"),
 ]
-NUMBERS = {"start": "0 to 2^62", "pid": "0 to 2^62", "interval": "10 to 3600000", "workers": "1 to 16"}
+NUMBERS = {"start": "0 to 2^62", "pid": "0 to 2^62", "interval": "10 to 3600000", "share": "1 to 100", "workers": "1 to 16"}
 WRONG_NUMBERS = [
     ("start", "-1"), ("start", "01"), ("start", str(2**62 + 1)), ("start", "5" * 19), ("start", "1" * 20),
     ("start", str(2**64)), ("pid", "x"), ("pid", ""), ("pid", " 1"), ("pid", "1 "), ("pid", "+1"),
     ("interval", "9"), ("interval", "3600001"),
+    ("share", "0"), ("share", "101"), ("share", "x"),
     ("workers", "0"), ("workers", "17"), ("workers", "1.5"), ("workers", "0x1"), ("workers", "*"),
 ]
 

@@ -18,8 +18,8 @@ def check_completion(tally: built.Tally, room: Path) -> None:
     for words, expected in (
         ([""], ["serve", "replay", "check", "--help", "--version"]),
         (["s"], ["serve"]),
-        (["serve", ""], ["--sockname", "--start", "--pid", "--interval", "--workers"]),
-        (["serve", "--s"], ["--sockname", "--start"]),
+        (["serve", ""], ["--sockname", "--start", "--pid", "--interval", "--share", "--workers"]),
+        (["serve", "--s"], ["--sockname", "--start", "--share"]),
         (["serve", "--interval", "6"], ["60000", "600000"]),
         (["serve", "--sockname", str(room) + "/a"], [str(room / "a file")]),
         (["check", str(room) + "/a"], [str(room / "a file")]),

@@ -17,7 +17,9 @@ PATIENCE = 60.0
 A_HOUR = 3_600_000
 VERSION = {"version": "wq-1"}
 # What ./wqd adds to it, so that memory which is freed goes back to the system or is used again.
-MALLOC = {"MALLOC_ARENA_MAX": "2", "MALLOC_MMAP_THRESHOLD_": "131072"}
+MALLOC = {
+    "MALLOC_ARENA_MAX": "2", "MALLOC_MMAP_THRESHOLD_": "131072", "GLIBC_TUNABLES": "glibc.malloc.tcache_count=0",
+}
 ENVIRONMENT = {**MALLOC, **os.environ}
 Row = Tuple[str, str, int, int]
 PLAIN = Path(__file__).resolve().parent / "plain.py"
@@ -115,7 +117,7 @@ class Server:
 
     def __init__(
         self, room: Path, interval: Optional[int] = 1000, is_plain: bool = False, through: Sequence[str] = (),
-        workers: Optional[int] = None,
+        workers: Optional[int] = None, share: Optional[int] = None,
     ) -> None:
         self.sockname = str(room / "socket")
         self.said = tempfile.TemporaryFile()
@@ -124,6 +126,8 @@ class Server:
             words += ["--interval", str(interval)]
         if workers is not None:
             words += ["--workers", str(workers)]
+        if share is not None:
+            words += ["--share", str(share)]
         if is_plain:
             through = [sys.executable, str(PLAIN)]
         command = [*through, str(built.program_path()), *words]

@@ -5,14 +5,16 @@ import resource
 import threading
 import time
 from pathlib import Path
+from typing import Callable
 
 import built
-from client import A_HOUR, Client, Server, query_of_names, same
+from client import A_HOUR, PATIENCE, Client, Server, query_of_names, same
 from gone import UNREADABLE, fill_directory
 
 DIRECTORIES = 100
 FILES = 40
 ROUNDS = 60
+OTHERS = 5
 
 
 class Scarcity:
@@ -60,6 +62,36 @@ def check_no_handles(tally: built.Tally, room: Path) -> None:
         same(tally, "files told as changed for want of handles", told, [[]] * len(told))
         reply = crawl(client, root, first)
         same(tally, "a crawl with handles again", (reply["files"], reply["clock"]), ([], first))
+
+
+def check_clients_that_went(tally: built.Tally, room: Path) -> None:
+    """A client that goes gives its handle back before anybody else comes. So queries of another client find handles."""
+    root = room / "tree"
+    root.mkdir()
+    (root / "a").touch()
+    with Server(room, interval=A_HOUR) as server, server.client() as client:
+        client.ask("watch", str(root))
+        before = handles(server)
+        others = [server.client() for _ in range(OTHERS)]
+        same(tally, "clients beside it", [other.has_session() for other in others], [True] * OTHERS)
+        for other in others:
+            other.close()
+        tally.check("handles of clients that went", comes_to(lambda: handles(server) == before), [f"{handles(server)}, not {before}"])
+        same(tally, "a crawl after they went", client.ask("query", str(root), query_of_names())["files"], ["a"])
+
+
+def handles(server: Server) -> int:
+    return len(os.listdir(f"/proc/{server.process.pid}/fd"))
+
+
+def comes_to(is_so: Callable[[], bool]) -> bool:
+    """Whether it is so before the patience ends."""
+    end = time.monotonic() + PATIENCE
+    while not is_so():
+        if time.monotonic() > end:
+            return False
+        time.sleep(0.01)
+    return True
 
 
 def crawl(client: Client, root: Path, since: str) -> dict:

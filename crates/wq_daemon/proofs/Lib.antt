@@ -1,1 +1,2 @@
 pub mod Sharing
+mod Shares

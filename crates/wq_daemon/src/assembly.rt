@@ -3,13 +3,14 @@ ghost use Rattle.std.specs.Prelude.{◌≡◌};
 
 use crate::host::Notices;
 use crate::lock_host::LockHost;
+use crate::pace::Pace;
 use crate::running::run;
 use crate::socket::Listening;
 use std::alloc::Global;
 use std::io;
 use std::sync::Wait;
 use std::thread::Threads;
-use std::time::{Clock, Duration};
+use std::time::Clock;
 use wq_base::Workers;
 use wq_clock::Run;
 use wq_crawl::{Crawler, Seconds, Tree};
@@ -38,7 +39,7 @@ pub struct Parts<T: Tree + Drop, S: Seconds + Drop, O: Notices + Drop, P: Spawn 
     /// The name of the socket that clients are told.
     pub sockname: String,
     /// How long the server waits between two rounds of crawls. Sessions get idle moments after each round.
-    pub interval: Duration,
+    pub pace: Pace,
     /// How many threads may look for the files of a query.
     pub workers: Workers,
 }
@@ -76,7 +77,7 @@ where
         parts.spawn,
         parts.workers,
     )?;
-    run_host(rt, alloc, listening, host, parts.interval)
+    run_host(rt, alloc, listening, host, parts.pace)
 }
 
 /// Runs a host on the threads of the server.
@@ -85,7 +86,7 @@ fn run_host<N, R, T, S, O, P>(
     alloc: Global,
     listening: &Listening,
     host: LockHost<N, R, T, S, O, P, Trigger>,
-    interval: Duration,
+    pace: Pace,
 ) -> io::Result<()>
 where
     N: Named + Send + Sync + 'static,
@@ -95,5 +96,5 @@ where
     O: Notices + Drop + Send + Sync + 'static,
     P: Spawn + Drop + Send + 'static,
 {
-    run(rt, alloc, listening, host, interval)
+    run(rt, alloc, listening, host, pace)
 }

@@ -127,8 +127,12 @@ where
     R: Threads + Wait + Clock + Copy + Drop + Send + Sync + 'static,
     H: Host + Drop + Send + Sync + 'static,
 {
-    let link = Arc::new(alloc, Link::new(alloc, stream, server.pulse.clone()?)?)?;
+    let stream = Arc::new(alloc, stream)?;
+    let link = Link::new(alloc, stream.clone()?, server.pulse.clone()?)?;
+    let link = Arc::new(alloc, link)?;
     let (theirs, server) = (link.clone()?, server.clone()?);
-    let session = thread::spawn(&rt, move || run_client(rt, alloc, theirs, &server))?;
+    let session = thread::spawn(&rt, move || {
+        run_client(rt, alloc, theirs, stream, &server)
+    })?;
     Ok(Client { link, session })
 }

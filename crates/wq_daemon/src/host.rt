@@ -1,5 +1,7 @@
 //! The work of the server's threads: sessions, crawls and rounds of triggers, and the lines to its operator.
 
+ghost use Rattle.std.specs.Thread.{IsSync};
+
 use crate::moments::RootNumbers;
 use std::io::Write;
 use std::sync::Arc;
@@ -19,7 +21,8 @@ pub trait Host {
         threads: &T,
         inbox: &mut I,
         writer: &mut W,
-    ) -> bool;
+    ) -> bool
+        requires { IsSync T.row };
 
     /// Begins a round of crawls, and gives the roots that are watched; none if memory runs out for them.
     fn roots(&self) -> Option<Vec<String>>;

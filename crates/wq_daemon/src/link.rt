@@ -6,15 +6,16 @@ use std::alloc::{AllocError, Global};
 use std::net::Shutdown;
 use std::os::unix::net::UnixStream;
 use std::sync::atomic::{AtomicBool, Ordering};
-use std::sync::{Arc, Wait};
+use std::sync::{Arc, Mutex, Wait};
 
 /// A client's stream, the events that came from it, and whether its session is over.
 #[derive(Drop)]
 pub(crate) struct Link {
-    pub(crate) stream: UnixStream,
     pub(crate) queue: Queue,
     /// The pulse of the server.
     pub(crate) pulse: Arc<Pulse>,
+    /// The stream, until the session is over. The last share of it gives its handle back.
+    stream: Mutex<Option<Arc<UnixStream>>>,
     is_over: AtomicBool,
 }
 
@@ -22,13 +23,13 @@ impl Link {
     /// The link to a client from which nothing has come.
     pub(crate) fn new(
         alloc: Global,
-        stream: UnixStream,
+        stream: Arc<UnixStream>,
         pulse: Arc<Pulse>,
     ) -> Result<Link, AllocError> {
         Ok(Link {
-            stream,
             queue: Queue::new(alloc)?,
             pulse,
+            stream: Mutex::new(Some(stream)),
             is_over: AtomicBool::new(false),
         })
     }
@@ -43,12 +44,15 @@ impl Link {
     /// reach the client.
     pub(crate) fn end<R: Wait>(&self, rt: &R) {
         self.close(rt);
-        // A client that has gone already leaves a stream that cannot be shut down.
-        let _ = self.stream.shutdown(Shutdown::Both);
+        if let Some(stream) = &*self.stream.lock(rt) {
+            // A client that has gone already leaves a stream that cannot be shut down.
+            let _ = stream.shutdown(Shutdown::Both);
+        }
     }
 
-    /// Says that the session's thread does nothing more.
-    pub(crate) fn set_over(&self) {
+    /// Lets go of the stream, and says that the session's thread does nothing more.
+    pub(crate) fn set_over<R: Wait>(&self, rt: &R) {
+        *self.stream.lock(rt) = None;
         self.is_over.store(true, Ordering::SeqCst);
     }
 

@@ -47,7 +47,7 @@ where
     R: Wait + Clock,
     H: Host + Drop,
 {
-    let patience = server.interval.saturating_mul(2);
+    let patience = server.pace.interval.saturating_mul(2);
     let mut then = numbers;
     let mut beats = server.pulse.count(rt);
     for _ in rt.forever() {

@@ -3,6 +3,7 @@
 
 use crate::clients::Clients;
 use crate::host::Host;
+use crate::pace::Pace;
 use crate::pulse::Pulse;
 use crate::server::Server;
 use crate::socket::Listening;
@@ -11,26 +12,20 @@ use std::alloc::Global;
 use std::io;
 use std::sync::{Arc, Wait};
 use std::thread::{self, JoinHandle, Threads};
-use std::time::{Clock, Duration};
+use std::time::{Clock, Duration, Instant};
 use wq_launch::{MAX_RUNS, attend};
 
 /// How many milliseconds the server waits after a connection that it could not accept.
 const PAUSE: u64 = 100;
 
-/// Serves clients, and crawls the watched roots with a pause of the interval between two rounds. After the crawl of a
+/// Serves clients, and crawls the watched roots in rounds of this pace. After the crawl of a
 /// root it starts the commands of its triggers, and a session gets idle moments after each round. It returns when a
 /// client has asked that the server ends. All sessions have ended then, and all threads except those that attend
 /// commands, which go on.
 ///
 /// # Errors
 /// The server could not make a part that it needs, and served nobody.
-pub fn run<R, H>(
-    rt: R,
-    alloc: Global,
-    listening: &Listening,
-    host: H,
-    interval: Duration,
-) -> io::Result<()>
+pub fn run<R, H>(rt: R, alloc: Global, listening: &Listening, host: H, pace: Pace) -> io::Result<()>
 where
     R: Threads + Wait + Clock + Copy + Drop + Send + Sync + 'static,
     H: Host + Drop + Send + Sync + 'static,
@@ -41,7 +36,7 @@ where
         Server {
             host,
             stop,
-            interval,
+            pace,
             pulse: Arc::new(alloc, Pulse::new())?,
         },
     )?;
@@ -82,11 +77,21 @@ where
     H: Host + Drop,
 {
     for _ in rt.forever() {
+        let began = Instant::now(&rt);
         crawl_all(rt, alloc, server);
         server.pulse.beat(&rt);
-        if server.stop.wait(&rt, server.interval) {
+        let pause = server.pace.pause_after(time_since(&rt, began));
+        if server.stop.wait(&rt, pause) {
             return;
         }
+    }
+}
+
+/// How long it is since a reading of the clock. It is no time if the clock cannot be read.
+fn time_since<R: Clock>(rt: &R, began: io::Result<Instant>) -> Duration {
+    match began {
+        Ok(began) => began.elapsed(rt).unwrap_or(Duration::ZERO),
+        Err(_) => Duration::ZERO,
     }
 }
 

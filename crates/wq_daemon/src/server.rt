@@ -1,10 +1,10 @@
 //! The state that the threads of a server share.
 
 use crate::host::Host;
+use crate::pace::Pace;
 use crate::pulse::Pulse;
 use crate::stop::Stop;
 use std::sync::{Arc, Wait};
-use std::time::Duration;
 
 /// A running server.
 #[derive(Drop)]
@@ -12,7 +12,7 @@ pub(crate) struct Server<H: Host + Drop> {
     pub(crate) host: H,
     pub(crate) stop: Stop,
     /// How long the server waits between two rounds of crawls.
-    pub(crate) interval: Duration,
+    pub(crate) pace: Pace,
     /// The pulse, which beats after each round. Sessions get their idle moments then.
     pub(crate) pulse: Arc<Pulse>,
 }

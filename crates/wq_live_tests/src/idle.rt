@@ -10,7 +10,7 @@ use std::test::Fail;
 use std::thread::Threads;
 use std::time::Duration;
 use std::{fs, io};
-use wq_daemon::{Host, RootNumbers, listen, remove, run};
+use wq_daemon::{Host, Pace, RootNumbers, listen, remove, run};
 use wq_launch::{Run, Runs};
 use wq_serve::Inbox;
 use wq_stream::Event;
@@ -84,7 +84,11 @@ fn a_session_gets_idle_moments(rt: HostRuntime) -> Result<(), Fail> {
         looks: AtomicU64::new(0),
         runs: Arc::new(rt.alloc(), Runs::new(rt.alloc())?)?,
     };
-    run(rt, rt.alloc(), &listening, host, Duration::from_millis(10))?;
+    let pace = Pace {
+        interval: Duration::from_millis(10),
+        share: None,
+    };
+    run(rt, rt.alloc(), &listening, host, pace)?;
     let mut written = Vec::new(rt.alloc());
     stream.read_to_end(&mut written)?;
     remove(&rt, rt.alloc(), &listening);

@@ -17,7 +17,7 @@ use std::time::{Clock, Duration};
 use std::{env, fs, process};
 use wq_base::Workers;
 use wq_clock::Run;
-use wq_daemon::{Listening, Notices, Parts, SEATS, listen, remove, serve_clients};
+use wq_daemon::{Listening, Notices, Pace, Parts, SEATS, listen, remove, serve_clients};
 use wq_follow::Start;
 use wq_launch::Spawn;
 use wq_live::{Blank, Named};
@@ -96,7 +96,10 @@ fn make_parts(
         notices: Operator { told },
         spawn: NoCommands,
         sockname: String::from_str(alloc, "the socket")?,
-        interval: Duration::from_millis(10),
+        pace: Pace {
+            interval: Duration::from_millis(10),
+            share: None,
+        },
         workers: Workers { count: 1 },
     })
 }

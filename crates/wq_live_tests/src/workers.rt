@@ -2,6 +2,7 @@
 //! finds. A piece that no thread or two threads evaluated changes nothing.
 ghost use Rattle.std.specs.Prelude.{◌≡◌, ◌≤◌};
 ghost use Rattle.wq_base.specs.Limit.{AreFew};
+ghost use Rattle.wq_eval.specs.Piece.{AreSound};
 
 use crate::fixture::pass;
 use crate::session::{FILES, SameFiles, Still, new_shelf, write_lines};
@@ -60,10 +61,14 @@ struct Asked {
 }
 
 /// A view of so many files, with that program; none if memory ran out.
-fn asked(alloc: Global, files: u64) -> Option<Asked> {
+fn made(alloc: Global, files: u64) -> Option<Asked> {
     let mut view = View::new(alloc);
     view.absorb(&pass(alloc, files)?).ok()?;
-    let program = compile(alloc, &Expr::True).ok()?;
+    let expr = Expr::True;
+    if !expr.fits() {
+        return None;
+    }
+    let program = compile(alloc, &expr).ok()?;
     Some(Asked { view, program })
 }
 
@@ -88,7 +93,7 @@ fn kept<R: Threads + Sync, G: Gate + Sync>(
     requires workers { AreFew workers }
     requires piece { 1 ≤ piece }
 {
-    let Asked { view, program } = asked(alloc, files)?;
+    let Asked { view, program } = made(alloc, files)?;
     // Only the proof uses the contracts of these calls: each position is one of a record.
     view.len();
     positions_are_there();
@@ -96,10 +101,9 @@ fn kept<R: Threads + Sync, G: Gate + Sync>(
     filter_workers(rt, alloc, gate, workers, piece, &program, &view, &positions).ok()
 }
 
-/// The positions of five files in three pieces, of which a worker evaluated the second one twice and no worker the
-/// others. The worker also evaluated a piece that does not exist.
+/// The positions of five files in three pieces, of which a worker evaluated only the second one.
 fn collected(alloc: Global) -> Option<Vec<u32>> {
-    let Asked { view, program } = asked(alloc, 5)?;
+    let Asked { view, program } = made(alloc, 5)?;
     view.len();
     positions_are_there();
     let positions = candidates(alloc, &view, &no_generators()).ok()?;
@@ -109,11 +113,19 @@ fn collected(alloc: Global) -> Option<Vec<u32>> {
         positions: &positions,
         size: 2,
     };
+    collected_of(alloc, &pieces)
+}
+
+/// The positions of these pieces, of which a worker evaluated the second one twice and no worker the others. The worker
+/// also evaluated a piece that does not exist.
+fn collected_of(alloc: Global, pieces: &Pieces<'_>) -> Option<Vec<u32>>
+    requires { AreSound pieces.now }
+{
     let strange = pieces.evaluate(alloc, 9).ok()?;
     let first = pieces.evaluate(alloc, 1).ok()?;
     let again = pieces.evaluate(alloc, 1).ok()?;
     let list = vec![in alloc; strange, first, again].ok()?;
-    collect(alloc, &pieces, vec![in alloc; list].ok()?).ok()
+    collect(alloc, pieces, vec![in alloc; list].ok()?).ok()
 }
 
 /// Whether these positions are kept.

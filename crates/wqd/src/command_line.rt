@@ -7,6 +7,7 @@ use clap::{Arg, ArgMatches, Command, Error};
 use std::alloc::{AllocError, AllocFailed, Global};
 use wq_base::{MAX_NUMBER, MAX_WORKERS, Workers, unsigned_number};
 use wq_clock::Run;
+use wq_daemon::Share;
 
 /// How many milliseconds lie between two rounds of crawls, if the command line does not say it.
 const INTERVAL: u64 = 1_000;
@@ -16,6 +17,12 @@ const MIN_INTERVAL: u64 = 10;
 
 /// The most milliseconds that may lie between two rounds of crawls: an hour.
 const MAX_INTERVAL: u64 = 3_600_000;
+
+/// The most percent of a processor to which rounds of crawls may be limited.
+const MAX_PERCENT: u64 = 100;
+
+/// How many threads walk a tree in a round of crawls.
+const WALKERS: u32 = 2;
 
 /// The task that the command line asks for.
 #[derive(Debug, Drop)]
@@ -70,10 +77,25 @@ fn settings_of(alloc: Global, given: &ArgMatches<'_>) -> Result<Settings, Comman
         sockname: String::from_str(alloc, sockname)?,
         run: Run::new(start, pid),
         interval,
+        share: share_of(given)?,
         workers: Workers {
             count: count as u32,
         },
     })
+}
+
+/// How much of a processor rounds of crawls may take, if the words say so.
+fn share_of(given: &ArgMatches<'_>) -> Result<Option<Share>, CommandLineFault> {
+    let Some(text) = given.get_str("share") else {
+        return Ok(None);
+    };
+    match unsigned_number(text, MAX_PERCENT) {
+        Some(percent) if percent > 0 => Ok(Some(Share {
+            percent: percent as u32,
+            threads: WALKERS,
+        })),
+        _ => Err(CommandLineFault::Wrong),
+    }
 }
 
 /// The number of at most `most` under a name, or the default if there is none.
@@ -108,7 +130,7 @@ fn serve_command<'a>(alloc: Global) -> Result<Command<'a>, AllocError> {
     for name in ["sockname", "start", "pid"] {
         command = command.arg(Arg::new(alloc, name).long(name).required(true))?;
     }
-    for name in ["interval", "workers"] {
+    for name in ["interval", "share", "workers"] {
         command = command.arg(Arg::new(alloc, name).long(name))?;
     }
     Ok(command)

@@ -10,7 +10,7 @@ use std::time::{Clock, Duration};
 use wq_base::Workers;
 use wq_clock::Run;
 use wq_crawl::{Seconds, Tree};
-use wq_daemon::{Listening, Notices, Parts, SEATS, listen, remove, serve_clients};
+use wq_daemon::{Listening, Notices, Pace, Parts, SEATS, Share, listen, remove, serve_clients};
 use wq_launch::Spawn;
 use wq_live::Blank;
 
@@ -22,6 +22,8 @@ pub(crate) struct Settings {
     pub(crate) run: Run,
     /// How many milliseconds the server waits between two rounds of crawls.
     pub(crate) interval: u64,
+    /// How much of a processor rounds of crawls may take, if that is limited.
+    pub(crate) share: Option<Share>,
     /// How many threads may look for the files of a query.
     pub(crate) workers: Workers,
 }
@@ -101,7 +103,10 @@ where
         notices: machine.notices,
         spawn: machine.spawn,
         sockname: settings.sockname,
-        interval: Duration::from_millis(settings.interval),
+        pace: Pace {
+            interval: Duration::from_millis(settings.interval),
+            share: settings.share,
+        },
         workers: settings.workers,
     };
     let blank = Blank::new(alloc, &rt, SEATS)?;
