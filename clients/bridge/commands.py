@@ -4,10 +4,12 @@ from typing import Callable, Dict, List, Tuple
 
 from bridge import old_forms
 from bridge.abilities import abilities_of, checked
+from bridge.encodings import JSON
 from bridge.faults import Refused
+from bridge.listing import Listed, Listing
 from bridge.places import project_of, resolved, resolved_if_there
-from bridge.queries import Asking, asking_of, asking_of_subscription
-from bridge.session import Reply, Session, Told
+from bridge.queries import asking_of, asking_of_subscription
+from bridge.session import Reply, Session
 
 Command = List[object]
 # The server refuses triggers with these keys.
@@ -54,7 +56,7 @@ def get_pid(session: Session, _: Command) -> Reply:
 
 
 def get_config(session: Session, command: Command) -> Reply:
-    resolved(command[1])
+    session.ask(["clock", resolved(command[1])])  # a root that is not watched is refused
     return {"config": {}}
 
 
@@ -107,25 +109,23 @@ def clock(session: Session, command: Command) -> Reply:
 
 
 def query(session: Session, command: Command) -> Reply:
-    root = resolved(command[1])
-    asking = asking_of(root, command[2])
+    return listed(session, resolved(command[1]), command[2])
+
+
+def listed(session: Session, root: str, wishes: object) -> Listed:
+    asking = asking_of(root, wishes, session.encoding == JSON)
     return session.ask_for_list(["query", root, asking.query], asking.lister)
 
 
-def listed(session: Session, root: str, asking: Asking) -> Told:
-    return Told(session.ask_for_line(["query", root, asking.query]), asking.lister)
-
-
 def find(session: Session, command: Command) -> Reply:
-    root = resolved(command[1])
-    reply = listed(session, root, asking_of(root, old_forms.query_of(command[2:]))).value()
-    del reply["is_fresh_instance"]
+    reply = listed(session, resolved(command[1]), old_forms.query_of(command[2:]))
+    assert isinstance(reply, Listing)
+    del reply.value["is_fresh_instance"]
     return reply
 
 
 def since(session: Session, command: Command) -> Reply:
-    root = resolved(command[1])
-    return listed(session, root, asking_of(root, old_forms.query_of(command[3:], command[2])))
+    return listed(session, resolved(command[1]), old_forms.query_of(command[3:], command[2]))
 
 
 def subscribe(session: Session, command: Command) -> Reply:

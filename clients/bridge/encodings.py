@@ -5,8 +5,9 @@ import json
 import struct
 import sys
 from types import ModuleType
-from typing import NamedTuple, Optional
+from typing import Dict, Iterable, List, NamedTuple, Optional, cast
 
+from bridge.cutting import ESCAPED, Column
 from bridge.faults import Ended
 from bridge.shape import INTEGER_SIZES, NoValue, TooDeep, Walk
 
@@ -20,6 +21,9 @@ LONGEST = 1_048_576
 MAGIC = {b"\x00\x01": 1, b"\x00\x02": 2}
 # A message begins with the two bytes of MAGIC, in BSER 2 four bytes of capabilities, and its length as a BSER integer.
 LENGTH_AT = {1: 2, 2: 6}
+# The kinds of arrays in BSER: one of values, and one of objects that have the same keys. Both begin with the number of values
+# or objects, in front of which the second kind has the keys.
+ARRAY, TEMPLATE, NO_VALUES = b"\x00", b"\x0b", b"\x00\x03\x00"
 
 
 class Encoding(NamedTuple):
@@ -75,11 +79,84 @@ class Writer:
 
     def bytes_of(self, value: object, encoding: Encoding) -> bytes:
         if encoding == JSON:
-            return json.dumps(value, separators=(",", ":"), ensure_ascii=False).encode("utf-8", "replace") + b"\n"
+            return json_of(value).encode("utf-8", "replace") + b"\n"
         assert self.codec is not None
         if encoding.version == 1:
-            return self.codec.dumps(value)
-        return self.codec.dumps(value, version=2, capabilities=encoding.capabilities)
+            return cast(bytes, self.codec.dumps(value))
+        return cast(bytes, self.codec.dumps(value, version=2, capabilities=encoding.capabilities))
+
+    def values_of(self, values: List[object], encoding: Encoding) -> bytes:
+        """The values of an array in BSER, without its beginning."""
+        data = self.bytes_of(values, encoding)
+        start = head_length(data) + len(ARRAY)
+        return data[start + 1 + INTEGER_SIZES[data[start]]:]
+
+    def files(self, fields: List[str], columns: List[Column], count: int, encoding: Encoding) -> bytes:
+        """Some files of a list with these fields, of which there is a column each."""
+        if encoding == JSON:
+            return files_in_json(fields, columns, count)
+        return self.values_of(mixed(columns, count) if fields else [{}] * count, encoding)
+
+    def list_of(
+        self, value: Dict[str, object], fields: List[str], files: List[bytes], count: int, encoding: Encoding,
+    ) -> List[bytes]:
+        """A message in parts: an object with these keys, and with these files, of which there are so many."""
+        if encoding == JSON:
+            return [json_of(value).encode()[:-1], b',"files":[', b",".join(files), b"]}\n"]
+        begin = self.bytes_of({**value, "files": []}, encoding)
+        head = begin[:LENGTH_AT[encoding.version]]
+        begin = begin[head_length(begin):]
+        if count:
+            begin = begin[:-len(NO_VALUES)] + self.begin_of_list(fields, count, encoding)
+        length = len(begin) + sum(map(len, files))
+        return [head + integer(length) + begin, *files]
+
+    def begin_of_list(self, fields: List[str], count: int, encoding: Encoding) -> bytes:
+        if len(fields) < 2:
+            return ARRAY + integer(count)
+        keys = self.values_of(list(fields), encoding)
+        return TEMPLATE + ARRAY + integer(len(fields)) + keys + integer(count)
+
+
+# It is made once, since each message is encoded by it.
+json_of = json.JSONEncoder(separators=(",", ":"), ensure_ascii=False).encode
+
+
+def integer(value: int) -> bytes:
+    return struct.pack("=bi", 5, value)
+
+
+def mixed(columns: Iterable[Column], count: int) -> List[object]:
+    """The first value of each column, the second of each, and so on."""
+    columns = list(columns)
+    values: List[object] = [None] * (len(columns) * count)
+    for place, column in enumerate(columns):
+        values[place::len(columns)] = column
+    return values
+
+
+def files_in_json(fields: List[str], columns: List[Column], count: int) -> bytes:
+    """Some files with commas between."""
+    if len(fields) == 1:
+        return b",".join(column_in_json(columns[0]))
+    file = b"{%b}," % b",".join(b'"%b":%%b' % field.encode() for field in fields)
+    return (file * count % tuple(mixed(map(column_in_json, columns), count)))[:-1]
+
+
+def column_in_json(column: Column) -> List[bytes]:
+    """Each value as JSON. Texts of the server are bytes."""
+    if isinstance(column[0], bytes):
+        texts = cast(List[bytes], column)
+        every = b"".join(texts)
+        if len(every.translate(None, ESCAPED)) == len(every):
+            return [b'"' + text + b'"' for text in texts]
+        return [json_of(text.decode()).encode() for text in texts]
+    if column.count(column[0]) == len(column):
+        return [json_of(column[0]).encode()] * len(column)
+    found = json_of(column)
+    if '"' in found:
+        return [json_of(value).encode() for value in column]
+    return found[1:-1].encode().split(b",")
 
 
 class Inbox:

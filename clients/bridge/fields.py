@@ -3,22 +3,25 @@
 import hashlib
 import os
 import stat
-from typing import Callable, Dict, List, NamedTuple, Optional
+from typing import Callable, Dict, List, NamedTuple, Optional, cast
 
+from bridge.cutting import ESCAPED, Column, Columns
 from bridge.faults import Refused
 
 # The server knows these at the clock that it names.
 KEPT = ("name", "exists", "new", "size", "type", "cclock", "oclock", "mtime", "mtime_ms")
 BY_DEFAULT = ["name", "exists", "new", "size", "mode"]
+# A fresh list has files that exist alone, and each is new.
+TRUE_IF_FRESH = ("exists", "new")
 # Files are told to be directories or links by the mode, which a deleted file has no longer.
 MODES = {
-    "f": stat.S_IFREG, "d": stat.S_IFDIR, "l": stat.S_IFLNK, "b": stat.S_IFBLK, "c": stat.S_IFCHR, "p": stat.S_IFIFO,
-    "s": stat.S_IFSOCK,
+    b"f": stat.S_IFREG, b"d": stat.S_IFDIR, b"l": stat.S_IFLNK, b"b": stat.S_IFBLK, b"c": stat.S_IFCHR, b"p": stat.S_IFIFO,
+    b"s": stat.S_IFSOCK,
 }
 BILLION = 1_000_000_000
 PIECE = 1_048_576
 
-Look = Callable[[str, os.stat_result], object]
+Look = Callable[[bytes, os.stat_result], object]
 
 
 def times(letter: str) -> Dict[str, Look]:
@@ -35,7 +38,7 @@ def times(letter: str) -> Dict[str, Look]:
     }
 
 
-def sum_of_content(path: str, found: os.stat_result) -> Optional[str]:
+def sum_of_content(path: bytes, found: os.stat_result) -> Optional[str]:
     """The SHA-1 of a regular file, and nothing of another."""
     if not stat.S_ISREG(found.st_mode):
         return None
@@ -54,11 +57,11 @@ def opened_as_it_is(path: str, flags: int) -> int:
     return os.open(path, flags | os.O_NOFOLLOW | os.O_NONBLOCK)
 
 
-def target_of_link(path: str, found: os.stat_result) -> Optional[str]:
+def target_of_link(path: bytes, found: os.stat_result) -> Optional[str]:
     """The target of a link. Texts of replies are UTF-8, so each byte of it that is not becomes a question mark."""
     if not stat.S_ISLNK(found.st_mode):
         return None
-    return os.readlink(path).encode("utf-8", "replace").decode("utf-8")
+    return os.readlink(path).decode("utf-8", "surrogateescape").encode("utf-8", "replace").decode("utf-8")
 
 
 # These are read of the file when the list has come, and not at the clock.
@@ -87,18 +90,21 @@ class Fields(NamedTuple):
         return self.wanted == self.asked
 
 
-def fields_of(value: object) -> Fields:
-    """The fields that a query names."""
+def fields_of(value: object, is_in_json: bool, is_fresh: bool) -> Fields:
+    """The fields that a query names. In a fresh list some are true of each file, so the server is asked for them only if its
+    list goes to a JSON client as it is."""
     if not isinstance(value, list) or not all(isinstance(each, str) for each in value):
         raise Refused("failed to parse query: field list must be an array of strings")
     for name in value:
         if name not in KEPT and name not in READ:
             raise Refused(f"failed to parse query: unknown field name '{name}'")
     wanted = list(dict.fromkeys(value))
-    asked = [name for name in wanted if name in KEPT]
-    if len(asked) != len(wanted) or not wanted:
-        asked = list(dict.fromkeys([*asked, "name", "exists"]))
-        if "mode" in wanted and "type" not in asked:
+    looks = [name for name in wanted if name in READ]
+    known = TRUE_IF_FRESH if is_fresh and (looks or not is_in_json) else ()
+    asked = [name for name in wanted if name in KEPT and name not in known]
+    if looks or not asked:
+        asked = list(dict.fromkeys([*asked, "name", *([] if known else ["exists"])]))
+        if "mode" in looks and "type" not in asked:
             asked.append("type")
     return Fields(wanted, asked)
 
@@ -108,69 +114,51 @@ class Lister:
 
     def __init__(self, fields: Fields, root: str, directory: str) -> None:
         self.fields = fields
-        # Names of the server begin with so many letters, and so many bytes, that the client's are without.
-        self.dropped = len(directory) + 1 if directory else 0
-        self.dropped_bytes = len(directory.encode("utf-8", "surrogatepass")) + 1 if directory else 0
         self.root = root
+        # Names of the server begin with these bytes, which the client's are without.
+        self.above = f"{directory}/".encode("utf-8", "surrogatepass") if directory else b""
         self.looks = [name for name in fields.wanted if name in READ]
-        self.not_wanted = [name for name in fields.asked if name not in fields.wanted]
 
-    def is_as_asked(self) -> bool:
-        return self.fields.is_as_asked() and not self.dropped
+    def passes(self) -> bool:
+        """Whether a JSON client's list is the server's, but for the directory in front of its names."""
+        return self.fields.is_as_asked() and not any(byte in ESCAPED for byte in self.above)
 
-    def has_names_alone(self) -> bool:
-        return self.fields.asked == self.fields.wanted == ["name"]
+    def columns_of(self, found: Columns, count: int) -> List[Column]:
+        """The client's columns in the order of its fields, from those of so many files of the server."""
+        told = {**found, **self.looked(found, count)} if self.looks else found
+        # The server was not asked for what is true of each file.
+        return [told[name] if name in told else [True] * count for name in self.fields.wanted]
 
-    def files_of(self, files: List[object]) -> List[object]:
-        if self.is_as_asked():
-            return files
-        if self.fields.asked == self.fields.wanted:
-            return self.shortened(files)
-        return [self.file_of(row) for row in self.rows(files)]
+    def looked(self, found: Columns, count: int) -> Columns:
+        """The columns that are read of the files themselves."""
+        above = f"{self.root.rstrip('/')}/".encode() + self.above
+        paths = [above + name for name in texts(found["name"])]
+        are_there = found.get("exists", [True] * count)
+        files = [looked_at(path) if is_there else None for path, is_there in zip(paths, are_there)]
+        return {name: self.column(name, found, paths, files) for name in self.looks}
 
-    def names_of(self, names: List[bytes]) -> List[bytes]:
-        """The client's names in bytes, if the list is one of names alone."""
-        return [name[self.dropped_bytes:] for name in names] if self.dropped else names
-
-    def shortened(self, files: List[object]) -> List[object]:
-        """The same files, with names below the client's directory."""
-        wanted, dropped = self.fields.wanted, self.dropped
-        if wanted == ["name"]:
-            return [name[dropped:] for name in files]
-        if "name" in wanted:
-            for row in files:
-                row["name"] = row["name"][dropped:]
-        return files
-
-    def rows(self, files: List[object]) -> List[Dict[str, object]]:
-        asked = self.fields.asked
-        return [{asked[0]: value} for value in files] if len(asked) == 1 else files
-
-    def file_of(self, row: Dict[str, object]) -> object:
-        if self.looks:
-            self.read(row)
-        row["name"] = row["name"][self.dropped:]
-        for name in self.not_wanted:
-            del row[name]
-        return row[self.fields.wanted[0]] if len(self.fields.wanted) == 1 else row
-
-    def read(self, row: Dict[str, object]) -> None:
-        """Adds the fields that the server does not keep."""
-        path = f"{self.root}/{row['name']}"
-        try:
-            found = os.lstat(path) if row["exists"] else None
-        except OSError:
-            found = None
-        if found is None:
-            self.tell_gone(row)
-            return
-        for name in self.looks:
-            try:
-                row[name] = READ[name](path, found)
-            except OSError:
-                row[name] = None
-
-    def tell_gone(self, row: Dict[str, object]) -> None:
+    def column(self, name: str, found: Columns, paths: List[bytes], files: List[Optional[os.stat_result]]) -> Column:
         """The fields of a file that is gone are not known, but for its kind."""
-        for name in self.looks:
-            row[name] = MODES.get(str(row["type"]), 0) if name == "mode" else None
+        look = READ[name]
+        if name == "mode":
+            kinds = zip(files, texts(found["type"]))
+            return [file.st_mode if file else MODES.get(kind, 0) for file, kind in kinds]
+        return [each_look(look, path, file) if file else None for path, file in zip(paths, files)]
+
+
+def texts(column: Column) -> List[bytes]:
+    return cast(List[bytes], column)
+
+
+def looked_at(path: bytes) -> Optional[os.stat_result]:
+    try:
+        return os.lstat(path)
+    except OSError:
+        return None
+
+
+def each_look(look: Look, path: bytes, file: os.stat_result) -> object:
+    try:
+        return look(path, file)
+    except OSError:
+        return None

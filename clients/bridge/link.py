@@ -1,12 +1,11 @@
 """The bridge's own connection to wqd, of which each client has one."""
 
-import json
 import select
 import socket
 import struct
 from typing import List, Optional
 
-from bridge.encodings import LONGEST
+from bridge.encodings import LONGEST, json_of
 from bridge.faults import Ended, Refused
 
 SMALL = 65_536
@@ -47,7 +46,7 @@ class Link:
 
     def send(self, command: List[object]) -> None:
         try:
-            line = json.dumps(command, separators=(",", ":"), ensure_ascii=False).encode("utf-8", "surrogatepass")
+            line = json_of(command).encode("utf-8", "surrogatepass")
         except RecursionError:
             raise Refused("failed to parse query: expression too deep")
         if len(line) > LONGEST:
@@ -92,15 +91,11 @@ class Link:
         del self.held[:end + 1]
         return line
 
-    def cut_long(self, kept: int) -> bytes:
-        """The part that came of a long line without its end, but for some last bytes; nothing of another line."""
-        end = len(self.held) - kept
-        if end < SMALL:
-            return b""
-        with memoryview(self.held) as held:
-            piece = bytes(held[:end])
-        del self.held[:end]
-        self.looked = kept
+    def cut(self) -> bytes:
+        """The part that came of a line without its end."""
+        piece = bytes(self.held)
+        self.held.clear()
+        self.looked = 0
         return piece
 
     def begins_with(self, begin: bytes) -> bool:

@@ -27,25 +27,37 @@ def resolved(root: object) -> str:
     path = text_of(root)
     if not path.startswith("/"):
         raise Refused(f'unable to resolve root {path}: path "{path}" must be absolute')
-    fault = fault_of(path)
-    if fault:
+    try:
+        return in_utf8(real_path(path))
+    except NotThere as fault:
         raise Refused(f"unable to resolve root {path}: realpath({path}) -> {fault}")
-    return in_utf8(os.path.realpath(path))
 
 
 def resolved_if_there(root: object) -> str:
     """The same; a path that leads nowhere names the root that was there."""
     path = text_of(root)
-    return path if fault_of(path) else in_utf8(os.path.realpath(path))
-
-
-def fault_of(path: str) -> Optional[str]:
-    """Why nothing is found at the path; nothing if it is there."""
     try:
-        os.stat(path)
+        return in_utf8(real_path(path))
+    except NotThere:
+        return path
+
+
+class NotThere(Exception):
+    """Nothing is found at a path, for this reason."""
+
+
+def real_path(path: str) -> str:
+    """The path without links. Each query asks for it, and the system knows it sooner than one step after the other tells."""
+    try:
+        number = os.open(path, os.O_PATH)
     except (OSError, ValueError) as error:
-        return getattr(error, "strerror", None) or str(error)
-    return None
+        raise NotThere(getattr(error, "strerror", None) or str(error))
+    try:
+        return os.readlink(f"/proc/self/fd/{number}")
+    except OSError:
+        return os.path.realpath(path)
+    finally:
+        os.close(number)
 
 
 def in_utf8(path: str) -> str:
@@ -59,10 +71,12 @@ def in_utf8(path: str) -> str:
 def project_of(path: object, watched: List[str]) -> Project:
     """The watched root that a directory lies in, or else the project above it, or else the directory itself."""
     text = text_of(path)
-    fault = fault_of(text) if text.startswith("/") else "it must be absolute"
-    if fault:
+    try:
+        if not text.startswith("/"):
+            raise NotThere("it must be absolute")
+        directory = in_utf8(real_path(text))
+    except NotThere as fault:
         raise Refused(f"resolve_projpath: path `{text}`: open: {text}: {fault}")
-    directory = in_utf8(os.path.realpath(text))
     above = [root for root in watched if lies_in(directory, root)]
     if above:
         return Project(max(above, key=len), directory[len(max(above, key=len)):].strip("/"))

@@ -18,11 +18,12 @@ class Asking(NamedTuple):
     lister: Lister
 
 
-def asking_of(root: str, query: object) -> Asking:
+def asking_of(root: str, query: object, is_in_json: bool, has_later_lists: bool = False) -> Asking:
     """The query to the server for one of a client. One for which the server has no words is refused."""
     if not isinstance(query, dict):
         raise Refused("failed to parse query: it must be an object")
-    fields = fields_of(query.get("fields", BY_DEFAULT))
+    is_fresh = "since" not in query and not has_later_lists
+    fields = fields_of(query.get("fields", BY_DEFAULT), is_in_json, is_fresh)
     place = Place(directory_of(query), case_of(query))
     asked = {key: value for key, value in query.items() if key not in ("relative_root", "case_sensitive", *GLOB_KEYS)}
     asked["fields"] = fields.asked
@@ -49,7 +50,7 @@ def asking_of_subscription(root: str, query: object) -> Asking:
         for key in GENERATORS:
             if key in query and query[key] != []:
                 raise Refused(f"failed to parse query: a subscription takes no generator {key}; say it in its expression")
-    asking = asking_of(root, query)
+    asking = asking_of(root, query, is_in_json=True, has_later_lists=True)
     if "path" in asking.query:
         del asking.query["path"]
     return asking

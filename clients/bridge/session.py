@@ -8,18 +8,16 @@ import struct
 from types import ModuleType
 from typing import Callable, Dict, List, Optional, Protocol, Tuple, Union
 
-from bridge.encodings import JSON, Broken, Encoding, Inbox, Message, Unreadable, Writer
+from bridge.encodings import JSON, Broken, Inbox, Message, Unreadable, Writer
 from bridge.faults import Ended, Refused, of_server
 from bridge.fields import Lister
-from bridge.link import VERSION_LAST, Link, comes_by_itself
+from bridge.link import Link, comes_by_itself
+from bridge.listing import Listed, Listing, Passing, list_for
 from bridge.version import VERSION
 
 PIECE = 65_536
 # A client that takes nothing of a reply for so many seconds is cut off.
 PATIENCE = 120
-VERSION_TOLD = f'"version":"{VERSION}"}}\n'.encode()
-# The texts around a list of names, and between two of them.
-FILES_BEGIN, FILES_END, BETWEEN_NAMES = b'"files":["', b'"],"is_fresh_instance":', b'","'
 # How a reply with files begins, and a list without them.
 LIST_BEGIN = b'{"clock":'
 NO_FILES = re.compile(rb'\{"clock":"[^"]*","files":\[\],')
@@ -44,37 +42,7 @@ class Bridge(Protocol):
         """Ends the bridge, since its server has ended."""
 
 
-class Told:
-    """A reply or a list of the server with files, which becomes the client's."""
-
-    def __init__(self, line: bytes, lister: Lister) -> None:
-        self.line = line
-        self.lister = lister
-
-    def value(self) -> Dict[str, object]:
-        value = json.loads(self.line)
-        if "files" in value:
-            value["files"] = self.lister.files_of(value["files"])
-        value["version"] = VERSION
-        return value
-
-    def value_of_names(self) -> Optional[Dict[str, object]]:
-        """The same with names in bytes, if the list is one of names alone: large ones are cut much sooner than read. In a line
-        without a backslash no text has a quotation mark, so that which parts two names is in no name."""
-        begin, end = self.line.find(FILES_BEGIN), self.line.rfind(FILES_END)
-        if not self.lister.has_names_alone() or min(begin, end) < 0 or b"\\" in self.line:
-            return None
-        begin += len(FILES_BEGIN)
-        value: Dict[str, object] = json.loads(self.line[:begin - 1] + self.line[end + 1:])
-        value["files"] = self.lister.names_of(self.line[begin:end].split(BETWEEN_NAMES))
-        return value
-
-    def is_as_it_was(self) -> bool:
-        """Whether nothing of the line changes but the version at its end."""
-        return self.lister.is_as_asked() and self.line.endswith(VERSION_LAST)
-
-
-Reply = Union[Dict[str, object], Told]
+Reply = Union[Dict[str, object], Listed]
 
 
 class Session:
@@ -168,31 +136,32 @@ class Session:
 
     def ask(self, command: List[object]) -> Dict[str, object]:
         """The server's reply to a command."""
-        reply: Dict[str, object] = json.loads(self.ask_for_line(command))
+        reply: Dict[str, object] = json.loads(self.ask_for_line(command).decode())
         return reply
 
-    def ask_for_list(self, command: List[object], lister: Lister) -> Told:
-        """The server's reply with files. Most of a long one goes to a JSON client as it comes, if nothing in it changes and no
-        list of a subscription can come before it; the end of the line is then given."""
-        passes = self.encoding == JSON and lister.is_as_asked() and not self.subscriptions
-        return Told(self.ask_for_line(command, passes), lister)
+    def ask_for_list(self, command: List[object], lister: Lister) -> Listed:
+        """The server's reply with files. It is taken as it comes, if no list of a subscription can come before it."""
+        found = list_for(lister, self.writer, self.encoding, self.client)
+        found.end(self.ask_for_line(command, None if self.subscriptions else found))
+        return found
 
-    def passed_line(self, server: Link) -> bytes:
+    def line_after(self, server: Link, found: Listed) -> bytes:
+        """The next line, or the last part of a list that takes what is before it."""
         line, is_list = server.take(), False
         while line is None:
             is_list = is_list or server.begins_with(LIST_BEGIN)
             if is_list:
-                self.client.sendall(server.cut_long(len(VERSION_LAST)))
+                found.add(server.cut())
             server.receive()
             line = server.take()
         return line
 
-    def ask_for_line(self, command: List[object], passes: bool = False) -> bytes:
-        """The line of the server's reply. An error has Watchman's words."""
+    def ask_for_line(self, command: List[object], found: Optional[Listed] = None) -> bytes:
+        """The line of the server's reply, or its last part, if a list takes those before it. An error has Watchman's words."""
         server = self.server()
         server.send(command)
         while True:
-            line = self.passed_line(server) if passes else server.line()
+            line = self.line_after(server, found) if found else server.line()
             if not comes_by_itself(line):
                 break
             self.tell_list(line)
@@ -220,25 +189,16 @@ class Session:
             self.subscriptions.pop(key, None)
             self.tell(value)
         else:
-            self.tell(Told(line, self.subscriptions[key]))
+            found = list_for(self.subscriptions[key], self.writer, self.encoding, self.client)
+            found.end(line)
+            self.tell(found)
 
     def tell(self, value: "Reply") -> None:
-        if isinstance(value, Told):
-            if self.encoding == JSON and value.is_as_it_was():
-                self.tell_line(value.line)
-                return
-            value = (value.value_of_names() if self.encoding != JSON else None) or value.value()
+        if isinstance(value, (Passing, Listing)):
+            value.tell()
+            return
         value["version"] = VERSION
         self.client.sendall(self.writer.bytes_of(value, self.encoding))
-
-    def tell_line(self, line: bytes) -> None:
-        """Tells a line of the server with the version of the bridge. A long one is not copied for that."""
-        end = len(line) - len(VERSION_LAST)
-        if end < PIECE:
-            self.client.sendall(line[:end] + VERSION_TOLD)
-        else:
-            self.client.sendall(memoryview(line)[:end])
-            self.client.sendall(VERSION_TOLD)
 
     def tell_if_there(self, value: Dict[str, object]) -> None:
         try:

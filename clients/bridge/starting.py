@@ -48,6 +48,7 @@ class Start:
         if self.given:
             sys.exit(f"watchman: nobody listens on {self.given}, which the variable WQD_SOCK names")
         words = ["serve", "--sockname", self.server, "--start", str(int(time.time())), "--pid", str(os.getpid())]
+        words += ["--share", os.environ.get("WQD_SHARE") or "10"]
         interval = os.environ.get("WQD_INTERVAL")
         if interval:
             words += ["--interval", interval]

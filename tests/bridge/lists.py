@@ -106,7 +106,7 @@ def check_globs_and_case(tally: built.Tally, room: Path) -> None:
 def check_long_lists(tally: built.Tally, room: Path) -> None:
     """A list that comes in many pieces is the server's own, before and after a subscription."""
     root = room.resolve() / "root"
-    make_files(root, [f"{'long' * 20}-{number}" for number in range(LONG)])
+    make_files(root, [f"below/{'long' * 20}-{number}" for number in range(LONG)])
     with Bridge(room, 3_600_000) as bridge, bridge.client() as client, bridge.server.client() as direct:
         client.ask("watch", str(root))
         for fields in (["name"], ["name", "size"], ["name", "exists", "mode"]):
@@ -118,9 +118,20 @@ def check_long_lists(tally: built.Tally, room: Path) -> None:
             expected["version"] = VERSION
             for turn in range(2):
                 same(tally, f"a long list of {fields}, {turn}", client.ask("query", str(root), query), expected)
+        check_long_lists_below(tally, root, client)
         client.ask("subscribe", str(root), "s", {"fields": ["name"]})
-        same(tally, "a long list of a subscription", len(client.reply()["files"]), LONG)
-        same(tally, "a long list beside a subscription", len(client.ask("query", str(root), {"fields": ["name"]})["files"]), LONG)
+        same(tally, "a long list of a subscription", len(client.reply()["files"]), LONG + 1)
+        same(tally, "a long list beside a subscription", len(client.ask("query", str(root), {"fields": ["name"]})["files"]), LONG + 1)
+
+
+def check_long_lists_below(tally: built.Tally, root: Path, client: Client) -> None:
+    """Names lose the directory above them wherever a piece ends."""
+    client.ask("watch", str(root / "below"))
+    for fields in (["name"], ["name", "size", "exists"], ["name", "mode"]):
+        expected = client.ask("query", str(root / "below"), {"fields": fields})["files"]
+        found = client.ask("query", str(root), {"fields": fields, "relative_root": "below"})["files"]
+        same(tally, f"a long list of {fields} below a directory", found, expected)
+        same(tally, f"all {fields} are there", len(found), LONG)
 
 
 def check_fields(tally: built.Tally, room: Path) -> None:
@@ -154,10 +165,10 @@ def check_content_that_changes(tally: built.Tally, room: Path) -> None:
     os.mkfifo(str(room / "pipe"))
     (room / "link").symlink_to(room / "file")
     looked = os.lstat(str(room / "file"))
-    same(tally, "a file", sum_of_content(str(room / "file"), looked), hashlib.sha1(b"file").hexdigest())
-    same(tally, "a pipe in its place", sum_of_content(str(room / "pipe"), looked), None)
+    same(tally, "a file", sum_of_content(bytes(room / "file"), looked), hashlib.sha1(b"file").hexdigest())
+    same(tally, "a pipe in its place", sum_of_content(bytes(room / "pipe"), looked), None)
     try:
-        same(tally, "a link in its place", sum_of_content(str(room / "link"), looked), "an error")
+        same(tally, "a link in its place", sum_of_content(bytes(room / "link"), looked), "an error")
     except OSError as error:
         same(tally, "a link in its place", error.errno, errno.ELOOP)
 
@@ -200,14 +211,20 @@ def check_subscriptions(tally: built.Tally, room: Path) -> None:
         same(tally, "has no subscriptions", client.ask("debug-get-subscriptions", str(root))["subscribers"], [])
 
 
+IN_BSER: List[Dict[str, object]] = [
+    {"fields": ["name"]}, {"fields": ["name"], "relative_root": "d"}, {"fields": ["name"], "relative_root": "ü"},
+    {"fields": ["name", "size"], "relative_root": "ü"}, {"fields": ["name"], "suffix": "none"}, {"fields": ["name", "size"]},
+    {"fields": ["name"], "path": ["a.c"]}, {"fields": ["size"]}, {"fields": ["exists"]}, {"fields": ["new", "exists"]},
+    {"fields": []}, {}, {"fields": ["type", "mtime_ms", "new", "exists", "cclock", "name"], "since": 1},
+    {"fields": ["exists", "nlink"], "relative_root": "ü/ü"}, {"fields": ["name", "new"], "empty_on_fresh_instance": True},
+]
+
+
 def check_names_in_bser(tally: built.Tally, root: Path, client: Client, other: BserClient) -> None:
     """Lists of names in BSER are those in JSON, whatever the names have in them."""
     for names in (['q"],["', "b\\n"], ['","', "],"], ["d/[]", "d/{}"], ["ü/d", "ü/ü/€"]):
         make_files(root, names)
-        for query in ({"fields": ["name"]}, {"fields": ["name"], "relative_root": "d"},
-                      {"fields": ["name"], "relative_root": "ü"}, {"fields": ["name", "size"], "relative_root": "ü"},
-                      {"fields": ["name"], "suffix": "none"},
-                      {"fields": ["name", "size"]}, {"fields": ["name"], "path": ["a.c"]}):
+        for query in IN_BSER:
             expected = client.ask("query", str(root), query)
             same(tally, f"{names} in BSER: {query}", other.ask(2, "query", str(root), query), expected)
         for name in names:

@@ -50,6 +50,7 @@ def check_errors(tally: built.Tally, room: Path) -> None:
         same(tally, "a long line of letters that are not ASCII", client.reply().get("files"), ["a"])
         query = {"fields": ["name"], "expression": ["name", "\ud800"]}
         same(tally, "half a letter", client.ask("query", str(root), query).get("error"), "not JSON (E2)")
+        same(tally, "get-config", client.ask("get-config", str(root)), {"config": {}, "version": VERSION})
         same(tally, "a client that was refused goes on", client.ask("watch-list")["roots"], [str(root)])
 
 
@@ -64,6 +65,8 @@ def errors_of_commands(root: str, other: str) -> List[Tuple[List[object], str]]:
         (["watch", f"{root}/no"], f"unable to resolve root {root}/no: realpath({root}/no) -> No such file or directory"),
         (["watch", f"{root}/a"], f"unable to resolve root {root}/a: opendir_nofollow: {root}/a: Not a directory"),
         (["query", other, {}], f"unable to resolve root {other}: directory {other} is not watched"),
+        (["get-config", other], f"unable to resolve root {other}: directory {other} is not watched"),
+        (["state-enter", root, "s"], "unknown command state-enter"),
         (["clock", other], f"unable to resolve root {other}: directory {other} is not watched"),
         (["subscribe", root, "s", {"suffix": ["c"]}],
          "failed to parse query: a subscription takes no generator suffix; say it in its expression"),
