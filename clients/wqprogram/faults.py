@@ -22,6 +22,10 @@ def file_fault_sentence(fault: FileFault) -> str:
     return f"F{fault.number} at byte {fault.place}: {FILE_FAULTS[fault.number]}"
 
 
+# The instruction that was meant, by the one that is there and the cells that it meets.
+OF_OTHER_KINDS = {("cmp", "TT"): 'two texts are compared by "eq"', ("eq", "NN"): 'two numbers are compared by "cmp eq"'}
+
+
 class Met(NamedTuple):
     """The instruction at which the verifier met a fault: its place and what was known of it."""
 
@@ -63,7 +67,8 @@ def few_cells(met: Met) -> str:
 def other_kind(met: Met) -> str:
     needs = met.operation.instruction.needs
     top = met.stack[len(met.stack) - len(needs):]
-    return f'"{met.name}" takes {cells(needs)}, and the top of the stack is {cells(top)}; put {cells(needs)} there'
+    remedy = OF_OTHER_KINDS.get((met.name, top), f"put {cells(needs)} there")
+    return f'"{met.name}" takes {cells(needs)}, and the top of the stack is {cells(top)}; {remedy}'
 
 
 def no_constant(met: Met) -> str:

@@ -147,6 +147,10 @@ SENTENCES: List[Tuple[str, str]] = [
     ("", 'Y1: the program has no instruction; write at least one that puts a flag, and then "ret"'),
     ("not; ret", 'Y2: "not" takes a flag, and the stack has no cell; put a flag on it before'),
     ("size; cmp eq; ret", 'Y2: "cmp" takes a number and a number, and the stack has a number; put a number on it before'),
+    ("wholename; basename; cmp eq; ret", 'Y3: "cmp" takes a number and a number, and the top of the stack is a text and a text; '
+     'two texts are compared by "eq"'),
+    ("oclock; cclock; eq; ret", 'Y3: "eq" takes a text and a text, and the top of the stack is a number and a number; two '
+     'numbers are compared by "cmp eq"'),
     ("wholename; not; ret", 'Y3: "not" takes a flag, and the top of the stack is a text; put a flag there'),
     ("num 0; ret", 'Y4: "num 0" names row 0 of "nums", which has 0; add a row'),
     ("text 7; ret", 'Y4: "text 7" names row 7 of "texts", which has 2; take a number from 0 to 1, or add rows'),
