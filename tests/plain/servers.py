@@ -12,7 +12,8 @@ READABLE = "/r"
 
 
 class Server:
-    def __init__(self) -> None:
+    def __init__(self, readable: str = READABLE) -> None:
+        self.readable = readable
         self.tree = Pass(0, {})
         self.programs: Dict[str, Program] = {}
         self.root: Optional[int] = FIRST_ROOT
@@ -27,17 +28,17 @@ class Server:
         self.triggers: Dict[str, Any] = {}
 
     def roots(self) -> List[str]:
-        return [] if self.root is None else [READABLE]
+        return [] if self.root is None else [self.readable]
 
     def watched(self, root: str) -> int:
         """The number of a root that is watched."""
-        if self.root is None or root != READABLE:
+        if self.root is None or root != self.readable:
             raise Refused(NOT_WATCHED)
         return self.root
 
     def watch(self, root: str) -> None:
         """A root that is watched stays as it is; another one gets the next number, and is listed."""
-        if root != READABLE:
+        if root != self.readable:
             raise Refused(UNREADABLE_ROOT)
         if self.root is None:
             self.last_root += 1

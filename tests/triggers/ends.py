@@ -1,12 +1,13 @@
-"""How commands end: by a signal, after the server, and with a child of theirs that keeps their input."""
+"""How commands end: by a signal, after a stop, after the server, and with a child of theirs that keeps their input."""
 
 import os
+import signal
 import time
 from pathlib import Path
 
 import built
 from client import same
-from scene import Scene, wait_until
+from scene import QUIET, Scene, wait_until
 
 # How many seconds a command stays, and how much sooner the server has to end.
 STAYS = 2.0
@@ -25,6 +26,25 @@ def check_a_command_that_ends_by_a_signal(tally: built.Tally, room: Path) -> Non
         tally.check("the second start", scene.has_lines(2))
         same(tally, "the starts", scene.lines(), ["ran a", "ran b"])
         tally.check("nobody is left to be waited for", wait_until(lambda: not scene.children()))
+
+
+def check_a_command_that_is_stopped(tally: built.Tally, room: Path) -> None:
+    """A command that is stopped has not ended: it is not started again until it went on and ended."""
+    with Scene(room) as scene:
+        scene.make("a")
+        scene.trigger("t", f"{scene.log('$$')}; kill -STOP $$; {scene.log('over')}", append_files=True)
+        tally.check("it is stopped", wait_until(lambda: scene.children() == ["T"]))
+        scene.make("b")
+        time.sleep(QUIET)
+        number = scene.lines()[0].split()[0]
+        same(tally, "no start while it is stopped", scene.lines(), [f"{number} a"])
+        os.kill(int(number), signal.SIGCONT)
+        tally.check("the next start is stopped too", wait_until(lambda: len(scene.lines()) == 3 and scene.children() == ["T"]))
+        same(tally, "it went on", scene.lines()[1], "over a")
+        next_number, *files = scene.lines()[2].split()
+        same(tally, "what came meanwhile", files, ["b"])
+        os.kill(int(next_number), signal.SIGCONT)
+        tally.check("nobody is left to be waited for after a stop", wait_until(lambda: not scene.children()))
 
 
 def check_a_command_that_outlives_the_server(tally: built.Tally, room: Path) -> None:

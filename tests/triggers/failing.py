@@ -8,6 +8,14 @@ from client import same
 from scene import QUIET, Scene, wait_until
 
 
+# Files that may be executed or are not there, and why they cannot be.
+NO_PROGRAMS = (
+    ("directory", b"Permission denied"), ("link", b"No such file or directory"), ("loop", b"Too many levels of symbolic links"),
+    ("plain", b"Exec format error"), ("empty", b"Exec format error"), ("strange", b"No such file or directory"),
+    ("cut", b"Exec format error"),
+)
+
+
 def told_of(scene: Scene, name: str) -> bytes:
     """How the line begins that tells of a trigger."""
     return f'"{scene.root}": trigger "{name}" could not be started: '.encode()
@@ -57,6 +65,38 @@ def check_a_script_that_may_not_be_run(tally: built.Tally, room: Path) -> None:
         script.chmod(0o644)
         scene.make("c")
         tally.check("it is told anew", wait_until(lambda: scene.server.errors().count(told_of(scene, "t")) == 2))
+
+
+def check_files_that_are_no_programs(tally: built.Tally, room: Path) -> None:
+    """Each is told of once with its reason, and another trigger goes on beside them."""
+    with Scene(room) as scene:
+        scene.make("a")
+        make_no_programs(scene.out)
+        for name, _ in NO_PROGRAMS:
+            scene.register(name, [str(scene.out / name)])
+        scene.register("long", ["x" * 5_000])
+        scene.register("much", ["true", "x" * 200_000])
+        scene.trigger("beside", scene.log("beside"), append_files=True)
+        for name, reason in (*NO_PROGRAMS, ("long", b"File name too long"), ("much", b"Argument list too long")):
+            line = told_of(scene, name) + reason
+            tally.check(f"the operator is told of {name}", wait_until(lambda: line in scene.server.errors()))
+        tally.check("a trigger beside files that are no programs", scene.has_lines(1))
+        scene.make("b")
+        tally.check("it goes on", scene.has_lines(2))
+        time.sleep(QUIET)
+        counts = [scene.server.errors().count(told_of(scene, name) + reason) for name, reason in NO_PROGRAMS]
+        same(tally, "how often the operator is told of each", counts, [1] * len(NO_PROGRAMS))
+        tally.check("no child of them is left", wait_until(lambda: not scene.children()))
+
+
+def make_no_programs(directory: Path) -> None:
+    (directory / "directory").mkdir()
+    (directory / "link").symlink_to("/there/is/nothing")
+    (directory / "loop").symlink_to("loop")
+    texts = (("plain", b"echo\n"), ("empty", b""), ("strange", b"#!/there/is/nothing\n"), ("cut", b"\x7fELF" + b"\0" * 100))
+    for name, text in texts:
+        (directory / name).write_bytes(text)
+        (directory / name).chmod(0o755)
 
 
 def check_names_that_no_variable_holds(tally: built.Tally, room: Path) -> None:

@@ -1,5 +1,6 @@
-"""A command that reads nothing of a long input, beside clients that ask."""
+"""Commands with a long input: one that reads nothing of it, beside clients that ask, and one that reads and writes much."""
 
+import os
 import time
 from pathlib import Path
 
@@ -11,6 +12,11 @@ FILES = 200_000
 DIRECTORIES = 200
 # How long the slowest reply of another client may take, in seconds. On a machine without other work it is a hundredth.
 LATE = 1.0
+# The files of a command that reads and writes much, and how many bytes it writes to each of its outputs.
+NAMES = 20_000
+WRITTEN = 10_000_000
+# How much more memory the server may have after it, in bytes.
+MORE_MEMORY = 6_000_000
 
 
 def check_a_command_that_never_reads(tally: built.Tally, room: Path) -> None:
@@ -33,6 +39,25 @@ def check_a_command_that_never_reads(tally: built.Tally, room: Path) -> None:
         tally.check("the slowest reply while it runs", max(times) < LATE, [f"{max(times):.3f} seconds"])
         print(f"beside a command that never reads, the slowest of {len(times)} replies took {max(times) * 1000:.1f} ms")
         tally.check("nobody waits for it any more", wait_until(lambda: not scene.children()))
+
+
+def check_a_command_that_reads_and_writes_much(tally: built.Tally, room: Path) -> None:
+    """It gets its whole input, what it writes comes to where the server's own lines go, and the server keeps none of it."""
+    with Scene(room) as scene:
+        names = [f"a-file-of-a-long-name-{number:05}" for number in range(NAMES)]
+        scene.make(*names)
+        scene.client.ask("clock", str(scene.root), {"sync_timeout": 1})
+        before = scene.server.least_memory()
+        copy = scene.out / "copy"
+        script = f"head -c {WRITTEN} /dev/zero; head -c {WRITTEN} /dev/zero >&2; cat > {copy}.new; mv {copy}.new {copy}"
+        scene.trigger("t", script, stdin="NAME_PER_LINE")
+        tally.check("it reads its input", wait_until(copy.exists))
+        same(tally, "what it reads", copy.read_text().splitlines(), names)
+        tally.check("nobody is left to be waited for", wait_until(lambda: not scene.children()))
+        said = os.fstat(scene.server.said.fileno()).st_size
+        tally.check("what it writes", said >= 2 * WRITTEN, [f"{said} bytes"])
+        is_small = scene.server.has_memory_below(before + MORE_MEMORY)
+        tally.check("memory after it", is_small, [f"{scene.server.memory()} bytes, before {before}"])
 
 
 def fill(root: Path) -> None:

@@ -1,0 +1,139 @@
+"""What one client can send that costs the server much: its lines, and the lines that have to come before them."""
+
+import base64
+import json
+from typing import Callable, Dict, List, NamedTuple
+
+from wqprogram.instructions import BY_NAME
+from wqprogram.program_file import Operation, Program, written
+
+LONGEST_LINE = 1_048_576
+NAMES = {"fields": ["name"]}
+ATOMS = 255
+# Nearly as many patterns as the program of one expression holds, and as many as a program of a client's own does.
+PATTERNS = 1_000
+MATCHES = 1_364
+PROGRAMS = 256
+CURSORS = 256
+TEXTS = 256
+LINES = 100_000
+MOST_ENTRIES = 65_535
+
+
+class Case(NamedTuple):
+    """The lines of a client, which reads all replies, none before it has sent all lines, or none at all. What they make the
+    server keep begins with other lines."""
+
+    lines: List[bytes]
+    before: List[bytes] = []
+    reads: str = "always"
+
+
+def line(*command: object) -> bytes:
+    return json.dumps(list(command), separators=(",", ":")).encode() + b"\n"
+
+
+def query(root: str, **asked: object) -> bytes:
+    return line("query", root, {"sync_timeout": 0, **NAMES, **asked})
+
+
+def filled(begin: str, part: str, end: str) -> bytes:
+    """A line as long as a line may be, with as many of these parts as it holds."""
+    count = (LONGEST_LINE - len(begin) - len(end)) // len(part)
+    return (begin + (part * count)[:-1] + end).encode() + b"\n"
+
+
+def nots(root: str) -> bytes:
+    expression: object = "exists"
+    for _ in range(63):
+        expression = ["not", expression]
+    return query(root, expression=expression)
+
+
+def texts(count: int, letters: int) -> List[str]:
+    return [f"{number:0{letters}x}" for number in range(count)]
+
+
+def patterns(root: str, count: int, first: int = 0, **asked: object) -> bytes:
+    numbers = range(first, first + count)
+    terms = [["match", f"{number:0>{ATOMS - 1}}?", "wholename"] for number in numbers]
+    return query(root, expression=["anyof", *terms], **asked)
+
+
+def stars(root: str, count: int) -> bytes:
+    terms = [["match", "*a" * 127 + str(number % 10), "wholename"] for number in range(count)]
+    return query(root, expression=["anyof", *terms])
+
+
+def dear_program() -> str:
+    """About the dearest program that the verifier accepts."""
+    code = [Operation(BY_NAME["basename"], 0, 0), Operation(BY_NAME["match"], 0, 0), Operation(BY_NAME["drop"], 0, 0)] * MATCHES
+    code += [Operation(BY_NAME["basename"], 0, 0), Operation(BY_NAME["match"], 0, 0), Operation(BY_NAME["ret"], 0, 0)]
+    program = Program([], [], [], [(0, b"?" * ATOMS)], code)
+    return base64.b64encode(written(program)).decode()
+
+
+def large_program() -> str:
+    """A program whose line is about as long as a line may be."""
+    code = [Operation(BY_NAME["basename"], 0, 0), Operation(BY_NAME["oneof"], 0, 0), Operation(BY_NAME["ret"], 0, 0)]
+    program = Program([], [], [[text.encode() for text in texts(MOST_ENTRIES, 9)]], [], code)
+    return base64.b64encode(written(program)).decode()
+
+
+def added(program: str) -> List[bytes]:
+    """Lines that add this program under as many names as there may be."""
+    return [line("program-add", str(number), program) for number in range(PROGRAMS)]
+
+
+def long_queries(root: str) -> List[bytes]:
+    """Queries without files, each of which has a text of a mebibyte that no other has."""
+    long = LONGEST_LINE - 200 - len(root)
+    return [query(root, path=["x"], **{"x": f"{number:0>{long}}"}) for number in range(TEXTS)]
+
+
+def long_expressions(root: str) -> List[bytes]:
+    """Queries without files, each of which has an expression of a mebibyte that no other has."""
+    return [query(root, path=["x"], expression=["name", [f"{number}", *texts(60_000, 13)]]) for number in range(TEXTS)]
+
+
+def cursors(roots: List[str]) -> List[bytes]:
+    names = [f"{number:0>250}" for number in range(CURSORS)]
+    return [query(root, since=f"n:{name}", path=[]) for root in roots for name in names]
+
+
+def pipelined(root: str) -> Dict[str, bytes]:
+    """A line of each kind, the replies to which are short."""
+    return {
+        "version": line("version"), "clock": line("clock", root), "watch-list": line("watch-list"),
+        "watch": line("watch", root), "trigger-list": line("trigger-list", root), "program-list": line("program-list"),
+        "query": query(root, path=["x"]), "no JSON": b"[\n",
+    }
+
+
+def cases(root: str, roots: List[str], paths: int) -> Dict[str, Callable[[], Case]]:
+    """Each case by its name."""
+    found: Dict[str, Callable[[], Case]] = {
+        "1 MiB of 0,": lambda: Case([filled('["x",', "0,", "]")]),
+        '1 MiB of {"":0},': lambda: Case([filled('["x",', '{"":0},', "]")]),
+        "1 MiB of [": lambda: Case([b"[" * LONGEST_LINE + b"\n"]),
+        "63 not": lambda: Case([nots(root)]),
+        "a name list of 65,535 entries": lambda: Case([query(root, expression=["name", texts(MOST_ENTRIES, 12)])]),
+        "a name list of 262,000 entries": lambda: Case([filled(f'["query","{root}",{{"expression":["name",[', '"a",', "]]}]")]),
+        "1,000 patterns of 255 atoms": lambda: Case([patterns(root, PATTERNS)]),
+        "1,000 patterns of 127 stars": lambda: Case([stars(root, PATTERNS)]),
+        f"{paths:,} empty paths": lambda: Case([query(root, path=[""] * paths, expression="false")]),
+        "262,000 suffixes": lambda: Case([filled(f'["query","{root}",{{"sync_timeout":0,"suffix":[', '"a",', "]}]")]),
+        "the dearest program": lambda: Case([query(root, program="p")], before=[line("program-add", "p", dear_program())]),
+        "256 of the dearest program": lambda: Case(added(dear_program())),
+        "256 programs of a mebibyte": lambda: Case(added(large_program())),
+        "256 queries of a mebibyte": lambda: Case(long_queries(root)),
+        "256 expressions of a mebibyte": lambda: Case(long_expressions(root)),
+        "16 expressions of 1,000 patterns": lambda: Case([patterns(root, PATTERNS, first, path=["x"]) for first in range(16)]),
+        "256 cursors at 16 roots": lambda: Case(cursors(roots), before=[line("watch", other) for other in roots]),
+        "all files with all fields": lambda: Case([line("query", root, {"sync_timeout": 0, "fields": [
+            "name", "exists", "new", "size", "type", "cclock", "oclock", "mtime", "mtime_ms"]})]),
+    }
+    for name, one in pipelined(root).items():
+        for reads in ("late", "never"):
+            found[f"100,000 lines: {name}, read {reads}"] = lambda one=one, reads=reads: Case([one * LINES], reads=reads)
+    return found

@@ -1,0 +1,42 @@
+"""The socket, and then its directory, are removed while the server runs."""
+
+import os
+import shutil
+from pathlib import Path
+
+import built
+from client import VERSION, Client, Server, query_of_names, same
+
+
+def check_a_socket_that_goes(tally: built.Tally, room: Path, root: Path) -> None:
+    """Clients that are there go on, nobody else can connect, and the server ends as ever."""
+    for name, remove in (("its socket", os.unlink), ("the directory of its socket", remove_above)):
+        inside = room / "in"
+        inside.mkdir()
+        tree = room / "tree"
+        tree.mkdir()
+        with Server(inside) as server, server.client() as client:
+            client.ask("watch", str(tree))
+            remove(server.sockname)
+            tally.check(f"nobody can connect without {name}", not can_connect(server.sockname))
+            (tree / "new").touch()
+            reply = client.ask("query", str(tree), query_of_names())
+            same(tally, f"a query without {name}", reply["files"], ["new"])
+            told = client.ask("get-sockname")
+            same(tally, f"the name that it tells without {name}", told, {"sockname": server.sockname, **VERSION})
+            same(tally, f"the end without {name}", server.shut_down(client), 0)
+            same(tally, f"what it says without {name}", server.errors(), f"listening on {server.sockname}\n".encode())
+        shutil.rmtree(inside, ignore_errors=True)
+        shutil.rmtree(tree)
+
+
+def remove_above(path: str) -> None:
+    shutil.rmtree(os.path.dirname(path))
+
+
+def can_connect(sockname: str) -> bool:
+    try:
+        Client(sockname).close()
+    except (FileNotFoundError, ConnectionRefusedError):
+        return False
+    return True
