@@ -1,4 +1,4 @@
-"""What one client can send that costs the server much: its lines, and the lines that have to come before them."""
+"""The dear lines that one client can send to the server, and the lines that have to come before them."""
 
 import base64
 import json

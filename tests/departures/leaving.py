@@ -43,18 +43,16 @@ def check_while_a_tree_is_listed(tally: built.Tally, house: House) -> None:
 
 
 def check_while_a_crawl_goes_on(tally: built.Tally, house: House) -> None:
-    name = "while its crawl went on"
-    command = ["query", house.root, {"path": ["x"]}]
-    work = house.seconds_of(*command)
-    early = [house.visit(line_of(*command), STAYS) for _ in range(TURNS)]
-    tally.check(f"it went {name}", any(early))
-    house.is_as_before(tally, name, work)
-    house.goes_on(tally, name)
+    check_before_the_reply(tally, house, "while its crawl went on", {"path": ["x"]})
 
 
 def check_while_a_query_is_evaluated(tally: built.Tally, house: House) -> None:
-    name = "while its query was evaluated"
-    command = ["query", house.root, dear_query(PATTERNS)]
+    check_before_the_reply(tally, house, "while its query was evaluated", dear_query(PATTERNS))
+
+
+def check_before_the_reply(tally: built.Tally, house: House, name: str, query: dict) -> None:
+    """A client goes before its query is answered."""
+    command = ["query", house.root, query]
     work = house.seconds_of(*command)
     early = [house.visit(line_of(*command), STAYS) for _ in range(TURNS)]
     tally.check(f"it went {name}", any(early))

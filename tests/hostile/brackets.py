@@ -7,7 +7,7 @@ from stage import Stage
 from wqprogram.json_values import compact_text
 
 MOST = 127
-# What opens and what closes a value with another one inside.
+# The beginning and the end of a value with another one inside.
 KINDS = [("[", "]"), ('{"":', "}"), (" [\t", " ] "), (' { "a" : ', "} "), ('[{"":', "}]")]
 
 

@@ -7,7 +7,7 @@ from generate import ANY_VALUES, BAD_LINES, command, query, subscribing
 from generate_terms import World
 from generate_triggers import trigger_command
 
-# What replaces a byte of a damaged line: what JSON and UTF-8 give a meaning, and what they refuse.
+# The bytes that replace one of a damaged line: some have a meaning in JSON or UTF-8, and some are refused there.
 BYTES = b'"\\[]{},:0123456789-+.eE \t\r\n\x00\x1f\x7f\x80\xbf\xc0\xc3\xe2\xed\xf0\xff/utn'
 # Of these a damaged line could watch another directory, or add another program than the plain program knows.
 KEPT_WHOLE = (b"watch", b"program-add")

@@ -79,7 +79,7 @@ class Stage:
         self.other.ask("clock", str(self.root), {"sync_timeout": 1})
 
     def replies(self, data: bytes, pieces: Iterable[bytes] = ()) -> bytes:
-        """What a client is sent that sends these bytes, in one piece or in several, and nothing more."""
+        """The replies to a client that sends these bytes, in one piece or in several, and nothing more."""
         with self.server.client() as client:
             over = threading.Event()
             sending = threading.Thread(target=send, args=(client, pieces or [data], over))
@@ -91,7 +91,7 @@ class Stage:
                 sending.join()
 
     def plain_replies(self, data: bytes) -> bytes:
-        """What the plain program says to them."""
+        """The replies of the plain program to them."""
         session = Session()
         *lines, rest = data.split(b"\n")
         if rest.startswith(b"\0") or len(rest) > MAX_LINE:
