@@ -5,20 +5,18 @@ use crate::history::view_of;
 use crate::word::{cut, number, text};
 use anyhow::{Context, Result, bail};
 use std::alloc::Global;
+use std::sync::ArcSlice;
 use wq_base::{Table, Text};
 use wq_clock::Bound;
-use wq_gen::{Generators, PathGen, candidates};
+use wq_gen::{Counted, Generators, PathGen, candidates, candidates_counted};
+use wq_view::{Kind, Pass, Seen, View};
 
 /// `candidates HISTORY SINCE SUFFIXES PATHS`: the candidates in the view after the history, each
 /// with its position.
 pub(crate) fn candidates_case(alloc: Global, words: &[Vec<u8>]) -> Result<String> {
     let mut moves = String::new(alloc);
     let view = view_of(alloc, text(words, 1)?, &mut moves)?;
-    let generators = Generators {
-        since: since(text(words, 2)?)?,
-        suffix: suffixes(alloc, text(words, 3)?)?,
-        path: paths(alloc, text(words, 4)?)?,
-    };
+    let generators = generators(alloc, words)?;
     let found = candidates(alloc, &view, &generators)?;
     let mut answer = format!(in alloc; "{} found", found.len())?;
     for position in found {
@@ -27,6 +25,61 @@ pub(crate) fn candidates_case(alloc: Global, words: &[Vec<u8>]) -> Result<String
         answer.push_str(format!(in alloc; "; {position} {}", file.name.as_str())?.as_str())?;
     }
     Ok(answer)
+}
+
+/// `counted HISTORY SINCE SUFFIXES PATHS`: how many candidates there are in the view after the
+/// history, and how many looks they took.
+pub(crate) fn counted_case(alloc: Global, words: &[Vec<u8>]) -> Result<String> {
+    let mut moves = String::new(alloc);
+    let view = view_of(alloc, text(words, 1)?, &mut moves)?;
+    count_looks(alloc, &view, &generators(alloc, words)?)
+}
+
+/// `changed COUNT TICK`: the same for the files that changed after a tick, in a tree of so many
+/// files. Its first file changed in a second pass.
+pub(crate) fn changed_case(alloc: Global, words: &[Vec<u8>]) -> Result<String> {
+    let count = number(text(words, 1)?)?;
+    let mut view = View::new(alloc);
+    for size in 0..2 {
+        view.absorb(&Pass::new(files(alloc, count, size)?, 100)?)?;
+    }
+    let generators = Generators {
+        since: Some(Bound::Tick(text(words, 2)?.parse::<u64>()?)),
+        suffix: None,
+        path: None,
+    };
+    count_looks(alloc, &view, &generators)
+}
+
+/// The rows of so many files. The first one has this size.
+fn files(alloc: Global, count: i64, size: i64) -> Result<Vec<Seen>> {
+    let mut rows = Vec::new(alloc);
+    for i in 0..count {
+        let name = format!(in alloc; "{:06}", i)?;
+        rows.push(Seen {
+            name: ArcSlice::from_slice(alloc, name.as_bytes())?,
+            kind: Kind::File,
+            size: if i == 0 { size } else { 0 },
+            mtime_ms: 0,
+        })?;
+    }
+    Ok(rows)
+}
+
+/// How many candidates there are, and how many looks they took.
+fn count_looks(alloc: Global, view: &View, generators: &Generators) -> Result<String> {
+    let mut counted = Counted::of(view);
+    let found = candidates_counted(alloc, &mut counted, generators)?;
+    Ok(format!(in alloc; "{} found by {} looks", found.len(), counted.count())?)
+}
+
+/// The generators of a case.
+fn generators(alloc: Global, words: &[Vec<u8>]) -> Result<Generators> {
+    Ok(Generators {
+        since: since(text(words, 2)?)?,
+        suffix: suffixes(alloc, text(words, 3)?)?,
+        path: paths(alloc, text(words, 4)?)?,
+    })
 }
 
 /// `none`, `fresh`, `tick 1` or `second 100`.

@@ -140,3 +140,36 @@ pub(crate) fn find_case(alloc: Global, words: &[Vec<u8>]) -> Result<String> {
         Some(place) => Ok(format!(in alloc; "{place}, {}", view.get(place).name.as_str())?),
     }
 }
+
+/// `order HISTORY`: the names of the view after the history, in the order of last change.
+pub(crate) fn order_case(alloc: Global, words: &[Vec<u8>]) -> Result<String> {
+    let mut moves = String::new(alloc);
+    let view = view_of(alloc, text(words, 1)?, &mut moves)?;
+    let mut answer = format!(in alloc; "{} names", view.len())?;
+    for k in 0..view.len() {
+        let position = view.newest(k).context("no position")?;
+        push_name(alloc, &view, position, &mut answer)?;
+    }
+    Ok(answer)
+}
+
+/// `suffixed HISTORY SUFFIX`: the names with this suffix in the view after the history.
+pub(crate) fn suffixed_case(alloc: Global, words: &[Vec<u8>]) -> Result<String> {
+    let mut moves = String::new(alloc);
+    let view = view_of(alloc, text(words, 1)?, &mut moves)?;
+    let mut answer = format!(in alloc; "of {} names", view.len())?;
+    for k in 0..view.len() {
+        let Some(position) = view.suffix_at(bytes(words, 2)?, k) else {
+            break;
+        };
+        push_name(alloc, &view, position, &mut answer)?;
+    }
+    Ok(answer)
+}
+
+/// Adds the name at a position.
+fn push_name(alloc: Global, view: &View, position: usize, answer: &mut String) -> Result<()> {
+    let file = view.records_from(position).next().context("no record")?;
+    answer.push_str(format!(in alloc; "; {}", file.name.as_str())?.as_str())?;
+    Ok(())
+}

@@ -2,3 +2,10 @@ pub mod Positions
 pub mod Unions
 pub mod Paths
 pub mod Whether
+pub mod Rising
+pub mod SinceTick
+pub mod SameSuffix
+pub mod Looks
+pub mod Prefixes
+pub mod Deep
+pub mod Between

@@ -1,7 +1,7 @@
 -- The records that the generators of a query give, as a test of one record by itself. Records of
 -- deleted files are among them. The source is Watchman's documentation of the generators `since`,
 -- `suffix` and `path` of file queries.
-use Rattle.std.specs.Prelude.{ℕ, ℤ, pos, negsuc, Bool, true, false, not, ◌&&◌, ◌||◌, ◌==◌}
+use Rattle.std.specs.Prelude.{ℕ, ℤ, pos, negsuc, Bool, false, not, ◌&&◌, ◌||◌, ◌==◌}
 use Rattle.std.specs.Prelude.{nat_lt, int_le, count_by, List, Option, Some, None, is_some}
 use Rattle.std.specs.List.{list_any}
 use Rattle.std.specs.Option.{option_map_or}

@@ -1,2 +1,4 @@
 pub mod Candidate
 pub mod Union
+pub mod Counted
+pub mod Depth

@@ -1,21 +1,25 @@
 //! The candidates among the records of a view.
-ghost use Rattle.std.specs.Prelude.{◌≡◌, IfOk};
-ghost use Rattle.wq_gen.specs.Candidate.{gives, suffix_is_among, is_candidate, is_on_path, changed_since};
-ghost use Rattle.wq_view.specs.Position.{all_positions, positions_of};
+ghost use Rattle.std.specs.Prelude.{◌≡◌, ◌≤◌, ◌+◌, IfOk};
+ghost use Rattle.wq_gen.specs.Candidate.{is_candidate};
+ghost use Rattle.wq_gen.specs.Counted.{allowed};
+ghost use Rattle.std.specs.List.{range_with_len};
+ghost use Rattle.wq_view.specs.Limit.{max_records};
+ghost use Rattle.wq_view.specs.Position.{positions_of};
 
-use crate::generators::{Generators, PathGen, has_suffix, is_since};
-use crate::path::on_paths;
-use crate::position::{keep_if, union};
+use crate::counted::Counted;
+use crate::generators::Generators;
+use crate::path::with_path;
+use crate::position::union;
+use crate::since::changed_since;
+use crate::suffix::with_suffix;
 use std::alloc::{AllocError, Global};
-use wq_base::{Table, Text};
-use wq_clock::Bound;
 use wq_view::View;
 
 /// The positions of the candidates, ascending, each once. The candidates are the records that some
 /// generator gives, or all records if there is no generator.
 ///
-/// If there are only paths, the cost grows with the number of files at them. Otherwise the call
-/// goes over all records.
+/// The cost grows with the number of candidates, and with the number of files below the paths. A
+/// bound that is a second looks at each record.
 pub fn candidates(
     alloc: Global,
     view: &View,
@@ -24,77 +28,39 @@ pub fn candidates(
     ensures { IfOk result (λ found. found.items
         ≡ positions_of (is_candidate generators.now) view.now.records) }
 {
+    let mut counted = Counted::of(view);
+    candidates_counted(alloc, &mut counted, generators)
+}
+
+/// The positions of the candidates. The number of looks is bounded.
+pub fn candidates_counted(
+    alloc: Global,
+    counted: &mut Counted<'_>,
+    generators: &Generators,
+) -> Result<Vec<u32>, AllocError>
+    ensures found { IfOk result (λ found. found.items
+        ≡ positions_of (is_candidate generators.now) counted.old.view.records) }
+    ensures few { counted.new.count
+        ≤ counted.old.count + allowed generators.now counted.old.view.records }
+    ensures same { counted.new.view ≡ counted.old.view }
+{
     if !generators.is_any_there() {
-        return all(alloc, view);
+        return all(alloc, counted.len());
     }
-    let changed = changed_since(alloc, view, generators.since)?;
-    let suffixed = with_suffix(alloc, view, &generators.suffix)?;
-    let on_path = with_path(alloc, view, &generators.path)?;
+    let changed = changed_since(alloc, counted, generators.since)?;
+    let suffixed = with_suffix(alloc, counted, &generators.suffix)?;
+    let on_path = with_path(alloc, counted, &generators.path)?;
     union(alloc, union(alloc, changed, suffixed)?, on_path)
 }
 
-/// Every position.
-fn all(alloc: Global, view: &View) -> Result<Vec<u32>, AllocError>
-    ensures { IfOk result (λ found. found.items ≡ all_positions view.now.records) }
+/// Every position below a number.
+fn all(alloc: Global, count: usize) -> Result<Vec<u32>, AllocError>
+    requires { count ≤ max_records }
+    ensures { IfOk result (λ found. found.items ≡ range_with_len 0 count) }
 {
-    let mut found = Vec::with_capacity(alloc, view.len())?;
-    for i in 0..view.len() {
+    let mut found = Vec::with_capacity(alloc, count)?;
+    for i in 0..count {
         found.push(i as u32)?;
     }
     Ok(found)
-}
-
-/// The positions of the files that changed after a bound, if there is a bound.
-fn changed_since(alloc: Global, view: &View, since: Option<Bound>) -> Result<Vec<u32>, AllocError>
-    ensures { IfOk result (λ found. found.items
-        ≡ positions_of (gives changed_since since) view.now.records) }
-{
-    let mut found = Vec::new(alloc);
-    let Some(bound) = since else {
-        return Ok(found);
-    };
-    if let Bound::Fresh = bound {
-        return Ok(found);
-    }
-    let mut reader = view.reader();
-    for i in 0..view.len() {
-        keep_if(is_since(bound, reader.get(i)), &mut found, i)?;
-    }
-    Ok(found)
-}
-
-/// The positions of the files with one of the suffixes, if there are suffixes.
-fn with_suffix(
-    alloc: Global,
-    view: &View,
-    suffixes: &Option<Table<Text>>,
-) -> Result<Vec<u32>, AllocError>
-    ensures { IfOk result (λ found. found.items
-        ≡ positions_of (gives suffix_is_among suffixes.now) view.now.records) }
-{
-    let mut found = Vec::new(alloc);
-    let Some(suffixes) = suffixes else {
-        return Ok(found);
-    };
-    let texts = suffixes.as_slice();
-    let mut reader = view.reader();
-    for i in 0..view.len() {
-        keep_if(has_suffix(texts, reader.get(i)), &mut found, i)?;
-    }
-    Ok(found)
-}
-
-/// The positions of the files at the paths, if there are paths.
-fn with_path(
-    alloc: Global,
-    view: &View,
-    paths: &Option<Table<PathGen>>,
-) -> Result<Vec<u32>, AllocError>
-    ensures { IfOk result (λ found. found.items
-        ≡ positions_of (gives is_on_path paths.now) view.now.records) }
-{
-    match paths {
-        Some(paths) => on_paths(alloc, view, paths.as_slice()),
-        None => Ok(Vec::new(alloc)),
-    }
 }

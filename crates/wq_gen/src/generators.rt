@@ -1,8 +1,8 @@
 //! The generators of a query, and the test of one record by each.
 ghost use Rattle.std.specs.Prelude.{◌≡◌, ◌≤◌, length};
-ghost use Rattle.wq_gen.specs.Candidate.{suffix_is_among, is_any_there, is_bounded, is_itself, changed_since, is_under, is_within};
+ghost use Rattle.wq_gen.specs.Candidate.{is_any_there, is_bounded, is_itself, changed_since, is_under, is_within};
 
-use wq_base::{Case, Table, Text, is_suffix, rest_below, slashes};
+use wq_base::{Case, Table, Text, rest_below, slashes};
 use wq_clock::Bound;
 use wq_view::{Kind, MAX_NAME, Record};
 
@@ -62,19 +62,6 @@ pub(crate) fn is_since(bound: Bound, file: &Record) -> bool
         Bound::Tick(tick) => tick < file.otick,
         Bound::Second(second) => second <= file.osec,
     }
-}
-
-/// Whether the suffix of the file is one of the texts.
-pub(crate) fn has_suffix(texts: &[Text], file: &Record) -> bool
-    ensures { result ≡ suffix_is_among texts.now file.now }
-{
-    let suffix = file.suffix();
-    for text in texts {
-        if is_suffix(text.as_bytes(), suffix) {
-            return true;
-        }
-    }
-    false
 }
 
 impl PathGen {

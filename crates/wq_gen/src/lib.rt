@@ -6,9 +6,14 @@
 #![tactic(auto)]
 
 mod candidate;
+mod counted;
+mod depth;
 mod generators;
 mod path;
 mod position;
+mod since;
+mod suffix;
 
-pub use candidate::candidates;
+pub use candidate::{candidates, candidates_counted};
+pub use counted::Counted;
 pub use generators::{ANY_DEPTH, Generators, PathGen};

@@ -15,3 +15,10 @@ mod Located
 mod Suffixes
 mod Positions
 mod NamesBelow
+mod Newest
+mod Growing
+mod NewestLaw
+mod PassOrder
+mod MoveSteps
+mod Marks
+mod KthPlaces

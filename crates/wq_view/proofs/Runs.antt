@@ -82,14 +82,16 @@ module _ (tick : ℕ) (second : ℤ) where
   pub after_all : (rs : List RecordData) (rows : List SeenData) → records_after tick second rs rows ≡ run_after tick second rs rows ++ records_after tick second [] (rows_behind rs rows)
   after_all rs rows = ap (λ l. records_after tick second l rows) (sym (append-nil rs)) ∙ after_then rs rows []
 
-  absent_stays : (r : RecordData) → not r.exists ≡ true → record_after r None tick second ≡ r
+  -- a record whose file does not exist stays as it is
+  pub absent_stays : (r : RecordData) → not r.exists ≡ true → record_after r None tick second ≡ r
   absent_stays r gone = at r.exists gone
     where
       at : (b : Bool) → not b ≡ true → (if b then record r { exists = false; otick = tick; osec = second } else r) ≡ r
       at true e = absurd (false≢true e)
       at false e = refl
 
-  same_stays : (r : RecordData) (row : SeenData) → (r.exists && same_stat (last_stat r) (stat_of row)) ≡ true → record_after r (Some (stat_of row)) tick second ≡ r
+  -- so does one whose row is the same
+  pub same_stays : (r : RecordData) (row : SeenData) → (r.exists && same_stat (last_stat r) (stat_of row)) ≡ true → record_after r (Some (stat_of row)) tick second ≡ r
   same_stays r row same =
       let parts = both_true r.exists (same_stat (last_stat r) (stat_of row)) same in
       rw (parts.0, parts.1) refl

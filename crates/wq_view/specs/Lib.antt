@@ -6,6 +6,7 @@ pub mod Listing
 pub mod RecordData
 pub mod Record
 pub mod History
+pub mod Order
 pub mod View
 pub mod Merge
 pub mod Pair
@@ -16,3 +17,5 @@ pub mod Change
 pub mod Filling
 pub mod Records
 pub mod Below
+pub mod Moves
+pub mod Suffix

@@ -6,6 +6,7 @@ use Rattle.std.specs.FinMap.{is_sorted}
 use Rattle.wq_view.specs.Listing.{name_cmp}
 use Rattle.wq_view.specs.RecordData.{RecordData, record_code, by_name, record_named}
 use Rattle.wq_view.specs.History.{History, record_of}
+use Rattle.wq_view.specs.Order.{newest_first, ticks_of}
 
 -- the last tick of a root, and the records of its files
 pub record ViewData : Type 0 where
@@ -23,6 +24,10 @@ view_code =
 -- the names strictly rise in byte order
 abbrev pub NamesRise : List RecordData → Type 0
 NamesRise records = IsTrue (is_sorted name_cmp (by_name records))
+
+-- the positions of a view's records in the order of last change
+abbrev pub newest_of : ViewData → List ℕ
+newest_of view = newest_first view.tick (ticks_of view.records)
 
 -- the view of a history: its tick is the number of passes, its names rise, and each name has the
 -- record that the history gives

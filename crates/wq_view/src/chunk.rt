@@ -1,8 +1,11 @@
 //! A chunk of a view's records. Views share chunks.
-ghost use Rattle.std.specs.Prelude.{◌≡◌, ◌≤◌, length};
+ghost use Rattle.std.specs.Prelude.{◌≡◌, ◌≤◌, length, IfOk};
 ghost use Rattle.wq_view.specs.Limit.{max_chunk};
+ghost use Rattle.wq_view.specs.Suffix.{marks_of};
 
 use crate::file_record::Record;
+use crate::suffix::marks_of;
+use std::alloc::{AllocError, Global};
 use std::marker::Model;
 use std::sync::Arc;
 
@@ -10,13 +13,16 @@ use std::sync::Arc;
 #[derive(Drop)]
 pub(crate) struct Chunk {
     records: Vec<Record>,
+    /// For each record the mark of its suffix.
+    marks: Vec<u8>,
 }
 
 impl Model for Chunk {
-    ghost use Rattle.std.specs.Prelude.{◌≤◌, List, vec_len};
+    ghost use Rattle.std.specs.Prelude.{◌≡◌, ◌≤◌, List, vec_len};
     ghost use Rattle.std.specs.Coded.{coded_list};
     ghost use Rattle.wq_view.specs.Limit.{max_chunk};
     ghost use Rattle.wq_view.specs.RecordData.{RecordData, record_code};
+    ghost use Rattle.wq_view.specs.Suffix.{marks_of};
 
     ghost Value = { List RecordData };
 
@@ -24,17 +30,18 @@ impl Model for Chunk {
 
     ghost view = { λ c. c.records.items };
 
-    ghost invariant = { λ c. (1 ≤ vec_len c.records) × (vec_len c.records ≤ max_chunk) };
+    ghost invariant = { λ c. (1 ≤ vec_len c.records) × (vec_len c.records ≤ max_chunk) × (c.marks.items ≡ marks_of c.records.items) };
 }
 
 impl Chunk {
     /// The chunk of these records.
-    pub(crate) fn of(records: Vec<Record>) -> Chunk
+    pub(crate) fn of(alloc: Global, records: Vec<Record>) -> Result<Chunk, AllocError>
         requires some { 1 ≤ length records.items }
         requires few { length records.items ≤ max_chunk }
-        ensures { result ≡ records.items }
+        ensures { IfOk result (λ chunk. chunk ≡ records.items) }
     {
-        Chunk { records }
+        let marks = marks_of(alloc, &records)?;
+        Ok(Chunk { records, marks })
     }
 
     /// The records.
@@ -44,6 +51,13 @@ impl Chunk {
         ensures few { length self.now ≤ max_chunk }
     {
         &self.records
+    }
+
+    /// The marks of the records.
+    pub(crate) fn marks(&self) -> &[u8]
+        ensures { result.now ≡ marks_of self.now }
+    {
+        &self.marks
     }
 }
 

@@ -3,10 +3,11 @@ ghost use Rattle.std.specs.Prelude.{◌≡◌, ◌≤◌, ◌<◌, ◌+◌, ◌+
 ghost use Rattle.std.specs.Arc.{arc_value};
 ghost use Rattle.std.specs.Fn.{ComputesKey};
 ghost use Rattle.std.specs.List.Sorted.{IsPartitionedBy, IsPartitionPoint};
-ghost use Rattle.wq_view.specs.Chunk.{AreChunks, IsChunkAt, IsRunAt, count_before, is_chunk_before, records_in};
+ghost use Rattle.wq_view.specs.Chunk.{AreChunks, IsChunkAt, IsPiece, count_before, is_chunk_before, records_in};
 ghost use Rattle.wq_view.specs.Limit.{max_records};
 ghost use Rattle.wq_view.specs.RecordData.{RecordData};
 ghost use Rattle.wq_view.specs.Records.{records_left};
+ghost use Rattle.wq_view.specs.Suffix.{marks_of};
 
 use crate::chunk::{Chunk, Slot};
 use crate::file_record::Record;
@@ -123,14 +124,14 @@ impl Chunks {
         requires { i < length self.now }
         ensures { slice_get self.now i ≡ Some result.now }
     {
-        let (start, records) = self.chunk_with(i);
+        let (start, records, _) = self.chunk_with(i);
         &records[i - start]
     }
 
-    /// The records of the chunk that has the record at this position, and the position of its first record.
-    pub(crate) fn chunk_with(&self, i: usize) -> (usize, &[Record])
+    /// The chunk that has the record at this position: the position of its first record, its records and their marks.
+    pub(crate) fn chunk_with(&self, i: usize) -> (usize, &[Record], &[u8])
         requires { i < length self.now }
-        ensures run { IsRunAt self.now result.0 result.1.now }
+        ensures piece { IsPiece self.now result.0 result.1.now result.2.now }
         ensures from { result.0 ≤ i }
         ensures to { i < result.0 + length result.1.now }
     {
@@ -145,7 +146,7 @@ impl Chunks {
             return Records::of(&[]);
         }
         let at = slot_with(&self.slots, i);
-        let (start, records) = chunk_at(&self.slots, at);
+        let (start, records, _) = chunk_at(&self.slots, at);
         let (_, records) = records.split_at(i - start);
         let (_, slots) = self.slots.split_at(at + 1);
         Records { records, slots }
@@ -175,7 +176,7 @@ impl Chunks {
         if at == self.slots.len() {
             return self.len();
         }
-        let (start, records) = chunk_at(&self.slots, at);
+        let (start, records, _) = chunk_at(&self.slots, at);
         start + records.partition_point(is_before)
     }
 }
@@ -191,13 +192,14 @@ fn slot_with(slots: &[Slot], i: usize) -> usize
     slots.partition_point(|slot| slot.end <= i)
 }
 
-/// The records of the slot at this place, and the number of records before it.
-fn chunk_at(slots: &[Slot], at: usize) -> (usize, &[Record])
+/// The chunk of the slot at this place: the number of records before it, its records and their marks.
+fn chunk_at(slots: &[Slot], at: usize) -> (usize, &[Record], &[u8])
     requires chunks { AreChunks 0 slots.now }
     requires bound { at < length slots.now }
-    ensures { IsChunkAt slots.now at result.0 result.1.now }
+    ensures chunk { IsChunkAt slots.now at result.0 result.1.now }
+    ensures marks { result.2.now ≡ marks_of result.1.now }
 {
     let slot = &slots[at];
     let records = slot.chunk.records();
-    (slot.end - records.len(), records)
+    (slot.end - records.len(), records, slot.chunk.marks())
 }

@@ -112,7 +112,8 @@ impl Filling {
         let alloc = self.chunks.allocator();
         let records = mem::replace(&mut self.records, Vec::with_capacity(alloc, room)?);
         if !records.is_empty() {
-            self.chunks.push(Arc::new(alloc, Chunk::of(records))?)?;
+            self.chunks
+                .push(Arc::new(alloc, Chunk::of(alloc, records)?)?)?;
         }
         Ok(())
     }

@@ -1,4 +1,5 @@
 //! Laws of views. Each law is the contract of a function that does nothing.
+ghost use Rattle.wq_view.specs.Order.{NewestIsSorted, NewestIsSplit};
 ghost use Rattle.wq_view.specs.Position.{KeptPositionsFilter, PositionsAreThere, PositionsFilter};
 ghost use Rattle.wq_view.specs.View.{HasOneView};
 
@@ -25,4 +26,15 @@ pub fn kept_positions_filter()
 #[tactic(auto, using(crate::proofs::Positions::positions_are_there))]
 pub fn positions_are_there()
     ensures { PositionsAreThere }
+{}
+
+/// The order of last change is that of a sort: by tick, falling, and then by position.
+#[tactic(auto, using(crate::proofs::NewestLaw::newest_is_sorted))]
+pub fn newest_is_sorted()
+    ensures { NewestIsSorted }
+{}
+
+/// The positions of what changed after a tick come first in the order of last change.
+pub fn newest_is_split()
+    ensures { NewestIsSplit }
 {}

@@ -23,16 +23,22 @@ mod law;
 mod limit;
 mod listing;
 mod merging;
+mod moves;
 mod name;
+mod order;
 mod pair;
 mod reader;
 mod records;
+mod suffix;
 mod view;
 
 pub use file_record::Record;
 pub use kind::Kind;
 pub use known::Known;
-pub use law::{history_has_one_view, kept_positions_filter, positions_are_there, positions_filter};
+pub use law::{
+    history_has_one_view, kept_positions_filter, newest_is_sorted, newest_is_split,
+    positions_are_there, positions_filter,
+};
 pub use limit::{MAX_LISTING_ROWS, MAX_RECORDS, MAX_TICK};
 pub use listing::{Pass, PassFault, Seen};
 pub use name::{MAX_NAME, Name, is_valid_name};

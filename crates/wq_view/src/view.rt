@@ -1,5 +1,6 @@
 //! The view of a root: the records of all files that its passes saw, in the byte order of their names.
 //! A view keeps its records in chunks. Two views share each chunk that no pass between them changed.
+//! A view also keeps the order of last change, which a pass that moves the view writes anew.
 //! Lookups take no memory. Only a pass that moves the view, and a copy of the view, take memory.
 ghost use Rattle.std.specs.Prelude.{MatchOption, ℕ, nat_le, nat_lt, ◌==◌, ◌&&◌, ◌≡◌, ◌≢◌, ◌+◌, ◌≤◌, ◌<◌, ◌↔◌, List, [], ◌∷◌, ◌++◌, Ok, Err, Some, None, true, false, drop, length, IfOk, IfErr, IfNone, IfSome, IsTrue, slice_get};
 ghost use Rattle.wq_view.specs.RecordData.{record_named};
@@ -7,15 +8,18 @@ ghost use Rattle.wq_view.specs.History.{History, last_stats};
 ghost use Rattle.wq_view.specs.Below.{is_below};
 ghost use Rattle.wq_view.specs.Change.{IsChangeBy};
 ghost use Rattle.wq_view.specs.Limit.{max_records, max_tick};
-ghost use Rattle.wq_view.specs.Position.{has_name, passes_at};
+ghost use Rattle.wq_view.specs.Order.{Known};
+ghost use Rattle.wq_view.specs.Position.{has_name, passes_at, positions_of};
 ghost use Rattle.wq_view.specs.Records.{records_left};
-ghost use Rattle.wq_view.specs.View.{IsViewOf, NamesRise};
+ghost use Rattle.wq_view.specs.Suffix.{has_suffix};
+ghost use Rattle.wq_view.specs.View.{IsViewOf, NamesRise, newest_of};
 
 use crate::chunks::Chunks;
 use crate::file_record::Record;
 use crate::limit::MAX_TICK;
 use crate::listing::Pass;
 use crate::merging::{Change, chunks_after, first_change};
+use crate::order::Order;
 use crate::pair::Moment;
 use crate::reader::Reader;
 use crate::records::Records;
@@ -50,11 +54,13 @@ impl From<AllocError> for ViewFault {
 pub struct View {
     tick: u64,
     chunks: Chunks,
+    order: Order,
 }
 
 impl Model for View {
     ghost use Rattle.std.specs.Prelude.{◌≤◌};
     ghost use Rattle.wq_view.specs.Limit.{max_tick};
+    ghost use Rattle.wq_view.specs.Order.{IsOrderOf};
     ghost use Rattle.wq_view.specs.View.{ViewData, view_code, NamesRise};
 
     ghost Value = { ViewData };
@@ -63,7 +69,7 @@ impl Model for View {
 
     ghost view = { λ v. record { tick = v.tick; records = v.chunks } };
 
-    ghost invariant = { λ v. (v.tick ≤ max_tick) × NamesRise v.chunks };
+    ghost invariant = { λ v. (v.tick ≤ max_tick) × NamesRise v.chunks × IsOrderOf v.tick v.chunks v.order };
 }
 
 impl View {
@@ -75,6 +81,7 @@ impl View {
         View {
             tick: 0,
             chunks: Chunks::new(alloc),
+            order: Order::new(),
         }
     }
 
@@ -160,10 +167,13 @@ impl View {
             tick: self.tick + 1,
             second: pass.second(),
         };
-        let chunks = chunks_after(self.chunks.allocator(), change, &at)?;
+        let alloc = self.chunks.allocator();
+        let (chunks, moves) = chunks_after(alloc, change, &at)?;
+        let order = self.order.moved(alloc, &moves)?;
         Ok(View {
             tick: at.tick,
             chunks,
+            order,
         })
     }
 
@@ -270,6 +280,27 @@ impl View {
         (start, end)
     }
 
+    /// The position at a place of the order of last change. The records that the latest passes saw change come first,
+    /// and those of one pass in the byte order of their names.
+    pub fn newest(&self, k: usize) -> Option<usize>
+        ensures value { result ≡ slice_get (newest_of self.now) k }
+        ensures known { Known self.now.tick self.now.records }
+        ensures bound { IfSome result (λ i. i < length self.now.records) }
+    {
+        self.order.get(k)
+    }
+
+    /// The position of a record with this suffix, if A to Z count as a to z: the one with so many such records before
+    /// it. No record has an empty suffix.
+    ///
+    /// The call goes over the marks of the records up to that one. A reader goes on from record to record.
+    pub fn suffix_at(&self, text: &[u8], k: usize) -> Option<usize>
+        ensures value { result ≡ slice_get (positions_of (has_suffix text.now) self.now.records) k }
+        ensures bound { IfSome result (λ i. i < length self.now.records) }
+    {
+        self.reader().suffix_from(text, 0, 0, k)
+    }
+
     /// An equal view. It shares its records with this view.
     pub fn copy(&self) -> Result<View, ViewFault>
         ensures ok { IfOk result (λ view. view ≡ self.now) }
@@ -278,6 +309,7 @@ impl View {
         Ok(View {
             tick: self.tick,
             chunks: self.chunks.copy()?,
+            order: self.order.copy()?,
         })
     }
 }

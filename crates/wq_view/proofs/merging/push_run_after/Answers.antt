@@ -3,6 +3,7 @@ use Rattle.std.proofs.Common.{◌++◌, map, ap, ◌∙◌}
 use Rattle.std.specs.List.{list_all}
 use Rattle.wq_view.specs.Filling.{filled}
 use Rattle.wq_view.specs.Merge.{pair_after}
+use Rattle.wq_view.specs.Moves.{moves_data, with_pairs}
 use Rattle.wq_view.specs.Pair.{has_lawful_row}
 use Rattle.wq_view.proofs.Runs.{rows_lawful}
 use Rattle.wq_view.proofs.merging.push_run_after.Goals as goal
@@ -12,4 +13,5 @@ loop-pair-init c = record {
   made = ap (λ l. filled c.begin.new.self ++ map (pair_after c.args.at.now.tick c.args.at.now.second) l) c.of-pairs.ensures.pairs;
   rows = c.of-pairs.ensures.rows;
   lawful = ap (list_all has_lawful_row) c.of-pairs.ensures.pairs ∙ rows_lawful c.args.records.now c.args.rows.now c.requires.lawful;
+  moves = ap (λ ps. with_pairs ps (moves_data c.args.moves.now)) c.of-pairs.ensures.pairs;
 }

@@ -1,40 +1,79 @@
--- The records after the pass are those of the history with it.
-use Rattle.std.proofs.Common.{w64, ◌≡◌, ◌+◌, ◌≤◌, [], ◌∷◌, ◌++◌, sym, ap, subst, ◌∙◌, arith}
+-- The records after the pass are those of the history with it, and the order is theirs.
+use Rattle.std.proofs.Common.{w64, ◌≡◌, ℕ, ℤ, ◌+◌, ◌≤◌, ◌<◌, List, [], ◌∷◌, ◌++◌, length, sym, ap, subst, ◌∙◌, arith}
 use mir.Val.{SFits}
+use Rattle.std.specs.List.{All}
 use Rattle.std.proofs.lemmas.Int.{to_z-of_z}
+use Rattle.wq_view.specs.declared.merging.Change.{Change}
 use Rattle.wq_view.specs.Limit.{max_tick}
-use Rattle.wq_view.specs.Merge.{records_after}
+use Rattle.wq_view.specs.Seen.{SeenData}
+use Rattle.wq_view.specs.RecordData.{RecordData}
+use Rattle.wq_view.specs.Merge.{pairs_of, records_after}
 use Rattle.wq_view.specs.Chunk.{records_in}
 use Rattle.wq_view.specs.Change.{IsChange}
+use Rattle.wq_view.specs.Moves.{MovesData, moves_data, no_moves, order_moved, with_pairs, with_same}
+use Rattle.wq_view.specs.Order.{IsOrderOf}
 use Rattle.wq_view.specs.View.{ViewData, IsViewOf, NamesRise}
 use Rattle.wq_view.proofs.Absorbed.{absorbed_ordered}
+use Rattle.wq_view.proofs.MoveSteps.{change_moves}
 use Rattle.wq_view.proofs.Passing.{change_after, change_lawful}
+use Rattle.wq_view.proofs.PassOrder.{order_after_pass, places_within}
 use Rattle.wq_view.proofs.ViewSteps.{view_of_more}
 use Rattle.wq_view.proofs.view.View.moved_by.Goals as goal
+
+-- a change of the records of a view, and the records and moves that it makes
+module _ (known all : List RecordData) (same : all ≡ known) (rows : List SeenData) (change : Change) (is_change : IsChange known rows change) where
+  change_is : IsChange all rows change
+  change_is = subst (λ rs. IsChange rs rows change) (sym same) is_change
+
+  moves_are : (moves : MovesData) → moves ≡ with_pairs (pairs_of (records_in change.others.now) change.rows.now) (with_same (length (records_in change.same.now)) no_moves) → moves ≡ with_pairs (pairs_of all rows) no_moves
+  moves_are moves e = e ∙ change_moves all rows change change_is
+
+  made_are : (tick : ℕ) (second given : ℤ) (made : List RecordData) → given ≡ second → made ≡ records_in change.same.now ++ records_after tick given (records_in change.others.now) change.rows.now → made ≡ records_after tick second all rows
+  made_are tick second given made e made_is =
+      made_is
+      ∙ ap (λ z. records_in change.same.now ++ records_after tick z (records_in change.others.now) change.rows.now) e
+      ∙ change_after tick second all rows change change_is
 
 pub chunks_after-requires-clause-lawful : goal.chunks_after-requires-clause-lawful
 chunks_after-requires-clause-lawful c = change_lawful c.args.self.now.records c.requires.change.rows c.args.change.now c.requires.change.is_change c.requires.change.lawful
 
--- the records after the pass
-written : (c : goal.In_ok-chunks) → c.in_ok-chunks.chunks ≡ records_after (c.self.inside.tick + 1) c.args.pass.now.second c.self.inside.chunks c.requires.change.rows
-written c =
+pub moved-requires : goal.moved-requires
+moved-requires c =
+    let all = c.self.inside.chunks in
     let rows = c.requires.change.rows in
-    let known : c.self.inside.chunks ≡ c.args.self.now.records = ap (λ (v : ViewData). v.records) c.self.view_is in
-    let is_change : IsChange c.self.inside.chunks rows c.args.change.now = subst (λ rs. IsChange rs rows c.args.change.now) (sym known) c.requires.change.is_change in
-    let fits : SFits w64 c.second.result = record { sfits = c.second.type_inv } in
-    c.in_ok-chunks.ensures
-    ∙ ap (λ z. records_in c.args.change.now.same.now ++ records_after (c.self.inside.tick + 1) z (records_in c.args.change.now.others.now) c.args.change.now.rows.now) (to_z-of_z w64 c.second.result fits)
-    ∙ change_after (c.self.inside.tick + 1) c.second.result c.self.inside.chunks rows c.args.change.now is_change
-    ∙ ap (λ z. records_after (c.self.inside.tick + 1) z c.self.inside.chunks rows) c.second.ensures.value
+    let moves = moves_are c.args.self.now.records all (ap (λ (v : ViewData). v.records) c.self.view_is) rows c.args.change.now c.requires.change.is_change (moves_data c.in_ok-chunks.moves) c.in_ok-chunks.ensures.moves in
+    record {
+      within = subst (λ (m : MovesData). All (λ p. p < length m.places) c.self.inside.order) (sym moves) (places_within c.self.inside.tick c.args.pass.now.second all rows c.self.inside.order c.self.invariant.2);
+    }
 
 pub invariant_of-result : goal.invariant_of-result
 invariant_of-result c =
-    let below : c.self.inside.tick + 1 ≤ max_tick = omega (arith, c.requires.tick, ap (λ (v : ViewData). v.tick) c.self.view_is) in
-    (below, subst NamesRise (sym (written c)) (absorbed_ordered (c.self.inside.tick + 1) c.args.pass.now.second c.self.inside.chunks c.requires.change.rows c.self.invariant.1 c.requires.change.rise))
+    let all = c.self.inside.chunks in
+    let rows = c.requires.change.rows in
+    let tick = c.self.inside.tick + 1 in
+    let second = c.args.pass.now.second in
+    let same = ap (λ (v : ViewData). v.records) c.self.view_is in
+    let fits : SFits w64 c.second.result = record { sfits = c.second.type_inv } in
+    let below : tick ≤ max_tick = omega (arith, c.requires.tick, ap (λ (v : ViewData). v.tick) c.self.view_is) in
+    let moves = moves_are c.args.self.now.records all same rows c.args.change.now c.requires.change.is_change (moves_data c.in_ok-chunks.moves) c.in_ok-chunks.ensures.moves in
+    let made : c.in_ok-chunks.chunks ≡ records_after tick second all rows = made_are c.args.self.now.records all same rows c.args.change.now c.requires.change.is_change tick second _ c.in_ok-chunks.chunks (to_z-of_z w64 c.second.result fits ∙ c.second.ensures.value) c.in_ok-chunks.ensures.records in
+    let order : c.in_ok-order.order ≡ order_moved (with_pairs (pairs_of all rows) no_moves) c.self.inside.order = c.in_ok-order.ensures ∙ ap (λ m. order_moved m c.self.inside.order) moves in
+    let after = order_after_pass c.self.inside.tick tick second all rows c.self.inside.order (omega arith) c.self.invariant.2 (omega (arith, c.chunks.invariant.1, ap length c.chunks.view_is, ap length made)) in (
+      below,
+      subst NamesRise (sym made) (absorbed_ordered tick second all rows c.self.invariant.1 c.requires.change.rise),
+      subst (λ rs. IsOrderOf tick rs c.in_ok-order.order) (sym made) (subst (IsOrderOf tick (records_after tick second all rows)) (sym order) after),
+    )
 
 pub returns : goal.returns
 returns c history is_view =
-    let before : ViewData = record { tick = c.self.inside.tick; records = c.self.inside.chunks } in
+    let all = c.self.inside.chunks in
+    let rows = c.requires.change.rows in
+    let tick = c.self.inside.tick + 1 in
+    let second = c.args.pass.now.second in
+    let same = ap (λ (v : ViewData). v.records) c.self.view_is in
+    let fits : SFits w64 c.second.result = record { sfits = c.second.type_inv } in
+    let before : ViewData = record { tick = c.self.inside.tick; records = all } in
     let was : IsViewOf history before = subst (IsViewOf history) (sym c.self.view_is) is_view in
-    let next = view_of_more history before c.args.pass.now c.requires.change.rows was c.requires.change.are_entries c.requires.change.rise in
-    subst (λ rs. IsViewOf (history ++ c.args.pass.now ∷ []) (record { tick = c.self.inside.tick + 1; records = rs })) (sym (written c)) next
+    let next = view_of_more history before c.args.pass.now rows was c.requires.change.are_entries c.requires.change.rise in
+    let made : c.in_ok-chunks.chunks ≡ records_after tick second all rows = made_are c.args.self.now.records all same rows c.args.change.now c.requires.change.is_change tick second _ c.in_ok-chunks.chunks (to_z-of_z w64 c.second.result fits ∙ c.second.ensures.value) c.in_ok-chunks.ensures.records in
+    subst (λ rs. IsViewOf (history ++ c.args.pass.now ∷ []) (record { tick = tick; records = rs })) (sym made) next

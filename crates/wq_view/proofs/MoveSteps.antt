@@ -1,0 +1,172 @@
+-- The moves of records that a pass leaves as they are, and of the pairs of several chunks.
+use Rattle.std.proofs.Common.{◌≡◌, ◌<◌, ℕ, ℤ, pos, zero, suc, ◌+◌, true, List, [], ◌∷◌, ◌++◌, length, take, get_or, refl, sym, ap, ◌∙◌, append_assoc, append-nil, add-one, arith, length-append}
+use mathlib.Core.Bool.{false≢true}
+use Rattle.std.specs.List.{list_all, range_with_len}
+use Rattle.std.proofs.lemmas.List.{length-map, take_more}
+use Rattle.wq_view.specs.declared.chunk.Slot.{Slot}
+use Rattle.wq_view.specs.declared.merging.Change.{Change}
+use Rattle.wq_view.specs.Seen.{SeenData}
+use Rattle.wq_view.specs.RecordData.{RecordData}
+use Rattle.wq_view.specs.Merge.{PairData, record_alone, record_and_row, row_alone, is_unchanged, pair_after, pairs_of, records_after}
+use Rattle.wq_view.specs.Run.{run_pairs, rows_behind, is_same_run}
+use Rattle.wq_view.specs.Chunk.{slot_records, records_in}
+use Rattle.wq_view.specs.Change.{IsChange}
+use Rattle.wq_view.specs.Moves.{MovesData, with_known, with_pair, with_pairs, with_same, no_moves}
+use Rattle.wq_view.proofs.NameOrder.{both_true}
+use Rattle.wq_view.proofs.Runs.{run_then, pairs_of_both, same_after}
+use Rattle.wq_view.proofs.Slots.{slot_taken}
+
+-- one number more in a range
+pub range_next : (a n j : ℕ) → a + n ≡ j → range_with_len a (suc n) ≡ range_with_len a n ++ (j ∷ [])
+range_next a zero j is = let one : a ≡ j = omega (arith, is) in ap (λ k. k ∷ []) one
+range_next a (suc n) j is = ap (λ rest. a ∷ rest) (range_next (a + 1) n j (omega (arith, is)))
+
+-- two ranges, one after the other
+pub range_both : (a n k b : ℕ) → a + n ≡ b → range_with_len a n ++ range_with_len b k ≡ range_with_len a (n + k)
+range_both a zero k b is =
+    let first : b ≡ a = omega (arith, is) in
+    let count : k ≡ 0 + k = omega arith in
+    ap (λ x. range_with_len x k) first ∙ ap (range_with_len a) count
+range_both a (suc n) k b is =
+    let count : suc (n + k) ≡ suc n + k = omega arith in
+    ap (λ l. a ∷ l) (range_both (a + 1) n k b (omega (arith, is))) ∙ ap (range_with_len a) count
+
+-- one record more stays as it is
+pub same_one : (n : ℕ) (m next : MovesData) → next ≡ with_same n m → with_known true next ≡ with_same (n + 1) m
+same_one n m next is = ap (with_known true) is ∙ at
+  where
+    places : (m.places ++ range_with_len m.next n) ++ ((m.next + n) ∷ []) ≡ m.places ++ range_with_len m.next (n + 1)
+    places =
+        append_assoc m.places (range_with_len m.next n) ((m.next + n) ∷ [])
+        ∙ ap (λ l. m.places ++ l) (sym (range_next m.next n (m.next + n) refl) ∙ ap (range_with_len m.next) (sym (add-one n)))
+
+    next_is : (m.next + n) + 1 ≡ m.next + (n + 1)
+    next_is = omega arith
+
+    at : with_known true (with_same n m) ≡ with_same (n + 1) m
+    at = λ i. record { next = next_is i; changed = m.changed; places = places i }
+
+-- no record more
+pub same_none : (m : MovesData) → m ≡ with_same 0 m
+same_none m = λ i. record { next = none i; changed = m.changed; places = sym (append-nil m.places) i }
+  where
+    none : m.next ≡ m.next + 0
+    none = omega arith
+
+same_first : (n : ℕ) (m : MovesData) → with_same n (with_known true m) ≡ with_same (suc n) m
+same_first n m = λ i. record { next = next_is i; changed = m.changed; places = append_assoc m.places (m.next ∷ []) (range_with_len (m.next + 1) n) i }
+  where
+    next_is : (m.next + 1) + n ≡ m.next + suc n
+    next_is = omega arith
+
+-- two runs stay as they are
+pub same_then : (n k : ℕ) (m : MovesData) → with_same k (with_same n m) ≡ with_same (n + k) m
+same_then n k m = λ i. record { next = next_is i; changed = m.changed; places = places i }
+  where
+    places : (m.places ++ range_with_len m.next n) ++ range_with_len (m.next + n) k ≡ m.places ++ range_with_len m.next (n + k)
+    places = append_assoc m.places (range_with_len m.next n) (range_with_len (m.next + n) k) ∙ ap (λ l. m.places ++ l) (range_both m.next n k (m.next + n) refl)
+
+    next_is : (m.next + n) + k ≡ m.next + (n + k)
+    next_is = omega arith
+
+known_pair : (p : PairData) (m : MovesData) → is_unchanged p ≡ true → with_pair p m ≡ with_known true m
+known_pair (record_alone r) m e = ap (λ b. with_known b m) e
+known_pair (record_and_row r row) m e = ap (λ b. with_known b m) e
+known_pair (row_alone row) m e = absurd (false≢true e)
+
+same_pairs : (ps : List PairData) (m : MovesData) → list_all is_unchanged ps ≡ true → with_pairs ps m ≡ with_same (length ps) m
+same_pairs [] m e = same_none m
+same_pairs (p ∷ ps) m e =
+    let parts = both_true (is_unchanged p) (list_all is_unchanged ps) e in
+    ap (with_pairs ps) (known_pair p m parts.0) ∙ same_pairs ps (with_known true m) parts.1 ∙ same_first (length ps) m
+
+count_same : (rs : List RecordData) (rows : List SeenData) → is_same_run rs rows ≡ true → length (run_pairs rs rows) ≡ length rs
+count_same rs rows e = sym (length-map (run_pairs rs rows) (pair_after 0 (pos 0))) ∙ ap length (same_after 0 (pos 0) rs rows e)
+
+-- the moves of a run that stays as it is
+pub same_run : (rs : List RecordData) (rows : List SeenData) (m : MovesData) → is_same_run rs rows ≡ true → with_same (length rs) m ≡ with_pairs (run_pairs rs rows) m
+same_run rs rows m e = ap (λ n. with_same n m) (sym (count_same rs rows e)) ∙ sym (same_pairs (run_pairs rs rows) m e)
+
+-- the moves of pairs in two parts
+pub pairs_then : (ps qs : List PairData) (m : MovesData) → with_pairs (ps ++ qs) m ≡ with_pairs qs (with_pairs ps m)
+pairs_then [] qs m = refl
+pairs_then (p ∷ ps) qs m = pairs_then ps qs (with_pair p m)
+
+-- one chunk more that stays as it is
+pub kept_step : (slots : List Slot) (i : ℕ) (slot : Slot) → i < length slots → get_or slots i slot ≡ slot → (m so_far next : MovesData) → so_far ≡ with_same (length (records_in (take i slots))) m → next ≡ with_same (length (slot_records slot)) so_far → next ≡ with_same (length (records_in (take (i + 1) slots))) m
+kept_step slots i slot h is m so_far next so_far_is next_is =
+    let before = records_in (take i slots) in
+    next_is
+    ∙ ap (with_same (length (slot_records slot))) so_far_is
+    ∙ same_then (length before) (length (slot_records slot)) m
+    ∙ ap (λ n. with_same n m) (sym (length-append before (slot_records slot)) ∙ ap length (sym (slot_taken slots i slot h is)))
+
+-- one chunk more after the pass
+pub moves_step : (slots : List Slot) (i : ℕ) (slot : Slot) → i < length slots → get_or slots i slot ≡ slot → (rows left : List SeenData) (m so_far next : MovesData) → left ≡ rows_behind (records_in (take i slots)) rows → so_far ≡ with_pairs (run_pairs (records_in (take i slots)) rows) m → next ≡ with_pairs (run_pairs (slot_records slot) left) so_far → next ≡ with_pairs (run_pairs (records_in (take (i + 1) slots)) rows) m
+moves_step slots i slot h is rows left m so_far next left_is so_far_is next_is =
+    let before = records_in (take i slots) in
+    next_is
+    ∙ ap (with_pairs (run_pairs (slot_records slot) left)) so_far_is
+    ∙ ap (λ rest. with_pairs (run_pairs (slot_records slot) rest) (with_pairs (run_pairs before rows) m)) left_is
+    ∙ sym (pairs_then (run_pairs before rows) (run_pairs (slot_records slot) (rows_behind before rows)) m)
+    ∙ ap (λ ps. with_pairs ps m) (sym (pairs_of_both before rows (slot_records slot)))
+    ∙ ap (λ rs. with_pairs (run_pairs rs rows) m) (sym (slot_taken slots i slot h is))
+
+-- the pairs of all records and rows: those of the records, and the rows after them
+pairs_all : (rs : List RecordData) (rows : List SeenData) → pairs_of rs rows ≡ run_pairs rs rows ++ pairs_of [] (rows_behind rs rows)
+pairs_all rs rows = ap (λ l. pairs_of l rows) (sym (append-nil rs)) ∙ run_then rs rows []
+
+-- all chunks after the pass, and then the new records
+pub moves_made : (rs : List RecordData) (rows left : List SeenData) (m so_far next : MovesData) → left ≡ rows_behind rs rows → so_far ≡ with_pairs (run_pairs rs rows) m → next ≡ with_pairs (pairs_of [] left) so_far → next ≡ with_pairs (pairs_of rs rows) m
+moves_made rs rows left m so_far next left_is so_far_is next_is =
+    next_is
+    ∙ ap (with_pairs (pairs_of [] left)) so_far_is
+    ∙ ap (λ rest. with_pairs (pairs_of [] rest) (with_pairs (run_pairs rs rows) m)) left_is
+    ∙ sym (pairs_then (run_pairs rs rows) (pairs_of [] (rows_behind rs rows)) m)
+    ∙ ap (λ ps. with_pairs ps m) (sym (pairs_all rs rows))
+
+-- one new record more
+pub new_step : (rows : List SeenData) (i : ℕ) (row : SeenData) → i < length rows → get_or rows i row ≡ row → (m so_far next : MovesData) → so_far ≡ with_pairs (pairs_of [] (take i rows)) m → next ≡ with_pair (row_alone row) so_far → next ≡ with_pairs (pairs_of [] (take (i + 1) rows)) m
+new_step rows i row h is m so_far next so_far_is next_is =
+    next_is
+    ∙ ap (with_pair (row_alone row)) so_far_is
+    ∙ sym (pairs_then (pairs_of [] (take i rows)) (row_alone row ∷ []) m)
+    ∙ ap (λ ps. with_pairs ps m) (sym (more (take i rows)))
+    ∙ ap (λ l. with_pairs (pairs_of [] l) m) (sym (take_more rows i row h ∙ ap (λ r. take i rows ++ (r ∷ [])) is))
+  where
+    more : (l : List SeenData) → pairs_of [] (l ++ (row ∷ [])) ≡ pairs_of [] l ++ (row_alone row ∷ [])
+    more [] = refl
+    more (x ∷ l) = ap (λ rest. row_alone x ∷ rest) (more l)
+
+-- one new record more after the pass
+pub made_new : (tick : ℕ) (second : ℤ) (rows : List SeenData) (i : ℕ) (row : SeenData) → i < length rows → get_or rows i row ≡ row → (r : RecordData) (before so_far next : List RecordData) → so_far ≡ before ++ records_after tick second [] (take i rows) → r ≡ pair_after tick second (row_alone row) → next ≡ so_far ++ (r ∷ []) → next ≡ before ++ records_after tick second [] (take (i + 1) rows)
+made_new tick second rows i row h is r before so_far next so_far_is r_is next_is =
+    next_is
+    ∙ ap (λ x. so_far ++ (x ∷ [])) r_is
+    ∙ ap (λ l. l ++ (pair_after tick second (row_alone row) ∷ [])) so_far_is
+    ∙ append_assoc before (records_after tick second [] (take i rows)) (pair_after tick second (row_alone row) ∷ [])
+    ∙ ap (λ l. before ++ l) (sym (more (take i rows)))
+    ∙ ap (λ l. before ++ records_after tick second [] l) (sym (take_more rows i row h ∙ ap (λ x. take i rows ++ (x ∷ [])) is))
+  where
+    more : (l : List SeenData) → records_after tick second [] (l ++ (row ∷ [])) ≡ records_after tick second [] l ++ (pair_after tick second (row_alone row) ∷ [])
+    more [] = refl
+    more (x ∷ l) = ap (λ rest. pair_after tick second (row_alone x) ∷ rest) (more l)
+
+-- one chunk more that is shared
+pub shared_step : (slots : List Slot) (i : ℕ) (slot : Slot) → i < length slots → get_or slots i slot ≡ slot → (before so_far next : List RecordData) → so_far ≡ before ++ records_in (take i slots) → next ≡ so_far ++ slot_records slot → next ≡ before ++ records_in (take (i + 1) slots)
+shared_step slots i slot h is before so_far next so_far_is next_is =
+    next_is
+    ∙ ap (λ l. l ++ slot_records slot) so_far_is
+    ∙ append_assoc before (records_in (take i slots)) (slot_records slot)
+    ∙ ap (λ l. before ++ l) (sym (slot_taken slots i slot h is))
+
+-- the moves of a change are those of all records
+pub change_moves : (all : List RecordData) (rows : List SeenData) (change : Change) → IsChange all rows change → with_pairs (pairs_of (records_in change.others.now) change.rows.now) (with_same (length (records_in change.same.now)) no_moves) ≡ with_pairs (pairs_of all rows) no_moves
+change_moves all rows change is =
+    let first = records_in change.same.now in
+    let others = records_in change.others.now in
+    ap (with_pairs (pairs_of others change.rows.now)) (same_run first rows no_moves is.same)
+    ∙ sym (pairs_then (run_pairs first rows) (pairs_of others change.rows.now) no_moves)
+    ∙ ap (λ rest. with_pairs (run_pairs first rows ++ pairs_of others rest) no_moves) is.left
+    ∙ ap (λ ps. with_pairs ps no_moves) (sym (run_then first rows others))
+    ∙ ap (λ rs. with_pairs (pairs_of rs rows) no_moves) (sym is.parts)
