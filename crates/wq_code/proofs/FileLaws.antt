@@ -1,19 +1,21 @@
 -- Laws about program files.
-use Rattle.std.proofs.Common.{◌≡◌, ℕ, List, [], ◌∷◌, ◌++◌, Result, Ok, Err, refl, sym, ap, subst, ◌∙◌, ◌⊎◌, inl, inr, ◌<◌, lit<}
+use Rattle.std.proofs.Common.{◌≡◌, ℕ, zero, suc, true, List, [], ◌∷◌, ◌++◌, Result, Ok, Err, refl, sym, ap, subst, ◌∙◌, ◌⊎◌, inl, inr, length, ◌<◌}
 use Rattle.std.specs.Prelude.{◌≢◌, IfOk}
 use Rattle.std.proofs.lemmas.List.{append-nil}
-use Rattle.std.proofs.lemmas.List.Elements.{All-append}
+use Rattle.std.proofs.lemmas.List.Elements.{All-nil, All-append}
 use Rattle.wq_code.specs.Reading.{◌>>=◌, Gives, end_at}
 use Rattle.wq_code.specs.File.{raw_at, file_at}
-use Rattle.wq_code.specs.Spelling.{spelling, AreBytes, IsSpelling}
+use Rattle.wq_code.specs.Fits.{raw_fits}
+use Rattle.wq_code.specs.Spelling.{spelling_in, AreBytes, IsSpellingIn, IsSpelling}
 use Rattle.wq_code.specs.Law.{FilesAreSpellings, SpellingsAreReadBack, OneSpelling, NoneBeginsAnother, FaultsStay, FrontsAreCutShort, BeginASpelling, EndInAWrongNumber, CutShortAreFronts, EndsAreSpellings, FaultyBeginNone}
 use Rattle.wq_code.specs.declared.fault.FileFault.{FileFault}
 use Rattle.wq_code.specs.declared.fault.FileFault.TheVariants.{WrongMagic, OtherVersion, CutShort, BytesAfterEnd, UnknownOperation, BadOperand, OverLimit, NoMemory}
 use Rattle.wq_code.specs.declared.raw.Raw.{Raw}
 use Rattle.wq_code.proofs.Forms.{bind_then, ok_is}
-use Rattle.wq_code.proofs.FileForm.{raw-form}
+use Rattle.wq_code.proofs.FileForm.{raw_takes, raw_again}
+use Rattle.wq_code.proofs.FitsLemmas.{grows}
 use Rattle.wq_code.proofs.Steady.{Steady, with_more, raw_steady}
-use Rattle.wq_code.proofs.Ends.{Filled, Spoilt, Judged}
+use Rattle.wq_code.proofs.Ends.{Filled, Spoilt, Judged, zeros, zeros_len, zeros_are_bytes}
 use Rattle.wq_code.proofs.FileEnds.{raw_judged}
 
 -- nothing was left
@@ -24,7 +26,7 @@ ended (b ∷ bytes) rest e = absurd cc
 -- a spelling with bytes after it is read as its program
 spelled : (raw : Raw) (bytes more : List ℕ) → IsSpelling raw bytes → raw_at (bytes ++ more) ≡ Ok (raw, more)
 spelled raw bytes more s =
-    ap (λ (b : List ℕ). raw_at (b ++ more)) s.written ∙ raw-form.again raw more (s.within_limits, s.in_range)
+    ap (λ (b : List ℕ). raw_at (b ++ more)) s.1.written ∙ raw_again s.0 raw more (s.1.within_limits, s.1.in_range)
 
 -- a spelling is read back
 pub spellings_are_read_back : SpellingsAreReadBack
@@ -38,19 +40,20 @@ unfolding file_at
 file_is_spelling bytes raw fits e =
     bind_then (raw_at bytes) _ raw e (λ x ex e.
     bind_then (end_at x.1) _ raw e (λ rest er e.
-    let t = raw-form.takes bytes x fits ex in
-    let whole : bytes ≡ spelling x.0 =
-    t.0 ∙ ap (λ (r : List ℕ). spelling x.0 ++ r) (ended x.1 rest er) ∙ append-nil (spelling x.0) in
+    let t = raw_takes bytes x fits ex in
+    let whole : bytes ≡ spelling_in t.0 x.0 =
+    t.1.0 ∙ ap (λ (r : List ℕ). spelling_in t.0 x.0 ++ r) (ended x.1 rest er) ∙ append-nil (spelling_in t.0 x.0) in
     subst (λ (r : Raw). IsSpelling r bytes) (ok_is x.0 raw e)
-    (record { within_limits = t.1.0; in_range = t.1.1; written = whole })))
+    (t.0, record { within_limits = t.1.1.0; in_range = t.1.1.1; written = whole })))
 
 -- both of these
 pub files_are_spellings : FilesAreSpellings
 files_are_spellings bytes raw fits = (file_is_spelling bytes raw fits, spellings_are_read_back bytes raw)
 
--- two spellings of a program are one
+-- each version that can hold a program has one file of it
 pub one_spelling : OneSpelling
-one_spelling raw bytes other s t = s.written ∙ sym t.written
+one_spelling version raw fits range =
+    (record { within_limits = fits; in_range = range; written = refl }, λ bytes s. s.written)
 
 -- a spelling that begins another is all of it
 pub none_begins_another : NoneBeginsAnother
@@ -115,12 +118,18 @@ pub is_found : (bytes : List ℕ) (result : Result Raw FileFault) → AreBytes b
 is_found bytes (Ok raw) fits given = file_is_spelling bytes raw fits given
 is_found bytes (Err fault) fits given = tt
 
+-- a program that the code read keeps to the limits
+pub found_fits : (bytes : List ℕ) (result : Result Raw FileFault) → IfOk result (λ raw. IsSpelling raw bytes)
+    → IfOk result (λ raw. raw_fits raw ≡ true)
+found_fits bytes (Ok raw) s = grows s.0 raw s.1.within_limits
+found_fits bytes (Err fault) s = tt
+
 -- the bytes that fill a file that was cut short make it a spelling
 filled_begins : (bytes : List ℕ) → AreBytes bytes → raw_at bytes ≡ Err CutShort → Filled raw_at bytes → BeginASpelling bytes
 filled_begins bytes fits e f =
     let both = All-append (λ b. b < 256) bytes f.0 fits f.1 in
-    let t = raw-form.takes (bytes ++ f.0) (f.2, []) both f.3 in
-    (f.2, f.0, some, record { within_limits = t.1.0; in_range = t.1.1; written = t.0 ∙ append-nil (spelling f.2) })
+    let t = raw_takes (bytes ++ f.0) (f.2, []) both f.3 in
+    (f.2, f.0, some, (t.0, record { within_limits = t.1.1.0; in_range = t.1.1.1; written = t.1.0 ∙ append-nil (spelling_in t.0 f.2) }))
   where
     some : f.0 ≢ []
     some none =
@@ -142,9 +151,15 @@ err_is x y e = cc
 spoilt_ends : (bytes : List ℕ) → raw_at bytes ≡ Err CutShort → Spoilt raw_at bytes → EndInAWrongNumber bytes
 unfolding file_at
 spoilt_ends bytes e s =
-    let w = told_wrong s.0 s.1 in
-    let cut : file_at bytes ≡ Err CutShort = rw e refl in
-    (s.0, w.0, (λ told. w.1 (err_is s.0 CutShort (sym told ∙ cut))), (λ b small. rw (s.2 b) refl))
+    let w = told_wrong s.2 s.3 in
+    let cut : file_at bytes ≡ Err CutShort = rw e refl in (
+      s.0,
+      s.1,
+      s.2,
+      w.0,
+      (λ told. w.1 (err_is s.2 CutShort (sym told ∙ cut))),
+      (λ more len small. rw (s.4 more len) refl),
+    )
 
 cut_case : (bytes : List ℕ) → AreBytes bytes → (told : Result (Raw × List ℕ) FileFault) → raw_at bytes ≡ told
     → Judged raw_at bytes told → whole_of told ≡ Err CutShort → BeginASpelling bytes ⊎ EndInAWrongNumber bytes
@@ -171,33 +186,43 @@ followed : (raw : Raw) (front more : List ℕ) → more ≢ [] → IsSpelling ra
 unfolding file_at
 followed raw front more some s = behind_case more some (raw_at (front ++ more)) raw (spelled raw front more s)
 
-one_more : (b : ℕ) → b ∷ [] ≢ []
-one_more b e = absurd cc
+one_more : (b : ℕ) (more : List ℕ) → b ∷ more ≢ []
+one_more b more e = absurd cc
 
 -- a fault that stays is no other one
-stays_same : (bytes : List ℕ) (told fault : FileFault) → told ≢ CutShort → file_at bytes ≡ Err told → file_at bytes ≢ Err fault
-    → file_at (bytes ++ 0 ∷ []) ≡ Err fault → file_at bytes ≡ Err CutShort
-stays_same bytes told fault other e unsaid more =
-    let same : told ≡ fault = err_is told fault (sym (faults_stay bytes (0 ∷ []) told other e) ∙ more) in
+stays_same : (bytes more : List ℕ) (told fault : FileFault) → told ≢ CutShort → file_at bytes ≡ Err told → file_at bytes ≢ Err fault
+    → file_at (bytes ++ more) ≡ Err fault → file_at bytes ≡ Err CutShort
+stays_same bytes more told fault other e unsaid after =
+    let same : told ≡ fault = err_is told fault (sym (faults_stay bytes more told other e) ∙ after) in
     absurd (unsaid (e ∙ ap failed same))
 
--- bytes are cut short if they have no such fault, and have it with a byte after them
-wrong_case : (bytes : List ℕ) (fault : FileFault) → AreBytes bytes → fault ≢ BytesAfterEnd → (told : Result Raw FileFault)
-    → file_at bytes ≡ told → file_at bytes ≢ Err fault → file_at (bytes ++ 0 ∷ []) ≡ Err fault → file_at bytes ≡ Err CutShort
-wrong_case bytes fault fits other (Ok raw) e unsaid more =
-    absurd (other (err_is fault BytesAfterEnd (sym more ∙ followed raw bytes (0 ∷ []) (one_more 0) (file_is_spelling bytes raw fits e))))
-wrong_case bytes fault fits other (Err CutShort) e unsaid more = e
-wrong_case bytes fault fits other (Err WrongMagic) e unsaid more = stays_same bytes WrongMagic fault (λ e. absurd cc) e unsaid more
-wrong_case bytes fault fits other (Err OtherVersion) e unsaid more = stays_same bytes OtherVersion fault (λ e. absurd cc) e unsaid more
-wrong_case bytes fault fits other (Err BytesAfterEnd) e unsaid more = stays_same bytes BytesAfterEnd fault (λ e. absurd cc) e unsaid more
-wrong_case bytes fault fits other (Err UnknownOperation) e unsaid more = stays_same bytes UnknownOperation fault (λ e. absurd cc) e unsaid more
-wrong_case bytes fault fits other (Err BadOperand) e unsaid more = stays_same bytes BadOperand fault (λ e. absurd cc) e unsaid more
-wrong_case bytes fault fits other (Err OverLimit) e unsaid more = stays_same bytes OverLimit fault (λ e. absurd cc) e unsaid more
-wrong_case bytes fault fits other (Err NoMemory) e unsaid more = stays_same bytes NoMemory fault (λ e. absurd cc) e unsaid more
+-- bytes are cut short if they have no such fault, and have it with bytes after them
+wrong_case : (bytes more : List ℕ) (fault : FileFault) → more ≢ [] → AreBytes bytes → fault ≢ BytesAfterEnd
+    → (told : Result Raw FileFault) → file_at bytes ≡ told → file_at bytes ≢ Err fault → file_at (bytes ++ more) ≡ Err fault
+    → file_at bytes ≡ Err CutShort
+wrong_case bytes more fault some fits other (Ok raw) e unsaid after =
+    absurd (other (err_is fault BytesAfterEnd (sym after ∙ followed raw bytes more some (file_is_spelling bytes raw fits e))))
+wrong_case bytes more fault some fits other (Err CutShort) e unsaid after = e
+wrong_case bytes more fault some fits other (Err WrongMagic) e unsaid after = stays_same bytes more WrongMagic fault (λ e. absurd cc) e unsaid after
+wrong_case bytes more fault some fits other (Err OtherVersion) e unsaid after = stays_same bytes more OtherVersion fault (λ e. absurd cc) e unsaid after
+wrong_case bytes more fault some fits other (Err BytesAfterEnd) e unsaid after = stays_same bytes more BytesAfterEnd fault (λ e. absurd cc) e unsaid after
+wrong_case bytes more fault some fits other (Err UnknownOperation) e unsaid after = stays_same bytes more UnknownOperation fault (λ e. absurd cc) e unsaid after
+wrong_case bytes more fault some fits other (Err BadOperand) e unsaid after = stays_same bytes more BadOperand fault (λ e. absurd cc) e unsaid after
+wrong_case bytes more fault some fits other (Err OverLimit) e unsaid after = stays_same bytes more OverLimit fault (λ e. absurd cc) e unsaid after
+wrong_case bytes more fault some fits other (Err NoMemory) e unsaid after = stays_same bytes more NoMemory fault (λ e. absurd cc) e unsaid after
+
+-- so many bytes of a number are left, and some are
+left_case : (bytes : List ℕ) (left : ℕ) (fault : FileFault) → AreBytes bytes → fault ≢ BytesAfterEnd → file_at bytes ≢ Err fault
+    → ((more : List ℕ) → length more ≡ left → AreBytes more → file_at (bytes ++ more) ≡ Err fault) → file_at bytes ≡ Err CutShort
+left_case bytes zero fault fits other unsaid later =
+    absurd (unsaid (ap file_at (sym (append-nil bytes)) ∙ later [] refl (All-nil (λ b. b < 256))))
+left_case bytes (suc n) fault fits other unsaid later =
+    wrong_case bytes (zeros (suc n)) fault (one_more 0 (zeros n)) fits other (file_at bytes) refl unsaid
+    (later (zeros (suc n)) (zeros_len (suc n)) (zeros_are_bytes (suc n)))
 
 cut_from : (bytes : List ℕ) → AreBytes bytes → BeginASpelling bytes ⊎ EndInAWrongNumber bytes → file_at bytes ≡ Err CutShort
 cut_from bytes fits (inl f) = fronts_are_cut_short f.0 bytes f.1 f.2 f.3
-cut_from bytes fits (inr w) = wrong_case bytes w.0 fits w.1 (file_at bytes) refl w.2 (w.3 0 (lit< tt))
+cut_from bytes fits (inr w) = left_case bytes w.0 w.2 fits w.3 w.4 w.5
 
 cut_to : (bytes : List ℕ) → AreBytes bytes → file_at bytes ≡ Err CutShort → BeginASpelling bytes ⊎ EndInAWrongNumber bytes
 unfolding file_at
@@ -216,8 +241,9 @@ after_case : (bytes : List ℕ) → AreBytes bytes → (told : Result (Raw × Li
     → Judged raw_at bytes told → whole_of told ≡ Err BytesAfterEnd → HasASpelling bytes
 after_case bytes fits (Ok (raw, [])) e j is = absurd cc
 after_case bytes fits (Ok (raw, b ∷ more)) e j is =
-    let t = raw-form.takes bytes (raw, b ∷ more) fits e in
-    (raw, spelling raw, b ∷ more, (λ none. absurd cc), record { within_limits = t.1.0; in_range = t.1.1; written = refl }, t.0)
+    let t = raw_takes bytes (raw, b ∷ more) fits e in
+    let spelt : IsSpellingIn t.0 raw (spelling_in t.0 raw) = record { within_limits = t.1.1.0; in_range = t.1.1.1; written = refl } in
+    (raw, spelling_in t.0 raw, b ∷ more, (λ none. absurd cc), (t.0, spelt), t.1.0)
 after_case bytes fits (Err CutShort) e j is = absurd cc
 after_case bytes fits (Err WrongMagic) e j is = absurd cc
 after_case bytes fits (Err OtherVersion) e j is = absurd cc

@@ -1,32 +1,26 @@
 -- Fields that are read as they are written, and nothing else: each form of the file, one by one.
-use Rattle.std.proofs.Common.{◌≡◌, ℕ, zero, suc, ◌<◌, ◌≤◌, ◌^◌, Bool, true, false, cond, ltb, leb, eqb, List, [], ◌∷◌, ◌++◌, length, take, drop, get_or, Option, Some, None, Result, Ok, Err, refl, sym, ap, subst, ◌∙◌, append_assoc, arith, lit<}
-use Rattle.std.specs.Prelude.{ℤ, FitsSigned, ◌==◌, find, option_map}
+use Rattle.std.proofs.Common.{◌≡◌, ℕ, zero, suc, ◌<◌, ◌≤◌, ◌^◌, Bool, true, false, cond, ltb, leb, List, [], ◌∷◌, ◌++◌, length, take, drop, get_or, Result, Ok, Err, refl, sym, ap, subst, ◌∙◌, append_assoc, arith, lit<}
+use Rattle.std.specs.Prelude.{ℤ, FitsSigned}
 use Rattle.std.specs.List.{All, list_all, flat_map}
-use Rattle.std.specs.Int.{w16, w64, from_be_bytes, to_be_bytes, cast_signed, cast_unsigned}
-use Rattle.std.proofs.lemmas.Bool.{ltb-false, le-ltb, leb-true, le-leb, ltb-true, eqb-true, and_parts, and_from}
-use Rattle.std.proofs.lemmas.Option.{same_Some, cond_some}
+use Rattle.std.specs.Int.{w16, w32, w64, from_be_bytes, to_be_bytes, cast_signed, cast_unsigned}
+use Rattle.std.proofs.lemmas.Bool.{ltb-false, le-ltb, leb-true, le-leb, ltb-true, and_parts, and_from}
 use Rattle.std.proofs.lemmas.List.Sums.{AllPass-from_list_all, list_all-from_AllPass}
 use Rattle.std.proofs.lemmas.List.{take_at, drop_at, take-append-drop, length-append, length-take}
 use Rattle.std.proofs.lemmas.List.Concat.{flat_map-cons}
 use Rattle.std.proofs.lemmas.List.Elements.{All-nil, All-cons, All-head, All-tail, All-weaker}
-use Rattle.std.proofs.lemmas.Nat.{be_bytes_2, be_bytes_8, from_be_bytes-to_be_bytes_2, from_be_bytes-to_be_bytes_8}
+use Rattle.std.proofs.lemmas.Nat.{be_bytes_2, be_bytes_4, be_bytes_8, from_be_bytes-to_be_bytes_2, from_be_bytes-to_be_bytes_4, from_be_bytes-to_be_bytes_8}
 use Rattle.std.proofs.lemmas.Int.{of_z-to_z, to_z-of_z}
 use Rattle.std.proofs.Math.Facts.{sfits_to_z, Fits-of_z}
-use Rattle.wq_code.specs.Limit.{max_constant_text, max_entries}
-use Rattle.wq_code.specs.Fits.{is_short_text, is_list, is_pattern}
+use Rattle.wq_code.specs.Limit.{max_constant_text, max_entries, max_entries_in, room_in}
+use Rattle.wq_code.specs.Fits.{is_short_text, is_list, is_pattern, is_pattern_set}
 use Rattle.wq_glob.specs.Pattern.{PatternData}
 use Rattle.wq_glob.specs.declared.flag.Flags.{Flags}
 use Rattle.wq_code.specs.declared.fault.FileFault.{FileFault}
-use Rattle.wq_code.specs.declared.fault.FileFault.TheVariants.{CutShort, OverLimit, BadOperand, UnknownOperation}
-use Rattle.wq_base.specs.declared.compare.Case.{Case}
-use Rattle.wq_base.specs.declared.compare.Case.TheVariants.{Exact, Folded}
-use Rattle.wq_base.specs.declared.compare.Relation.{Relation}
-use Rattle.wq_base.specs.declared.compare.Relation.TheVariants.{Eq, Ne, Lt, Le, Gt, Ge}
-use Rattle.wq_code.specs.declared.operation.Op.{Op}
-use Rattle.wq_code.specs.declared.operation.Op.TheVariants.{Flag, Number, Text, Compare, Equal, Depth, OneOf, Match, Jump, JumpIfNot, JumpIf}
-use Rattle.wq_code.specs.Word.{code_of, a_of, b_of, blank_ops, flag_code, case_code, relation_code, op_of_code, flag_of_code, case_of_code, relation_of_code, with_a, with_b}
-use Rattle.wq_code.specs.Reading.{◌>>=◌, Reader, bytes_at, many_at, short_at, count_at, number_at, text_at, list_at, flags_in, pattern_at, or_file_fault, op_at}
-use Rattle.wq_code.specs.Spelling.{short, number, text, entries, flags_byte, pattern, instruction, AreBytes}
+use Rattle.wq_code.specs.declared.fault.FileFault.TheVariants.{CutShort, OverLimit, BadOperand}
+use Rattle.wq_code.specs.Reading.{◌>>=◌, Reader, bytes_at, many_at, short_at, long_at, wide_at, entries_at, count_at, number_at, text_at, list_at, flags_in, pattern_at, set_at}
+use Rattle.wq_code.specs.Spelling.{short, long, wide, number, text, entries, flags_byte, pattern, set, AreBytes}
+use Rattle.wq_code.specs.declared.version.Version.{Version}
+use Rattle.wq_code.specs.declared.version.Version.TheVariants.{First, Second}
 
 -- the value of a field that did not fail, and the bytes that were read of it
 pub bind_ok : {A B : Type 0} (read : Result A FileFault) (next : A → Result B FileFault) (y : B)
@@ -120,17 +114,49 @@ short-form = record {
   again = λ n rest lt. rw (bytes_at-again 2 (short n) rest refl, from_be_bytes-to_be_bytes_2 n lt) refl;
 }
 
--- a count with its limit
-pub count-form : (limit : ℕ) → limit < 2 ^ 16 → IsForm (count_at limit) short (λ n. n ≤ limit)
-unfolding count_at
-count-form limit small = record {
+-- a number of four bytes
+pub long-form : IsForm long_at long (λ n. n < 2 ^ 32)
+unfolding long_at
+long-form = record {
   takes = λ bytes x fits e.
-      let b = bind_ok (short_at bytes) _ x e in
-      let t = short-form.takes bytes b.0 fits b.1 in
-      let g = passed_ok (leb b.0.0 limit) OverLimit b.0 x b.2 in
-      subst (λ (y : ℕ × List ℕ). (bytes ≡ short y.0 ++ y.1) × (y.0 ≤ limit)) g.1 (t.0, leb-true _ _ g.0);
-  again = λ n rest le. rw (short-form.again n rest (omega arith), le-leb n limit le) refl;
+      let b = bind_ok (bytes_at 4 bytes) _ x e in
+      let t = bytes_at-takes 4 bytes b.0 b.1 in
+      let below = byte_below b.0.0 (front_are_bytes bytes b.0.0 b.0.1 fits t.0) in
+      let back : long (from_be_bytes w32 b.0.0) ≡ b.0.0 = be_bytes_4 b.0.0 _ t.1 below refl in
+      subst (λ (y : ℕ × List ℕ). (bytes ≡ long y.0 ++ y.1) × (y.0 < 2 ^ 32)) (ok_is _ x b.2)
+      (t.0 ∙ ap (λ (front : List ℕ). front ++ b.0.1) (sym back), omega (arith, below 0, below 1, below 2, below 3));
+  again = λ n rest lt. rw (bytes_at-again 4 (long n) rest refl, from_be_bytes-to_be_bytes_4 n lt) refl;
 }
+
+-- a number as wide as the version's
+pub wide-form : (version : Version) → IsForm (wide_at version) (wide version) (λ n. n < room_in version)
+wide-form First = record { takes = short-form.takes; again = short-form.again }
+wide-form Second = record { takes = long-form.takes; again = long-form.again }
+
+-- a count with its limit
+pub count-form : (number : Reader ℕ) (written : ℕ → List ℕ) (room : ℕ) → IsForm number written (λ n. n < room)
+    → (limit : ℕ) → limit < room → IsForm (count_at number limit) written (λ n. n ≤ limit)
+unfolding count_at
+count-form number written room form limit small = record {
+  takes = λ bytes x fits e.
+      let b = bind_ok (number bytes) _ x e in
+      let t = form.takes bytes b.0 fits b.1 in
+      let g = passed_ok (leb b.0.0 limit) OverLimit b.0 x b.2 in
+      subst (λ (y : ℕ × List ℕ). (bytes ≡ written y.0 ++ y.1) × (y.0 ≤ limit)) g.1 (t.0, leb-true _ _ g.0);
+  again = λ n rest le. rw (form.again n rest (omega arith), le-leb n limit le) refl;
+}
+
+-- the length of a text
+length-form : IsForm (count_at short_at max_constant_text) short (λ n. n ≤ max_constant_text)
+length-form = count-form short_at short (2 ^ 16) short-form max_constant_text (lit< tt)
+
+-- how many entries a list has
+entries-form : (version : Version) → IsForm (entries_at version) (wide version) (λ n. n ≤ max_entries_in version)
+entries-form First = record {
+  takes = λ bytes x fits e. let t = short-form.takes bytes x fits e in (t.0, omega (arith, t.1));
+  again = λ n rest le. short-form.again n rest (omega (arith, le));
+}
+entries-form Second = count-form long_at long (2 ^ 32) long-form max_entries (lit< tt)
 
 -- a number of eight bytes
 pub number-form : IsForm number_at number (λ n. FitsSigned w64 n)
@@ -159,15 +185,15 @@ pub text-form : IsForm text_at text IsText
 unfolding text_at
 text-form = record {
   takes = λ bytes x fits e.
-      let b = bind_ok (count_at max_constant_text bytes) _ x e in
-      let t = (count-form max_constant_text (lit< tt)).takes bytes b.0 fits b.1 in
+      let b = bind_ok (count_at short_at max_constant_text bytes) _ x e in
+      let t = length-form.takes bytes b.0 fits b.1 in
       let s = bytes_at-takes b.0.0 b.0.1 x b.2 in
       let rest = rest_are_bytes bytes (short b.0.0) b.0.1 fits t.0 in
       let whole : bytes ≡ text x.0 ++ x.1 =
       t.0 ∙ ap (λ (n : ℕ). short n ++ b.0.1) (sym s.1) ∙ ap (λ (r : List ℕ). short (length x.0) ++ r) s.0 in
       (whole, (le-leb _ _ (omega (arith, s.1, t.1)), front_are_bytes b.0.1 x.0 x.1 rest s.0));
   again = λ a rest h.
-      rw ((count-form max_constant_text (lit< tt)).again (length a) (a ++ rest) (leb-true _ _ h.0)) (bytes_at-again (length a) a rest refl);
+      rw (length-form.again (length a) (a ++ rest) (leb-true _ _ h.0)) (bytes_at-again (length a) a rest refl);
 }
 
 -- the rest after the first field of several
@@ -218,28 +244,29 @@ pub all_both : {A : Type 0} (P Q : A → Type 0) (xs : List A) → All P xs → 
 all_both P Q xs p q k d lt = (p k d lt, q k d lt)
 
 -- a list of texts
-abbrev pub IsList : List (List ℕ) → Type 0
-IsList texts = (is_list texts ≡ true) × All AreBytes texts
+abbrev pub IsList : Version → List (List ℕ) → Type 0
+IsList version texts = (is_list version texts ≡ true) × All AreBytes texts
 
 -- a list is read as it is written
-pub list-form : IsForm list_at entries IsList
+pub list-form : (version : Version) → IsForm (list_at version) (entries version) (IsList version)
 unfolding list_at
-list-form = record {
+list-form version = record {
   takes = λ bytes x fits e.
-      let b = bind_ok (short_at bytes) _ x e in
-      let t = short-form.takes bytes b.0 fits b.1 in
-      let rest = rest_are_bytes bytes (short b.0.0) b.0.1 fits t.0 in
+      let b = bind_ok (entries_at version bytes) _ x e in
+      let t = (entries-form version).takes bytes b.0 fits b.1 in
+      let rest = rest_are_bytes bytes (wide version b.0.0) b.0.1 fits t.0 in
       let m = (many-form text_at text IsText text-form b.0.0).takes b.0.1 x rest b.2 in
-      let whole : bytes ≡ entries x.0 ++ x.1 =
-      t.0 ∙ ap (λ (n : ℕ). short n ++ b.0.1) (sym m.1.0) ∙ ap (λ (r : List ℕ). short (length x.0) ++ r) m.0 in
+      let whole : bytes ≡ entries version x.0 ++ x.1 =
+      t.0 ∙ ap (λ (n : ℕ). wide version n ++ b.0.1) (sym m.1.0)
+      ∙ ap (λ (r : List ℕ). wide version (length x.0) ++ r) m.0 ∙ sym (append_assoc (wide version (length x.0)) (flat_map text x.0) x.1) in
       let each : list_all is_short_text x.0 ≡ true =
       list_all-from_AllPass is_short_text x.0 (All-weaker IsText (λ text. is_short_text text ≡ true) (λ text h. h.0) x.0 m.1.1) in
       (whole, (and_from _ _ (le-leb _ _ (omega (arith, m.1.0, t.1))) each, All-weaker IsText AreBytes (λ text h. h.1) x.0 m.1.1));
   again = λ a rest h.
-      let limits = and_parts (leb (length a) max_entries) (list_all is_short_text a) h.0 in
-      let few : length a < 2 ^ 16 = omega (arith, leb-true (length a) max_entries limits.0) in
+      let limits = and_parts (leb (length a) (max_entries_in version)) (list_all is_short_text a) h.0 in
       let good = all_both (λ text. is_short_text text ≡ true) AreBytes a (AllPass-from_list_all is_short_text a limits.1) h.1 in
-      rw (short-form.again (length a) (flat_map text a ++ rest) few) (many_again text_at text IsText text-form a rest good);
+      ap (list_at version) (append_assoc (wide version (length a)) (flat_map text a) rest)
+      ∙ rw ((entries-form version).again (length a) (flat_map text a ++ rest) (leb-true _ _ limits.0)) (many_again text_at text IsText text-form a rest good);
 }
 
 -- the flags of a pattern and the bits that stand for them
@@ -290,7 +317,8 @@ flags_again false false false false = (refl, refl)
 abbrev pub IsPattern : PatternData → Type 0
 IsPattern p = (is_pattern p ≡ true) × AreBytes p.text
 
-behind_byte : (b : ℕ) (bytes : List ℕ) → AreBytes (b ∷ bytes) → AreBytes bytes
+-- the bytes after the first one
+pub behind_byte : (b : ℕ) (bytes : List ℕ) → AreBytes (b ∷ bytes) → AreBytes bytes
 behind_byte b bytes h = All-tail (λ b. b < 256) b bytes h
 
 pattern_takes : (bytes : List ℕ) (x : PatternData × List ℕ) → AreBytes bytes → pattern_at bytes ≡ Ok x
@@ -322,122 +350,28 @@ pattern-form = record {
       rw (f.1, f.0, bytes_at-again (length p.text) p.text rest refl) refl;
 }
 
--- ---- instructions
+-- a set of patterns
+abbrev pub IsSet : List PatternData → Type 0
+IsSet patterns = (is_pattern_set patterns ≡ true) × All (λ p. AreBytes p.text) patterns
 
--- the value that was found passes the test
-passes_at : {A : Type 0} (test : A → Bool) (y : A) (others : Option A) (x : A) (b : Bool) → test y ≡ b
-    → (others ≡ Some x → test x ≡ true) → cond b (Some y) others ≡ Some x → test x ≡ true
-passes_at test y others x true is later e = ap test (sym (same_Some y x e)) ∙ is
-passes_at test y others x false is later e = later e
-
-find_passes : {A : Type 0} (test : A → Bool) (xs : List A) (x : A) → find test xs ≡ Some x → test x ≡ true
-find_passes test [] x e = absurd cc
-find_passes test (y ∷ xs) x e = passes_at test y (find test xs) x (test y) refl (find_passes test xs x) e
-
-flag_of_code-code : (a : ℕ) (x : Bool) → flag_of_code a ≡ Some x → flag_code x ≡ a
-flag_of_code-code a x e = eqb-true _ _ (find_passes (λ x. flag_code x == a) (false ∷ true ∷ []) x e)
-
-case_of_code-code : (a : ℕ) (x : Case) → case_of_code a ≡ Some x → case_code x ≡ a
-case_of_code-code a x e = eqb-true _ _ (find_passes (λ x. case_code x == a) (Exact ∷ Folded ∷ []) x e)
-
-relation_of_code-code : (a : ℕ) (x : Relation) → relation_of_code a ≡ Some x → relation_code x ≡ a
-relation_of_code-code a x e =
-    eqb-true _ _ (find_passes (λ x. relation_code x == a) (Eq ∷ Ne ∷ Lt ∷ Le ∷ Gt ∷ Ge ∷ []) x e)
-
-some_fault : {A : Type 0} (o : Option A) (fault : FileFault) (x : A) → or_file_fault o fault ≡ Ok x → o ≡ Some x
-some_fault (Some y) fault x e = ap (λ z. Some z) (ok_is y x e)
-some_fault None fault x e = absurd cc
-
--- no operand, or one that is 0
-abbrev Kept : ℕ → Op → Op → Type 0
-Kept operand op other = (operand ≡ 0) × (op ≡ other)
-
-kept : (operand : ℕ) (op other : Op) → cond (eqb operand 0) (Some op) None ≡ Some other → Kept operand op other
-kept operand op other e = let g = cond_some (eqb operand 0) op other e in (eqb-true operand 0 g.0, g.1)
-
-mapped : {A : Type 0} (o : Option A) (f : A → Op) (other : Op) → option_map f o ≡ Some other → (x : A) × (o ≡ Some x) × (f x ≡ other)
-mapped (Some x) f other e = (x, refl, same_Some (f x) other e)
-mapped None f other e = absurd cc
-
--- the spelling of an instruction, after its operand `a` was read, and after `b` was
-abbrev HasA : ℕ → Op → Op → Type 0
-HasA a op other = (code_of other ≡ code_of op) × (a_of other ≡ a)
-
-abbrev HasB : ℕ → Op → Op → Type 0
-HasB b op other = (code_of other ≡ code_of op) × (a_of other ≡ a_of op) × (b_of other ≡ b)
-
-with_a-has : (op : Op) (a : ℕ) (other : Op) → with_a op a ≡ Some other → HasA a op other
-unfolding with_a
-with_a-has (Flag old) a other e =
-    let m = mapped (flag_of_code a) Flag other e in
-    subst (HasA a (Flag old)) m.2 (refl, flag_of_code-code a m.0 m.1)
-with_a-has (Compare old) a other e =
-    let m = mapped (relation_of_code a) Compare other e in
-    subst (HasA a (Compare old)) m.2 (refl, relation_of_code-code a m.0 m.1)
-with_a-has (Equal old) a other e =
-    let m = mapped (case_of_code a) Equal other e in
-    subst (HasA a (Equal old)) m.2 (refl, case_of_code-code a m.0 m.1)
-with_a-has (Depth old) a other e =
-    let m = mapped (case_of_code a) Depth other e in
-    subst (HasA a (Depth old)) m.2 (refl, case_of_code-code a m.0 m.1)
-with_a-has (OneOf old place) a other e =
-    let m = mapped (case_of_code a) (λ case. OneOf case place) other e in
-    subst (HasA a (OneOf old place)) m.2 (refl, case_of_code-code a m.0 m.1)
-with_a-has op a other e = let k = kept a op other e in subst (HasA a op) k.1 (refl, sym k.0)
-
-with_b-has : (op : Op) (b : ℕ) (other : Op) → with_b op b ≡ Some other → HasB b op other
-unfolding with_b
-with_b-has (Number old) b other e = subst (HasB b (Number old)) (same_Some _ other e) (refl, refl, refl)
-with_b-has (Text old) b other e = subst (HasB b (Text old)) (same_Some _ other e) (refl, refl, refl)
-with_b-has (OneOf case old) b other e = subst (HasB b (OneOf case old)) (same_Some _ other e) (refl, refl, refl)
-with_b-has (Match old) b other e = subst (HasB b (Match old)) (same_Some _ other e) (refl, refl, refl)
-with_b-has (Jump old) b other e = subst (HasB b (Jump old)) (same_Some _ other e) (refl, refl, refl)
-with_b-has (JumpIfNot old) b other e = subst (HasB b (JumpIfNot old)) (same_Some _ other e) (refl, refl, refl)
-with_b-has (JumpIf old) b other e = subst (HasB b (JumpIf old)) (same_Some _ other e) (refl, refl, refl)
-with_b-has op b other e = let k = kept b op other e in subst (HasB b op) k.1 (refl, refl, sym k.0)
-
--- an instruction whose operands have room
-abbrev pub IsOp : Op → Type 0
-IsOp op = b_of op < 2 ^ 16
-
-op_takes : (bytes : List ℕ) (x : Op × List ℕ) → AreBytes bytes → op_at bytes ≡ Ok x
-    → (bytes ≡ instruction x.0 ++ x.1) × IsOp x.0
-unfolding op_at op_of_code
-op_takes [] x fits e = absurd cc
-op_takes (code ∷ []) x fits e =
-    let a = bind_ok (or_file_fault (op_of_code code) UnknownOperation) _ x e in absurd (let h = a.2 in cc)
-op_takes (code ∷ a ∷ bytes) x fits e =
-    let o = bind_ok (or_file_fault (op_of_code code) UnknownOperation) _ x e in
-    let p = bind_ok (or_file_fault (with_a o.0 a) BadOperand) _ x o.2 in
-    let b = bind_ok (short_at bytes) _ x p.2 in
-    let q = bind_ok (or_file_fault (with_b p.0 b.0.0) BadOperand) _ x b.2 in
-    let t = short-form.takes bytes b.0 (behind_byte a bytes (behind_byte code (a ∷ bytes) fits)) b.1 in
-    let coded : code_of o.0 ≡ code = eqb-true _ _ (find_passes (λ op. code_of op == code) blank_ops o.0 (some_fault _ _ _ o.1)) in
-    let has_a = with_a-has o.0 a p.0 (some_fault _ _ _ p.1) in
-    let has_b = with_b-has p.0 b.0.0 q.0 (some_fault _ _ _ q.1) in
-    let whole : (code ∷ a ∷ bytes) ≡ code_of q.0 ∷ a_of q.0 ∷ short (b_of q.0) ++ b.0.1 =
-    rw (has_b.0, has_a.0, coded, has_b.1, has_a.1, has_b.2) (ap (λ (r : List ℕ). code ∷ a ∷ r) t.0) in
-    subst (λ (y : Op × List ℕ). ((code ∷ a ∷ bytes) ≡ instruction y.0 ++ y.1) × IsOp y.0) (ok_is _ x q.2)
-    (whole, omega (arith, has_b.2, t.1))
-
-op_again : (op : Op) (rest : List ℕ) → IsOp op → op_at (instruction op ++ rest) ≡ Ok (op, rest)
-unfolding op_at op_of_code with_a with_b
-op_again (Flag true) rest h = rw (short-form.again 0 rest (lit< tt)) refl
-op_again (Flag false) rest h = rw (short-form.again 0 rest (lit< tt)) refl
-op_again (Compare Eq) rest h = rw (short-form.again 0 rest (lit< tt)) refl
-op_again (Compare Ne) rest h = rw (short-form.again 0 rest (lit< tt)) refl
-op_again (Compare Lt) rest h = rw (short-form.again 0 rest (lit< tt)) refl
-op_again (Compare Le) rest h = rw (short-form.again 0 rest (lit< tt)) refl
-op_again (Compare Gt) rest h = rw (short-form.again 0 rest (lit< tt)) refl
-op_again (Compare Ge) rest h = rw (short-form.again 0 rest (lit< tt)) refl
-op_again (Equal Exact) rest h = rw (short-form.again 0 rest (lit< tt)) refl
-op_again (Equal Folded) rest h = rw (short-form.again 0 rest (lit< tt)) refl
-op_again (Depth Exact) rest h = rw (short-form.again 0 rest (lit< tt)) refl
-op_again (Depth Folded) rest h = rw (short-form.again 0 rest (lit< tt)) refl
-op_again (OneOf Exact place) rest h = rw (short-form.again place rest h) refl
-op_again (OneOf Folded place) rest h = rw (short-form.again place rest h) refl
-op_again op rest h = rw (short-form.again (b_of op) rest h) refl
-
--- an instruction is read as it is written
-pub op-form : IsForm op_at instruction IsOp
-op-form = record { takes = op_takes; again = op_again }
+-- a set is read as it is written
+pub set-form : IsForm set_at set IsSet
+unfolding set_at
+set-form = record {
+  takes = λ bytes x fits e.
+      let b = bind_ok (count_at long_at max_entries bytes) _ x e in
+      let t = (entries-form Second).takes bytes b.0 fits b.1 in
+      let rest = rest_are_bytes bytes (long b.0.0) b.0.1 fits t.0 in
+      let m = (many-form pattern_at pattern IsPattern pattern-form b.0.0).takes b.0.1 x rest b.2 in
+      let whole : bytes ≡ set x.0 ++ x.1 =
+      t.0 ∙ ap (λ (n : ℕ). long n ++ b.0.1) (sym m.1.0) ∙ ap (λ (r : List ℕ). long (length x.0) ++ r) m.0
+      ∙ sym (append_assoc (long (length x.0)) (flat_map pattern x.0) x.1) in
+      let each : list_all is_pattern x.0 ≡ true =
+      list_all-from_AllPass is_pattern x.0 (All-weaker IsPattern (λ p. is_pattern p ≡ true) (λ p h. h.0) x.0 m.1.1) in
+      (whole, (and_from _ _ (le-leb _ _ (omega (arith, m.1.0, t.1))) each, All-weaker IsPattern (λ p. AreBytes p.text) (λ p h. h.1) x.0 m.1.1));
+  again = λ a rest h.
+      let limits = and_parts (leb (length a) max_entries) (list_all is_pattern a) h.0 in
+      let good = all_both (λ p. is_pattern p ≡ true) (λ p. AreBytes p.text) a (AllPass-from_list_all is_pattern a limits.1) h.1 in
+      ap set_at (append_assoc (long (length a)) (flat_map pattern a) rest)
+      ∙ rw ((entries-form Second).again (length a) (flat_map pattern a ++ rest) (leb-true _ _ limits.0)) (many_again pattern_at pattern IsPattern pattern-form a rest good);
+}

@@ -1,9 +1,12 @@
 pub mod Many
 pub mod FitsLemmas
 pub mod Forms
+pub mod OpForms
 pub mod FileForm
 pub mod Steady
 pub mod FileLaws
 pub mod Ends
 pub mod OpEnds
 pub mod FileEnds
+pub mod Firsts
+pub mod FirstRuns

@@ -1,21 +1,22 @@
 -- Patterns and instructions that end too early: some bytes after them complete each, unless the operand of an
 -- instruction has to be 0.
-use Rattle.std.proofs.Common.{◌≡◌, ℕ, ◌+◌, ◌*◌, ◌<◌, ◌≤◌, Bool, true, false, cond, ltb, eqb, List, [], ◌∷◌, ◌++◌, Option, Some, None, Ok, Err, refl, sym, subst, ◌∙◌, arith, lit<, inl, inr}
-use Rattle.std.specs.Prelude.{◌⊎◌}
+use Rattle.std.proofs.Common.{◌≡◌, ℕ, ◌<◌, ◌≤◌, Bool, true, false, cond, ltb, eqb, List, [], ◌∷◌, ◌++◌, Option, Some, None, Ok, Err, refl, sym, subst, ◌∙◌, arith, lit<, inl, inr}
 use Rattle.std.proofs.lemmas.Bool.{eqb-true}
 use Rattle.std.proofs.lemmas.List.Elements.{All-cons, All-tail}
 use Rattle.wq_code.specs.Word.{op_of_code, with_a, with_b}
-use Rattle.wq_code.specs.Reading.{◌>>=◌, Reader, or_file_fault, bytes_at, byte_at, short_at, flags_in, pattern_at, op_at}
+use Rattle.wq_code.specs.Reading.{◌>>=◌, Reader, or_file_fault, bytes_at, byte_at, wide_at, flags_in, pattern_at, set_at, op_at}
 use Rattle.wq_code.specs.Spelling.{AreBytes}
 use Rattle.wq_code.specs.declared.fault.FileFault.TheVariants.{CutShort, UnknownOperation, BadOperand}
+use Rattle.wq_code.specs.declared.version.Version.{Version}
+use Rattle.wq_code.specs.declared.version.Version.TheVariants.{First, Second}
 use Rattle.wq_code.specs.declared.operation.Op.{Op}
-use Rattle.wq_code.specs.declared.operation.Op.TheVariants.{Flag, Number, Text, WholeName, Compare, Equal, Depth, OneOf, Match, Jump, JumpIfNot, JumpIf}
+use Rattle.wq_code.specs.declared.operation.Op.TheVariants.{Flag, Number, Text, WholeName, Compare, Equal, Depth, OneOf, Match, AnyMatch, Jump, JumpIfNot, JumpIf}
 use Rattle.wq_base.specs.declared.compare.Case.TheVariants.{Exact}
 use Rattle.wq_base.specs.declared.compare.Relation.TheVariants.{Eq}
 use Rattle.wq_glob.specs.Pattern.{PatternData}
 use Rattle.wq_code.proofs.Forms.{bytes_at-again}
 use Rattle.wq_code.proofs.Steady.{bytes_steady}
-use Rattle.wq_code.proofs.Ends.{Filled, Spoilt, Judged, Ends, passed_on, both, then_ends, value_ends, zeros, zeros_are_bytes, bytes_end, short_of_two}
+use Rattle.wq_code.proofs.Ends.{Filled, Judged, Ends, IsTest, passed_on, both, then_ends, value_ends, zeros, zeros_are_bytes, bytes_end, tested, tested_ends, wide_is, width_in, value_in, set_ends}
 
 -- ---- patterns
 
@@ -72,6 +73,9 @@ pattern_judged (bits ∷ n ∷ bytes) fits =
 pub pattern_ends : Ends pattern_at
 pattern_ends = record { fills = pattern_fills; judged = pattern_judged }
 
+pub sets_end : Ends set_at
+sets_end = set_ends pattern_ends
+
 -- ---- instructions
 
 zero_a : (op : Op) → (other : Op) × (with_a op 0 ≡ Some other)
@@ -89,6 +93,7 @@ zero_b (Number old) = (Number 0, refl)
 zero_b (Text old) = (Text 0, refl)
 zero_b (OneOf case old) = (OneOf case 0, refl)
 zero_b (Match old) = (Match 0, refl)
+zero_b (AnyMatch old) = (AnyMatch 0, refl)
 zero_b (Jump old) = (Jump 0, refl)
 zero_b (JumpIfNot old) = (JumpIfNot 0, refl)
 zero_b (JumpIf old) = (JumpIf 0, refl)
@@ -108,101 +113,83 @@ none_b (Number old) n m le e = absurd cc
 none_b (Text old) n m le e = absurd cc
 none_b (OneOf case old) n m le e = absurd cc
 none_b (Match old) n m le e = absurd cc
+none_b (AnyMatch old) n m le e = absurd cc
 none_b (Jump old) n m le e = absurd cc
 none_b (JumpIfNot old) n m le e = absurd cc
 none_b (JumpIf old) n m le e = absurd cc
 none_b op n m le e = none_over op n m le (eqb m 0) refl e
 
 -- the operand `b` of an instruction
-b_at : Op → Reader Op
-b_at op bytes = short_at bytes >>= λ b. or_file_fault (with_b op b.0) BadOperand >>= λ op. Ok (op, b.1)
+abbrev b_at : Version → Op → Reader Op
+b_at version op = tested (wide_at version) (with_b op) BadOperand
 
-b_of_two : (op : Op) (b c : ℕ) (bytes : List ℕ) (found : Option Op) → with_b op (b * 256 + c) ≡ found
-    → b_at op (b ∷ c ∷ bytes) ≡ (or_file_fault found BadOperand >>= λ op. Ok (op, bytes))
-unfolding b_at
-b_of_two op b c bytes found is = rw (short_of_two b c bytes, is) refl
+b_test : (op : Op) → IsTest (with_b op)
+b_test op = record { first = zero_b op; over = λ n m le e. none_b op n m le e }
 
-b_filled : (op : Op) → Filled (b_at op) []
-b_filled op = let z = zero_b op in (zeros 2, zeros_are_bytes 2, z.0, b_of_two op 0 0 [] (Some z.0) z.1)
-
-b_half : (op : Op) (b : ℕ) (found : Option Op) → with_b op (b * 256 + 0) ≡ found
-    → Filled (b_at op) (b ∷ []) ⊎ Spoilt (b_at op) (b ∷ [])
-b_half op b (Some other) is = inl (zeros 1, zeros_are_bytes 1, other, b_of_two op b 0 [] (Some other) is)
-b_half op b None is =
-    inr (BadOperand, inr refl, λ c. b_of_two op b c [] None (none_b op (b * 256 + 0) (b * 256 + c) (omega arith) is))
-
-b_most : (op : Op) (b c : ℕ) (bytes : List ℕ) → AreBytes bytes → (found : Option Op)
-    → Judged (b_at op) (b ∷ c ∷ bytes) (or_file_fault found BadOperand >>= λ op. Ok (op, bytes))
-b_most op b c bytes fits (Some other) = fits
-b_most op b c bytes fits None = tt
-
-b_judged : (op : Op) (bytes : List ℕ) → AreBytes bytes → Judged (b_at op) bytes (b_at op bytes)
-unfolding b_at short_at bytes_at
-b_judged op [] fits = inl (b_filled op)
-b_judged op (b ∷ []) fits = b_half op b (with_b op (b * 256 + 0)) refl
-b_judged op (b ∷ c ∷ bytes) fits =
-    subst (Judged (b_at op) (b ∷ c ∷ bytes)) (sym (b_of_two op b c bytes (with_b op (b * 256 + c)) refl))
-    (b_most op b c bytes (All-tail (λ b. b < 256) c bytes (All-tail (λ b. b < 256) b (c ∷ bytes) fits)) (with_b op (b * 256 + c)))
+b_ends : (version : Version) (op : Op) → Ends (b_at version op)
+b_ends version op =
+    tested_ends (wide_at version) (width_in version) (value_in version) (with_b op) BadOperand (wide_is version) (b_test op) (inr refl)
 
 -- both operands of an instruction
-operands_at : Op → Reader Op
-operands_at op bytes = byte_at bytes >>= λ a. or_file_fault (with_a op a.0) BadOperand >>= λ op. b_at op a.1
+operands_at : Version → Op → Reader Op
+operands_at version op bytes = byte_at bytes >>= λ a. or_file_fault (with_a op a.0) BadOperand >>= λ op. b_at version op a.1
 
-operands_read : (op other : Op) (a : ℕ) (bytes : List ℕ) → with_a op a ≡ Some other
-    → operands_at op (a ∷ bytes) ≡ b_at other bytes
+operands_read : (version : Version) (op other : Op) (a : ℕ) (bytes : List ℕ) → with_a op a ≡ Some other
+    → operands_at version op (a ∷ bytes) ≡ b_at version other bytes
 unfolding operands_at
-operands_read op other a bytes is = rw is refl
+operands_read version op other a bytes is = rw is refl
 
-operands_filled : (op : Op) → Filled (operands_at op) []
-operands_filled op =
+operands_filled : (version : Version) (op : Op) → Filled (operands_at version op) []
+operands_filled version op =
     let z = zero_a op in
-    let f = b_filled z.0 in
-    (0 ∷ f.0, All-cons (λ b. b < 256) 0 f.0 (lit< tt) f.1, f.2, operands_read op z.0 0 f.0 z.1 ∙ f.3)
+    let f = (b_ends version z.0).fills in
+    (0 ∷ f.0, All-cons (λ b. b < 256) 0 f.0 (lit< tt) f.1, f.2, operands_read version op z.0 0 f.0 z.1 ∙ f.3)
 
-operands_told : (op : Op) (a : ℕ) (bytes : List ℕ) → AreBytes bytes → (found : Option Op) → with_a op a ≡ found
-    → Judged (operands_at op) (a ∷ bytes) (or_file_fault found BadOperand >>= λ op. b_at op bytes)
-operands_told op a bytes fits (Some other) is =
-    passed_on (operands_at op) (b_at other) (a ∷ bytes) bytes (λ more. operands_read op other a (bytes ++ more) is)
-    (b_at other bytes) (b_judged other bytes fits)
-operands_told op a bytes fits None is = tt
+operands_told : (version : Version) (op : Op) (a : ℕ) (bytes : List ℕ) → AreBytes bytes → (found : Option Op) → with_a op a ≡ found
+    → Judged (operands_at version op) (a ∷ bytes) (or_file_fault found BadOperand >>= λ op. b_at version op bytes)
+operands_told version op a bytes fits (Some other) is =
+    passed_on (operands_at version op) (b_at version other) (a ∷ bytes) bytes (λ more. operands_read version op other a (bytes ++ more) is)
+    (b_at version other bytes) ((b_ends version other).judged bytes fits)
+operands_told version op a bytes fits None is = tt
 
-operands_judged : (op : Op) (bytes : List ℕ) → AreBytes bytes → Judged (operands_at op) bytes (operands_at op bytes)
+operands_judged : (version : Version) (op : Op) (bytes : List ℕ) → AreBytes bytes → Judged (operands_at version op) bytes (operands_at version op bytes)
 unfolding operands_at
-operands_judged op [] fits = inl (operands_filled op)
-operands_judged op (a ∷ bytes) fits = operands_told op a bytes (All-tail (λ b. b < 256) a bytes fits) (with_a op a) refl
+operands_judged version op [] fits = inl (operands_filled version op)
+operands_judged version op (a ∷ bytes) fits = operands_told version op a bytes (All-tail (λ b. b < 256) a bytes fits) (with_a op a) refl
 
-op_read : (code : ℕ) (op : Op) (bytes : List ℕ) → op_of_code code ≡ Some op → op_at (code ∷ bytes) ≡ operands_at op bytes
-unfolding op_at operands_at b_at
-op_read code op bytes is = rw is refl
+op_read : (version : Version) (code : ℕ) (op : Op) (bytes : List ℕ) → op_of_code version code ≡ Some op → op_at version (code ∷ bytes) ≡ operands_at version op bytes
+unfolding op_at operands_at
+op_read version code op bytes is = rw is refl
 
-op_bad : (code : ℕ) (bytes : List ℕ) → op_of_code code ≡ None → op_at (code ∷ bytes) ≡ Err UnknownOperation
+op_bad : (version : Version) (code : ℕ) (bytes : List ℕ) → op_of_code version code ≡ None → op_at version (code ∷ bytes) ≡ Err UnknownOperation
 unfolding op_at
-op_bad code bytes is = rw is refl
+op_bad version code bytes is = rw is refl
 
-coded_4 : op_of_code 4 ≡ Some WholeName
+coded_4 : (version : Version) → op_of_code version 4 ≡ Some WholeName
 unfolding op_of_code
-coded_4 = refl
+coded_4 First = refl
+coded_4 Second = refl
 
-op_filled : Filled op_at []
-op_filled =
-    let f = operands_filled WholeName in
-    (4 ∷ f.0, All-cons (λ b. b < 256) 4 f.0 (lit< tt) f.1, f.2, op_read 4 WholeName f.0 coded_4 ∙ f.3)
+op_filled : (version : Version) → Filled (op_at version) []
+op_filled version =
+    let f = operands_filled version WholeName in
+    (4 ∷ f.0, All-cons (λ b. b < 256) 4 f.0 (lit< tt) f.1, f.2, op_read version 4 WholeName f.0 (coded_4 version) ∙ f.3)
 
-op_told : (code : ℕ) (bytes : List ℕ) → AreBytes bytes → (found : Option Op) → op_of_code code ≡ found
-    → Judged op_at (code ∷ bytes) (op_at (code ∷ bytes))
-op_told code bytes fits (Some op) is =
-    subst (Judged op_at (code ∷ bytes)) (sym (op_read code op bytes is))
-    (passed_on op_at (operands_at op) (code ∷ bytes) bytes (λ more. op_read code op (bytes ++ more) is) (operands_at op bytes)
-    (operands_judged op bytes fits))
-op_told code bytes fits None is = subst (Judged op_at (code ∷ bytes)) (sym (op_bad code bytes is)) tt
+op_told : (version : Version) (code : ℕ) (bytes : List ℕ) → AreBytes bytes → (found : Option Op) → op_of_code version code ≡ found
+    → Judged (op_at version) (code ∷ bytes) (op_at version (code ∷ bytes))
+op_told version code bytes fits (Some op) is =
+    subst (Judged (op_at version) (code ∷ bytes)) (sym (op_read version code op bytes is))
+    (passed_on (op_at version) (operands_at version op) (code ∷ bytes) bytes (λ more. op_read version code op (bytes ++ more) is) (operands_at version op bytes)
+    (operands_judged version op bytes fits))
+op_told version code bytes fits None is = subst (Judged (op_at version) (code ∷ bytes)) (sym (op_bad version code bytes is)) tt
 
-op_none : op_at [] ≡ Err CutShort
+op_none : (version : Version) → op_at version [] ≡ Err CutShort
 unfolding op_at
-op_none = refl
+op_none version = refl
 
-op_judged : (bytes : List ℕ) → AreBytes bytes → Judged op_at bytes (op_at bytes)
-op_judged [] fits = subst (Judged op_at []) (sym op_none) (inl op_filled)
-op_judged (code ∷ bytes) fits = op_told code bytes (All-tail (λ b. b < 256) code bytes fits) (op_of_code code) refl
+op_judged : (version : Version) (bytes : List ℕ) → AreBytes bytes → Judged (op_at version) bytes (op_at version bytes)
+op_judged version [] fits = subst (Judged (op_at version) []) (sym (op_none version)) (inl (op_filled version))
+op_judged version (code ∷ bytes) fits = op_told version code bytes (All-tail (λ b. b < 256) code bytes fits) (op_of_code version code) refl
 
-pub op_ends : Ends op_at
-op_ends = record { fills = op_filled; judged = op_judged }
+pub op_ends : (version : Version) → Ends (op_at version)
+op_ends version = record { fills = op_filled version; judged = op_judged version }

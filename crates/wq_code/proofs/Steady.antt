@@ -1,15 +1,17 @@
 -- Bytes that follow change nothing of the reading before them, nor of its fault, unless the bytes were cut short.
 use Rattle.std.proofs.Common.{◌≡◌, ℕ, zero, suc, Bool, true, false, cond, ltb, leb, eqb, List, [], ◌∷◌, ◌++◌, length, Result, Ok, Err, refl, arith, inl, inr}
-use Rattle.std.specs.Prelude.{codes}
+use Rattle.std.specs.Prelude.{codes, ◌==◌, find}
 use Rattle.std.proofs.lemmas.Bool.{cases_lt, lt-ltb, le-ltb}
 use Rattle.std.proofs.lemmas.List.{length-append, take-append-le, drop-append-le}
-use Rattle.wq_code.specs.Limit.{max_table_rows, max_constant_text}
+use Rattle.wq_code.specs.Limit.{max_rows_in, max_constant_text, max_entries}
 use Rattle.wq_code.specs.Word.{op_of_code, with_a, with_b}
-use Rattle.wq_code.specs.Reading.{◌>>=◌, Reader, or_file_fault, bytes_at, byte_at, exact_at, many_at, short_at, count_at, number_at, text_at, list_at, flags_in, pattern_at, op_at}
-use Rattle.wq_code.specs.File.{head_at, counts_at, tables_at, raw_at}
+use Rattle.wq_code.specs.Reading.{◌>>=◌, Reader, or_file_fault, bytes_at, byte_at, exact_at, many_at, short_at, long_at, wide_at, entries_at, count_at, number_at, text_at, list_at, flags_in, pattern_at, set_at, op_at}
+use Rattle.wq_code.specs.File.{version_code, head_at, rows_at, sets_count_at, counts_at, tables_at, raw_at}
 use Rattle.wq_code.specs.declared.fault.FileFault.{FileFault}
 use Rattle.wq_code.specs.declared.fault.FileFault.TheVariants.{WrongMagic, OtherVersion, CutShort, BytesAfterEnd, UnknownOperation, BadOperand, OverLimit, NoMemory}
 use Rattle.wq_code.specs.declared.file.Counts.{Counts}
+use Rattle.wq_code.specs.declared.version.Version.{Version}
+use Rattle.wq_code.specs.declared.version.Version.TheVariants.{First, Second}
 
 -- a second reading, of more bytes, gives the result of the first, `lists_after`; nothing is claimed if the first was
 -- cut short
@@ -27,7 +29,7 @@ abbrev pub IsSteady : {A : Type 0} → Reader A → Type 0
 IsSteady field = (bytes more : List ℕ) → Steady (with_more more) (field bytes) (field (bytes ++ more))
 
 -- one reading after the other
-steady_then : {A B : Type 0} (grow : A → A) (grow_next : B → B) (first second : Result A FileFault)
+pub steady_then : {A B : Type 0} (grow : A → A) (grow_next : B → B) (first second : Result A FileFault)
     (next next_second : A → Result B FileFault) → Steady grow first second
     → ((x : A) → Steady grow_next (next x) (next_second (grow x)))
     → Steady grow_next (first >>= next) (second >>= next_second)
@@ -53,7 +55,7 @@ steady_fault grow OverLimit = refl
 steady_fault grow NoMemory = refl
 
 -- a reader that reads no bytes
-steady_same : {A : Type 0} (read : Result A FileFault) → Steady (λ x. x) read read
+pub steady_same : {A : Type 0} (read : Result A FileFault) → Steady (λ x. x) read read
 steady_same (Ok x) = refl
 steady_same (Err fault) = steady_fault (λ x. x) fault
 
@@ -70,7 +72,7 @@ bytes_steady n bytes more =
       ) refl
     ]
 
-byte_steady : IsSteady byte_at
+pub byte_steady : IsSteady byte_at
 byte_steady [] more = tt
 byte_steady (b ∷ bytes) more = refl
 
@@ -80,7 +82,7 @@ same_byte : (fault : FileFault) (more : List ℕ) (same : Bool) (first second : 
 same_byte fault more true first second h = h
 same_byte fault more false first second h = steady_fault (λ rest. rest ++ more) fault
 
-exact_steady : (fault : FileFault) (xs bytes more : List ℕ)
+pub exact_steady : (fault : FileFault) (xs bytes more : List ℕ)
     → Steady (λ rest. rest ++ more) (exact_at fault xs bytes) (exact_at fault xs (bytes ++ more))
 exact_steady fault [] bytes more = refl
 exact_steady fault (x ∷ xs) [] more = tt
@@ -103,10 +105,22 @@ count_tested : (more : List ℕ) (x : ℕ × List ℕ) (few : Bool)
 count_tested more x true = refl
 count_tested more x false = refl
 
-pub count_steady : (limit : ℕ) → IsSteady (count_at limit)
+pub long_steady : IsSteady long_at
+unfolding long_at
+long_steady bytes more = steady_then (with_more more) (with_more more) (bytes_at 4 bytes) _ _ _ (bytes_steady 4 bytes more) (λ x. refl)
+
+pub wide_steady : (version : Version) → IsSteady (wide_at version)
+wide_steady First = short_steady
+wide_steady Second = long_steady
+
+pub count_steady : (number : Reader ℕ) → IsSteady number → (limit : ℕ) → IsSteady (count_at number limit)
 unfolding count_at
-count_steady limit bytes more =
-    steady_then (with_more more) (with_more more) (short_at bytes) _ _ _ (short_steady bytes more) (λ x. count_tested more x (leb x.0 limit))
+count_steady number h limit bytes more =
+    steady_then (with_more more) (with_more more) (number bytes) _ _ _ (h bytes more) (λ x. count_tested more x (leb x.0 limit))
+
+pub entries_steady : (version : Version) → IsSteady (entries_at version)
+entries_steady First = short_steady
+entries_steady Second = count_steady long_at long_steady max_entries
 
 pub number_steady : IsSteady number_at
 unfolding number_at
@@ -115,13 +129,13 @@ number_steady bytes more = steady_then (with_more more) (with_more more) (bytes_
 pub text_steady : IsSteady text_at
 unfolding text_at
 text_steady bytes more =
-    steady_then (with_more more) (with_more more) (count_at max_constant_text bytes) _ _ _ (count_steady max_constant_text bytes more)
+    steady_then (with_more more) (with_more more) (count_at short_at max_constant_text bytes) _ _ _ (count_steady short_at short_steady max_constant_text bytes more)
     (λ x. bytes_steady x.0 x.1 more)
 
-pub list_steady : IsSteady list_at
+pub list_steady : (version : Version) → IsSteady (list_at version)
 unfolding list_at
-list_steady bytes more =
-    steady_then (with_more more) (with_more more) (short_at bytes) _ _ _ (short_steady bytes more)
+list_steady version bytes more =
+    steady_then (with_more more) (with_more more) (entries_at version bytes) _ _ _ (entries_steady version bytes more)
     (λ x. many_steady text_at text_steady x.0 x.1 more)
 
 pub pattern_steady : IsSteady pattern_at
@@ -133,52 +147,72 @@ pattern_steady bytes more =
     steady_then (with_more more) (with_more more) (byte_at bits.1) _ _ _ (byte_steady bits.1 more) (λ n.
     steady_then (with_more more) (with_more more) (bytes_at n.0 n.1) _ _ _ (bytes_steady n.0 n.1 more) (λ text. refl))))
 
-pub op_steady : IsSteady op_at
+pub set_steady : IsSteady set_at
+unfolding set_at
+set_steady bytes more =
+    steady_then (with_more more) (with_more more) (count_at long_at max_entries bytes) _ _ _
+    (count_steady long_at long_steady max_entries bytes more)
+    (λ x. many_steady pattern_at pattern_steady x.0 x.1 more)
+
+pub op_steady : (version : Version) → IsSteady (op_at version)
 unfolding op_at
-op_steady bytes more =
+op_steady version bytes more =
     steady_then (with_more more) (with_more more) (byte_at bytes) _ _ _ (byte_steady bytes more) (λ code.
-    steady_then (λ op. op) (with_more more) (or_file_fault (op_of_code code.0) UnknownOperation) _ _ _
-    (steady_same (or_file_fault (op_of_code code.0) UnknownOperation)) (λ blank.
+    steady_then (λ op. op) (with_more more) (or_file_fault (op_of_code version code.0) UnknownOperation) _ _ _
+    (steady_same (or_file_fault (op_of_code version code.0) UnknownOperation)) (λ blank.
     steady_then (with_more more) (with_more more) (byte_at code.1) _ _ _ (byte_steady code.1 more) (λ a.
     steady_then (λ op. op) (with_more more) (or_file_fault (with_a blank a.0) BadOperand) _ _ _
     (steady_same (or_file_fault (with_a blank a.0) BadOperand)) (λ half.
-    steady_then (with_more more) (with_more more) (short_at a.1) _ _ _ (short_steady a.1 more) (λ b.
+    steady_then (with_more more) (with_more more) (wide_at version a.1) _ _ _ (wide_steady version a.1 more) (λ b.
     steady_then (λ op. op) (with_more more) (or_file_fault (with_b half b.0) BadOperand) _ _ _
     (steady_same (or_file_fault (with_b half b.0) BadOperand)) (λ op. refl))))))
 
-pub head_steady : (bytes more : List ℕ) → Steady (λ rest. rest ++ more) (head_at bytes) (head_at (bytes ++ more))
+head_steady : IsSteady head_at
 unfolding head_at
 head_steady bytes more =
-    steady_then (λ rest. rest ++ more) (λ rest. rest ++ more) (exact_at WrongMagic (codes "WQPF") bytes) _ _ _
-    (exact_steady WrongMagic (codes "WQPF") bytes more) (λ rest. exact_steady OtherVersion (1 ∷ []) rest more)
+    steady_then (λ rest. rest ++ more) (with_more more) (exact_at WrongMagic (codes "WQPF") bytes) _ _ _
+    (exact_steady WrongMagic (codes "WQPF") bytes more) (λ rest.
+    steady_then (with_more more) (with_more more) (byte_at rest) _ _ _ (byte_steady rest more) (λ code.
+    steady_then (λ v. v) (with_more more) (or_file_fault (find (λ v. version_code v == code.0) (First ∷ Second ∷ [])) OtherVersion) _ _ _
+    (steady_same (or_file_fault (find (λ v. version_code v == code.0) (First ∷ Second ∷ [])) OtherVersion)) (λ v. refl)))
 
-pub counts_steady : IsSteady counts_at
+pub rows_steady : (version : Version) → IsSteady (rows_at version)
+rows_steady version = count_steady (wide_at version) (wide_steady version) (max_rows_in version)
+
+pub sets_steady : (version : Version) → IsSteady (sets_count_at version)
+sets_steady First bytes more = refl
+sets_steady Second bytes more = rows_steady Second bytes more
+
+pub counts_steady : (version : Version) → IsSteady (counts_at version)
 unfolding counts_at
-counts_steady bytes more =
-    steady_then (with_more more) (with_more more) (count_at max_table_rows bytes) _ _ _ (count_steady max_table_rows bytes more) (λ a.
-    steady_then (with_more more) (with_more more) (count_at max_table_rows a.1) _ _ _ (count_steady max_table_rows a.1 more) (λ b.
-    steady_then (with_more more) (with_more more) (count_at max_table_rows b.1) _ _ _ (count_steady max_table_rows b.1 more) (λ c.
-    steady_then (with_more more) (with_more more) (count_at max_table_rows c.1) _ _ _ (count_steady max_table_rows c.1 more) (λ d.
-    steady_then (with_more more) (with_more more) (count_at max_table_rows d.1) _ _ _ (count_steady max_table_rows d.1 more) (λ e. refl)))))
+counts_steady v bytes more =
+    steady_then (with_more more) (with_more more) (rows_at v bytes) _ _ _ (rows_steady v bytes more) (λ a.
+    steady_then (with_more more) (with_more more) (rows_at v a.1) _ _ _ (rows_steady v a.1 more) (λ b.
+    steady_then (with_more more) (with_more more) (rows_at v b.1) _ _ _ (rows_steady v b.1 more) (λ c.
+    steady_then (with_more more) (with_more more) (rows_at v c.1) _ _ _ (rows_steady v c.1 more) (λ d.
+    steady_then (with_more more) (with_more more) (sets_count_at v d.1) _ _ _ (sets_steady v d.1 more) (λ s.
+    steady_then (with_more more) (with_more more) (rows_at v s.1) _ _ _ (rows_steady v s.1 more) (λ e. refl))))))
 
-tables_steady : (counts : Counts) → IsSteady (tables_at counts)
+pub tables_steady : (version : Version) (counts : Counts) → IsSteady (tables_at version counts)
 unfolding tables_at
-tables_steady counts bytes more =
+tables_steady v counts bytes more =
     steady_then (with_more more) (with_more more) (many_at number_at counts.nums bytes) _ _ _
     (many_steady number_at number_steady counts.nums bytes more) (λ a.
     steady_then (with_more more) (with_more more) (many_at text_at counts.texts a.1) _ _ _
     (many_steady text_at text_steady counts.texts a.1 more) (λ b.
-    steady_then (with_more more) (with_more more) (many_at list_at counts.lists b.1) _ _ _
-    (many_steady list_at list_steady counts.lists b.1 more) (λ c.
+    steady_then (with_more more) (with_more more) (many_at (list_at v) counts.lists b.1) _ _ _
+    (many_steady (list_at v) (list_steady v) counts.lists b.1 more) (λ c.
     steady_then (with_more more) (with_more more) (many_at pattern_at counts.patterns c.1) _ _ _
     (many_steady pattern_at pattern_steady counts.patterns c.1 more) (λ d.
-    steady_then (with_more more) (with_more more) (many_at op_at counts.code d.1) _ _ _
-    (many_steady op_at op_steady counts.code d.1 more) (λ e. refl)))))
+    steady_then (with_more more) (with_more more) (many_at set_at counts.sets d.1) _ _ _
+    (many_steady set_at set_steady counts.sets d.1 more) (λ s.
+    steady_then (with_more more) (with_more more) (many_at (op_at v) counts.code s.1) _ _ _
+    (many_steady (op_at v) (op_steady v) counts.code s.1 more) (λ e. refl))))))
 
 -- a program is read alike whatever bytes follow
 pub raw_steady : IsSteady raw_at
 unfolding raw_at
 raw_steady bytes more =
-    steady_then (λ rest. rest ++ more) (with_more more) (head_at bytes) _ _ _ (head_steady bytes more) (λ rest.
-    steady_then (with_more more) (with_more more) (counts_at rest) _ _ _ (counts_steady rest more)
-    (λ counts. tables_steady counts.0 counts.1 more))
+    steady_then (with_more more) (with_more more) (head_at bytes) _ _ _ (head_steady bytes more) (λ head.
+    steady_then (with_more more) (with_more more) (counts_at head.0 head.1) _ _ _ (counts_steady head.0 head.1 more)
+    (λ counts. tables_steady head.0 counts.0 counts.1 more))

@@ -1,14 +1,16 @@
 -- How the fields of a program file are read: a value at the front of bytes and the bytes after it,
 -- or the first fault. This server's own format; numbers are big-endian.
 use Rattle.std.specs.Prelude.{◌≡◌, ℕ, zero, suc, ℤ, bit_and, not, ◌==◌, nat_lt, nat_le, if◌then◌else◌, List, [], ◌∷◌, length, take, drop, Option, Some, None, Result, Ok, Err}
-use Rattle.std.specs.Int.{w16, w64, from_be_bytes, cast_signed}
+use Rattle.std.specs.Int.{w16, w32, w64, from_be_bytes, cast_signed}
 use Rattle.wq_glob.specs.Pattern.{PatternData}
 use Rattle.wq_glob.specs.declared.flag.Flags.{Flags}
-use Rattle.wq_code.specs.Limit.{max_constant_text}
+use Rattle.wq_code.specs.Limit.{max_constant_text, max_entries}
 use Rattle.wq_code.specs.Word.{op_of_code, with_a, with_b}
 use Rattle.wq_code.specs.declared.fault.FileFault.{FileFault}
 use Rattle.wq_code.specs.declared.fault.FileFault.TheVariants.{CutShort, BytesAfterEnd, UnknownOperation, BadOperand, OverLimit, NoMemory}
 use Rattle.wq_code.specs.declared.operation.Op.{Op}
+use Rattle.wq_code.specs.declared.version.Version.{Version}
+use Rattle.wq_code.specs.declared.version.Version.TheVariants.{First, Second}
 
 -- a field that was read, and then the next
 infixl 10 ◌>>=◌
@@ -60,10 +62,21 @@ short_at bytes = do
   (digits, bytes) ← bytes_at 2 bytes
   Ok (from_be_bytes w16 digits, bytes)
 
+-- a number of four bytes
+unfoldable pub long_at : Reader ℕ
+long_at bytes = do
+  (digits, bytes) ← bytes_at 4 bytes
+  Ok (from_be_bytes w32 digits, bytes)
+
+-- a number as wide as the counts and places of a version
+abbrev pub wide_at : Version → Reader ℕ
+wide_at First = short_at
+wide_at Second = long_at
+
 -- a count or a length, with its limit
-unfoldable pub count_at : ℕ → Reader ℕ
-count_at limit bytes = do
-  (n, bytes) ← short_at bytes
+unfoldable pub count_at : Reader ℕ → ℕ → Reader ℕ
+count_at number limit bytes = do
+  (n, bytes) ← number bytes
   if nat_le n limit then Ok (n, bytes) else Err OverLimit
 
 -- a number of eight bytes, in two's complement
@@ -75,13 +88,18 @@ number_at bytes = do
 -- a text: its length and its bytes
 unfoldable pub text_at : Reader (List ℕ)
 text_at bytes = do
-  (n, bytes) ← count_at max_constant_text bytes
+  (n, bytes) ← count_at short_at max_constant_text bytes
   bytes_at n bytes
 
+-- the count of the entries of a list; in the first version any number of two bytes is one
+abbrev pub entries_at : Version → Reader ℕ
+entries_at First = short_at
+entries_at Second = count_at long_at max_entries
+
 -- a list: how many texts it has, and these
-unfoldable pub list_at : Reader (List (List ℕ))
-list_at bytes = do
-  (n, bytes) ← short_at bytes
+unfoldable pub list_at : Version → Reader (List (List ℕ))
+list_at version bytes = do
+  (n, bytes) ← entries_at version bytes
   many_at text_at n bytes
 
 -- the flags that a byte holds, by its lowest four bits
@@ -102,14 +120,20 @@ pattern_at bytes = do
   (text, bytes) ← bytes_at n bytes
   Ok (record { text = text; flags = flags }, bytes)
 
+-- a set: the count of its patterns, and these
+unfoldable pub set_at : Reader (List PatternData)
+set_at bytes = do
+  (n, bytes) ← count_at long_at max_entries bytes
+  many_at pattern_at n bytes
+
 -- an instruction: its operation, then `a`, then `b`
-unfoldable pub op_at : Reader Op
-op_at bytes = do
+unfoldable pub op_at : Version → Reader Op
+op_at version bytes = do
   (code, bytes) ← byte_at bytes
-  op ← or_file_fault (op_of_code code) UnknownOperation
+  op ← or_file_fault (op_of_code version code) UnknownOperation
   (a, bytes) ← byte_at bytes
   op ← or_file_fault (with_a op a) BadOperand
-  (b, bytes) ← short_at bytes
+  (b, bytes) ← wide_at version bytes
   op ← or_file_fault (with_b op b) BadOperand
   Ok (op, bytes)
 

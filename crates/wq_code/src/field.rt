@@ -2,10 +2,12 @@
 //! their end. Nothing here knows their order.
 ghost use Rattle.std.specs.Prelude.{◌≡◌, ◌≤◌, ◌++◌, length, IfOk, OnOk, IsTrue};
 ghost use Rattle.std.specs.List.{flat_map, list_all};
-ghost use Rattle.wq_code.specs.Spelling.{short};
-ghost use Rattle.wq_code.specs.Reading.{Gives, bytes_at, byte_at, exact_at, end_at, short_at, count_at, many_at};
+ghost use Rattle.wq_code.specs.declared.version.Version.TheVariants.{Second};
+ghost use Rattle.wq_code.specs.Spelling.{short, long};
+ghost use Rattle.wq_code.specs.Reading.{Gives, bytes_at, byte_at, exact_at, end_at, short_at, long_at, wide_at, count_at, many_at};
 
 use crate::fault::FileFault;
+use crate::version::Version;
 use std::alloc::{AllocError, Global};
 use wq_base::Table;
 
@@ -13,28 +15,30 @@ use wq_base::Table;
 pub(crate) trait Field: Drop + Sized {
     ghost use Rattle.std.specs.Prelude.{◌≡◌, ◌++◌, ℕ, List, Bool, IsTrue, OnOk};
     ghost use Rattle.wq_code.specs.Reading.{Reader, Gives};
+    ghost use Rattle.wq_code.specs.declared.version.Version.{Version};
+    ghost use Rattle.wq_code.specs.declared.version.Version.TheVariants.{Second};
 
-    /// How it is read.
-    ghost reading: { Reader Self };
+    /// The reading of it in each version.
+    ghost reading: { Version → Reader Self };
 
-    /// The bytes that it is written as.
-    ghost spelling: { Self → List ℕ };
+    /// The bytes that it is written as in each version.
+    ghost spelling: { Version → Self → List ℕ };
 
-    /// It keeps to the limits.
-    ghost within: { Self → Bool };
+    /// It keeps to the limits of each version.
+    ghost within: { Version → Self → Bool };
 
     /// Reads a value at the front of `bytes`, and gives the rest.
-    fn read(alloc: Global, bytes: &[u8]) -> Result<(Self, &[u8]), FileFault>
-        ensures { Gives (λ x. (x.0, x.1.now)) result (reading bytes.now) };
+    fn read(alloc: Global, version: Version, bytes: &[u8]) -> Result<(Self, &[u8]), FileFault>
+        ensures { Gives (λ x. (x.0, x.1.now)) result (reading version bytes.now) };
 
-    /// Writes the value at the end of `out`.
+    /// Writes the value at the end of `out`, in the second version.
     fn write(&self, out: &mut Vec<u8>) -> Result<(), AllocError>
-        requires { IsTrue (within self.now) }
-        ensures { OnOk result (out.new.items ≡ out.old.items ++ spelling self.now) };
+        requires { IsTrue (within Second self.now) }
+        ensures { OnOk result (out.new.items ≡ out.old.items ++ spelling Second self.now) };
 
-    /// Whether the value keeps to the limits.
+    /// Whether the value keeps to the limits of the second version.
     fn fits(&self) -> bool
-        ensures { result ≡ within self.now };
+        ensures { result ≡ within Second self.now };
 }
 
 /// The first `n` bytes and the others.
@@ -103,12 +107,44 @@ pub(crate) fn short_of(bytes: &[u8]) -> Result<(u16, &[u8]), FileFault>
     Ok((u16::from_be_bytes([digits[0], digits[1]]), rest))
 }
 
-/// A count or a length of at most `limit`, and the rest.
-#[tactic(auto, unfolding(crate::specs::Reading::count_at))]
-pub(crate) fn count_of(limit: usize, bytes: &[u8]) -> Result<(usize, &[u8]), FileFault>
-    ensures { Gives (λ x. (x.0, x.1.now)) result (count_at limit bytes.now) }
+/// A number of four bytes, and the rest.
+#[tactic(auto, unfolding(crate::specs::Reading::long_at, crate::specs::Reading::bytes_at))]
+pub(crate) fn long_of(bytes: &[u8]) -> Result<(u32, &[u8]), FileFault>
+    ensures { Gives (λ x. (x.0, x.1.now)) result (long_at bytes.now) }
 {
-    let (count, rest) = short_of(bytes)?;
+    if bytes.len() < 4 {
+        return Err(FileFault::CutShort);
+    }
+    let (digits, rest) = bytes.split_at(4);
+    Ok((
+        u32::from_be_bytes([digits[0], digits[1], digits[2], digits[3]]),
+        rest,
+    ))
+}
+
+/// A number as wide as the counts and places of a version, and the rest.
+pub(crate) fn wide_of(version: Version, bytes: &[u8]) -> Result<(u32, &[u8]), FileFault>
+    ensures { Gives (λ x. (x.0, x.1.now)) result (wide_at version bytes.now) }
+{
+    match version {
+        Version::First => {
+            let (number, rest) = short_of(bytes)?;
+            Ok((number as u32, rest))
+        }
+        Version::Second => long_of(bytes),
+    }
+}
+
+/// A count or a length of at most `limit`, as wide as the counts of a version, and the rest.
+#[tactic(auto, unfolding(crate::specs::Reading::count_at))]
+pub(crate) fn count_of(
+    version: Version,
+    limit: usize,
+    bytes: &[u8],
+) -> Result<(usize, &[u8]), FileFault>
+    ensures { Gives (λ x. (x.0, x.1.now)) result (count_at (wide_at version) limit bytes.now) }
+{
+    let (count, rest) = wide_of(version, bytes)?;
     let count = count as usize;
     if count > limit {
         return Err(FileFault::OverLimit);
@@ -119,15 +155,16 @@ pub(crate) fn count_of(limit: usize, bytes: &[u8]) -> Result<(usize, &[u8]), Fil
 /// So many fields of one form, and the rest.
 pub(crate) fn many_of<F: Field>(
     alloc: Global,
+    version: Version,
     count: usize,
     bytes: &[u8],
 ) -> Result<(Table<F>, &[u8]), FileFault>
-    ensures { Gives (λ x. (x.0, x.1.now)) result (many_at F.reading count bytes.now) }
+    ensures { Gives (λ x. (x.0, x.1.now)) result (many_at (F.reading version) count bytes.now) }
 {
     let mut rows = Vec::new(alloc);
     let mut rest = bytes;
     for _ in 0..count {
-        let (row, after) = F::read(alloc, rest)?;
+        let (row, after) = F::read(alloc, version, rest)?;
         rows.push(row)?;
         rest = after;
     }
@@ -142,10 +179,18 @@ pub(crate) fn put_short(out: &mut Vec<u8>, n: usize) -> Result<(), AllocError>
     out.extend_from_slice(&(n as u16).to_be_bytes())
 }
 
+/// Writes a number of four bytes at the end of `out`.
+pub(crate) fn put_long(out: &mut Vec<u8>, n: usize) -> Result<(), AllocError>
+    requires { n ≤ 4294967295 }
+    ensures { OnOk result (out.new.items ≡ out.old.items ++ long n) }
+{
+    out.extend_from_slice(&(n as u32).to_be_bytes())
+}
+
 /// Writes fields of one form one after the other.
 pub(crate) fn put_many<F: Field>(out: &mut Vec<u8>, rows: &[F]) -> Result<(), AllocError>
-    requires { IsTrue (list_all F.within rows.now) }
-    ensures { OnOk result (out.new.items ≡ out.old.items ++ flat_map F.spelling rows.now) }
+    requires { IsTrue (list_all (F.within Second) rows.now) }
+    ensures { OnOk result (out.new.items ≡ out.old.items ++ flat_map (F.spelling Second) rows.now) }
 {
     for row in rows {
         row.write(out)?;
@@ -155,7 +200,7 @@ pub(crate) fn put_many<F: Field>(out: &mut Vec<u8>, rows: &[F]) -> Result<(), Al
 
 /// Whether all rows keep to the limits.
 pub(crate) fn all_fit<F: Field>(rows: &[F]) -> bool
-    ensures { result ≡ list_all F.within rows.now }
+    ensures { result ≡ list_all (F.within Second) rows.now }
 {
     rows.iter().all(|row| row.fits())
 }

@@ -2,14 +2,15 @@
 ghost use Rattle.std.specs.Prelude.{◌≡◌, IsTrue, IfOk};
 ghost use Rattle.wq_code.specs.Fits.{raw_fits};
 ghost use Rattle.wq_code.specs.Reading.{Gives};
-ghost use Rattle.wq_code.specs.File.{head_at, counts_at, tables_at, raw_at, file_at};
+ghost use Rattle.wq_code.specs.File.{head_at, rows_at, sets_count_at, counts_at, tables_at, raw_at, file_at};
+ghost use Rattle.wq_code.specs.First.{FirstRaw, first_file_at, migrate};
 ghost use Rattle.wq_code.specs.Spelling.{spelling, IsSpelling};
 ghost use Rattle.wq_code.specs.declared.raw.Raw.{Raw};
 
 use crate::fault::FileFault;
-use crate::field::{count_of, end_of, exact_of, many_of, put_many, put_short};
-use crate::limit::MAX_TABLE_ROWS;
+use crate::field::{byte_of, count_of, end_of, exact_of, many_of, put_long, put_many};
 use crate::raw::Raw;
+use crate::version::Version;
 use std::alloc::{AllocError, Global};
 
 /// How many rows the tables of a file have.
@@ -19,33 +20,58 @@ pub(crate) struct Counts {
     texts: usize,
     lists: usize,
     patterns: usize,
+    sets: usize,
     code: usize,
 }
 
-/// The bytes after the magic and the version.
+/// The version after the magic, and the rest.
 #[tactic(auto, unfolding(crate::specs::File::head_at))]
-fn head_of(bytes: &[u8]) -> Result<&[u8], FileFault>
-    ensures { Gives (λ rest. rest.now) result (head_at bytes.now) }
+fn head_of(bytes: &[u8]) -> Result<(Version, &[u8]), FileFault>
+    ensures { Gives (λ x. (x.0, x.1.now)) result (head_at bytes.now) }
 {
     let rest = exact_of(FileFault::WrongMagic, b"WQPF", bytes)?;
-    exact_of(FileFault::OtherVersion, &[1], rest)
+    let (code, rest) = byte_of(rest)?;
+    match code {
+        1 => Ok((Version::First, rest)),
+        2 => Ok((Version::Second, rest)),
+        _ => Err(FileFault::OtherVersion),
+    }
+}
+
+/// The count of the rows of a table, and the rest.
+fn rows_of(version: Version, bytes: &[u8]) -> Result<(usize, &[u8]), FileFault>
+    ensures { Gives (λ x. (x.0, x.1.now)) result (rows_at version bytes.now) }
+{
+    count_of(version, version.max_table_rows(), bytes)
+}
+
+/// The count of the sets, if there is one, and the rest.
+fn sets_count_of(version: Version, bytes: &[u8]) -> Result<(usize, &[u8]), FileFault>
+    ensures { Gives (λ x. (x.0, x.1.now)) result (sets_count_at version bytes.now) }
+{
+    match version {
+        Version::First => Ok((0, bytes)),
+        Version::Second => rows_of(Version::Second, bytes),
+    }
 }
 
 /// The counts of the tables' rows, and the rest.
 #[tactic(auto, unfolding(crate::specs::File::counts_at))]
-fn counts_of(bytes: &[u8]) -> Result<(Counts, &[u8]), FileFault>
-    ensures { Gives (λ x. (x.0, x.1.now)) result (counts_at bytes.now) }
+fn counts_of(version: Version, bytes: &[u8]) -> Result<(Counts, &[u8]), FileFault>
+    ensures { Gives (λ x. (x.0, x.1.now)) result (counts_at version bytes.now) }
 {
-    let (nums, rest) = count_of(MAX_TABLE_ROWS, bytes)?;
-    let (texts, rest) = count_of(MAX_TABLE_ROWS, rest)?;
-    let (lists, rest) = count_of(MAX_TABLE_ROWS, rest)?;
-    let (patterns, rest) = count_of(MAX_TABLE_ROWS, rest)?;
-    let (code, rest) = count_of(MAX_TABLE_ROWS, rest)?;
+    let (nums, rest) = rows_of(version, bytes)?;
+    let (texts, rest) = rows_of(version, rest)?;
+    let (lists, rest) = rows_of(version, rest)?;
+    let (patterns, rest) = rows_of(version, rest)?;
+    let (sets, rest) = sets_count_of(version, rest)?;
+    let (code, rest) = rows_of(version, rest)?;
     let counts = Counts {
         nums,
         texts,
         lists,
         patterns,
+        sets,
         code,
     };
     Ok((counts, rest))
@@ -53,19 +79,26 @@ fn counts_of(bytes: &[u8]) -> Result<(Counts, &[u8]), FileFault>
 
 /// The tables, with so many rows, and the rest.
 #[tactic(auto, unfolding(crate::specs::File::tables_at))]
-fn tables_of(alloc: Global, counts: Counts, bytes: &[u8]) -> Result<(Raw, &[u8]), FileFault>
-    ensures { Gives (λ x. (x.0, x.1.now)) result (tables_at counts bytes.now) }
+fn tables_of(
+    alloc: Global,
+    version: Version,
+    counts: Counts,
+    bytes: &[u8],
+) -> Result<(Raw, &[u8]), FileFault>
+    ensures { Gives (λ x. (x.0, x.1.now)) result (tables_at version counts bytes.now) }
 {
-    let (nums, rest) = many_of(alloc, counts.nums, bytes)?;
-    let (texts, rest) = many_of(alloc, counts.texts, rest)?;
-    let (lists, rest) = many_of(alloc, counts.lists, rest)?;
-    let (patterns, rest) = many_of(alloc, counts.patterns, rest)?;
-    let (code, rest) = many_of(alloc, counts.code, rest)?;
+    let (nums, rest) = many_of(alloc, version, counts.nums, bytes)?;
+    let (texts, rest) = many_of(alloc, version, counts.texts, rest)?;
+    let (lists, rest) = many_of(alloc, version, counts.lists, rest)?;
+    let (patterns, rest) = many_of(alloc, version, counts.patterns, rest)?;
+    let (sets, rest) = many_of(alloc, version, counts.sets, rest)?;
+    let (code, rest) = many_of(alloc, version, counts.code, rest)?;
     let raw = Raw {
         nums,
         texts,
         lists,
         patterns,
+        sets,
         code,
     };
     Ok((raw, rest))
@@ -76,9 +109,9 @@ fn tables_of(alloc: Global, counts: Counts, bytes: &[u8]) -> Result<(Raw, &[u8])
 fn raw_of(alloc: Global, bytes: &[u8]) -> Result<(Raw, &[u8]), FileFault>
     ensures { Gives (λ x. (x.0, x.1.now)) result (raw_at bytes.now) }
 {
-    let rest = head_of(bytes)?;
-    let (counts, rest) = counts_of(rest)?;
-    tables_of(alloc, counts, rest)
+    let (version, rest) = head_of(bytes)?;
+    let (counts, rest) = counts_of(version, rest)?;
+    tables_of(alloc, version, counts, rest)
 }
 
 /// The program of a whole file, if memory suffices.
@@ -96,6 +129,8 @@ fn file_of(alloc: Global, bytes: &[u8]) -> Result<Raw, FileFault>
 /// ```text
 /// 57 51 50 46 01   00 00 00 00 00 00 00 00 00 02   01 01 00 00   23 00 00 00
 /// WQPF, version 1; no constants, two instructions; flag 1; ret
+/// 57 51 50 46 02   00 00 00 00 (five times)   00 00 00 02   01 01 00 00 00 00   23 00 00 00 00 00
+/// WQPF, version 2; the same program
 /// ```
 ///
 /// # Errors
@@ -104,32 +139,38 @@ fn file_of(alloc: Global, bytes: &[u8]) -> Result<Raw, FileFault>
 pub fn decode(alloc: Global, bytes: &[u8]) -> Result<Raw, FileFault>
     // The raw that is read is spelled so.
     ensures found { IfOk result (λ raw. IsSpelling raw bytes.now) }
+    // It keeps to the limits of a file that is written.
+    ensures fits { IfOk result (λ raw. IsTrue (raw_fits raw)) }
     // A raw that is spelled so is read, unless memory runs out.
     ensures only { (raw : Raw) → IsSpelling raw bytes.now → Gives (λ read. read) result (Ok raw) }
+    // A file that was one while there was one version holds the same program.
+    ensures stays { (raw : FirstRaw) → first_file_at bytes.now ≡ Ok raw → Gives (λ read. read) result (Ok (migrate raw)) }
     // Which fault it is.
     ensures exact { Gives (λ raw. raw) result (file_at bytes.now) }
 {
     file_of(alloc, bytes)
 }
 
-/// The one file of a program that fits.
-#[tactic(auto, unfolding(crate::specs::Spelling::spelling))]
+/// The one file of a program that fits, in the second version.
+#[tactic(auto, unfolding(crate::specs::Spelling::spelling_in))]
 pub fn encode(alloc: Global, raw: &Raw) -> Result<Vec<u8>, AllocError>
     requires { IsTrue (raw_fits raw.now) }
     ensures { IfOk result (λ bytes. bytes.items ≡ spelling raw.now) }
 {
     let mut out = Vec::new(alloc);
     out.extend_from_slice(b"WQPF")?;
-    out.push(1)?;
-    put_short(&mut out, raw.nums.len())?;
-    put_short(&mut out, raw.texts.len())?;
-    put_short(&mut out, raw.lists.len())?;
-    put_short(&mut out, raw.patterns.len())?;
-    put_short(&mut out, raw.code.len())?;
+    out.push(2)?;
+    put_long(&mut out, raw.nums.len())?;
+    put_long(&mut out, raw.texts.len())?;
+    put_long(&mut out, raw.lists.len())?;
+    put_long(&mut out, raw.patterns.len())?;
+    put_long(&mut out, raw.sets.len())?;
+    put_long(&mut out, raw.code.len())?;
     put_many(&mut out, raw.nums.as_slice())?;
     put_many(&mut out, raw.texts.as_slice())?;
     put_many(&mut out, raw.lists.as_slice())?;
     put_many(&mut out, raw.patterns.as_slice())?;
+    put_many(&mut out, raw.sets.as_slice())?;
     put_many(&mut out, raw.code.as_slice())?;
     Ok(out)
 }

@@ -10,9 +10,9 @@ pub enum Flow {
     /// At the place after its own.
     Next,
     /// At this place.
-    To(u16),
+    To(u32),
     /// At this place if the flag on top is this one, and else at the place after its own.
-    Fork(u16, bool),
+    Fork(u32, bool),
     /// Nowhere: the flag on the stack is the answer.
     Stop,
 }

@@ -17,6 +17,7 @@ mod operation;
 mod raw;
 mod row;
 mod signature;
+mod version;
 mod word;
 
 pub use fault::FileFault;
@@ -24,11 +25,13 @@ pub use file::{decode, encode};
 pub use flow::Flow;
 pub use law::{
     cut_short_are_fronts, ends_are_spellings, faults_stay, faulty_begin_none, files_are_spellings,
-    fronts_are_cut_short, none_begins_another, one_spelling, spellings_are_read_back,
+    first_faults_stay, first_files_stay, first_files_were, first_runs_stay, fronts_are_cut_short,
+    none_begins_another, one_spelling, spellings_are_read_back,
 };
 pub use limit::{MAX_CONSTANT_TEXT, MAX_ENTRIES, MAX_TABLE_ROWS};
 pub use operation::{CellKind, Op};
 pub use raw::Raw;
 pub use signature::CellNeed;
+pub use version::Version;
 pub use word::Word;
 pub use wq_base::{Case, Relation, Table};

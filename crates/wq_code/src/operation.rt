@@ -22,9 +22,9 @@ pub enum Op {
     /// `flag`: puts this flag on the stack.
     Flag(bool),
     /// `num`: puts a constant of the numbers on the stack.
-    Number(u16),
+    Number(u32),
     /// `text`: puts a constant of the texts on the stack.
-    Text(u16),
+    Text(u32),
     /// `wholename`: the file's name, relative to its root.
     WholeName,
     /// `basename`: the part after the last slash of the name.
@@ -54,9 +54,11 @@ pub enum Op {
     /// `depth`: how many slashes the name below the top has after the directory on top, or -1.
     Depth(Case),
     /// `oneof`: whether a text is an entry of a constant of the lists.
-    OneOf(Case, u16),
+    OneOf(Case, u32),
     /// `match`: whether a text fits a constant of the patterns.
-    Match(u16),
+    Match(u32),
+    /// `anymatch`: whether a text fits a pattern of a constant of the sets.
+    AnyMatch(u32),
     /// `not`
     Not,
     /// `and`
@@ -66,11 +68,11 @@ pub enum Op {
     /// `drop`: takes the top away.
     Drop,
     /// `jump`: goes on at a place.
-    Jump(u16),
+    Jump(u32),
     /// `jf`: goes on at a place if the flag on top is no.
-    JumpIfNot(u16),
+    JumpIfNot(u32),
     /// `jt`: goes on at a place if the flag on top is yes.
-    JumpIf(u16),
+    JumpIf(u32),
     /// `ret`: ends with the flag that is alone on the stack.
     Return,
 }

@@ -19,6 +19,8 @@ pub struct Raw {
     pub lists: Table<Table<Table<u8>>>,
     /// The constants of `match`.
     pub patterns: Table<Pattern>,
+    /// The constants of `anymatch`, each a list of patterns.
+    pub sets: Table<Table<Pattern>>,
     /// The instructions.
     pub code: Table<Op>,
 }
@@ -26,9 +28,9 @@ pub struct Raw {
 impl Raw {
     /// Whether the program keeps to the limits of a file. Those are [`MAX_TABLE_ROWS`] rows of each
     /// table, [`MAX_CONSTANT_TEXT`](crate::limit::MAX_CONSTANT_TEXT) bytes of a text and
-    /// [`MAX_ENTRIES`](crate::limit::MAX_ENTRIES) texts of a list. A pattern has at most 255 bytes
-    /// anyway.
-    #[tactic(auto, unfolding(crate::specs::Fits::raw_fits))]
+    /// [`MAX_ENTRIES`](crate::limit::MAX_ENTRIES) texts of a list or patterns of a set. A pattern has
+    /// at most 255 bytes anyway.
+    #[tactic(auto, unfolding(crate::specs::Fits::raw_fits_in))]
     pub fn fits(&self) -> bool
         ensures { result ≡ raw_fits self.now }
     {
@@ -36,6 +38,7 @@ impl Raw {
             && (self.texts.len() <= MAX_TABLE_ROWS && all_fit(self.texts.as_slice()))
             && (self.lists.len() <= MAX_TABLE_ROWS && all_fit(self.lists.as_slice()))
             && (self.patterns.len() <= MAX_TABLE_ROWS && all_fit(self.patterns.as_slice()))
-            && self.code.len() <= MAX_TABLE_ROWS
+            && (self.sets.len() <= MAX_TABLE_ROWS && all_fit(self.sets.as_slice()))
+            && (self.code.len() <= MAX_TABLE_ROWS && all_fit(self.code.as_slice()))
     }
 }

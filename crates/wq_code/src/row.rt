@@ -1,14 +1,16 @@
 //! The rows of a program file's tables: how each is read and written, and its limits.
 ghost use Rattle.std.specs.Prelude.{◌≡◌};
-ghost use Rattle.wq_code.specs.Reading.{flags_in};
+ghost use Rattle.wq_code.specs.Reading.{Gives, flags_in, entries_at};
 ghost use Rattle.wq_code.specs.Spelling.{flags_byte};
 
 use crate::fault::FileFault;
 use crate::field::{
-    Field, all_fit, byte_of, bytes_of, count_of, many_of, put_many, put_short, short_of,
+    Field, all_fit, byte_of, bytes_of, count_of, many_of, put_long, put_many, put_short, short_of,
+    wide_of,
 };
 use crate::limit::{MAX_CONSTANT_TEXT, MAX_ENTRIES};
 use crate::operation::Op;
+use crate::version::Version;
 use crate::word::{op_of_byte, take_a, take_b};
 use std::alloc::{AllocError, Global};
 use wq_base::Table;
@@ -19,14 +21,14 @@ impl Field for i64 {
     ghost use Rattle.wq_code.specs.Spelling.{number};
     ghost use Rattle.wq_code.specs.Fits.{is_any};
 
-    ghost reading = { number_at };
+    ghost reading = { λ _. number_at };
 
-    ghost spelling = { number };
+    ghost spelling = { λ _. number };
 
-    ghost within = { is_any };
+    ghost within = { λ _. is_any };
 
     #[tactic(auto, unfolding(crate::specs::Reading::number_at, crate::specs::Reading::bytes_at))]
-    fn read(_alloc: Global, bytes: &[u8]) -> Result<(i64, &[u8]), FileFault> {
+    fn read(_alloc: Global, _version: Version, bytes: &[u8]) -> Result<(i64, &[u8]), FileFault> {
         if bytes.len() < 8 {
             return Err(FileFault::CutShort);
         }
@@ -51,15 +53,19 @@ impl Field for Table<u8> {
     ghost use Rattle.wq_code.specs.Spelling.{text};
     ghost use Rattle.wq_code.specs.Fits.{is_short_text};
 
-    ghost reading = { text_at };
+    ghost reading = { λ _. text_at };
 
-    ghost spelling = { text };
+    ghost spelling = { λ _. text };
 
-    ghost within = { is_short_text };
+    ghost within = { λ _. is_short_text };
 
     #[tactic(auto, unfolding(crate::specs::Reading::text_at))]
-    fn read(alloc: Global, bytes: &[u8]) -> Result<(Table<u8>, &[u8]), FileFault> {
-        let (len, rest) = count_of(MAX_CONSTANT_TEXT, bytes)?;
+    fn read(
+        alloc: Global,
+        _version: Version,
+        bytes: &[u8],
+    ) -> Result<(Table<u8>, &[u8]), FileFault> {
+        let (len, rest) = count_of(Version::First, MAX_CONSTANT_TEXT, bytes)?;
         let (text, rest) = bytes_of(len, rest)?;
         Ok((Table::from_vec(Vec::from_slice(alloc, text)?), rest))
     }
@@ -86,13 +92,61 @@ impl Field for Table<Table<u8>> {
     ghost within = { is_list };
 
     #[tactic(auto, unfolding(crate::specs::Reading::list_at))]
-    fn read(alloc: Global, bytes: &[u8]) -> Result<(Table<Table<u8>>, &[u8]), FileFault> {
-        let (count, rest) = short_of(bytes)?;
-        many_of(alloc, count as usize, rest)
+    fn read(
+        alloc: Global,
+        version: Version,
+        bytes: &[u8],
+    ) -> Result<(Table<Table<u8>>, &[u8]), FileFault> {
+        let (count, rest) = entries_of(version, bytes)?;
+        many_of(alloc, version, count, rest)
     }
 
     fn write(&self, out: &mut Vec<u8>) -> Result<(), AllocError> {
-        put_short(out, self.len())?;
+        put_long(out, self.len())?;
+        put_many(out, self.as_slice())
+    }
+
+    fn fits(&self) -> bool {
+        self.len() <= MAX_ENTRIES && all_fit(self.as_slice())
+    }
+}
+
+/// The count of the entries of a list, and the rest.
+fn entries_of(version: Version, bytes: &[u8]) -> Result<(usize, &[u8]), FileFault>
+    ensures { Gives (λ x. (x.0, x.1.now)) result (entries_at version bytes.now) }
+{
+    match version {
+        Version::First => {
+            let (count, rest) = short_of(bytes)?;
+            Ok((count as usize, rest))
+        }
+        Version::Second => count_of(Version::Second, MAX_ENTRIES, bytes),
+    }
+}
+
+impl Field for Table<Pattern> {
+    ghost use Rattle.wq_code.specs.Reading.{set_at};
+    ghost use Rattle.wq_code.specs.Spelling.{set};
+    ghost use Rattle.wq_code.specs.Fits.{is_pattern_set};
+
+    ghost reading = { λ _. set_at };
+
+    ghost spelling = { λ _. set };
+
+    ghost within = { λ _. is_pattern_set };
+
+    #[tactic(auto, unfolding(crate::specs::Reading::set_at))]
+    fn read(
+        alloc: Global,
+        _version: Version,
+        bytes: &[u8],
+    ) -> Result<(Table<Pattern>, &[u8]), FileFault> {
+        let (count, rest) = count_of(Version::Second, MAX_ENTRIES, bytes)?;
+        many_of(alloc, Version::Second, count, rest)
+    }
+
+    fn write(&self, out: &mut Vec<u8>) -> Result<(), AllocError> {
+        put_long(out, self.len())?;
         put_many(out, self.as_slice())
     }
 
@@ -106,14 +160,14 @@ impl Field for Pattern {
     ghost use Rattle.wq_code.specs.Spelling.{pattern};
     ghost use Rattle.wq_code.specs.Fits.{is_pattern};
 
-    ghost reading = { pattern_at };
+    ghost reading = { λ _. pattern_at };
 
-    ghost spelling = { pattern };
+    ghost spelling = { λ _. pattern };
 
-    ghost within = { is_pattern };
+    ghost within = { λ _. is_pattern };
 
     #[tactic(auto, unfolding(crate::specs::Reading::pattern_at))]
-    fn read(alloc: Global, bytes: &[u8]) -> Result<(Pattern, &[u8]), FileFault> {
+    fn read(alloc: Global, _version: Version, bytes: &[u8]) -> Result<(Pattern, &[u8]), FileFault> {
         let (bits, rest) = byte_of(bytes)?;
         if bits >= 16 {
             return Err(FileFault::BadOperand);
@@ -164,21 +218,21 @@ fn flags_of_bits(bits: u8) -> Flags
 impl Field for Op {
     ghost use Rattle.wq_code.specs.Reading.{op_at};
     ghost use Rattle.wq_code.specs.Spelling.{instruction};
-    ghost use Rattle.wq_code.specs.Fits.{is_any};
+    ghost use Rattle.wq_code.specs.Fits.{is_op};
 
     ghost reading = { op_at };
 
     ghost spelling = { instruction };
 
-    ghost within = { is_any };
+    ghost within = { is_op };
 
     #[tactic(auto, unfolding(crate::specs::Reading::op_at))]
-    fn read(_alloc: Global, bytes: &[u8]) -> Result<(Op, &[u8]), FileFault> {
+    fn read(_alloc: Global, version: Version, bytes: &[u8]) -> Result<(Op, &[u8]), FileFault> {
         let (code, rest) = byte_of(bytes)?;
-        let op = op_of_byte(code).ok_or(FileFault::UnknownOperation)?;
+        let op = op_of_byte(version, code).ok_or(FileFault::UnknownOperation)?;
         let (a, rest) = byte_of(rest)?;
         let op = take_a(op, a).ok_or(FileFault::BadOperand)?;
-        let (b, rest) = short_of(rest)?;
+        let (b, rest) = wide_of(version, rest)?;
         let op = take_b(op, b).ok_or(FileFault::BadOperand)?;
         Ok((op, rest))
     }

@@ -28,7 +28,7 @@ impl Op {
         match self {
             Op::Compare(_) => &[NUMBER, NUMBER],
             Op::Equal(_) | Op::Depth(_) => &[TEXT, TEXT],
-            Op::OneOf(_, _) | Op::Match(_) => &[TEXT],
+            Op::OneOf(_, _) | Op::Match(_) | Op::AnyMatch(_) => &[TEXT],
             Op::Not | Op::JumpIfNot(_) | Op::JumpIf(_) | Op::Return => &[FLAG],
             Op::And | Op::Or => &[FLAG, FLAG],
             Op::Drop => &[CellNeed::AnyCell],
@@ -43,7 +43,8 @@ impl Op {
     {
         match self {
             Op::Flag(_) | Op::Exists => &[CellKind::Flag],
-            Op::Compare(_) | Op::Equal(_) | Op::OneOf(_, _) | Op::Match(_) => &[CellKind::Flag],
+            Op::Compare(_) | Op::Equal(_) | Op::OneOf(_, _) => &[CellKind::Flag],
+            Op::Match(_) | Op::AnyMatch(_) => &[CellKind::Flag],
             Op::Not | Op::And | Op::Or => &[CellKind::Flag],
             Op::JumpIfNot(_) | Op::JumpIf(_) => &[CellKind::Flag],
             Op::Text(_) | Op::WholeName | Op::BaseName | Op::Suffix => &[CellKind::Text],

@@ -1,9 +1,10 @@
 //! Instructions as they are written in files: the byte of the operation, and the operands `a` and
 //! `b`.
-ghost use Rattle.std.specs.Prelude.{◌≡◌};
-ghost use Rattle.wq_code.specs.Word.{word_of, case_code, relation_code, op_of_code, flag_of_code, case_of_code, relation_of_code, with_a, with_b};
+ghost use Rattle.std.specs.Prelude.{◌≡◌, ◌==◌, find};
+ghost use Rattle.wq_code.specs.Word.{word_of, case_code, relation_code, op_of_code, code_of, first_ops, flag_of_code, case_of_code, relation_of_code, with_a, with_b};
 
 use crate::operation::Op;
+use crate::version::Version;
 use wq_base::{Case, Relation};
 
 /// An instruction as a file has it. Operands that an instruction does not have are 0.
@@ -14,7 +15,7 @@ pub struct Word {
     /// A flag, a relation, or whether A to Z are compared as a to z.
     pub a: u8,
     /// The place of a constant in its table, or of an instruction in the code.
-    pub b: u16,
+    pub b: u32,
 }
 
 impl Op {
@@ -46,6 +47,7 @@ impl Op {
                 b: place,
             },
             Op::Match(place) => at_place(0x14, place),
+            Op::AnyMatch(place) => at_place(0x19, place),
             Op::Not => plain(0x15),
             Op::And => plain(0x16),
             Op::Or => plain(0x17),
@@ -73,7 +75,7 @@ fn with_operand(op: u8, a: u8) -> Word
 }
 
 /// An instruction with the operand `b` alone: the place of a constant or of an instruction.
-fn at_place(op: u8, b: u16) -> Word
+fn at_place(op: u8, b: u32) -> Word
     ensures { result ≡ record { op = op; a = 0; b = b } }
 {
     Word { op, a: 0, b }
@@ -101,10 +103,21 @@ fn relation_byte(relation: Relation) -> u8
     }
 }
 
-/// The operation of a byte, with operands that are yet to be read.
+/// The operation of a byte in a version, with operands that are yet to be read.
 #[tactic(auto, unfolding(crate::specs::Word::op_of_code))]
-pub(crate) fn op_of_byte(byte: u8) -> Option<Op>
-    ensures { result ≡ op_of_code byte }
+pub(crate) fn op_of_byte(version: Version, byte: u8) -> Option<Op>
+    ensures { result ≡ op_of_code version byte }
+{
+    match version {
+        Version::First => first_op_of_byte(byte),
+        Version::Second if byte == 0x19 => Some(Op::AnyMatch(0)),
+        Version::Second => first_op_of_byte(byte),
+    }
+}
+
+/// The operation of a byte in the first version, with operands that are yet to be read.
+fn first_op_of_byte(byte: u8) -> Option<Op>
+    ensures { result ≡ find (λ op. code_of op == byte) first_ops }
 {
     match byte {
         0x01 => Some(Op::Flag(false)),
@@ -190,7 +203,7 @@ pub(crate) fn take_a(op: Op, a: u8) -> Option<Op>
 
 /// An instruction with this operand `b`, if that is in its range.
 #[tactic(auto, unfolding(crate::specs::Word::with_b))]
-pub(crate) fn take_b(op: Op, b: u16) -> Option<Op>
+pub(crate) fn take_b(op: Op, b: u32) -> Option<Op>
     ensures { result ≡ with_b op b }
 {
     match op {
@@ -198,6 +211,7 @@ pub(crate) fn take_b(op: Op, b: u16) -> Option<Op>
         Op::Text(_) => Some(Op::Text(b)),
         Op::OneOf(case, _) => Some(Op::OneOf(case, b)),
         Op::Match(_) => Some(Op::Match(b)),
+        Op::AnyMatch(_) => Some(Op::AnyMatch(b)),
         Op::Jump(_) => Some(Op::Jump(b)),
         Op::JumpIfNot(_) => Some(Op::JumpIfNot(b)),
         Op::JumpIf(_) => Some(Op::JumpIf(b)),

@@ -27,6 +27,7 @@ pub record Extends (raw whole : Raw) : Type 0 where
   pub texts : IsFrontOf raw.texts whole.texts
   pub lists : IsFrontOf raw.lists whole.lists
   pub patterns : IsFrontOf raw.patterns whole.patterns
+  pub sets : IsFrontOf raw.sets whole.sets
   pub code : IsFrontOf raw.code whole.code
 
 pub extends-self : (raw : Raw) → Extends raw raw
@@ -35,6 +36,7 @@ extends-self raw = record {
   texts = λ i x e. e;
   lists = λ i x e. e;
   patterns = λ i x e. e;
+  sets = λ i x e. e;
   code = λ i x e. e;
 }
 
@@ -44,21 +46,22 @@ extends-on raw mid whole a b = record {
   texts = λ i x e. b.texts i x (a.texts i x e);
   lists = λ i x e. b.lists i x (a.lists i x e);
   patterns = λ i x e. b.patterns i x (a.patterns i x e);
+  sets = λ i x e. b.sets i x (a.sets i x e);
   code = λ i x e. b.code i x (a.code i x e);
 }
 
 -- a program into which an instruction is put keeps its old ones
 pub put-extends : (i : Instruction) (raw : Raw) → Extends raw (put i raw)
 put-extends (plain op) raw =
-    record { nums = λ i x e. e; texts = λ i x e. e; lists = λ i x e. e; patterns = λ i x e. e; code = front-append raw.code _ }
+    record { nums = λ i x e. e; texts = λ i x e. e; lists = λ i x e. e; patterns = λ i x e. e; sets = λ i x e. e; code = front-append raw.code _ }
 put-extends (number n) raw =
-    record { nums = front-append raw.nums _; texts = λ i x e. e; lists = λ i x e. e; patterns = λ i x e. e; code = front-append raw.code _ }
+    record { nums = front-append raw.nums _; texts = λ i x e. e; lists = λ i x e. e; patterns = λ i x e. e; sets = λ i x e. e; code = front-append raw.code _ }
 put-extends (text bytes) raw =
-    record { nums = λ i x e. e; texts = front-append raw.texts _; lists = λ i x e. e; patterns = λ i x e. e; code = front-append raw.code _ }
+    record { nums = λ i x e. e; texts = front-append raw.texts _; lists = λ i x e. e; patterns = λ i x e. e; sets = λ i x e. e; code = front-append raw.code _ }
 put-extends (one_of case entries) raw =
-    record { nums = λ i x e. e; texts = λ i x e. e; lists = front-append raw.lists _; patterns = λ i x e. e; code = front-append raw.code _ }
+    record { nums = λ i x e. e; texts = λ i x e. e; lists = front-append raw.lists _; patterns = λ i x e. e; sets = λ i x e. e; code = front-append raw.code _ }
 put-extends (fitting pattern) raw =
-    record { nums = λ i x e. e; texts = λ i x e. e; lists = λ i x e. e; patterns = front-append raw.patterns _; code = front-append raw.code _ }
+    record { nums = λ i x e. e; texts = λ i x e. e; lists = λ i x e. e; patterns = front-append raw.patterns _; sets = λ i x e. e; code = front-append raw.code _ }
 
 pub put_all-extends : (is : List Instruction) (raw : Raw) → Extends raw (put_all is raw)
 put_all-extends [] raw = extends-self raw

@@ -12,7 +12,7 @@ use Rattle.wq_code.specs.Item.{Item}
 use Rattle.wq_code.specs.Flow.{flow}
 use Rattle.wq_code.specs.declared.flow.Flow.TheVariants.{Next, Fork}
 use Rattle.wq_code.specs.declared.operation.Op.{Op}
-use Rattle.wq_code.specs.declared.operation.Op.TheVariants.{Flag, Number, Text, WholeName, BaseName, Suffix, Size, Mtime, Oclock, Cclock, Osec, Csec, Kind, Exists, Compare, Equal, Depth, OneOf, Match, Not, And, Or, Drop, Jump, JumpIfNot, JumpIf, Return}
+use Rattle.wq_code.specs.declared.operation.Op.TheVariants.{Flag, Number, Text, WholeName, BaseName, Suffix, Size, Mtime, Oclock, Cclock, Osec, Csec, Kind, Exists, Compare, Equal, Depth, OneOf, Match, AnyMatch, Not, And, Or, Drop, Jump, JumpIfNot, JumpIf, Return}
 use Rattle.wq_code.specs.declared.raw.Raw.{Raw}
 use Rattle.wq_code.specs.Machine.{Cell, flag, number as a_number, text as a_text, Running, ◌>>=◌, top_text, cells_after, charge, go_on, step, advance, after}
 use Rattle.wq_machine.specs.Item.{item_of}
@@ -92,6 +92,7 @@ no_tables whole item (Equal case) cells left e = e
 no_tables whole item (Depth case) cells left e = e
 no_tables whole item (OneOf case place) cells left e = cc
 no_tables whole item (Match place) cells left e = cc
+no_tables whole item (AnyMatch place) cells left e = cc
 no_tables whole item Not cells left e = e
 no_tables whole item And cells left e = e
 no_tables whole item Or cells left e = e
@@ -150,6 +151,7 @@ next-flow whole op (plain (Equal case)) is e = rw is refl
 next-flow whole op (plain (Depth case)) is e = rw is refl
 next-flow whole op (plain (OneOf case place)) is e = rw is refl
 next-flow whole op (plain (Match place)) is e = rw is refl
+next-flow whole op (plain (AnyMatch place)) is e = rw is refl
 next-flow whole op (plain Not) is e = rw is refl
 next-flow whole op (plain And) is e = rw is refl
 next-flow whole op (plain Or) is e = rw is refl

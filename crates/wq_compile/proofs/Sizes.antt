@@ -1,15 +1,18 @@
 -- The program of an expression that fits and is not too large keeps the limits of program files.
 use Rattle.std.proofs.Common.{◌≡◌, ℕ, ◌+◌, ◌≤◌, pos, Bool, true, false, not, List, [], ◌∷◌, ◌++◌, length, refl, ◌∙◌, arith, length-append}
-use Rattle.std.specs.Prelude.{◌||◌, ◌==◌, nat_lt, if◌then◌else◌}
+use Rattle.std.specs.Prelude.{◌||◌, ◌&&◌, ◌==◌, nat_lt, nat_le, if◌then◌else◌}
 use Rattle.std.specs.List.{list_all}
 use Rattle.std.proofs.lemmas.Bool.{and_parts, and_from, le-leb, ltb-false}
 use Rattle.std.proofs.lemmas.List.Folds.{list_all-append}
 use Rattle.wq_base.specs.declared.compare.Case.{Case}
 use Rattle.wq_base.specs.declared.compare.Relation.TheVariants.{Ge}
 use Rattle.wq_clock.specs.declared.bound.Bound.TheVariants.{Fresh, Tick, Second}
-use Rattle.wq_code.specs.Fits.{is_short_text, is_list, is_pattern, raw_fits as raw_fits}
-use Rattle.wq_code.specs.Limit.{max_table_rows, max_entries}
+use Rattle.wq_code.specs.Fits.{is_short_text, is_list, is_pattern, is_pattern_set, is_op, raw_fits_in, raw_fits}
+use Rattle.wq_code.specs.Limit.{max_table_rows, max_sets_in, max_entries}
+use Rattle.wq_code.specs.declared.operation.Op.{Op}
 use Rattle.wq_code.specs.declared.operation.Op.TheVariants.{Not, Return}
+use Rattle.wq_code.specs.declared.version.Version.TheVariants as version
+use Rattle.wq_glob.specs.Pattern.{PatternData}
 use Rattle.wq_code.specs.declared.raw.Raw.{Raw}
 use Rattle.wq_verify.specs.Typing.{IsValid}
 use Rattle.wq_term.specs.declared.expr.Depth.{Depth}
@@ -28,20 +31,21 @@ use Rattle.wq_compile.specs.Large.{is_long_list, has_long_list, have_long_list, 
 use Rattle.wq_compile.proofs.Puts.{length-put}
 use Rattle.wq_compile.proofs.Programs.{program_long, program_lists, program-typed}
 
--- no table has more rows than the code, and each row keeps its limits
+-- no table has more rows than the code, there are no sets, and each row keeps its limits
 pub record IsSmall (raw : Raw) : Type 0 where
   pub nums : length raw.nums ≤ length raw.code
   pub texts : length raw.texts ≤ length raw.code
   pub lists : length raw.lists ≤ length raw.code
   pub patterns : length raw.patterns ≤ length raw.code
   pub texts_fit : list_all is_short_text raw.texts ≡ true
-  pub lists_fit : list_all is_list raw.lists ≡ true
+  pub lists_fit : list_all (is_list version.Second) raw.lists ≡ true
   pub patterns_fit : list_all is_pattern raw.patterns ≡ true
+  pub no_sets : raw.sets ≡ []
 
 -- the constant of an instruction keeps the limits
 abbrev pub constant_fits : Instruction → Bool
 constant_fits (text bytes) = is_short_text bytes
-constant_fits (one_of case entries) = is_list entries
+constant_fits (one_of case entries) = is_list version.Second entries
 constant_fits (fitting pattern) = is_pattern pattern
 constant_fits _ = true
 
@@ -61,6 +65,7 @@ put-small (plain op) raw s e =
       texts_fit = s.texts_fit;
       lists_fit = s.lists_fit;
       patterns_fit = s.patterns_fit;
+      no_sets = s.no_sets;
     }
 put-small (number n) raw s e =
     let l = length-put (number n) raw in
@@ -74,6 +79,7 @@ put-small (number n) raw s e =
       texts_fit = s.texts_fit;
       lists_fit = s.lists_fit;
       patterns_fit = s.patterns_fit;
+      no_sets = s.no_sets;
     }
 put-small (text bytes) raw s e =
     let l = length-put (text bytes) raw in
@@ -87,6 +93,7 @@ put-small (text bytes) raw s e =
       texts_fit = all-behind is_short_text raw.texts bytes s.texts_fit e;
       lists_fit = s.lists_fit;
       patterns_fit = s.patterns_fit;
+      no_sets = s.no_sets;
     }
 put-small (one_of case entries) raw s e =
     let l = length-put (one_of case entries) raw in
@@ -98,8 +105,9 @@ put-small (one_of case entries) raw s e =
       lists = omega (arith, l, c, more);
       patterns = omega (arith, l, d);
       texts_fit = s.texts_fit;
-      lists_fit = all-behind is_list raw.lists entries s.lists_fit e;
+      lists_fit = all-behind (is_list version.Second) raw.lists entries s.lists_fit e;
       patterns_fit = s.patterns_fit;
+      no_sets = s.no_sets;
     }
 put-small (fitting pattern) raw s e =
     let l = length-put (fitting pattern) raw in
@@ -113,6 +121,7 @@ put-small (fitting pattern) raw s e =
       texts_fit = s.texts_fit;
       lists_fit = s.lists_fit;
       patterns_fit = all-behind is_pattern raw.patterns pattern s.patterns_fit e;
+      no_sets = s.no_sets;
     }
 
 -- a program into which instructions were put stays small
@@ -132,21 +141,34 @@ blank-small = record {
   texts_fit = refl;
   lists_fit = refl;
   patterns_fit = refl;
+  no_sets = refl;
 }
+
+-- every instruction is one of a file
+each-op : (code : List Op) → list_all (is_op version.Second) code ≡ true
+each-op [] = refl
+each-op (op ∷ code) = each-op code
+
+-- a program without sets keeps the limits of sets
+sets-fit : (sets : List (List PatternData)) → sets ≡ [] → (nat_le (length sets) (max_sets_in version.Second) && list_all is_pattern_set sets) ≡ true
+sets-fit [] none = refl
+sets-fit (s ∷ sets) none = absurd cc
 
 -- a small program with a short code fits
 pub small-fits : (raw : Raw) → IsSmall raw → length raw.code ≤ max_table_rows → raw_fits raw ≡ true
-unfolding raw_fits
+unfolding raw_fits_in
 small-fits raw s short =
     let a = s.nums in let b = s.texts in let c = s.lists in let d = s.patterns in
     and_from _ _
+    (and_from _ _
     (and_from _ _
     (and_from _ _
     (and_from _ _ (le-leb (length raw.nums) max_table_rows (omega (arith, a, short)))
     (and_from _ _ (le-leb (length raw.texts) max_table_rows (omega (arith, b, short))) s.texts_fit))
     (and_from _ _ (le-leb (length raw.lists) max_table_rows (omega (arith, c, short))) s.lists_fit))
     (and_from _ _ (le-leb (length raw.patterns) max_table_rows (omega (arith, d, short))) s.patterns_fit))
-    (le-leb (length raw.code) max_table_rows short)
+    (sets-fit raw.sets s.no_sets))
+    (and_from _ _ (le-leb (length raw.code) max_table_rows short) (each-op raw.code))
 
 -- ---- the constants of terms
 
@@ -187,7 +209,7 @@ filled-fit (bytes ∷ texts) e =
     at false one all = all
 
 -- a list that is not too long
-list-fits : (texts : List (List ℕ)) → list_all is_short_text texts ≡ true → is_long_list texts ≡ false → is_list texts ≡ true
+list-fits : (texts : List (List ℕ)) → list_all is_short_text texts ≡ true → is_long_list texts ≡ false → is_list version.Second texts ≡ true
 list-fits texts short few = and_from _ _ (le-leb (length texts) max_entries (ltb-false max_entries (length texts) few)) short
 
 depth-constants : (case : Case) (dir : List ℕ) (depth : Depth) → is_short_text dir ≡ true → Fits (record { len = code_len (below case dir depth); code = code_of (below case dir depth) })

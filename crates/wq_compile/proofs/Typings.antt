@@ -3,7 +3,7 @@ use Rattle.std.proofs.Common.{◌≡◌, ℕ, zero, suc, ◌+◌, ◌<◌, ◌�
 use Rattle.std.specs.Prelude.{slice_get, ◌&&◌, ◌||◌, ◌==◌, nat_le}
 use Rattle.std.proofs.lemmas.Bool.{and_parts, eqb-true, eq-eqb, leb-true, lt-ltb, ltb-true}
 use Rattle.std.proofs.lemmas.Option.{slice_get_within}
-use Rattle.wq_code.specs.Constant.{Constant, no_constant, in_numbers, in_texts, in_lists, in_patterns, constant, has_constant}
+use Rattle.wq_code.specs.Constant.{Constant, no_constant, in_numbers, in_texts, in_lists, in_patterns, in_sets, constant, has_constant}
 use Rattle.wq_code.specs.Flow.{flow}
 use Rattle.wq_code.specs.Signature.{Signature, signature}
 use Rattle.wq_code.specs.declared.flow.Flow.{Flow}
@@ -100,6 +100,7 @@ named-plain whole (in_numbers place) e = let lt = ltb-true place 0 e in absurd (
 named-plain whole (in_texts place) e = let lt = ltb-true place 0 e in absurd (omega (arith, lt))
 named-plain whole (in_lists place) e = let lt = ltb-true place 0 e in absurd (omega (arith, lt))
 named-plain whole (in_patterns place) e = let lt = ltb-true place 0 e in absurd (omega (arith, lt))
+named-plain whole (in_sets place) e = let lt = ltb-true place 0 e in absurd (omega (arith, lt))
 
 named : (whole : Raw) (op : Op) (i : Instruction) → IsOp whole op i → brings i ≡ true → has_constant whole (constant op) ≡ true
 named whole op (plain o) is e = subst (λ p. has_constant whole (constant p) ≡ true) (sym is) (named-plain whole (constant o) e)

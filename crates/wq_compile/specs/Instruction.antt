@@ -42,4 +42,4 @@ put_all (i ∷ is) raw = put_all is (put i raw)
 
 -- a program without constants and instructions
 abbrev pub blank : Raw
-blank = record { nums = []; texts = []; lists = []; patterns = []; code = [] }
+blank = record { nums = []; texts = []; lists = []; patterns = []; sets = []; code = [] }

@@ -26,6 +26,6 @@ abbrev mutual
   have_long_list no_terms = false
   have_long_list (term t ts) = has_long_list t || have_long_list ts
 
--- its code and the end have over 4,096 instructions, or a list has over 65,535 entries
+-- its code and the end have over 65,536 instructions, or a list has over 65,536 entries
 abbrev pub is_too_large : ExprData → Bool
 is_too_large t = nat_lt max_table_rows (code_len t + 1) || has_long_list t

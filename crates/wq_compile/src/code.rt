@@ -62,7 +62,7 @@ fn put_terms(
     draft: &mut Draft,
     flag: bool,
     terms: &[Expr],
-    end: u16,
+    end: u32,
 ) -> Result<(), AllocError>
     requires room { HasRoom (terms_len (terms_of (map term_of terms.now))) draft.old }
     requires limits { IsTrue (all_keep_limits (terms_of (map term_of terms.now))) }
@@ -83,7 +83,7 @@ fn put_terms(
 }
 
 /// Puts the jump that is taken if the flag on top is this one, and the `drop` after it.
-fn put_jump(draft: &mut Draft, flag: bool, end: u16) -> Result<(), AllocError>
+fn put_jump(draft: &mut Draft, flag: bool, end: u32) -> Result<(), AllocError>
     ensures { OnOk result (draft.new
         ≡ put_all (plain (jump_if flag end) ∷ plain Drop ∷ []) draft.old) }
 {
@@ -97,9 +97,9 @@ fn put_jump(draft: &mut Draft, flag: bool, end: u16) -> Result<(), AllocError>
 }
 
 /// The place after the code of the expression, if it is put next.
-fn end_of(draft: &Draft, expr: &Expr) -> u16
+fn end_of(draft: &Draft, expr: &Expr) -> u32
     requires { HasRoom (code_len (term_of expr.now)) draft.now }
     ensures { result ≡ length draft.now.code + code_len (term_of expr.now) }
 {
-    draft.len() as u16 + code_len(expr) as u16
+    draft.len() as u32 + code_len(expr) as u32
 }

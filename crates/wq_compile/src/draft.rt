@@ -37,6 +37,7 @@ impl Draft {
             texts: Table::new(alloc),
             lists: Table::new(alloc),
             patterns: Table::new(alloc),
+            sets: Table::new(alloc),
             code: Table::new(alloc),
         };
         Draft { raw }
@@ -68,7 +69,7 @@ impl Draft {
         requires { HasRoom 0 self.old }
         ensures { OnOk result (self.new ≡ put (number n) self.old) }
     {
-        let place = self.raw.nums.len() as u16;
+        let place = self.raw.nums.len() as u32;
         self.raw.code.push(Op::Number(place))?;
         self.raw.nums.push(n)
     }
@@ -78,7 +79,7 @@ impl Draft {
         requires { HasRoom 0 self.old }
         ensures { OnOk result (self.new ≡ put (text bytes) self.old) }
     {
-        let place = self.raw.texts.len() as u16;
+        let place = self.raw.texts.len() as u32;
         self.raw.code.push(Op::Text(place))?;
         self.raw.texts.push(bytes)
     }
@@ -92,7 +93,7 @@ impl Draft {
         requires { HasRoom 0 self.old }
         ensures { OnOk result (self.new ≡ put (one_of case entries) self.old) }
     {
-        let place = self.raw.lists.len() as u16;
+        let place = self.raw.lists.len() as u32;
         self.raw.code.push(Op::OneOf(case, place))?;
         self.raw.lists.push(entries)
     }
@@ -102,7 +103,7 @@ impl Draft {
         requires { HasRoom 0 self.old }
         ensures { OnOk result (self.new ≡ put (fitting pattern) self.old) }
     {
-        let place = self.raw.patterns.len() as u16;
+        let place = self.raw.patterns.len() as u32;
         self.raw.code.push(Op::Match(place))?;
         self.raw.patterns.push(pattern)
     }

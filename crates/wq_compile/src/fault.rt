@@ -6,7 +6,7 @@ use thiserror::Error;
 /// The reason for which an expression has no program.
 #[derive(Clone, Copy, Debug, PartialEq, Eq, Drop, Error)]
 pub enum CompileFault {
-    /// Its code and the end have over 4,096 instructions, or a list of texts has over 65,535
+    /// Its code and the end have over 65,536 instructions, or a list of texts has over 65,536
     /// entries, empty suffixes not counted.
     #[error("program too large")]
     TooLarge,

@@ -24,7 +24,7 @@ use wq_verify::{Program, ProgramFault, verify};
 ///
 /// # Errors
 /// [`CompileFault::TooLarge`] in two cases alone: the code of the expression and the end have over
-/// 4,096 instructions; or a list of texts has over 65,535 entries, empty suffixes not counted.
+/// 65,536 instructions; or a list of texts has over 65,536 entries, empty suffixes not counted.
 /// [`CompileFault::NoMemory`] if a growth was refused.
 #[tactic(auto, using(crate::proofs::Programs::program_answers, crate::proofs::Programs::program_long, crate::proofs::Sizes::program_valid))]
 pub fn compile(alloc: Global, expr: &Expr) -> Result<Program, CompileFault>

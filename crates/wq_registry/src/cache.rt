@@ -21,6 +21,10 @@ use wq_verify::Program;
 /// How many programs are kept.
 pub const MAX_KEPT: usize = 256;
 
+/// How many bytes the compact text of an expression may have, so that its program is kept. A program takes some times as
+/// many bytes, and nobody says when a client will ask for it again.
+pub const MAX_KEPT_TEXT: usize = 16_384;
+
 /// Programs of expressions by the number of the root and the compact text of the expression, those
 /// that were asked for last. They are of one run of the server.
 #[derive(Drop)]
@@ -69,12 +73,12 @@ impl Cache {
     }
 
     /// Keeps a program. If as many are kept as may be, it takes the place of the one that was asked
-    /// for longest ago. A program of another run of the server is not kept, and none is if memory
-    /// runs out.
+    /// for longest ago. A program of another run of the server is not kept, nor one whose expression
+    /// has over 16,384 bytes, and none is if memory runs out.
     pub fn keep(&mut self, compiled: Compiled)
         ensures { self.new ≡ self.old }
     {
-        if self.is_of(&compiled.key) {
+        if self.is_of(&compiled.key) && compiled.key.key.text.len() <= MAX_KEPT_TEXT {
             put(&mut self.kept, compiled.key.key, &compiled.program);
         }
     }

@@ -2,6 +2,7 @@
 
 use std::process::Abort;
 use wq_base::MAX_NUMBER;
+use wq_code::{MAX_CONSTANT_TEXT, MAX_ENTRIES, MAX_TABLE_ROWS};
 use wq_glob::MAX_PATTERN;
 use wq_term::{MAX_DEPTH, MAX_TERM_TEXT};
 use wq_view::{MAX_LISTING_ROWS, MAX_NAME, MAX_TICK};
@@ -25,6 +26,9 @@ fn limits_are_those_of_the_reference(rt: HostRuntime) {
             (MAX_PATTERN as u64, 255),
             (MAX_DEPTH as u64, 64),
             (MAX_TERM_TEXT as u64, 4096),
+            (MAX_TABLE_ROWS as u64, 65_536),
+            (MAX_CONSTANT_TEXT as u64, 4096),
+            (MAX_ENTRIES as u64, 65_536),
         ],
     );
 }

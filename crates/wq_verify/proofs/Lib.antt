@@ -4,3 +4,4 @@ pub mod Shapes
 pub mod Budgets
 pub mod Steps
 pub mod ShortPrograms
+pub mod FirstPrograms

@@ -2,7 +2,7 @@
 use Rattle.std.proofs.Common.{◌≡◌, ℕ, zero, suc, ◌<◌, ◌⊎◌, inl, inr, [], ◌∷◌, length, Bool, Some, None, refl, sym, ap, subst, arith, lit<}
 use Rattle.std.specs.Prelude.{IsTrue}
 use Rattle.std.proofs.lemmas.Bool.{eqb-true}
-use Rattle.wq_code.specs.Fits.{raw_fits}
+use Rattle.wq_code.specs.Fits.{raw_fits_in, raw_fits}
 use Rattle.wq_code.specs.Flow.{flow}
 use Rattle.wq_code.specs.Item.{Item}
 use Rattle.wq_code.specs.Machine.{Running, Answered, Trapped, advance, after, step, cells_after}
@@ -17,7 +17,7 @@ use Rattle.wq_verify.specs.Short.{IsWellOrShort, IsValidOrShort}
 
 -- `not; ret`
 abbrev short : Raw
-short = record { nums = []; texts = []; lists = []; patterns = []; code = Not ∷ Return ∷ [] }
+short = record { nums = []; texts = []; lists = []; patterns = []; sets = []; code = Not ∷ Return ∷ [] }
 
 abbrev kinds_at : KnownKinds
 kinds_at zero = Some []
@@ -68,7 +68,7 @@ only_these (suc zero) kinds e = inr (0, lit< tt, (Not, refl, refl))
 only_these (suc (suc place)) kinds e = absurd cc
 
 fits : IsTrue (raw_fits short)
-unfolding raw_fits
+unfolding raw_fits_in
 fits = refl
 
 might_run : IsValidOrShort short

@@ -23,7 +23,7 @@ use Rattle.wq_code.specs.declared.flow.Flow.{Flow}
 use Rattle.wq_code.specs.declared.flow.Flow.TheVariants.{Next, To, Fork, Stop}
 use Rattle.wq_code.specs.declared.operation.CellKind.TheVariants as cell
 use Rattle.wq_code.specs.declared.operation.Op.{Op}
-use Rattle.wq_code.specs.declared.operation.Op.TheVariants.{Flag, Number, Text, WholeName, BaseName, Suffix, Size, Mtime, Oclock, Cclock, Osec, Csec, Kind, Exists, Compare, Equal, Depth, OneOf, Match, Not, And, Or, Drop, Jump, JumpIfNot, JumpIf, Return}
+use Rattle.wq_code.specs.declared.operation.Op.TheVariants.{Flag, Number, Text, WholeName, BaseName, Suffix, Size, Mtime, Oclock, Cclock, Osec, Csec, Kind, Exists, Compare, Equal, Depth, OneOf, Match, AnyMatch, Not, And, Or, Drop, Jump, JumpIfNot, JumpIf, Return}
 use Rattle.wq_code.specs.declared.signature.CellNeed.{CellNeed}
 use Rattle.wq_code.specs.declared.signature.CellNeed.TheVariants as need
 use Rattle.wq_code.specs.declared.raw.Raw.{Raw}
@@ -194,6 +194,11 @@ leaves raw item width (Match place) cells s w m k n =
     let t = one_text [] cells m in
     formed raw item width (Match place) cells (text t.0 ∷ t.1) t.2 n (λ n.
     record { after = flag (fits c.0 t.0) ∷ t.1; is = rw c.1 refl; kinds = refl; narrow = (tt, n.1) })
+leaves raw item width (AnyMatch place) cells s w m k n =
+    let c = there raw.sets place k in
+    let t = one_text [] cells m in
+    formed raw item width (AnyMatch place) cells (text t.0 ∷ t.1) t.2 n (λ n.
+    record { after = flag (list_any (λ p. fits p t.0) c.0) ∷ t.1; is = rw c.1 refl; kinds = refl; narrow = (tt, n.1) })
 leaves raw item width Not cells s w m k n =
     let t = one_flag [] cells m in
     formed raw item width Not cells (flag t.0 ∷ t.1) t.2 n (λ n.
@@ -230,6 +235,18 @@ pattern_paid width p (number x ∷ cells) n = omega arith
 pattern_paid width p (text x ∷ cells) n =
     mul-le-mul_left (length (atoms_of p) + 1) (omega (arith, n.0))
 
+patterns_paid : (width : ℕ) (cells : List Cell) → AreNarrow width cells → (set : List PatternData)
+    → sum_by (λ p. pattern_cost p cells) set ≤ sum_by (Rattle.wq_verify.specs.Budget.most_pattern_cost width) set
+patterns_paid width cells n [] = omega arith
+patterns_paid width cells n (p ∷ set) =
+    omega (
+      arith,
+      sum_by-cons (λ p. pattern_cost p cells) p set,
+      sum_by-cons (Rattle.wq_verify.specs.Budget.most_pattern_cost width) p set,
+      pattern_paid width p cells n,
+      patterns_paid width cells n set,
+    )
+
 -- an instruction is charged at most its cost
 charged : (raw : Raw) (width : ℕ) (op : Op) (cells : List Cell) → AreNarrow width cells → charge raw op cells ≤ most_cost raw width op
 charged raw width (Match place) cells n = by (slice_get raw.patterns place)
@@ -237,6 +254,11 @@ charged raw width (Match place) cells n = by (slice_get raw.patterns place)
     by : (o : Option PatternData) → 1 + option_map_or (λ p. pattern_cost p cells) o 0 ≤ 1 + option_map_or (Rattle.wq_verify.specs.Budget.most_pattern_cost width) o 0
     by None = omega arith
     by (Some p) = omega (arith, pattern_paid width p cells n)
+charged raw width (AnyMatch place) cells n = by (slice_get raw.sets place)
+  where
+    by : (o : Option (List PatternData)) → 1 + option_map_or (λ set. sum_by (λ p. pattern_cost p cells) set) o 0 ≤ 1 + option_map_or (sum_by (Rattle.wq_verify.specs.Budget.most_pattern_cost width)) o 0
+    by None = omega arith
+    by (Some set) = omega (arith, patterns_paid width cells n set)
 charged raw width (OneOf case place) cells n = omega arith
 charged raw width op cells n = omega arith
 

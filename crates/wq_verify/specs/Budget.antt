@@ -4,7 +4,7 @@ use Rattle.std.specs.Prelude.{ℕ, ◌+◌, ◌*◌, max, List, [], ◌∷◌, l
 use Rattle.std.specs.Option.{option_map_or}
 use Rattle.wq_glob.specs.Pattern.{PatternData, atoms_of}
 use Rattle.wq_code.specs.declared.operation.Op.{Op}
-use Rattle.wq_code.specs.declared.operation.Op.TheVariants.{OneOf, Match}
+use Rattle.wq_code.specs.declared.operation.Op.TheVariants.{OneOf, Match, AnyMatch}
 use Rattle.wq_code.specs.declared.raw.Raw.{Raw}
 
 -- the length of the longest text
@@ -22,10 +22,13 @@ abbrev pub most_pattern_cost : ℕ → PatternData → ℕ
 most_pattern_cost width p = (length (atoms_of p) + 1) * (width + 1)
 
 -- the most that an instruction can cost with texts of this width: 1. For `Match` it is the cost of
--- its pattern more, for `OneOf` the entries of its list
+-- its pattern more, for `AnyMatch` those of all patterns of its set, for `OneOf` the entries of its
+-- list
 abbrev pub most_cost : Raw → ℕ → Op → ℕ
 most_cost raw width (Match place) =
     1 + option_map_or (most_pattern_cost width) (slice_get raw.patterns place) 0
+most_cost raw width (AnyMatch place) =
+    1 + option_map_or (sum_by (most_pattern_cost width)) (slice_get raw.sets place) 0
 most_cost raw width (OneOf _ place) = 1 + option_map_or length (slice_get raw.lists place) 0
 most_cost raw width _ = 1
 

@@ -8,3 +8,4 @@ pub mod Run
 pub mod Short
 pub mod Law
 pub mod ProgramFault
+pub mod FirstRules

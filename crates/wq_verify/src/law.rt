@@ -2,6 +2,7 @@
 //! whose contract is the law. A proof of another crate gets a law by a call, which costs nothing.
 ghost use Rattle.wq_verify.specs.Law.{FrontsAreUnique, FrontsGrow, OperandsAreNeeded, ValidAreTyped};
 ghost use Rattle.wq_verify.specs.Law.{ValidAreAccepted, RunsBeginWell, StepsGoWell};
+ghost use Rattle.wq_verify.specs.Law.{FirstProgramsStay, FirstBudgetsStay};
 
 /// Two typings of the same first places are equal.
 pub fn fronts_are_unique()
@@ -41,4 +42,15 @@ pub fn steps_go_well()
 #[tactic(auto, using(crate::proofs::ShortPrograms::operands_are_needed))]
 pub fn operands_are_needed()
     ensures { OperandsAreNeeded }
+{}
+
+/// A program that might run while there was one version of program files may run.
+pub fn first_programs_stay()
+    ensures { FirstProgramsStay }
+{}
+
+/// The budget of a program of that time is the same number, for every length of a name.
+#[tactic(auto, using(crate::proofs::FirstPrograms::first_budgets_stay))]
+pub fn first_budgets_stay()
+    ensures { FirstBudgetsStay }
 {}

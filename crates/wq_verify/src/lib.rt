@@ -17,8 +17,8 @@ mod stack;
 
 pub use fault::{ProgramFault, Rejection};
 pub use law::{
-    fronts_are_unique, fronts_grow, operands_are_needed, runs_begin_well, steps_go_well,
-    valid_are_accepted, valid_are_typed,
+    first_budgets_stay, first_programs_stay, fronts_are_unique, fronts_grow, operands_are_needed,
+    runs_begin_well, steps_go_well, valid_are_accepted, valid_are_typed,
 };
 pub use program::{Program, verify};
 pub use shape::MAX_CELLS;

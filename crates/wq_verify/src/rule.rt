@@ -41,6 +41,7 @@ fn has_constant(raw: &Raw, op: Op) -> bool
         Op::Text(place) => (place as usize) < raw.texts.len(),
         Op::OneOf(_, place) => (place as usize) < raw.lists.len(),
         Op::Match(place) => (place as usize) < raw.patterns.len(),
+        Op::AnyMatch(place) => (place as usize) < raw.sets.len(),
         _ => true,
     }
 }

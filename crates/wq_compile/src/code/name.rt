@@ -139,7 +139,7 @@ pub(super) fn put_below(
     let Depth::Is(relation, n) = depth else {
         return put_depth(alloc, draft, case, dir, Relation::Ge, 0);
     };
-    let end = draft.len() as u16 + 12;
+    let end = draft.len() as u32 + 12;
     put_depth(alloc, draft, case, dir, Relation::Ge, 0)?;
     put_jump(draft, false, end)?;
     put_depth(alloc, draft, case, dir, relation, n)

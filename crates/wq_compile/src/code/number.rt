@@ -44,7 +44,7 @@ pub(super) fn put_size(draft: &mut Draft, relation: Relation, n: i64) -> Result<
     ensures { OnOk result (draft.new
         ≡ put_all (code_of (size_is relation n) (length draft.old.code)) draft.old) }
 {
-    let end = draft.len() as u16 + 6;
+    let end = draft.len() as u32 + 6;
     draft.put(Op::Exists)?;
     put_jump(draft, false, end)?;
     put_plain_size(draft, relation, n)
@@ -56,7 +56,7 @@ pub(super) fn put_empty(draft: &mut Draft) -> Result<(), AllocError>
     ensures { OnOk result (draft.new
         ≡ put_all (code_of empty (length draft.old.code)) draft.old) }
 {
-    let start = draft.len() as u16;
+    let start = draft.len() as u32;
     draft.put(Op::Exists)?;
     put_jump(draft, false, start + 16)?;
     put_kind(draft, Kind::File)?;
