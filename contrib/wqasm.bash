@@ -11,7 +11,7 @@ _wqasm() {
             compile) choices="-o --clock" ;;
         esac
     elif [ "$before" = --version ]; then
-        choices=1
+        choices="1 2"
     else
         mapfile -t COMPREPLY < <(compgen -f -- "$word")
         return

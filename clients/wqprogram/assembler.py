@@ -8,7 +8,7 @@ from typing import Any, Callable, Dict, List, NamedTuple, Optional
 
 from .instructions import BY_NAME, FOLDS, RELATIONS, Instruction
 from .program_file import LATEST, MAX_PATTERN, MAX_TEXT, VERSIONS, Operation, Pattern, Program, Version
-from .source import Token, Words, fault_of, one_of, text_of, tokens_of
+from .source import TextFault, Token, Words, fault_of, one_of, text_of, tokens_of
 from .writing import PATTERN_FLAGS, TABLE_WORDS
 
 LEAST_NUMBER, GREATEST_NUMBER = -2**63, 2**63 - 1
@@ -16,11 +16,11 @@ CODE = "code"
 
 
 class Assembled(NamedTuple):
-    """A program, the version that its text asks for, and the line of each instruction."""
+    """A program, the version that its text asks for, and the word of each instruction."""
 
     program: Program
     version: Version
-    lines: List[int]
+    words: List[Token]
 
 
 class Parsed(NamedTuple):
@@ -29,7 +29,7 @@ class Parsed(NamedTuple):
     instruction: Instruction
     a: int
     b: Optional[Token]
-    line: int
+    word: Token
 
 
 def assembled(data: bytes, version: Optional[Version] = None) -> Assembled:
@@ -59,7 +59,7 @@ class Assembler:
             self.read_table()
         tables = {name: self.tables.get(name, []) for name in TABLE_WORDS}
         code = [self.operation(place, parsed) for place, parsed in enumerate(self.code)]
-        return Assembled(Program(**tables, code=code), self.version, [parsed.line for parsed in self.code])
+        return Assembled(Program(**tables, code=code), self.version, [parsed.word for parsed in self.code])
 
     def read_version(self) -> None:
         self.words.take()
@@ -74,6 +74,8 @@ class Assembler:
     def read_table(self) -> None:
         head = self.words.take()
         names = {TABLE_WORDS[name]: name for name in self.version.tables}
+        if head.word in TABLE_WORDS.values() and head.word not in names:
+            raise head.fault("not in this version", f"{later_version()}, or another table")
         if head.kind != "name" or head.word not in [*names, CODE]:
             raise head.fault("unknown word", f"{one_of([*names, CODE], head.word)}, with which a table begins")
         name = names.get(head.word, CODE)
@@ -90,15 +92,20 @@ class Assembler:
         """The rows of a table of constants."""
         kinds: Dict[str, Callable[[], Any]] = {
             "numbers": self.number, "texts": self.text, "lists": self.entries, "patterns": self.pattern,
+            "sets": self.patterns,
         }
         rows: List[Any] = []
         while not self.is_at_table():
             self.read_label(name, len(rows))
             if len(rows) == self.version.most_rows:
-                raise self.words.next.fault("too many rows", f"at most {self.version.most_rows:,} rows of a table")
+                raise self.too_many("rows", self.version.most_rows, "rows of a table")
             rows.append(kinds[name]())
             self.words.end_line()
         return rows
+
+    def too_many(self, counted: str, most: int, subject: str) -> TextFault:
+        """The fault of a row or an entry for which the version has no room."""
+        return self.words.next.fault(f"too many {counted}", f"at most {most:,} {subject} in version {self.version.number}")
 
     def is_at_table(self) -> bool:
         """Whether a table begins here, or the text ends."""
@@ -137,14 +144,20 @@ class Assembler:
         return token.value
 
     def entries(self) -> List[bytes]:
-        """A list of texts in brackets, which may go on over several lines."""
-        self.words.require("[", 'a list, as ["c", "h"]')
-        entries: List[bytes] = []
+        return self.bracketed(self.text, 'a list, as ["c", "h"]', "texts of a list")
+
+    def patterns(self) -> List[Pattern]:
+        return self.bracketed(self.pattern, 'a set, as ["*.c", "*.h" fold]', "patterns of a set")
+
+    def bracketed(self, entry: Callable[[], Any], example: str, subject: str) -> List[Any]:
+        """Entries in brackets, which may go on over several lines."""
+        self.words.require("[", example)
+        entries: List[Any] = []
         self.words.skip_lines()
         while self.words.take_if("]") is None:
             if len(entries) == self.version.most_entries:
-                raise self.words.next.fault("too many entries", f"at most {self.version.most_entries:,} in a list")
-            entries.append(self.text())
+                raise self.too_many("entries", self.version.most_entries, subject)
+            entries.append(entry())
             self.words.skip_lines()
             if self.words.next.kind != "]":
                 self.words.require(",", "a comma or a closing bracket")
@@ -154,7 +167,7 @@ class Assembler:
     def pattern(self) -> Pattern:
         text = self.text_to(MAX_PATTERN)
         flags = 0
-        while self.words.next.kind != "line":
+        while self.words.next.kind not in ("line", ",", "]"):
             token = self.words.take()
             if token.word not in PATTERN_FLAGS:
                 raise token.fault("unknown flag", one_of(PATTERN_FLAGS, token.word))
@@ -176,7 +189,7 @@ class Assembler:
                 continue
             labelled = None
             if len(self.code) == self.version.most_rows:
-                raise self.words.next.fault("too many rows", f"at most {self.version.most_rows:,} instructions")
+                raise self.too_many("rows", self.version.most_rows, "instructions")
             self.code.append(self.instruction())
             self.words.end_line()
         if labelled is not None:
@@ -185,8 +198,10 @@ class Assembler:
     def instruction(self) -> Parsed:
         token = self.words.take()
         instruction = BY_NAME.get(token.word)
+        if instruction is not None and not self.version.knows(instruction):
+            raise token.fault("not in this version", f"{later_version()}, or another instruction")
         if token.kind != "name" or instruction is None:
-            raise token.fault("unknown word", f"an instruction, as {one_of(near_instructions(token.word))}")
+            raise token.fault("unknown word", f"an instruction, as {one_of(near_instructions(token.word, self.version))}")
         a, b = 0, None
         if instruction.name == "cmp":
             a = self.relation()
@@ -197,7 +212,7 @@ class Assembler:
         if instruction.name in FOLDS and self.words.next.word == "fold":
             self.words.take()
             a = 1
-        return Parsed(instruction, a, b, token.line)
+        return Parsed(instruction, a, b, token)
 
     def relation(self) -> int:
         token = self.words.take()
@@ -233,10 +248,15 @@ class Assembler:
         return Operation(parsed.instruction, parsed.a, target)
 
 
-def near_instructions(word: str) -> List[str]:
-    """The instruction that a word may have been meant for, or some."""
-    found = one_of(BY_NAME, word)
+def near_instructions(word: str, version: Version) -> List[str]:
+    """The instruction of the version that a word may have been meant for, or some."""
+    found = one_of([name for name, instruction in BY_NAME.items() if version.knows(instruction)], word)
     return [found.strip('"')] if found.count('"') == 2 else ["exists", "num", "cmp", "ret"]
+
+
+def later_version() -> str:
+    """The version that has what another has not."""
+    return f"version {LATEST.number} of program files"
 
 
 def table_words(table: str) -> str:

@@ -14,10 +14,10 @@ from .assembler import assembled
 from .clocks import FIRST, Instance, instance_of
 from .compiler import TooLarge, compiled, names_tick
 from .disassembler import disassembled
-from .errors import NOT_JSON, PROGRAM_TOO_LARGE, Refused
+from .errors import LINE_TOO_LONG, NOT_JSON, PROGRAM_TOO_LARGE, Refused
 from .explainer import explained
 from .faults import fault_sentence, file_fault_sentence
-from .limits import MAX_NUMBER
+from .limits import MAX_LINE, MAX_NUMBER
 from .program_file import LATEST, VERSIONS, FileFault, Program, Version, read, version_of, written
 from .records import Clocks, RowFault, record_of_row
 from .source import TextFault, one_of
@@ -41,8 +41,9 @@ usage: wqasm assemble TEXT [-o FILE] [--version N]
   compile       makes the program file of a JSON expression
   add           hands a program file to a server, under a name, and shows the answer
 
-  -o FILE       the file to write; else standard output takes it. A text or a file that is called - is standard input
-  --version N   the version of the program file: 1
+  -o FILE       the file to write; else standard output takes it. - in place of a text, a file or an expression is
+                standard input
+  --version N   the version of the program file: 1 or 2
   --record ROW  the file: the letter of its kind, its size, its modification time in milliseconds, its name
   --deleted     the file is gone
   --cclock N, --csec N   the tick and the second at which it came; 1 if left out
@@ -53,8 +54,8 @@ The status is 0, or 1 if something cannot be read or written, 2 for a wrong comm
 stop it.
 """
 LONGEST_FILE = 16_777_216
-# A byte of a text takes four letters at most.
-LONGEST_TEXT = 4 * LONGEST_FILE
+# A pattern of two bytes may be written with all its flags, in 37 letters. So the text of each file may be so long.
+LONGEST_TEXT = 20 * LONGEST_FILE
 # Of a number up to 2^62.
 MOST_DIGITS = 19
 CANNOT, WRONG_LINE, REFUSED = 1, 2, 3
@@ -136,8 +137,9 @@ def assemble(arguments: argparse.Namespace) -> int:
     write(arguments.output, written(found.program, found.version))
     looked = looked_at(found.program)
     if looked.fault is not None:
-        line = f"{found.lines[looked.place]}: " if found.lines else ""
-        print(f"{arguments.file}:{line}{fault_sentence(found.program, looked)}", file=sys.stderr)
+        word = found.words[looked.place] if found.words else None
+        where = f"{arguments.file}:{word.line}:{word.column}" if word else arguments.file
+        print(f"{where}: {fault_sentence(found.program, looked)}", file=sys.stderr)
     return 0
 
 
@@ -224,7 +226,7 @@ def clock_of(arguments: argparse.Namespace, name: str, default: int) -> int:
 def compile_expression(arguments: argparse.Namespace) -> int:
     try:
         instance = FIRST if arguments.clock is None else instance_of(arguments.clock)
-        program = program_of(os.fsencode(arguments.expression), instance, arguments.clock is not None)
+        program = program_of(expression_of(arguments.expression), instance, arguments.clock is not None)
     except Refused as refused:
         return fail(REFUSED, refused.error)
     except ValueError as error:
@@ -233,12 +235,20 @@ def compile_expression(arguments: argparse.Namespace) -> int:
     return 0
 
 
+def expression_of(word: str) -> bytes:
+    """The expression: the word itself, or what standard input has, since a word of a command has an upper length."""
+    return bytes_of(word, LONGEST_FILE) if word == "-" else os.fsencode(word)
+
+
 def program_of(text: bytes, instance: Instance, has_instance: bool) -> Program:
     """The program that a server makes of an expression in JSON, or the error that it answers."""
+    # The shortest line of a client that has it.
+    line = b'["query","/",{"expression":' + text.strip() + b"}]"
+    if len(line) > MAX_LINE:
+        raise Refused(LINE_TOO_LONG)
     try:
         value = json_values.read(text)
-        # In a query it is inside an array and an object.
-        json_values.read(b'["query","/",{"expression":' + text + b"}]")
+        json_values.read(line)
     except json_values.NotJson:
         raise Refused(NOT_JSON) from None
     read_term(value, instance)
@@ -252,6 +262,8 @@ def program_of(text: bytes, instance: Instance, has_instance: bool) -> Program:
 
 def add(arguments: argparse.Namespace) -> int:
     """Asks a server to keep a program file. What is wrong with it, the server says."""
+    if not arguments.socket:
+        return fail(WRONG_LINE, "the socket has no name; does WQD_SOCK name it?")
     text = base64.b64encode(bytes_of(arguments.file, LONGEST_FILE)).decode()
     line = json.dumps(["program-add", arguments.name, text], ensure_ascii=False)
     try:

@@ -5,10 +5,10 @@ from typing import Any, Callable, Dict, List, NamedTuple, Optional
 
 from .clocks import FIRST, Instance, bound_of
 from .instructions import BY_NAME, RELATIONS
-from .program_file import Operation, Program
+from .program_file import Operation, Program, blank
 
-LONGEST_CODE = 4_096
-LONGEST_LIST = 65_535
+LONGEST_CODE = 65_536
+LONGEST_LIST = 65_536
 CLOCK_ID_COLONS = 4
 
 # What reads the tick and the second of a field of `since`.
@@ -39,7 +39,7 @@ def compiled(value: Any, instance: Instance = FIRST) -> Program:
     code = code_of(value, instance)
     if len(code) >= LONGEST_CODE or any(step.name == "oneof" and len(step.operand) > LONGEST_LIST for step in code):
         raise TooLarge(len(code))
-    program = Program([], [], [], [], [])
+    program = blank()
     for place, step in enumerate([*code, Step("ret")]):
         instruction = BY_NAME[step.name]
         operand = 0

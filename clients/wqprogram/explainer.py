@@ -4,7 +4,7 @@ from typing import Iterator, List, Sequence
 
 from .faults import fault_sentence
 from .program_file import Operation, Program
-from .verifier import LONGEST_NAME, Looked, budget_of, cost, followers, looked_at, said_of
+from .verifier import LONGEST_NAME, Costs, Looked, budget_of, followers, looked_at, said_of
 from .writing import constant_words, kinds_words, operation_words
 
 HEAD = ["place", "instruction", "cost", "goes on at", "stack before it, top last"]
@@ -15,8 +15,8 @@ LONGEST_CONSTANT = 24
 
 def explained(program: Program) -> str:
     """The table of a program, its sum or its fault, and the line of `wqd check`."""
-    looked = looked_at(program)
-    rows = [HEAD, *(row(program, place, looked) for place in range(len(program.code)))]
+    looked, costs = looked_at(program), Costs(program)
+    rows = [HEAD, *(row(program, place, looked, costs) for place in range(len(program.code)))]
     lines = list(aligned(rows))
     if looked.fault is not None:
         mark = "       ^ " if program.code else ""
@@ -27,19 +27,19 @@ def explained(program: Program) -> str:
     return "\n".join([*lines, said_of(program)]) + "\n"
 
 
-def row(program: Program, place: int, looked: Looked) -> List[str]:
+def row(program: Program, place: int, looked: Looked, costs: Costs) -> List[str]:
     """The facts about the instruction at this place."""
     operation = program.code[place]
     constant = constant_words(program, operation, LONGEST_CONSTANT)
     words = operation_words(operation) + (f"  # {constant}" if constant else "")
-    return [str(place), words, cost_words(program, operation), next_words(place, operation), stack_words(place, looked)]
+    return [str(place), words, cost_words(costs, operation), next_words(place, operation), stack_words(place, looked)]
 
 
-def cost_words(program: Program, operation: Operation) -> str:
+def cost_words(costs: Costs, operation: Operation) -> str:
     """The cost of the instruction for a name of the greatest length, if its constant is there."""
     table = operation.instruction.b
-    is_there = table in ("", "code") or operation.b < len(program.table(table))
-    return str(cost(program, operation, LONGEST_NAME)) if is_there else "?"
+    is_there = table in ("", "code") or operation.b < len(costs.program.table(table))
+    return str(costs.of(operation, LONGEST_NAME)) if is_there else "?"
 
 
 def next_words(place: int, operation: Operation) -> str:

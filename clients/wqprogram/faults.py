@@ -2,24 +2,26 @@
 
 from typing import Callable, Dict, List, NamedTuple
 
-from .program_file import LATEST, MAGIC, MAX_TEXT, VERSIONS, FileFault, Operation, Program
+from .program_file import MAGIC, MAX_TEXT, VERSIONS, FileFault, Operation, Program
 from .source import one_of
 from .verifier import MAX_CELLS, Looked, Reached, other_follower, stack_after
 from .writing import KINDS, TABLE_WORDS, kinds_words, operation_words
 
+# What is in braces is of the version of the file.
 FILE_FAULTS: Dict[int, str] = {
-    1: f"a program file begins with {MAGIC.decode()}: this is another file",
-    2: f"no version of program files has this number: {one_of(map(str, VERSIONS))} is one",
+    1: f"a program file begins with {MAGIC.decode()}: this is another file; of a text assemble makes one",
+    2: f"no version of program files has this number: {one_of(map(str, VERSIONS))} may be there",
     3: "the file ends before or inside this part: take the whole file",
     4: "the last instruction ends here: take away what follows",
-    5: "no instruction has this byte: take one of the table of instructions",
+    5: "no instruction of version {0.number} has this byte: take one of the table of instructions that it has",
     6: "this operand or these flags are none that may be: put 0 for an operand that the instruction has not",
-    7: f"this is over the limit: a table has at most {LATEST.most_rows:,} rows, and a text {MAX_TEXT:,} bytes",
+    7: "this is over the limit of version {0.number}: a table has at most {0.most_rows:,} rows, a row "
+       f"{{0.most_entries:,}} entries, and a text {MAX_TEXT:,} bytes",
 }
 
 
 def file_fault_sentence(fault: FileFault) -> str:
-    return f"F{fault.number} at byte {fault.place}: {FILE_FAULTS[fault.number]}"
+    return f"F{fault.number} at byte {fault.place}: {FILE_FAULTS[fault.number].format(fault.version)}"
 
 
 # The instruction that was meant, by the one that is there and the cells that it meets.
@@ -74,13 +76,21 @@ def other_kind(met: Met) -> str:
 def no_constant(met: Met) -> str:
     table, words = met.operation.instruction.b, operation_words(met.operation)
     count = len(met.program.table(table))
-    remedy = f"take a number from 0 to {count - 1}, or add rows" if count else "add a row"
+    if count:
+        remedy = f"take {one_from('number', 0, count - 1)}, or add rows"
+    else:
+        remedy = "add a row, and take 0" if met.operation.b else "add a row"
     return f'"{words}" names row {met.operation.b} of "{TABLE_WORDS[table]}", which has {count}; {remedy}'
+
+
+def one_from(subject: str, first: int, last: int) -> str:
+    """The numbers of rows or places that may be taken."""
+    return f"{subject} {first}" if first == last else f"a {subject} from {first} to {last}"
 
 
 def wrong_place(met: Met) -> str:
     first, last = met.place + 1, len(met.program.code) - 1
-    remedy = f"take a place from {first} to {last}" if first <= last else "put instructions after it"
+    remedy = f"take {one_from('place', first, last)}" if first <= last else "put instructions after it"
     return f"it goes to place {met.operation.b}, and jumps lead to later places of the code alone; {remedy}"
 
 

@@ -44,6 +44,7 @@ INSTRUCTIONS: List[Instruction] = [
     Instruction(0x16, "and", 0, "", "FF", "F"),
     Instruction(0x17, "or", 0, "", "FF", "F"),
     Instruction(0x18, "drop", 0, "", "?", ""),
+    Instruction(0x19, "anymatch", 0, "sets", "T", "F"),
     Instruction(0x20, "jump", 0, "code", "", ""),
     Instruction(0x21, "jf", 0, "code", "F", "F"),
     Instruction(0x22, "jt", 0, "code", "F", "F"),

@@ -48,6 +48,8 @@ class Atom(NamedTuple):
 
 
 NOTHING = Atom("nothing")
+# The atoms that take no part of more than one byte.
+OF_ONE_BYTE = ("literal", "one", "class")
 
 
 class NoEnd(Exception):
@@ -58,10 +60,11 @@ def fits(atoms: List[Atom], flags: Flags, text: bytes) -> bool:
     """Tries every cut of the text: `ends` are the places where the parts of the atoms so far can end."""
     ends = {0}
     for atom in atoms:
+        longest = 1 if atom.kind in OF_ONE_BYTE else len(text)
         ends = {
             end
             for start in ends
-            for end in range(start, len(text) + 1)
+            for end in range(start, min(start + longest, len(text)) + 1)
             if takes(atom, flags, text, start, end)
         }
     return len(text) in ends

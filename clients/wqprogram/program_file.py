@@ -12,7 +12,7 @@ GREATEST_FLAGS = 15
 
 class Version(NamedTuple):
     """The room of a version of program files, and how many bytes its counts and places take. `tables` are the
-    tables of constants, in the order of the file."""
+    tables of constants, in the order of the file. An instruction is known if its table is there."""
 
     number: int
     tables: Tuple[str, ...]
@@ -25,9 +25,13 @@ class Version(NamedTuple):
     def greatest_place(self) -> int:
         return 256**self.place_bytes - 1
 
+    def knows(self, instruction: Instruction) -> bool:
+        return instruction.b in ("", "code", *self.tables)
+
 
 VERSIONS: Dict[int, Version] = {
     1: Version(1, ("numbers", "texts", "lists", "patterns"), 2, 4_096, 65_535, 2),
+    2: Version(2, ("numbers", "texts", "lists", "patterns", "sets"), 4, 65_536, 65_536, 4),
 }
 LATEST = VERSIONS[max(VERSIONS)]
 
@@ -47,6 +51,7 @@ class Program(NamedTuple):
     texts: List[bytes]
     lists: List[List[bytes]]
     patterns: List[Pattern]
+    sets: List[List[Pattern]]
     code: List[Operation]
 
     def table(self, name: str) -> List[Any]:
@@ -55,12 +60,14 @@ class Program(NamedTuple):
 
 
 class FileFault(Exception):
-    """The bytes are no program file, for the fault of this number in the part that begins at this place."""
+    """The bytes are no program file of the version, for the fault of this number in the part that begins at this
+    place."""
 
-    def __init__(self, number: int, place: int) -> None:
+    def __init__(self, number: int, place: int, version: Version) -> None:
         super().__init__(f"F{number} at byte {place}")
         self.number = number
         self.place = place
+        self.version = version
 
 
 class Reader:
@@ -71,11 +78,14 @@ class Reader:
         self.place = 0
         self.version = LATEST
 
+    def fault(self, number: int, place: int) -> FileFault:
+        return FileFault(number, place, self.version)
+
     def bytes_of(self, length: int) -> bytes:
         """A part of so many bytes. F3: they are not there."""
         part = self.data[self.place:self.place + length]
         if len(part) < length:
-            raise FileFault(3, self.place)
+            raise self.fault(3, self.place)
         self.place += length
         return part
 
@@ -84,17 +94,17 @@ class Reader:
         place = self.place
         number = int.from_bytes(self.bytes_of(length), "big")
         if greatest is not None and number > greatest:
-            raise FileFault(fault, place)
+            raise self.fault(fault, place)
         return number
 
     def head(self) -> List[int]:
         """The counts of the tables and of the instructions."""
         for place, byte in enumerate(MAGIC):
             if self.number(1) != byte:
-                raise FileFault(1, place)
+                raise self.fault(1, place)
         version = VERSIONS.get(self.number(1))
         if version is None:
-            raise FileFault(2, len(MAGIC))
+            raise self.fault(2, len(MAGIC))
         self.version = version
         return [self.number(version.count_bytes, version.most_rows, 7) for _ in [*version.tables, "code"]]
 
@@ -104,18 +114,25 @@ class Reader:
     def text(self) -> bytes:
         return self.bytes_of(self.number(2, MAX_TEXT, 7))
 
+    def count(self) -> int:
+        """How many entries a list or a set has."""
+        return self.number(self.version.count_bytes, self.version.most_entries, 7)
+
     def entries(self) -> List[bytes]:
-        return self.rows(self.number(self.version.count_bytes, self.version.most_entries, 7), self.text)
+        return self.rows(self.count(), self.text)
 
     def pattern(self) -> Pattern:
         flags = self.number(1, GREATEST_FLAGS, 6)
         return flags, self.bytes_of(self.number(1))
 
+    def patterns(self) -> List[Pattern]:
+        return self.rows(self.count(), self.pattern)
+
     def operation(self) -> Operation:
         place = self.place
         instruction = BY_BYTE.get(self.number(1))
-        if instruction is None:
-            raise FileFault(5, place)
+        if instruction is None or not self.version.knows(instruction):
+            raise self.fault(5, place)
         a = self.number(1, instruction.greatest_a, 6)
         b = self.number(self.version.place_bytes, None if instruction.b else 0, 6)
         return Operation(instruction, a, b)
@@ -130,13 +147,19 @@ def read(data: bytes) -> Program:
     counts = reader.head()
     kinds = {
         "numbers": reader.signed, "texts": reader.text, "lists": reader.entries, "patterns": reader.pattern,
-        "code": reader.operation,
+        "sets": reader.patterns, "code": reader.operation,
     }
     names = [*reader.version.tables, "code"]
-    program = Program(**{name: reader.rows(count, kinds[name]) for name, count in zip(names, counts)})
+    tables = {name: reader.rows(count, kinds[name]) for name, count in zip(names, counts)}
+    program = blank()._replace(**tables)
     if reader.place < len(data):
-        raise FileFault(4, reader.place)
+        raise reader.fault(4, reader.place)
     return program
+
+
+def blank() -> Program:
+    """A program without constants and instructions."""
+    return Program([], [], [], [], [], [])
 
 
 def version_of(data: bytes) -> Version:
@@ -151,7 +174,10 @@ class Writer:
         self.version = version
 
     def file(self, program: Program) -> bytes:
-        kinds = {"numbers": self.signed, "texts": self.text, "lists": self.entries, "patterns": self.pattern}
+        kinds = {
+            "numbers": self.signed, "texts": self.text, "lists": self.entries, "patterns": self.pattern,
+            "sets": self.patterns,
+        }
         rows = [[kinds[name](row) for row in program.table(name)] for name in self.version.tables]
         rows.append([self.operation(operation) for operation in program.code])
         counts = [self.count(len(table)) for table in rows]
@@ -173,6 +199,9 @@ class Writer:
     def pattern(self, pattern: Pattern) -> bytes:
         flags, text = pattern
         return bytes([flags, len(text)]) + text
+
+    def patterns(self, patterns: List[Pattern]) -> bytes:
+        return self.count(len(patterns)) + b"".join(map(self.pattern, patterns))
 
     def operation(self, operation: Operation) -> bytes:
         head = bytes([operation.instruction.byte, operation.a])

@@ -5,7 +5,7 @@ A `#` and what follows it on the line is a comment. Blanks separate words and sa
 
 import difflib
 import re
-from typing import Iterable, Iterator, List, NamedTuple, Optional, Tuple
+from typing import Iterable, Iterator, NamedTuple, Optional, Tuple
 
 BLANKS = re.compile(r"[ \t\r]+|#[^\n]*")
 # A word of a program: whatever is up to a blank, a mark, a quote or a comment.
@@ -37,7 +37,8 @@ class TextFault(Exception):
 
 class Token(NamedTuple):
     """A word of the text. The kind is `name`, `number`, `text`, a mark, `line` for the end of a line, `end` for that of the
-    text, or `other` for what is no word of a program. A text has its bytes as its value, and a number its number."""
+    text, `other` for what is no word of a program, or `fault`. A text has its bytes as its value, a number its number, and
+    a fault the error."""
 
     kind: str
     word: str
@@ -84,14 +85,17 @@ def text_of(data: bytes) -> str:
         raise TextFault("not UTF-8", line, column, f"the byte {data[error.start]:02x}", "a text in UTF-8") from None
 
 
-def tokens_of(text: str) -> List[Token]:
-    """The words of the text, with a `line` at the end of each line that has some, and an `end`."""
-    tokens: List[Token] = []
-    for token in Scanner(text).tokens():
-        is_blank_line = token.kind == "line" and (not tokens or tokens[-1].kind == "line")
-        if not is_blank_line:
-            tokens.append(token)
-    return tokens
+def tokens_of(text: str) -> Iterator[Token]:
+    """The words of the text, with a `line` at the end of each line that has some, and an `end`. A fault of a word is a
+    token too, the last one."""
+    before = "line"
+    try:
+        for token in Scanner(text).tokens():
+            if token.kind != "line" or before != "line":
+                yield token
+            before = token.kind
+    except TextFault as fault:
+        yield Token("fault", "", fault.line, fault.column, fault)
 
 
 class Scanner:
@@ -179,23 +183,28 @@ def kind_of(word: str) -> str:
 
 
 class Words:
-    """The tokens of a text, taken one by one."""
+    """The tokens of a text, taken one by one. No more of them are kept than two, since a text may be very long."""
 
-    def __init__(self, tokens: List[Token]) -> None:
+    def __init__(self, tokens: Iterator[Token]) -> None:
         self.tokens = tokens
-        self.place = 0
+        self.first = next(tokens)
+        self.second = next(tokens, None)
 
     @property
     def next(self) -> Token:
-        return self.tokens[self.place]
+        """The next token. A fault is raised when it is reached, so what is wrong before it counts first."""
+        if isinstance(self.first.value, TextFault):
+            raise self.first.value
+        return self.first
 
     @property
     def after_next(self) -> Optional[Token]:
-        return self.tokens[self.place + 1] if self.place + 1 < len(self.tokens) else None
+        return self.second
 
     def take(self) -> Token:
         token = self.next
-        self.place += 1
+        if self.second is not None:
+            self.first, self.second = self.second, next(self.tokens, None)
         return token
 
     def take_if(self, kind: str) -> Optional[Token]:

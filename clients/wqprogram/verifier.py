@@ -109,17 +109,34 @@ def width_of(program: Program, name_length: int) -> int:
 
 def budget_of(program: Program, name_length: int) -> int:
     """The most that the program can cost on a name of so many bytes."""
-    width = width_of(program, name_length)
-    return sum(cost(program, operation, width) for operation in program.code)
+    width, costs = width_of(program, name_length), Costs(program)
+    return sum(costs.of(operation, width) for operation in program.code)
 
 
-def cost(program: Program, operation: Operation, width: int) -> int:
-    """The cost of an instruction on a text of so many bytes. Its constants have to be there."""
-    if operation.instruction.name == "match":
-        return 1 + (atom_count(program.patterns[operation.b]) + 1) * (width + 1)
-    if operation.instruction.name == "oneof":
-        return 1 + len(program.lists[operation.b])
-    return 1
+class Costs:
+    """What the instructions of a program cost. The atoms of a constant are counted once, however many instructions
+    name it."""
+
+    def __init__(self, program: Program) -> None:
+        self.program = program
+        self.columns: Dict[Tuple[str, int], int] = {}
+
+    def of(self, operation: Operation, width: int) -> int:
+        """The cost of an instruction on a text of so many bytes. Its constant has to be there."""
+        if operation.instruction.name in ("match", "anymatch"):
+            return 1 + self.columns_of(operation) * (width + 1)
+        if operation.instruction.name == "oneof":
+            return 1 + len(self.program.lists[operation.b])
+        return 1
+
+    def columns_of(self, operation: Operation) -> int:
+        """How many cells the patterns of an instruction have at each byte of a text, and at its end."""
+        key = (operation.instruction.b, operation.b)
+        if key not in self.columns:
+            row = self.program.table(operation.instruction.b)[operation.b]
+            patterns = row if operation.instruction.name == "anymatch" else [row]
+            self.columns[key] = sum(atom_count(pattern) + 1 for pattern in patterns)
+        return self.columns[key]
 
 
 def flags_of(byte: int) -> Flags:

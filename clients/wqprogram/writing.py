@@ -9,7 +9,7 @@ KINDS = {"F": "flag", "N": "number", "T": "text", "?": "cell"}
 # The words of the flags of a pattern, from the lowest bit on.
 PATTERN_FLAGS = ["wholename", "dotfiles", "noescape", "fold"]
 # The words for tables of constants.
-TABLE_WORDS = {"numbers": "nums", "texts": "texts", "lists": "lists", "patterns": "patterns"}
+TABLE_WORDS = {"numbers": "nums", "texts": "texts", "lists": "lists", "patterns": "patterns", "sets": "sets"}
 ESCAPED = {'"': '\\"', "\\": "\\\\", "\n": "\\n", "\t": "\\t"}
 
 
@@ -52,7 +52,11 @@ def pattern_words(pattern: Pattern) -> str:
     return " ".join([quoted(text), *(word for bit, word in enumerate(PATTERN_FLAGS) if flags >> bit & 1)])
 
 
-ROW_WORDS = {"numbers": str, "texts": quoted, "lists": list_words, "patterns": pattern_words}
+def set_words(patterns: List[Pattern]) -> str:
+    return "[" + ", ".join(map(pattern_words, patterns)) + "]"
+
+
+ROW_WORDS = {"numbers": str, "texts": quoted, "lists": list_words, "patterns": pattern_words, "sets": set_words}
 
 
 def constant_words(program: Program, operation: Operation, longest: int) -> str:

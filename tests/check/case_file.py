@@ -13,19 +13,31 @@ class Case(NamedTuple):
     line: str
 
 
-TABLES = ("numbers", "texts", "lists", "patterns")
+TABLES = ("numbers", "texts", "lists", "patterns", "sets")
 
 
 def read_cases(text: str) -> Iterator[Case]:
     for group in groups(text):
-        data = data_of(group)
-        if "each prefix" in group:
-            for length in range(len(data)):
-                yield Case(f"{group['name']}: {length} bytes", data[:length], group["says"])
-        elif any(key.startswith("byte ") for key in group):
-            yield from cases_of_bytes(group, data)
-        else:
-            yield Case(group["name"], data, group["says"])
+        for version in versions_of(group):
+            yield from cases_of(group, data_of(group, version), f"{group['name']}, version {version}")
+
+
+def versions_of(group: Dict[str, str]) -> List[int]:
+    """The versions of the files of a case: both, if it does not say bytes or places of them, or asks for one."""
+    if "version" in group:
+        return [int(group["version"])]
+    is_of_bytes = "hex" in group or any(key.startswith("byte ") for key in group)
+    return [2] if "sets" in group else [1] if is_of_bytes else [1, 2]
+
+
+def cases_of(group: Dict[str, str], data: bytes, name: str) -> Iterator[Case]:
+    if "each prefix" in group:
+        for length in range(len(data)):
+            yield Case(f"{name}: {length} bytes", data[:length], group["says"])
+    elif any(key.startswith("byte ") for key in group):
+        yield from cases_of_bytes(group, data)
+    else:
+        yield Case(name, data, group["says"])
 
 
 def groups(text: str) -> Iterator[Dict[str, str]]:
@@ -39,11 +51,11 @@ def groups(text: str) -> Iterator[Dict[str, str]]:
             yield group
 
 
-def data_of(group: Dict[str, str]) -> bytes:
+def data_of(group: Dict[str, str], version: int) -> bytes:
     if "hex" in group:
         data = bytes.fromhex(group["hex"])
     else:
-        data = file_of(group["code"], *[group.get(table, "") for table in TABLES])
+        data = file_of(group["code"], *[group.get(table, "") for table in TABLES], version)
     data += bytes.fromhex(group.get("then", ""))
     return data[:len(data) - int(group.get("cut", "0"))]
 

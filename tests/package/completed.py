@@ -31,7 +31,7 @@ def check_completion(tally: built.Tally, room: Path) -> None:
         (["d"], ["disassemble"]),
         (["explain", str(room) + "/a"], [str(room / "a file")]),
         (["assemble", "text", "-"], ["-o", "--version"]),
-        (["assemble", "text", "--version", ""], ["1"]),
+        (["assemble", "text", "--version", ""], ["1", "2"]),
         (["run", "file", "--c"], ["--cclock", "--csec"]),
         (["explain", "-"], [""]),
     ):

@@ -20,6 +20,12 @@ PROGRAMS: Dict[str, Program] = {
     "V1FQRgEAAAAAAAAAAAACDgAAACMAAAA=": Program(2, lambda record: record.exists),
     # exists; not; ret
     "V1FQRgEAAAAAAAAAAAADDgAAABUAAAAjAAAA": Program(3, lambda record: not record.exists),
+    # flag 1; ret, in a file of version 2
+    "V1FQRgIAAAAAAAAAAAAAAAAAAAAAAAAAAAAAAAIBAQAAAAAjAAAAAAA=": Program(2, lambda record: True),
+    # basename; anymatch 0; ret, with a set of "*" alone, which fits no name with a leading dot
+    "V1FQRgIAAAAAAAAAAAAAAAAAAAAAAAAAAQAAAAMAAAABAAEqBQAAAAAAGQAAAAAAIwAAAAAA": Program(
+        3, lambda record: not record.basename.startswith(b".")
+    ),
 }
 FAULTS: Dict[str, str] = {
     "V1F": NOT_BASE64,
@@ -28,6 +34,7 @@ FAULTS: Dict[str, str] = {
     "V1FQ": WRONG_FILE,
     # not; ret
     "V1FQRgEAAAAAAAAAAAACFQAAACMAAAA=": WRONG_PROGRAM,
+    "V1FQRgIAAAAAAAAAAAAAAAAAAAAAAAAAAAAAAAIVAAAAAAAjAAAAAAA=": WRONG_PROGRAM,
 }
 
 

@@ -16,8 +16,10 @@ from wqprogram.command import main
 
 TOOL = built.TOP / "clients" / "wqasm"
 TEXT = b"nums\n    mib: 1048576\ncode\n    exists\n    jf end\n    drop\n    size\n    num mib\n    cmp gt\nend: ret\n"
-FILE = file_of("exists; jf 6; drop; size; num 0; cmp gt; ret", numbers="1048576")
-NO_RUN = file_of("wholename; not; ret")
+FIRST, FILE = (
+    file_of("exists; jf 6; drop; size; num 0; cmp gt; ret", numbers="1048576", version=version) for version in (1, 2)
+)
+NO_RUN = file_of("wholename; not; ret", version=2)
 SENTENCE = 'Y3: "not" takes a flag, and the top of the stack is a text; put a flag there'
 HELP = "; wqasm --help says which words there are\n"
 
@@ -29,8 +31,9 @@ WRONG_WORDS: List[Tuple[Sequence[str], str]] = [
     (["explain", "file", "--record", "f 1 1 a"], f"unrecognized arguments: --record f 1 1 a{HELP}"),
     (["run", "file"], f"the following arguments are required: --record{HELP}"),
     (["add", "socket", "name"], f"the following arguments are required: FILE{HELP}"),
-    (["assemble", "file", "--version", "2"], 'unknown version: found "2", expected "1"\n'),
-    (["assemble", "file", "--version", "one"], 'unknown version: found "one", expected "1"\n'),
+    (["add", "", "name", "file"], "the socket has no name; does WQD_SOCK name it?\n"),
+    (["assemble", "file", "--version", "3"], 'unknown version: found "3", expected "1" or "2"\n'),
+    (["assemble", "file", "--version", "one"], 'unknown version: found "one", expected "1" or "2"\n'),
     (["compile", '"exists"', "--clock", "c:1"], "'c:1' is no clock id, as c:START:PID:ROOT:TICK\n"),
     (["compile", '["since","c:1:2:3:4"]'], "the expression has a clock id; say with --clock a clock id of the server and root "
      "that it is for\n"),
@@ -89,7 +92,8 @@ def check_files(tally: built.Tally, room: Path) -> None:
     (room / "text").write_bytes(TEXT)
     same(tally, "assemble", tool(room, "assemble", "text", "-o", "file"), built.Ended(b"ok 7 7\n", b"", 0))
     same(tally, "the assembled file", (room / "file").read_bytes(), FILE)
-    same(tally, "assemble --version 1", tool(room, "assemble", "-", "--version", "1", entered=TEXT), built.Ended(FILE, b"", 0))
+    same(tally, "assemble --version 1", tool(room, "assemble", "-", "--version", "1", entered=TEXT), built.Ended(FIRST, b"", 0))
+    same(tally, "assemble --version 2", tool(room, "assemble", "-", "--version", "2", entered=TEXT), built.Ended(FILE, b"", 0))
     text = tool(room, "disassemble", "file").output
     same(tally, "there and back", tool(room, "assemble", "-", entered=text), built.Ended(FILE, b"", 0))
     bad = tool(room, "assemble", "-", "-o", "bad", entered=b"code\nfrob\n")
@@ -98,15 +102,32 @@ def check_files(tally: built.Tally, room: Path) -> None:
     check_refused(tally, room)
     compiled = tool(room, "compile", '["since","c:1:2:3:4"]', "--clock", "c:1:2:3:0", "-o", "file")
     same(tally, "compile", compiled, built.Ended(b"ok 4 4\n", b"", 0))
-    same(tally, "the compiled file", (room / "file").read_bytes(), file_of("oclock; num 0; cmp gt; ret", numbers="4"))
+    same(tally, "the compiled file", (room / "file").read_bytes(), file_of("oclock; num 0; cmp gt; ret", numbers="4", version=2))
     other = tool(room, "compile", '["since","c:1:2:3:4"]', "--clock", "c:1:2:4:0")
-    same(tally, "a clock id of another root", other, built.Ended(file_of("exists; ret"), b"", 0))
+    same(tally, "a clock id of another root", other, built.Ended(file_of("exists; ret", version=2), b"", 0))
     deep = "[" * 126 + "]" * 126
     for expression, error in (("frob", "E2: not JSON"), ('"frob"', "E24: unknown term"), (deep, "E2: not JSON")):
         ended = tool(room, "compile", expression, "-o", "none")
         same(tally, f"compile {expression[:20]}", ended, built.Ended(b"", f"wqasm: {error}\n".encode(), 3))
-    large = tool(room, "compile", '["allof"%s]' % (',"true"' * 1_366))
-    same(tally, "an expression that is too large", large, built.Ended(b"", b"wqasm: E30: program too large\n", 3))
+    check_long_expressions(tally, room)
+
+
+def check_long_expressions(tally: built.Tally, room: Path) -> None:
+    """Expressions that are too long for a word of a command, from standard input, and those with a fault of length."""
+    for count, ended in (
+        (21_845, built.Ended(b"ok 65534 65534\n", b"", 0)),
+        (21_846, built.Ended(b"", b"wqasm: E30: program too large\n", 3)),
+    ):
+        expression = b'["allof"%s]\n' % (b',"true"' * count)
+        found = tool(room, "compile", "-", "-o", "file", entered=expression)
+        same(tally, f"an expression of {count} terms", found, ended)
+    for length, ended in (
+        (1_048_547, built.Ended(b"ok 2 2\n", b"", 0)),
+        (1_048_548, built.Ended(b"", b"wqasm: E1: line too long\n", 3)),
+    ):
+        expression = b'["true"' + b" " * (length - 8) + b"]"
+        found = tool(room, "compile", "-", "-o", "file", entered=expression)
+        same(tally, f"an expression of {length} bytes", found, ended)
 
 
 def check_refused(tally: built.Tally, room: Path) -> None:
@@ -114,14 +135,16 @@ def check_refused(tally: built.Tally, room: Path) -> None:
     (room / "no-run").write_bytes(NO_RUN)
     (room / "none").write_bytes(FILE[:-1])
     assembled = tool(room, "assemble", "-", "-o", "bad", entered=b"code\n\nwholename\nnot\nret\n")
-    same(tally, "a text that may not run", assembled, built.Ended(b"refused Y3 at 1\n", f"-:4: {SENTENCE}\n".encode(), 0))
+    same(tally, "a text that may not run", assembled, built.Ended(b"refused Y3 at 1\n", f"-:4:1: {SENTENCE}\n".encode(), 0))
     same(tally, "its file", (room / "bad").read_bytes(), NO_RUN)
+    empty = tool(room, "assemble", "-", "-o", "bad", entered=b"code\n")
+    same(tally, "a text without instructions", (empty.output, empty.errors[:7]), (b"refused Y1 at 0\n", b"-: Y1: "))
     ended = tool(room, "explain", "no-run")
     same(tally, "explain", (ended.output.endswith(b"refused Y3 at 1\n"), ended.errors, ended.status), (True, b"", 3))
     ended = tool(room, "run", "no-run", "--record", "f 1 1 a")
     same(tally, "run", ended, built.Ended(b"", f"wqasm: no-run: refused Y3 at 1: {SENTENCE}\n".encode(), 3))
     same(tally, "disassemble", tool(room, "disassemble", "no-run").status, 0)
-    fault = "F3 at byte 49: the file ends before or inside this part: take the whole file"
+    fault = "F3 at byte 75: the file ends before or inside this part: take the whole file"
     explained = built.Ended(f"{fault}\nrefused F3\n".encode(), b"", 3)
     same(tally, "explain of no program file", tool(room, "explain", "none"), explained)
     refused = built.Ended(b"", f"wqasm: none: refused {fault}\n".encode(), 3)

@@ -7,6 +7,7 @@ from typing import List, Union
 
 import built
 import generate_terms
+from client import same
 from draws import Draws
 from drawn_programs import TREE, records_of, replies_to
 from wqprogram.clocks import FIRST
@@ -21,7 +22,8 @@ SINCE_ALL = '"since":"c:7:9:1:0","sync_timeout":0,"fields":["name"]'
 
 
 def check_expressions(tally: built.Tally, room: Path) -> None:
-    """The program of a drawn expression answers as the expression, and one with a fault is refused as a query with it."""
+    """The program of a drawn expression may run, at the cost that `check` says, and answers as the expression. An
+    expression with a fault is refused as a query with it."""
     expressions = drawn_expressions()
     made = [file_or_error(expression) for expression in expressions]
     lines: List[str] = []
@@ -38,7 +40,9 @@ def check_expressions(tally: built.Tally, room: Path) -> None:
         name = f"compile, drawn expression {number + 1}"
         details = [expression, str(added), str(by_program), str(by_expression)]
         if isinstance(file, bytes):
-            is_right = added["instructions"] == int(said(file).split()[1]) and by_program == by_expression
+            line = said(file)
+            is_right = added["instructions"] == int(line.split()[1]) and by_program == by_expression
+            same(tally, f"check, {name}", built.check(file), built.Ended(f"{line}\n".encode(), b"", 0))
         else:
             is_right = by_expression.get("error") == file
         tally.check(name, is_right, details)

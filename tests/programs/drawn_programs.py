@@ -5,10 +5,11 @@ import json
 import re
 from functools import lru_cache
 from pathlib import Path
-from typing import List, NamedTuple, Optional
+from typing import Dict, List, NamedTuple, Optional
 
 import built
-from drawn import mutated, program
+from case_file import read_cases
+from drawn import Drawn, drawn_of
 from draws import Draws
 from replay import turns
 from wqprogram.assembler import assembled
@@ -16,58 +17,81 @@ from wqprogram.disassembler import disassembled
 from wqprogram.explainer import explained
 from wqprogram.faults import file_fault_sentence
 from wqprogram.machine import run
-from wqprogram.program_file import VERSIONS, FileFault, Program, read, written
+from wqprogram.program_file import LATEST, VERSIONS, FileFault, Program, read, version_of, written
 from wqprogram.records import Record
 from wqprogram.source import TextFault
 from wqprogram.tracer import traced
 
+# So many programs are drawn of each version. Of the first of them other texts are tried too.
 DRAWN = 3_000
-DAMAGED = 1_000
-# So many of the drawn programs may run, and so many files are no program files.
-FEWEST_RUN, FEWEST_FILE_FAULTS = 700, 1_000
-TREE = Path(__file__).resolve().parent.parent / "compile" / "tree"
+DAMAGED = 500
+# So many of the drawn programs of a version may run, so many files are no program files, and so many of the first
+# programs of version 2 are such that version 1 can hold them, and so many are not.
+FEWEST_RUN, FEWEST_FILE_FAULTS, FEWEST_FIT, FEWEST_UNFIT = 1_500, 1_500, 30, 300
+TESTS = Path(__file__).resolve().parent.parent
+TREE = TESTS / "compile" / "tree"
+CASES = TESTS / "check" / "cases"
 QUERY = '["query","/r",{"program":"p","since":"c:7:9:1:0","sync_timeout":0,"fields":["name"]}]'
 LETTERS = ':[],"#\\- \n\t0ax_\u00fc\u202e'
 
 
-class Drawn(NamedTuple):
-    """The file of a drawn program, and the same or one with some change."""
-
-    file: bytes
-    mutated: bytes
-
-
 @lru_cache(maxsize=None)
-def drawn_files() -> List[Drawn]:
-    files = []
-    for counter in range(1, DRAWN + 1):
-        draws = Draws(counter)
-        file = program(draws)
-        files.append(Drawn(file, mutated(draws, file)))
-    return files
+def drawn_files(version: int) -> List[Drawn]:
+    return drawn_of(version, DRAWN)
 
 
 def check_texts(tally: built.Tally, room: Path) -> None:
-    """Each drawn program is written as a text of each version, which gives the same bytes."""
-    for version in VERSIONS.values():
-        wrong: List[str] = []
-        for drawn in drawn_files():
+    """The text of each drawn file gives the same bytes."""
+    for version in VERSIONS:
+        wrong = [drawn.file.hex() for drawn in drawn_files(version) if not comes_back(drawn.file)]
+        tally.check(f"{DRAWN} drawn programs of version {version}, there and back", not wrong, wrong[:5])
+
+
+def check_cases(tally: built.Tally, room: Path) -> None:
+    """So does the text of each file of tests/check that can be read, as those at the limits of both versions."""
+    cases = [case for case in read_cases(CASES.read_text(encoding="utf-8")) if not case.line.startswith("refused F")]
+    for case in cases:
+        tally.check(f"{case.name}, there and back", comes_back(case.data))
+    print(f"{len(cases)} files of tests/check as texts")
+
+
+def comes_back(file: bytes) -> bool:
+    """Whether the text of a file gives its program and its bytes."""
+    known = read(file)
+    found = assembled(disassembled(known, version_of(file)).encode("utf-8"))
+    return written(found.program, found.version) == file and found.program == known
+
+
+def check_other_version(tally: built.Tally, room: Path) -> None:
+    """The text of a file of version 1 gives the same program in version 2. That of a file of version 2 gives it in version
+    1, if this can hold it, and else the fault that the version has no such table or instruction."""
+    fitting: Dict[bool, int] = {True: 0, False: 0}
+    for version, other in ((VERSIONS[1], VERSIONS[2]), (VERSIONS[2], VERSIONS[1])):
+        for drawn in drawn_files(version.number)[:DAMAGED]:
             known = read(drawn.file)
-            found = assembled(disassembled(known, version).encode("utf-8"))
-            if written(found.program, found.version) != written(known, version) or found.program != known:
-                wrong.append(drawn.file.hex())
-        tally.check(f"{DRAWN} drawn programs of version {version.number}, there and back", not wrong, wrong[:5])
+            text = disassembled(known, version).encode("utf-8")
+            fits = not known.sets and all(map(other.knows, (operation.instruction for operation in known.code)))
+            try:
+                is_right = written(assembled(text, other).program, other) == written(known, other) and (fits or other == LATEST)
+            except TextFault as fault:
+                is_right = fault.name == "not in this version" and not fits and other != LATEST
+            fitting[fits] += other != LATEST
+            tally.check(f"in version {other.number}, drawn file {drawn.file.hex()}", is_right)
+    counts = f"{DAMAGED} drawn programs of version 2: version 1 can hold {fitting[True]}"
+    tally.check(counts, fitting[True] >= FEWEST_FIT and fitting[False] >= FEWEST_UNFIT)
+    print(counts)
 
 
 def check_damaged_texts(tally: built.Tally, room: Path) -> None:
     """A text with a letter or a line more or less says a program, or has a named fault."""
     faults = set()
-    for counter, drawn in enumerate(drawn_files()[:DAMAGED], 1):
-        text = disassembled(read(drawn.file), VERSIONS[1])
-        try:
-            assembled(damaged(Draws(counter), text).encode("utf-8"))
-        except TextFault as fault:
-            faults.add(fault.name)
+    for version in VERSIONS.values():
+        for counter, drawn in enumerate(drawn_files(version.number)[:DAMAGED], 1):
+            text = disassembled(read(drawn.file), version)
+            try:
+                assembled(damaged(Draws(counter), text).encode("utf-8"))
+            except TextFault as fault:
+                faults.add(fault.name)
     tally.check("damaged texts have faults of many names", len(faults) >= 8, sorted(faults))
 
 
@@ -98,18 +122,24 @@ class Asked(NamedTuple):
 
 
 def check_against_server(tally: built.Tally, room: Path) -> None:
-    """Of each drawn file the server says what `explain` says, and answers by it what `run` says of each file."""
-    asked = [asked_of(drawn.mutated) for drawn in drawn_files()]
+    """Of each drawn program, as it is and with a change, the server says what `explain` says, and answers by it what `run`
+    says of each file."""
+    for version in VERSIONS:
+        check_version_against_server(tally, version)
+
+
+def check_version_against_server(tally: built.Tally, version: int) -> None:
+    asked = [asked_of(file) for file in dict.fromkeys(file for drawn in drawn_files(version) for file in drawn)]
     records = records_of(TREE.read_bytes())
     replies = iter(replies_to([line for one in asked for line in one.lines]))
     for number, one in enumerate(asked):
         added = next(replies)
-        name = f"drawn file {number + 1}: {one.file.hex()}"
+        name = f"drawn file {number + 1} of version {version}: {one.file.hex()}"
         tally.check(f"explain, {name}", one.line == line_of(added), [one.line, str(added)])
         if one.may_run:
             check_runs(tally, name, one.program, records, next(replies)["files"], records[number % len(records)])
     ran, file_faults = sum(one.may_run for one in asked), sum(one.program is None for one in asked)
-    counts = f"{DRAWN} drawn files: {ran} may run, {file_faults} are no program files"
+    counts = f"{len(asked)} drawn files of version {version}: {ran} may run, {file_faults} are no program files"
     tally.check(counts, ran >= FEWEST_RUN and file_faults >= FEWEST_FILE_FAULTS)
     print(counts)
 

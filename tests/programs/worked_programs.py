@@ -8,10 +8,11 @@ from bad_texts import BAD_TEXTS
 from client import same
 from notation import file_of
 from wqprogram.assembler import assembled
+from wqprogram.command import LONGEST_FILE, LONGEST_TEXT
 from wqprogram.disassembler import disassembled
 from wqprogram.explainer import explained
 from wqprogram.faults import fault_sentence, file_fault_sentence
-from wqprogram.program_file import VERSIONS, FileFault, read, written
+from wqprogram.program_file import FileFault, read, version_of, written
 from wqprogram.records import Clocks, record_of_row
 from wqprogram.source import TextFault
 from wqprogram.tracer import traced
@@ -24,14 +25,14 @@ class Worked(NamedTuple):
     name: str
     text: str
     code: str
-    constants: Tuple[str, str, str, str] = ("", "", "", "")
+    constants: Tuple[str, ...] = ()
 
 
-ONE_OF_EACH = 'nums\n1\ntexts\n"a"\nlists\n["a"]\npatterns\n"a"\ncode\n'
+ONE_OF_EACH = 'nums\n1\ntexts\n"a"\nlists\n["a"]\npatterns\n"a"\nsets\n["a"]\ncode\n'
 EACH = (
     "flag 0; flag 1; num 0; text 0; wholename; basename; suffix; size; mtime; oclock; cclock; osec; csec; kind; exists; "
-    "cmp eq; cmp ne; cmp lt; cmp le; cmp gt; cmp ge; eq; eq fold; depth; depth fold; oneof 0; oneof 0 fold; match 0; not; "
-    "and; or; drop; jump 40; jf 40; jt 40; ret"
+    "cmp eq; cmp ne; cmp lt; cmp le; cmp gt; cmp ge; eq; eq fold; depth; depth fold; oneof 0; oneof 0 fold; match 0; "
+    "anymatch 0; not; and; or; drop; jump 40; jf 40; jt 40; ret"
 )
 
 WORKED = [
@@ -67,7 +68,14 @@ WORKED = [
         'patterns\n"a"\n"b" fold wholename\n"c" wholename dotfiles noescape fold\ncode\n', "",
         ("", "", "", '[0,"a"], [9,"b"], [15,"c"]'),
     ),
-    Worked("each instruction", ONE_OF_EACH + EACH.replace("; ", "\n") + "\n", EACH, ("1", '"a"', '["a"]', '[0,"a"]')),
+    Worked(
+        "sets on one line and on several",
+        'sets\n[]\nc: ["*.c" fold, "*.h"]\n[  # one\n  "a" wholename dotfiles,\n]\ncode\nbasename\nanymatch c\nret\n',
+        "basename; anymatch 1; ret", ("", "", "", "", '[], [[8,"*.c"],[0,"*.h"]], [[3,"a"]]'),
+    ),
+    Worked(
+        "each instruction", ONE_OF_EACH + EACH.replace("; ", "\n") + "\n", EACH, ("1", '"a"', '["a"]', '[0,"a"]', '[[0,"a"]]'),
+    ),
 ]
 
 # A text as it is written of a program: labels for places ahead, numbers for others, comments for constants.
@@ -100,6 +108,27 @@ at3:
 """,
     "num 0; jf 3; jt 0; jump 9; match 0; oneof 0 fold; num 1; cmp ge",
     ("5", r'"a\n\u00ff\u00e2\u0080\u00ae"', '["c",""]', '[9,"*.c"]'),
+)
+# The same of a program in a file of version 2.
+WRITTEN_SETS = Worked(
+    "a text with sets that is written",
+    r"""version 2
+
+sets
+    ["*.c" wholename fold, "a\n"]
+    []
+
+code
+    basename
+    anymatch 0          # ["*.c" wholename fold, "a\n"]
+    jf at5
+    drop
+    anymatch 7
+at5:
+    ret
+""",
+    "basename; anymatch 0; jf 5; drop; anymatch 7; ret",
+    ("", "", "", "", r'[[9,"*.c"],[0,"a\n"]], []'),
 )
 
 LARGE = file_of("exists; jf 6; drop; size; num 0; cmp gt; ret", numbers="5")
@@ -136,7 +165,7 @@ REFUSED = """\
 place  instruction  cost  goes on at  stack before it, top last
     0  exists          1  1           empty
     1  num 3           ?  2           flag
-       ^ Y4: "num 3" names row 3 of "nums", which has 0; add a row
+       ^ Y4: "num 3" names row 3 of "nums", which has 0; add a row, and take 0
     2  jf 4            1  3 or 4      ?
     3  ret             1  the end     ?
 refused Y4 at 1
@@ -155,7 +184,9 @@ SENTENCES: List[Tuple[str, str]] = [
     ("num 0; ret", 'Y4: "num 0" names row 0 of "nums", which has 0; add a row'),
     ("text 7; ret", 'Y4: "text 7" names row 7 of "texts", which has 2; take a number from 0 to 1, or add rows'),
     ("flag 0; jf 0; ret",
-     "Y5: it goes to place 0, and jumps lead to later places of the code alone; take a place from 2 to 2"),
+     "Y5: it goes to place 0, and jumps lead to later places of the code alone; take place 2"),
+    ("flag 0; jf 9; drop; flag 1; ret",
+     "Y5: it goes to place 9, and jumps lead to later places of the code alone; take a place from 2 to 4"),
     ("jump 5", "Y5: it goes to place 5, and jumps lead to later places of the code alone; put instructions after it"),
     ("exists; jf 3; exists; ret", "Y6: place 3 was reached from place 1 with a flag on the stack, and from here it would be "
      "with a flag and a flag; let both ways leave the same kinds of cells"),
@@ -169,6 +200,11 @@ SENTENCES: List[Tuple[str, str]] = [
     ("size; exists; ret", 'Y10: "ret" ends with one flag alone, and the stack has a number and a flag; take the others away '
      'before by "and", "or" or "drop"'),
 ]
+# The same in a program with sets.
+SENTENCES_OF_SETS: List[Tuple[str, str]] = [
+    ("size; anymatch 0; ret", 'Y3: "anymatch" takes a text, and the top of the stack is a number; put a text there'),
+    ("basename; anymatch 1; ret", 'Y4: "anymatch 1" names row 1 of "sets", which has 1; take number 0, or add rows'),
+]
 FILE_FAULTS: List[Tuple[str, str]] = [
     ("", "F3 at byte 0"), ("575150", "F3 at byte 3"), ("57515047", "F1 at byte 3"), ("5751504603", "F2 at byte 4"),
     ("5751504601 0000 1001", "F7 at byte 7"), ("5751504601 0000 0000 0000 0000 0001 1f", "F5 at byte 15"),
@@ -177,7 +213,33 @@ FILE_FAULTS: List[Tuple[str, str]] = [
     ("5751504601 0000 0000 0000 0001 0000 10", "F6 at byte 15"),
     ("5751504601 0000 0001 0000 0000 0000 0002 61", "F3 at byte 17"),
     ("5751504601 0000 0000 0000 0000 0001 23000000 00", "F4 at byte 19"),
+    ("5751504601 0000 0000 0000 0000 0001 19000000", "F5 at byte 15"), ("5751504602 00010001", "F7 at byte 5"),
+    ("5751504602 00000000 00000000 00000000 00000000 00000001 00000000 00010001", "F7 at byte 29"),
+    ("5751504602 00000000 00000000 00000000 00000000 00000001 00000000 00000001 10", "F6 at byte 33"),
+    ("5751504602 00000000 00000000 00000000 00000000 00000000 00000001 010000000001", "F6 at byte 31"),
 ]
+
+
+# What is said of a fault goes by the version of the file.
+FILE_SENTENCES: List[Tuple[str, str]] = [
+    ("636f6465", "F1 at byte 0: a program file begins with WQPF: this is another file; of a text assemble makes one"),
+    ("5751504603", 'F2 at byte 4: no version of program files has this number: "1" or "2" may be there'),
+    ("5751504601 0000 0000 0000 0000 0001 19000000",
+     "F5 at byte 15: no instruction of version 1 has this byte: take one of the table of instructions that it has"),
+    ("5751504601 1001", "F7 at byte 5: this is over the limit of version 1: a table has at most 4,096 rows, a row 65,535 "
+     "entries, and a text 4,096 bytes"),
+    ("5751504602 00010001", "F7 at byte 5: this is over the limit of version 2: a table has at most 65,536 rows, a row "
+     "65,536 entries, and a text 4,096 bytes"),
+]
+
+# A program of which many instructions try one long set, and what it costs on names of 4,096 bytes: each of them one step,
+# two for each byte and the end and pattern, and two for the instructions beside it.
+TRIES, PATTERNS = 5_000, 20_000
+LONG_SETS = file_of(
+    f"{{{{basename; anymatch 0; drop; *{TRIES}}}}}exists; ret", sets=f'[[0,"*"]{{{{,[15,"b"]*{PATTERNS - 1}}}}}]'
+)
+LONG_SETS_SAY = f"ok {3 * TRIES + 2} {TRIES * (3 + 2 * PATTERNS * 4_097) + 2}"
+LONG_SETS_RUN = f"yes at a cost of {TRIES * (3 + 2 * PATTERNS * 2) + 2}, of at most {LONG_SETS_SAY.split()[2]}"
 
 
 def check_bad_texts(tally: built.Tally, room: Path) -> None:
@@ -191,10 +253,13 @@ def check_bad_texts(tally: built.Tally, room: Path) -> None:
 
 
 def check_worked(tally: built.Tally, room: Path) -> None:
-    for worked in [*WORKED, WRITTEN]:
+    for worked in [*WORKED, WRITTEN, WRITTEN_SETS]:
         found = assembled(worked.text.encode("utf-8"))
-        same(tally, worked.name, written(found.program, found.version), file_of(worked.code, *worked.constants))
-    same(tally, WRITTEN.name, disassembled(read(file_of(WRITTEN.code, *WRITTEN.constants)), VERSIONS[1]), WRITTEN.text)
+        file = file_of(worked.code, *worked.constants, version=found.version.number)
+        same(tally, worked.name, written(found.program, found.version), file)
+    for worked in (WRITTEN, WRITTEN_SETS):
+        file = file_of(worked.code, *worked.constants)
+        same(tally, worked.name, disassembled(read(file), version_of(file)), worked.text)
     same(tally, "explain", explained(read(LARGE)), EXPLAINED)
     record = record_of_row(b"f 6 1000 a", Clocks(1, 1, 1, 1), exists=True)
     same(tally, "run", traced(read(LARGE), record), TRACED)
@@ -206,23 +271,46 @@ def check_worked(tally: built.Tally, room: Path) -> None:
     same(tally, "texts on the stack", texts.splitlines()[2].split(None, 3)[3], '"ü.\\t", "\\t"')
 
 
+def check_long_sets(tally: built.Tally, room: Path) -> None:
+    """A set is counted once, however many instructions try it. A text of many flags is as long as one may be."""
+    program = read(LONG_SETS)
+    same(tally, "explain of long sets", explained(program).splitlines()[-1], LONG_SETS_SAY)
+    record = record_of_row(b"f 6 1000 a", Clocks(1, 1, 1, 1), exists=True)
+    same(tally, "run of long sets", traced(program, record).splitlines()[-1], LONG_SETS_RUN)
+    file = file_of("", sets=f'[{{{{[15,""],*{PATTERNS}}}}}]')
+    text = disassembled(read(file), version_of(file)).encode("utf-8")
+    same(tally, "there and back with long sets", written(assembled(text).program), file)
+    longest = len(file) * LONGEST_TEXT // LONGEST_FILE
+    tally.check("the text of long sets may be read", len(text) <= longest, [f"{len(text)} bytes, over {longest}"])
+
+
 def check_sentences(tally: built.Tally, room: Path) -> None:
     """Each fault of a program and of a file is named, with its place and what to change."""
     seen = set()
-    for code, sentence in SENTENCES:
-        program = read(file_of(code, texts='"a", "b"'))
+    files = [
+        *((code, file_of(code, texts='"a", "b"'), sentence) for code, sentence in SENTENCES),
+        *((code, file_of(code, sets='[[0,"a"]]'), sentence) for code, sentence in SENTENCES_OF_SETS),
+    ]
+    for code, file, sentence in files:
+        program = read(file)
         looked = looked_at(program)
         same(tally, f"the sentence of {code!r}", fault_sentence(program, looked), sentence)
         lines = explained(program).splitlines()
         marked = [line for line in lines if sentence in line]
         same(tally, f"the mark in {code!r}", [lines.index(line) for line in marked], [looked.place + 2 if code else 1])
-        same(tally, f"the line of {code!r}", lines[-1], said(file_of(code, texts='"a", "b"')))
+        same(tally, f"the line of {code!r}", lines[-1], said(file))
         seen.add(looked.fault)
     same(tally, "the faults of programs", sorted(seen), list(range(1, 11)))
     for digits, line in FILE_FAULTS:
-        try:
-            read(bytes.fromhex(digits))
-            found = "none"
-        except FileFault as fault:
-            found = file_fault_sentence(fault).split(":")[0]
-        same(tally, f"the file {digits}", found, line)
+        same(tally, f"the file {digits}", file_sentence(digits).split(":")[0], line)
+    for digits, sentence in FILE_SENTENCES:
+        same(tally, f"the sentence of the file {digits}", file_sentence(digits), sentence)
+
+
+def file_sentence(digits: str) -> str:
+    """What is said of these bytes, which are no program file."""
+    try:
+        read(bytes.fromhex(digits))
+        return "none"
+    except FileFault as fault:
+        return file_fault_sentence(fault)

@@ -344,7 +344,8 @@ def checks_of_programs(element: Element, page: Page) -> Examples:
     for row in Table(element.lines).examples():
         tables = dict(code.split(": ", 1) for code in row["constants"].codes())
         for program in row["program"].text_examples():
-            yield says(program, file_of(program, **tables), row["line"].codes()[0])
+            for version in (1, 2):
+                yield says(program, file_of(program, **tables, version=version), row["line"].codes()[0])
 
 
 def parts_of_file(element: Element, page: Page) -> Examples:
@@ -367,7 +368,8 @@ def refused_programs(element: Element, page: Page) -> Examples:
     for row in Table(element.lines).examples():
         for program in row["examples"].text_examples():
             line = f"refused {row['fault'].codes()[0]} at {row['place'].shown}"
-            yield says(program or "no instruction", file_of(program), line)
+            for version in (1, 2):
+                yield says(program or "no instruction", file_of(program, version=version), line)
 
 
 # Instructions that put a cell of a kind on the stack, and that make a flag of one.
@@ -397,7 +399,7 @@ def instructions(element: Element, page: Page) -> Examples:
 
 
 def file_with_constants(code: str) -> bytes:
-    return file_of(code, numbers="0", texts='"a"', lists='["a"]', patterns='[0,"a"]')
+    return file_of(code, numbers="0", texts='"a"', lists='["a"]', patterns='[0,"a"]', sets='[[0,"a"]]')
 
 
 RULES: List[Tuple[str, Callable[[Element, Page], Examples]]] = [
