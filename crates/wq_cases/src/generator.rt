@@ -47,6 +47,7 @@ pub(crate) fn changed_case(alloc: Global, words: &[Vec<u8>]) -> Result<String> {
         since: Some(Bound::Tick(text(words, 2)?.parse::<u64>()?)),
         suffix: None,
         path: None,
+        glob: None,
     };
     count_looks(alloc, &view, &generators)
 }
@@ -79,6 +80,7 @@ fn generators(alloc: Global, words: &[Vec<u8>]) -> Result<Generators> {
         since: since(text(words, 2)?)?,
         suffix: suffixes(alloc, text(words, 3)?)?,
         path: paths(alloc, text(words, 4)?)?,
+        glob: None,
     })
 }
 

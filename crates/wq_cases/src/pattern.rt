@@ -1,4 +1,5 @@
 //! Calls on patterns.
+ghost use Rattle.std.specs.Prelude.{◌≤◌, length, IfOk};
 
 use crate::word::{bytes, text, unsigned};
 use anyhow::{Result, bail};
@@ -38,22 +39,39 @@ fn pattern(alloc: Global, words: &[Vec<u8>]) -> Result<Result<Pattern, PatternFa
     Ok(Pattern::parse(alloc, bytes(words, 2)?, flags))
 }
 
-/// The match of the case's pattern with its text, which is the word after it.
-fn hit(alloc: Global, words: &[Vec<u8>]) -> Result<Hit> {
+/// The text of a case, which is the word after its pattern.
+fn name(words: &[Vec<u8>]) -> Result<&[u8]>
+    ensures { IfOk result (λ name. length name.now ≤ MAX_MATCHED_TEXT) }
+{
     let name = bytes(words, 3)?;
     if name.len() > MAX_MATCHED_TEXT {
         bail!("the text is too long");
     }
+    Ok(name)
+}
+
+/// The match of the case's pattern with its text.
+fn hit(alloc: Global, words: &[Vec<u8>]) -> Result<Hit> {
+    let name = name(words)?;
     Ok(pattern(alloc, words)??.matches(name))
+}
+
+/// Whether the case's pattern fits its text, without the cost.
+fn is_fitting(alloc: Global, words: &[Vec<u8>]) -> Result<bool> {
+    let name = name(words)?;
+    Ok(pattern(alloc, words)??.fits(name))
 }
 
 fn word_of(is_so: bool) -> &'static str {
     if is_so { "yes" } else { "no" }
 }
 
-/// `pattern FLAGS PATTERN TEXT`: whether the pattern matches the text.
+/// `pattern FLAGS PATTERN TEXT`: whether the pattern fits the text, which two calls say.
 pub(crate) fn pattern_case(alloc: Global, words: &[Vec<u8>]) -> Result<String> {
-    let is_fitting = hit(alloc, words)?.yes;
+    let is_fitting = is_fitting(alloc, words)?;
+    if hit(alloc, words)?.yes != is_fitting {
+        bail!("the two calls differ");
+    }
     Ok(String::from_str(alloc, word_of(is_fitting))?)
 }
 

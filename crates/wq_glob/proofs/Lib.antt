@@ -1,4 +1,5 @@
 pub mod FitsLaws
+pub mod LeftmostLemmas
 pub mod ByteSetLemmas
 pub mod RowLemmas
 pub mod MarkLemmas

@@ -12,5 +12,6 @@ pub mod Pattern
 pub mod ByteSet
 pub mod Step
 pub mod Cell
+pub mod Leftmost
 pub mod Member
 pub mod Law

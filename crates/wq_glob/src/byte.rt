@@ -46,6 +46,7 @@ pub(crate) fn upper(byte: u8) -> u8
 }
 
 /// The byte as it is compared: in lower case if `fold` says so.
+#[inline(always)]
 pub(crate) fn lower_if(fold: bool, byte: u8) -> u8
     ensures { result ≡ lower_if fold byte }
 {

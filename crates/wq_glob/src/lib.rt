@@ -18,6 +18,7 @@ mod byte_set;
 mod class;
 mod flag;
 mod law;
+mod leftmost;
 mod limit;
 mod matching;
 mod pattern;

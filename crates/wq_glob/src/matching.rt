@@ -10,6 +10,7 @@ ghost use Rattle.wq_glob.specs.Step.{step_form};
 
 use crate::byte::lower_if;
 use crate::flag::Flags;
+use crate::leftmost::answer_of;
 use crate::limit::{MAX_MATCHED_TEXT, MAX_PATTERN};
 use crate::row::{Cell, fill_end, renew};
 use crate::step::Step;
@@ -180,5 +181,22 @@ pub(crate) fn hit_of(steps: &[Step], text: &[u8], flags: Flags) -> Hit
     Hit {
         yes: hit.yes,
         cells: hit.cells + same as u64,
+    }
+}
+
+/// Whether the steps fit the text, without the cost: from left to right if that gives the answer,
+/// and else by rows.
+#[inline(always)]
+pub(crate) fn fits_of(steps: &[Step], text: &[u8], flags: Flags) -> bool
+    requires small { length steps.now ≤ MAX_PATTERN }
+    requires short { length text.now ≤ MAX_MATCHED_TEXT }
+    ensures { result ≡ step_fits flags steps.now (marks flags.dotfiles text.now) }
+{
+    if differs_at_end(steps, text, flags) {
+        return false;
+    }
+    match answer_of(steps, text, flags) {
+        Some(yes) => yes,
+        None => hit_of(steps, text, flags).yes,
     }
 }

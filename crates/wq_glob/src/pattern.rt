@@ -7,7 +7,7 @@ ghost use Rattle.wq_glob.specs.Limit.{max_pattern_length, max_matched_text};
 
 use crate::flag::Flags;
 use crate::limit::MAX_PATTERN;
-use crate::matching::{Hit, hit_of};
+use crate::matching::{Hit, fits_of, hit_of};
 use crate::reading::read_steps;
 use crate::step::Step;
 use std::alloc::{AllocError, Global};
@@ -165,5 +165,17 @@ impl Pattern {
         ensures looked { 1 ≤ result.cells }
     {
         hit_of(self.steps.as_slice(), text, self.flags)
+    }
+
+    /// Whether the pattern fits a text of at most
+    /// [`MAX_MATCHED_TEXT`](crate::limit::MAX_MATCHED_TEXT) bytes: the `yes` of
+    /// [`matches`](Pattern::matches), which counts no cells and is mostly found much sooner.
+    #[inline(always)]
+    pub fn fits(&self, text: &[u8]) -> bool
+        requires { length text.now ≤ max_matched_text }
+        ensures test { result ≡ fits self.now text.now }
+        ensures cuts { IsTrue result ↔ Fits self.now text.now }
+    {
+        fits_of(self.steps.as_slice(), text, self.flags)
     }
 }

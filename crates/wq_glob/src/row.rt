@@ -59,7 +59,8 @@ pub(crate) struct Seen {
 }
 
 /// The byte at a place of the text.
-fn seen_at(text: &[u8], at: usize, flags: Flags) -> Seen
+#[inline(always)]
+pub(crate) fn seen_at(text: &[u8], at: usize, flags: Flags) -> Seen
     requires { at < length text.now }
     ensures { result ≡ seen_of flags (mark_at flags text.now at) }
 {

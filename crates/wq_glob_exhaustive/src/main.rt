@@ -57,9 +57,9 @@ fn compare(
         if name.len() <= MAX_MATCHED_TEXT {
             let yes = pattern.matches(name).yes;
             tally.fitting = tally.fitting.wrapping_add(u64::from(yes));
-            tally.differing = tally
-                .differing
-                .wrapping_add(u64::from(yes != fits(&parts, name, 0, flags)));
+            let is_wanted = fits(&parts, name, 0, flags);
+            let is_same = yes == is_wanted && pattern.fits(name) == is_wanted;
+            tally.differing = tally.differing.wrapping_add(u64::from(!is_same));
         }
     }
     Ok(tally)

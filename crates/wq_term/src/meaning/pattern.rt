@@ -13,7 +13,7 @@ pub(super) fn name_fits(pattern: &Pattern, file: &Record) -> bool
     ensures { result ≡ name_fits pattern.now file.now.name }
 {
     let part = part_of(scope_with(pattern.flags()), file);
-    pattern.matches(part).yes
+    pattern.fits(part)
 }
 
 /// The part of a name that a pattern with these flags is for.
