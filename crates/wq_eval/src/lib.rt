@@ -15,6 +15,6 @@ mod workers;
 pub use collecting::collect;
 pub use evaluation::filter;
 pub use gate::{Gate, OpenGate};
-pub use law::{answers_are_said, runs_say};
-pub use piece::{Done, Pieces};
+pub use law::{answers_are_said, answers_are_within, runs_say, steps_are_said};
+pub use piece::{Done, Pieces, piece_of};
 pub use workers::filter_workers;

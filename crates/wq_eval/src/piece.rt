@@ -40,14 +40,7 @@ impl<'a> Pieces<'a> {
     pub(crate) fn positions_of(&self, number: u32) -> &'a [u32]
         ensures { result.now ≡ piece_of self.now.size self.now.positions.now number }
     {
-        let start = (number as usize) * (self.size as usize);
-        let Some((_, rest)) = self.positions.split_at_checked(start) else {
-            return &[];
-        };
-        match rest.split_at_checked(self.size as usize) {
-            Some((piece, _)) => piece,
-            None => rest,
-        }
+        piece_of(self.positions, self.size, number)
     }
 
     /// Evaluates the piece of this number.
@@ -58,5 +51,20 @@ impl<'a> Pieces<'a> {
     {
         let kept = filter(alloc, self.program, self.view, self.positions_of(number))?;
         Ok(Done { number, kept })
+    }
+}
+
+/// The positions of the piece of this number, if a piece has so many: none if there is no such
+/// piece. The last one may have fewer.
+pub fn piece_of(positions: &[u32], size: u32, number: u32) -> &[u32]
+    ensures { result.now ≡ piece_of size positions.now number }
+{
+    let start = (number as usize) * (size as usize);
+    let Some((_, rest)) = positions.split_at_checked(start) else {
+        return &[];
+    };
+    match rest.split_at_checked(size as usize) {
+        Some((piece, _)) => piece,
+        None => rest,
     }
 }

@@ -60,7 +60,8 @@ Adjoin last matches (t ∷ later) = TellsFrom last matches t × Adjoin (t.batch)
 
 -- the plan has no generators but its bound, as those of subscriptions and triggers
 abbrev pub HasNoGenerators : PlanData → Type 0
-HasNoGenerators plan = ((plan.query).suffix ≡ None) × ((plan.query).path ≡ None)
+HasNoGenerators plan =
+    ((plan.query).suffix ≡ None) × ((plan.query).path ≡ None) × ((plan.query).glob ≡ None)
 
 -- no file changed last at a later tick
 abbrev pub AreReached : ℕ → List RecordData → Type 0

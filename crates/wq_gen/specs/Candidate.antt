@@ -1,6 +1,6 @@
 -- The records that the generators of a query give, as a test of one record by itself. Records of
--- deleted files are among them. The source is Watchman's documentation of the generators `since`,
--- `suffix` and `path` of file queries.
+-- deleted files are among them, but not by `glob`. The source is Watchman's documentation of the
+-- generators `since`, `suffix`, `path` and `glob` of file queries.
 use Rattle.std.specs.Prelude.{ℕ, ℤ, pos, negsuc, Bool, false, not, ◌&&◌, ◌||◌, ◌==◌}
 use Rattle.std.specs.Prelude.{nat_lt, int_le, count_by, List, Option, Some, None, is_some}
 use Rattle.std.specs.List.{list_any}
@@ -15,6 +15,7 @@ use Rattle.wq_base.specs.declared.compare.Case.TheVariants.{Exact}
 use Rattle.wq_clock.specs.Bound.{is_fresh}
 use Rattle.wq_clock.specs.declared.bound.Bound.{Bound}
 use Rattle.wq_clock.specs.declared.bound.Bound.TheVariants.{Fresh, Tick, Second}
+use Rattle.wq_glob.specs.Pattern.{PatternData, fits}
 use Rattle.wq_view.specs.Kind.{letter_of}
 use Rattle.wq_view.specs.Position.{has_name}
 use Rattle.wq_view.specs.RecordData.{RecordData}
@@ -49,6 +50,10 @@ is_itself p r = has_name p.path r && not (letter_of r.kind == byte "d")
 abbrev pub is_on_path : List PathGen → RecordData → Bool
 is_on_path paths r = list_any (λ p. is_itself p r || is_under p r) paths
 
+-- whether the file exists, and one of these patterns fits its whole name
+abbrev pub is_fitting : List PatternData → RecordData → Bool
+is_fitting patterns r = r.exists && list_any (λ pattern. fits pattern r.name) patterns
+
 -- whether there is a generator that gives the record
 abbrev pub gives : {A : Type 0} → (A → RecordData → Bool) → Option A → RecordData → Bool
 gives test None r = false
@@ -58,7 +63,7 @@ gives test (Some generator) r = test generator r
 abbrev pub is_given : Generators → RecordData → Bool
 is_given generators r =
     gives changed_since generators.since r || gives suffix_is_among generators.suffix r
-    || gives is_on_path generators.path r
+    || gives is_on_path generators.path r || gives is_fitting generators.glob r
 
 -- whether there is a bound that is not fresh
 abbrev pub is_bounded : Option Bound → Bool
@@ -69,6 +74,7 @@ is_bounded (Some bound) = not (is_fresh bound)
 abbrev pub is_any_there : Generators → Bool
 is_any_there generators =
     is_bounded generators.since || is_some generators.suffix || is_some generators.path
+    || is_some generators.glob
 
 -- whether the record is a candidate: some generator gives it, or there is no generator
 abbrev pub is_candidate : Generators → RecordData → Bool

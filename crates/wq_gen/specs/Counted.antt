@@ -3,6 +3,7 @@
 use Rattle.std.specs.Prelude.{◌≡◌, ◌+◌, ◌-◌, ◌*◌, ◌^◌, ℕ, min, List, length, count_by, sum_by, true, Option, Some, None}
 use Rattle.wq_clock.specs.declared.bound.Bound.{Bound}
 use Rattle.wq_clock.specs.declared.bound.Bound.TheVariants.{Fresh, Tick, Second}
+use Rattle.wq_glob.specs.Pattern.{PatternData}
 use Rattle.wq_view.specs.Below.{is_below}
 use Rattle.wq_view.specs.Position.{passes_at}
 use Rattle.wq_view.specs.RecordData.{RecordData}
@@ -47,11 +48,16 @@ abbrev pub path_looks : Option (List PathGen) → List RecordData → ℕ
 path_looks None records = 0
 path_looks (Some paths) records = sum_by (one_path_looks records) paths
 
+-- the looks that patterns may take: one for each file, whatever the number of patterns
+abbrev pub glob_looks : Option (List PatternData) → List RecordData → ℕ
+glob_looks None records = 0
+glob_looks (Some patterns) records = length records
+
 -- the looks that the candidates of generators may take; without a generator there are none
 abbrev pub allowed : Generators → List RecordData → ℕ
 allowed generators records =
     since_looks generators.since records + suffix_looks generators.suffix records
-    + path_looks generators.path records
+    + path_looks generators.path records + glob_looks generators.glob records
 
 -- the record of the last search by suffix: it has a suffix that was sought, and so many records
 -- with it are before the record

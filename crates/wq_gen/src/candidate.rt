@@ -8,6 +8,7 @@ ghost use Rattle.wq_view.specs.Position.{positions_of};
 
 use crate::counted::Counted;
 use crate::generators::Generators;
+use crate::glob::with_glob;
 use crate::path::with_path;
 use crate::position::union;
 use crate::since::changed_since;
@@ -19,7 +20,7 @@ use wq_view::View;
 /// generator gives, or all records if there is no generator.
 ///
 /// The cost grows with the number of candidates, and with the number of files below the paths. A
-/// bound that is a second looks at each record.
+/// bound that is a second looks at each record, and so do patterns, whatever their number.
 pub fn candidates(
     alloc: Global,
     view: &View,
@@ -50,7 +51,9 @@ pub fn candidates_counted(
     let changed = changed_since(alloc, counted, generators.since)?;
     let suffixed = with_suffix(alloc, counted, &generators.suffix)?;
     let on_path = with_path(alloc, counted, &generators.path)?;
-    union(alloc, union(alloc, changed, suffixed)?, on_path)
+    let fitting = with_glob(alloc, counted, &generators.glob)?;
+    let early = union(alloc, changed, suffixed)?;
+    union(alloc, union(alloc, early, on_path)?, fitting)
 }
 
 /// Every position below a number.

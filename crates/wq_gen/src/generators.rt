@@ -4,6 +4,7 @@ ghost use Rattle.wq_gen.specs.Candidate.{is_any_there, is_bounded, is_itself, ch
 
 use wq_base::{Case, Table, Text, rest_below, slashes};
 use wq_clock::Bound;
+use wq_glob::Pattern;
 use wq_view::{Kind, MAX_NAME, Record};
 
 /// A depth without a limit.
@@ -20,6 +21,9 @@ pub struct Generators {
     pub suffix: Option<Table<Text>>,
     /// The files at these paths.
     pub path: Option<Table<PathGen>>,
+    /// The files that exist and whose whole names fit one of these patterns. No pattern gives
+    /// nothing.
+    pub glob: Option<Table<Pattern>>,
 }
 
 /// A path. It gives the files strictly below it, and the file of its name unless that is a
@@ -38,7 +42,10 @@ impl Generators {
     pub(crate) fn is_any_there(&self) -> bool
         ensures { result ≡ is_any_there self.now }
     {
-        is_bounded(self.since) || self.suffix.is_some() || self.path.is_some()
+        is_bounded(self.since)
+            || self.suffix.is_some()
+            || self.path.is_some()
+            || self.glob.is_some()
     }
 }
 

@@ -9,6 +9,7 @@ mod candidate;
 mod counted;
 mod depth;
 mod generators;
+mod glob;
 mod path;
 mod position;
 mod since;

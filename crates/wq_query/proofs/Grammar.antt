@@ -8,8 +8,8 @@ use Rattle.std.specs.List.{AllByRecursion}
 use Rattle.std.proofs.lemmas.Option.{same_Some}
 use Rattle.serde_json.specs.Data.{Data, boolean, string, array, Items, no_items, item}
 use Rattle.serde_json.specs.Find.{get, as_bool}
-use Rattle.wq_base.specs.Fault.{is_true, or_fault, or_its_fault, unless_fault}
-use Rattle.wq_base.proofs.Fault.{or_fault-ok, or_its_fault-ok, unless_fault-ok, with_first-some}
+use Rattle.wq_base.specs.Fault.{is_true, or_fault, or_its_fault, or_own_fault, unless_fault}
+use Rattle.wq_base.proofs.Fault.{or_fault-ok, or_its_fault-ok, or_own_fault-ok, unless_fault-ok, with_first-some}
 use Rattle.wq_base.proofs.Named.{named-name}
 use Rattle.wq_clock.specs.Instance.{InstanceData}
 use Rattle.wq_clock.specs.ClockSpec.{SpecData, clock_id, old_clock_id, named_cursor, clock_spec_of}
@@ -18,6 +18,7 @@ use Rattle.wq_clock.specs.Law.{TextsSayWhatTheySpell}
 use Rattle.wq_clock.specs.declared.bound.Bound.{Bound}
 use Rattle.wq_clock.specs.declared.bound.Bound.TheVariants.{Fresh}
 use Rattle.wq_gen.specs.declared.generators.PathGen.{PathGen}
+use Rattle.wq_glob.specs.Pattern.{PatternData}
 use Rattle.wq_term.specs.Argument.{bound_in, texts_of, whole_number_of}
 use Rattle.wq_term.proofs.ArgumentGrammar.{mapped, texts-found, texts-reads}
 use Rattle.wq_term.specs.Expr.{ExprData, always}
@@ -35,11 +36,13 @@ use Rattle.wq_query.specs.Field.{field_name, field_named, fields, default_fields
 use Rattle.wq_query.specs.Query.{QueryData, SinceData, at_bound, at_cursor}
 use Rattle.wq_query.specs.Reading.{asks, left_out_keys, has_key_of, has_left_out_key, is_plain_case}
 use Rattle.wq_query.specs.Reading.{expression_of, field_of, fields_in, fields_of, since_of, flag_of}
-use Rattle.wq_query.specs.Reading.{is_whole_or_absent, has_both, cursor_in, spec_cursor, since_from, program_name}
+use Rattle.wq_query.specs.Reading.{is_flag_or_absent, is_whole_or_absent, has_both, cursor_in, spec_cursor, since_from, program_name}
 use Rattle.wq_query.specs.Generator.{suffixes_of, paths_in, paths_of}
+use Rattle.wq_query.specs.Glob.{glob_flags, globs_of}
 use Rattle.wq_query.specs.Grammar.{IsExpression, AreNamed, AreFields, AreSuffixes, ArePaths, IsCursor}
 use Rattle.wq_query.specs.Grammar.{IsSinceKey, IsProgram, IsWrittenBy}
 use Rattle.wq_query.proofs.Paths.{paths-found, paths-read}
+use Rattle.wq_query.proofs.Globs.{glob-found, glob-reads, dotfiles-found, dotfiles-reads}
 use Rattle.wq_query.specs.Law.{ValuesAskWhatTheyWrite}
 
 -- a right result is one value
@@ -296,15 +299,16 @@ whole-reads law None h = refl
 whole-reads law (Some d) h = ap is_some ((law h.0 d).1 h.1)
 
 -- the query whose keys say this
-abbrev pub with_keys : ExprData → List Field → Option (List (List ℕ)) → Option (List PathGen) → SinceData
-    → Option (List ℕ) → Bool → QueryData
-with_keys t fs suffix path since program flag = record {
+abbrev pub with_keys : ExprData → List Field → Option (List (List ℕ)) → Option (List PathGen)
+    → Option (List PatternData) → SinceData → Option (List ℕ) → Bool → QueryData
+with_keys t fs suffix path glob since program flag = record {
   expression = t;
   program = program;
   fields = fs;
   since = since;
   suffix = suffix;
   path = path;
+  glob = glob;
   empty_on_fresh_instance = flag;
 }
 
@@ -312,26 +316,38 @@ with_keys t fs suffix path since program flag = record {
 abbrev pub from_whole : Data → QueryData → Result QueryData QueryFault
 from_whole d query = unless_fault WrongValue (is_whole_or_absent (get (codes "sync_timeout") d)) (Ok query)
 
+-- from `glob_includedotfiles` on
+abbrev pub from_dotfiles : Data → QueryData → Result QueryData QueryFault
+from_dotfiles d query =
+    unless_fault WrongValue (is_flag_or_absent (get (codes "glob_includedotfiles") d)) (from_whole d query)
+
 -- from `empty_on_fresh_instance` on
 abbrev pub from_flag : Data → ExprData → List Field → Option (List (List ℕ))
-    → Option (List PathGen) → SinceData → Option (List ℕ) → Result QueryData QueryFault
-from_flag d t fs suffix path since program =
+    → Option (List PathGen) → Option (List PatternData) → SinceData → Option (List ℕ) → Result QueryData QueryFault
+from_flag d t fs suffix path glob since program =
     or_fault WrongValue (flag_of (get (codes "empty_on_fresh_instance") d)) (λ flag.
-    from_whole d (with_keys t fs suffix path since program flag))
+    from_dotfiles d (with_keys t fs suffix path glob since program flag))
 
 -- from `program` on
 abbrev pub from_program : Data → ExprData → List Field → Option (List (List ℕ))
-    → Option (List PathGen) → SinceData → Result QueryData QueryFault
-from_program d t fs suffix path since =
+    → Option (List PathGen) → Option (List PatternData) → SinceData → Result QueryData QueryFault
+from_program d t fs suffix path glob since =
     or_fault WrongValue (program_name (get (codes "program") d)) (λ program.
-    from_flag d t fs suffix path since program)
+    from_flag d t fs suffix path glob since program)
 
 -- from `since` on
+abbrev pub from_since : InstanceData → Data → ExprData → List Field → Option (List (List ℕ))
+    → Option (List PathGen) → Option (List PatternData) → Result QueryData QueryFault
+from_since instance d t fs suffix path glob =
+    or_fault BadClockSpec (since_of instance (get (codes "since") d)) (λ since.
+    from_program d t fs suffix path glob since)
+
+-- from `glob` on
 abbrev pub after_paths : InstanceData → Data → ExprData → List Field → Option (List (List ℕ))
     → Option (List PathGen) → Result QueryData QueryFault
 after_paths instance d t fs suffix path =
-    or_fault BadClockSpec (since_of instance (get (codes "since") d)) (λ since.
-    from_program d t fs suffix path since)
+    or_own_fault (globs_of (glob_flags (get (codes "glob_includedotfiles") d)) (get (codes "glob") d)) (λ glob.
+    from_since instance d t fs suffix path glob)
 
 -- from `path` on
 abbrev pub from_path : InstanceData → Data → ExprData → List Field → Option (List (List ℕ))
@@ -369,12 +385,15 @@ found values bounds texts numbers instance query d e =
     or_fault-ok UnknownField (fields_of (get (codes "fields") d)) (λ fs. from_suffix instance d t fs) query e2 (λ fs named e3.
     or_fault-ok BadGenerator (suffixes_of (get (codes "suffix") d)) (λ suffix. from_path instance d t fs suffix) query e3 (λ suffix ends e4.
     or_fault-ok BadGenerator (paths_of (get (codes "path") d)) (λ path. after_paths instance d t fs suffix path) query e4 (λ path stands e5.
-    or_fault-ok BadClockSpec (since_of instance (get (codes "since") d)) (λ since. from_program d t fs suffix path since) query e5 (λ since sets e6.
-    or_fault-ok WrongValue (program_name (get (codes "program") d)) (λ program. from_flag d t fs suffix path since program) query e6 (λ program called e7.
+    or_own_fault-ok (globs_of (glob_flags (get (codes "glob_includedotfiles") d)) (get (codes "glob") d)) (λ glob. from_since instance d t fs suffix path glob) query e5 (λ glob fits e6.
+    or_fault-ok BadClockSpec (since_of instance (get (codes "since") d)) (λ since. from_program d t fs suffix path glob since) query e6 (λ since sets e7.
+    or_fault-ok WrongValue (program_name (get (codes "program") d)) (λ program. from_flag d t fs suffix path glob since program) query e7 (λ program called e8.
     or_fault-ok WrongValue (flag_of (get (codes "empty_on_fresh_instance") d)) (λ flag.
-    from_whole d (with_keys t fs suffix path since program flag)) query e7 (λ flag on e8.
+    from_dotfiles d (with_keys t fs suffix path glob since program flag)) query e8 (λ flag on e9.
+    unless_fault-ok WrongValue (is_flag_or_absent (get (codes "glob_includedotfiles") d))
+    (from_whole d (with_keys t fs suffix path glob since program flag)) query e9 (λ dotted e10.
     unless_fault-ok WrongValue (is_whole_or_absent (get (codes "sync_timeout") d))
-    (Ok (with_keys t fs suffix path since program flag)) query e8 (λ whole is.
+    (Ok (with_keys t fs suffix path glob since program flag)) query e10 (λ whole is.
     let parts = neither (has_key_of left_out_keys d) (is_plain_case (get (codes "case_sensitive") d)) none in
     subst (λ q. IsWrittenBy instance q d) (same_Ok _ query is) (record {
       none_left_out = none-found left_out_keys d parts.0;
@@ -385,10 +404,12 @@ found values bounds texts numbers instance query d e =
       fields = fields-found (get (codes "fields") d) fs named;
       suffix = suffix-found (get (codes "suffix") d) suffix ends;
       path = path-found (get (codes "path") d) path stands;
+      glob = glob-found (glob_flags (get (codes "glob_includedotfiles") d)) (get (codes "glob") d) glob fits;
       since = since-found bounds texts instance (get (codes "since") d) since sets;
       empty_on_fresh_instance = flag-found (get (codes "empty_on_fresh_instance") d) flag on;
+      glob_includedotfiles = dotfiles-found (get (codes "glob_includedotfiles") d) dotted;
       sync_timeout = whole-found numbers (get (codes "sync_timeout") d) whole;
-    })))))))))))
+    })))))))))))))
 
 -- a query that is written is asked
 reads : ValuesSayWhatTheyWrite → BoundsSayWhatTheyWrite → TextsSayWhatTheySpell → NumbersSayWhatTheyWrite
@@ -403,12 +424,14 @@ reads values bounds texts numbers instance query d h =
     let named = fields-reads (get (codes "fields") d) query.fields h.fields in
     let ends = suffix-reads (get (codes "suffix") d) query.suffix h.suffix in
     let stands = path-reads (get (codes "path") d) query.path h.path in
+    let fits = glob-reads (glob_flags (get (codes "glob_includedotfiles") d)) (get (codes "glob") d) query.glob h.glob in
     let sets = since-reads bounds texts instance (get (codes "since") d) query.since h.since in
     let on = flag-reads (get (codes "empty_on_fresh_instance") d) query.empty_on_fresh_instance h.empty_on_fresh_instance in
+    let dotted = dotfiles-reads (get (codes "glob_includedotfiles") d) h.glob_includedotfiles in
     let whole = whole-reads numbers (get (codes "sync_timeout") d) h.sync_timeout in
     let allowed : has_left_out_key d ≡ false =
     ap (λ b. b || not (is_plain_case (get (codes "case_sensitive") d))) none ∙ ap not plain in
-    rw (allowed, one, said, named, ends, stands, sets, called, on, whole) refl
+    rw (allowed, one, said, named, ends, stands, fits, sets, called, on, dotted, whole) refl
 
 -- both ways
 pub values_ask : ValuesSayWhatTheyWrite → BoundsSayWhatTheyWrite → TextsSayWhatTheySpell

@@ -11,76 +11,95 @@ use Rattle.serde_json.specs.declared.value.Value.{Value}
 use Rattle.wq_base.specs.Fault.{unless_fault}
 use Rattle.wq_clock.specs.Instance.{InstanceData}
 use Rattle.wq_gen.specs.declared.generators.PathGen.{PathGen}
+use Rattle.wq_glob.specs.Pattern.{PatternData}
 use Rattle.wq_term.specs.Expr.{ExprData}
 use Rattle.wq_query.specs.declared.fault.QueryFault.{QueryFault}
 use Rattle.wq_query.specs.declared.fault.QueryFault.TheVariants.{LeftOutKey, ExpressionAndProgram}
 use Rattle.wq_query.specs.declared.fault.QueryFault.TheVariants.{Expression, UnknownField}
-use Rattle.wq_query.specs.declared.fault.QueryFault.TheVariants.{BadGenerator, BadClockSpec}
+use Rattle.wq_query.specs.declared.fault.QueryFault.TheVariants.{BadGenerator, PatternTooLong, BadClockSpec}
 use Rattle.wq_query.specs.declared.fault.QueryFault.TheVariants.{WrongValue, NoMemory}
 use Rattle.wq_query.specs.Query.{SinceData}
 use Rattle.wq_query.specs.declared.field.Field.{Field}
 use Rattle.wq_query.specs.Generator.{suffixes_of, paths_of}
-use Rattle.wq_query.specs.Outcome.{GivesQuery, GivesFields, GivesProgram}
+use Rattle.wq_query.specs.Glob.{glob_flags, globs_of}
+use Rattle.wq_query.specs.Outcome.{GivesQuery, GivesFields, GivesGlobs, GivesProgram, GivesSince}
 use Rattle.wq_query.specs.Reading.{asks, has_both, has_left_out_key, expression_of, fields_in}
-use Rattle.wq_query.specs.Reading.{fields_of, since_of, program_name, flag_of, is_whole_or_absent}
+use Rattle.wq_query.specs.Reading.{fields_of, since_of, program_name, flag_of, is_flag_or_absent, is_whole_or_absent}
 
--- a query whose keys say this, but for the last
-pub asks_at : (instance : InstanceData) (d : Data) (t : ExprData) (fields : List Field)
-    (suffix : Option (List (List ℕ))) (path : Option (List PathGen)) (since : SinceData)
-    (program : Option (List ℕ)) (flag whole : Bool) → has_left_out_key d ≡ false → has_both d ≡ false
-    → expression_of instance (get (codes "expression") d) ≡ Ok t
-    → fields_of (get (codes "fields") d) ≡ Some fields
-    → suffixes_of (get (codes "suffix") d) ≡ Some suffix
-    → paths_of (get (codes "path") d) ≡ Some path
-    → since_of instance (get (codes "since") d) ≡ Some since
-    → program_name (get (codes "program") d) ≡ Some program
-    → flag_of (get (codes "empty_on_fresh_instance") d) ≡ Some flag
-    → is_whole_or_absent (get (codes "sync_timeout") d) ≡ whole
-    → asks instance d ≡ unless_fault WrongValue whole (Ok (record {
-      expression = t;
-      program = program;
-      fields = fields;
-      since = since;
-      suffix = suffix;
-      path = path;
-      empty_on_fresh_instance = flag;
-    }))
-asks_at instance d t fields suffix path since program flag whole none one expression named ends at from name said is =
-    rw (none, one, expression, named, ends, at, from, name, said, is) refl
+module _ (instance : InstanceData) (d : Data) (t : ExprData) (fields : List Field) (suffix : Option (List (List ℕ)))
+    (path : Option (List PathGen)) (none : has_left_out_key d ≡ false) (one : has_both d ≡ false)
+    (expression : expression_of instance (get (codes "expression") d) ≡ Ok t)
+    (named : fields_of (get (codes "fields") d) ≡ Some fields)
+    (ends : suffixes_of (get (codes "suffix") d) ≡ Some suffix)
+    (at : paths_of (get (codes "path") d) ≡ Some path) where
+  -- a query whose patterns are refused
+  pub asks_unfitting : (fault : QueryFault)
+      → GivesGlobs (Err fault) (globs_of (glob_flags (get (codes "glob_includedotfiles") d)) (get (codes "glob") d))
+      → GivesQuery (Err fault) (asks instance d)
+  asks_unfitting NoMemory is = tt
+  asks_unfitting BadGenerator is = rw (none, one, expression, named, ends, at, is) refl
+  asks_unfitting PatternTooLong is = rw (none, one, expression, named, ends, at, is) refl
+  asks_unfitting LeftOutKey is = rw (none, one, expression, named, ends, at, is) refl
+  asks_unfitting ExpressionAndProgram is = rw (none, one, expression, named, ends, at, is) refl
+  asks_unfitting (Expression fault) is = rw (none, one, expression, named, ends, at, is) refl
+  asks_unfitting UnknownField is = rw (none, one, expression, named, ends, at, is) refl
+  asks_unfitting BadClockSpec is = rw (none, one, expression, named, ends, at, is) refl
+  asks_unfitting WrongValue is = rw (none, one, expression, named, ends, at, is) refl
 
--- a query whose program is refused
-pub asks_unnamed : (instance : InstanceData) (d : Data) (t : ExprData) (fields : List Field)
-    (suffix : Option (List (List ℕ))) (path : Option (List PathGen)) (since : SinceData)
-    (fault : QueryFault) → has_left_out_key d ≡ false → has_both d ≡ false
-    → expression_of instance (get (codes "expression") d) ≡ Ok t
-    → fields_of (get (codes "fields") d) ≡ Some fields
-    → suffixes_of (get (codes "suffix") d) ≡ Some suffix
-    → paths_of (get (codes "path") d) ≡ Some path
-    → since_of instance (get (codes "since") d) ≡ Some since
-    → GivesProgram (Err fault) (program_name (get (codes "program") d)) → GivesQuery (Err fault) (asks instance d)
-asks_unnamed instance d t fields suffix path since WrongValue none one expression named ends at from is =
-    rw (none, one, expression, named, ends, at, from, is) refl
-asks_unnamed instance d t fields suffix path since NoMemory none one expression named ends at from is = tt
-asks_unnamed instance d t fields suffix path since LeftOutKey none one expression named ends at from is = absurd is
-asks_unnamed instance d t fields suffix path since ExpressionAndProgram none one expression named ends at from is = absurd is
-asks_unnamed instance d t fields suffix path since (Expression fault) none one expression named ends at from is = absurd is
-asks_unnamed instance d t fields suffix path since UnknownField none one expression named ends at from is = absurd is
-asks_unnamed instance d t fields suffix path since BadGenerator none one expression named ends at from is = absurd is
-asks_unnamed instance d t fields suffix path since BadClockSpec none one expression named ends at from is = absurd is
+  module _ (glob : Option (List PatternData))
+      (fits : globs_of (glob_flags (get (codes "glob_includedotfiles") d)) (get (codes "glob") d) ≡ Ok glob) where
+    -- a query whose `since` is refused
+    pub asks_unbounded : (fault : QueryFault) → GivesSince (Err fault) (since_of instance (get (codes "since") d))
+        → GivesQuery (Err fault) (asks instance d)
+    asks_unbounded BadClockSpec is = rw (none, one, expression, named, ends, at, fits, is) refl
+    asks_unbounded NoMemory is = tt
+    asks_unbounded LeftOutKey is = absurd is
+    asks_unbounded ExpressionAndProgram is = absurd is
+    asks_unbounded (Expression fault) is = absurd is
+    asks_unbounded UnknownField is = absurd is
+    asks_unbounded BadGenerator is = absurd is
+    asks_unbounded PatternTooLong is = absurd is
+    asks_unbounded WrongValue is = absurd is
 
--- a query whose flag is neither true nor false
-pub asks_unflagged : (instance : InstanceData) (d : Data) (t : ExprData) (fields : List Field)
-    (suffix : Option (List (List ℕ))) (path : Option (List PathGen)) (since : SinceData)
-    (program : Option (List ℕ)) → has_left_out_key d ≡ false → has_both d ≡ false
-    → expression_of instance (get (codes "expression") d) ≡ Ok t
-    → fields_of (get (codes "fields") d) ≡ Some fields
-    → suffixes_of (get (codes "suffix") d) ≡ Some suffix
-    → paths_of (get (codes "path") d) ≡ Some path
-    → since_of instance (get (codes "since") d) ≡ Some since
-    → program_name (get (codes "program") d) ≡ Some program
-    → flag_of (get (codes "empty_on_fresh_instance") d) ≡ None → asks instance d ≡ Err WrongValue
-asks_unflagged instance d t fields suffix path since program none one expression named ends at from name said =
-    rw (none, one, expression, named, ends, at, from, name, said) refl
+    module _ (since : SinceData) (from : since_of instance (get (codes "since") d) ≡ Some since) where
+      -- a query whose program is refused
+      pub asks_unnamed : (fault : QueryFault) → GivesProgram (Err fault) (program_name (get (codes "program") d))
+          → GivesQuery (Err fault) (asks instance d)
+      asks_unnamed WrongValue is = rw (none, one, expression, named, ends, at, fits, from, is) refl
+      asks_unnamed NoMemory is = tt
+      asks_unnamed LeftOutKey is = absurd is
+      asks_unnamed ExpressionAndProgram is = absurd is
+      asks_unnamed (Expression fault) is = absurd is
+      asks_unnamed UnknownField is = absurd is
+      asks_unnamed BadGenerator is = absurd is
+      asks_unnamed PatternTooLong is = absurd is
+      asks_unnamed BadClockSpec is = absurd is
+
+      module _ (program : Option (List ℕ)) (name : program_name (get (codes "program") d) ≡ Some program) where
+        -- a query whose flag is neither true nor false
+        pub asks_unflagged : flag_of (get (codes "empty_on_fresh_instance") d) ≡ None → asks instance d ≡ Err WrongValue
+        asks_unflagged said = rw (none, one, expression, named, ends, at, fits, from, name, said) refl
+
+        -- a query whose keys say this, but for the last two
+        pub asks_at : (flag dotted whole : Bool) → flag_of (get (codes "empty_on_fresh_instance") d) ≡ Some flag
+            → is_flag_or_absent (get (codes "glob_includedotfiles") d) ≡ dotted
+            → is_whole_or_absent (get (codes "sync_timeout") d) ≡ whole
+            → asks instance d ≡ unless_fault WrongValue dotted (unless_fault WrongValue whole (Ok (record {
+              expression = t;
+              program = program;
+              fields = fields;
+              since = since;
+              suffix = suffix;
+              path = path;
+              glob = glob;
+              empty_on_fresh_instance = flag;
+            })))
+        asks_at flag dotted whole said dots is = rw (none, one, expression, named, ends, at, fits, from, name, said, dots, is) refl
+
+        -- a query whose `glob_includedotfiles` is neither true nor false
+        pub asks_undotted : (flag : Bool) → flag_of (get (codes "empty_on_fresh_instance") d) ≡ Some flag
+            → is_flag_or_absent (get (codes "glob_includedotfiles") d) ≡ false → asks instance d ≡ Err WrongValue
+        asks_undotted flag said dots = rw (none, one, expression, named, ends, at, fits, from, name, said, dots) refl
 
 -- a value that has items is their array
 array_from : (d : Data) (ds : Items) → Some ds ≡ as_array d → d ≡ array ds

@@ -9,9 +9,9 @@ use Rattle.wq_base.proofs.Fault.{before, before-push, before-none}
 use Rattle.wq_term.proofs.Lists.{items_from}
 use Rattle.wq_query.specs.declared.fault.QueryFault.{QueryFault}
 use Rattle.wq_query.specs.declared.fault.QueryFault.TheVariants.{LeftOutKey, ExpressionAndProgram, Expression}
-use Rattle.wq_query.specs.declared.fault.QueryFault.TheVariants.{UnknownField, BadGenerator}
+use Rattle.wq_query.specs.declared.fault.QueryFault.TheVariants.{UnknownField, BadGenerator, PatternTooLong}
 use Rattle.wq_query.specs.declared.fault.QueryFault.TheVariants.{BadClockSpec, WrongValue, NoMemory}
-use Rattle.wq_query.specs.Outcome.{GivesGenerator}
+use Rattle.wq_query.specs.Outcome.{GivesGenerator, GivesPattern}
 
 -- each item is read by itself, and a list with a wrong item is wrong
 abbrev pub ReadsEach : {A : Type 0} → (Data → Option A) → (Items → Option (List A)) → Type 0
@@ -53,3 +53,18 @@ refused (Expression fault) one all h none = absurd h
 refused UnknownField one all h none = absurd h
 refused BadClockSpec one all h none = absurd h
 refused WrongValue one all h none = absurd h
+refused PatternTooLong one all h none = absurd h
+
+-- the same of a list of patterns
+pub refused_pattern : {A B : Type 0} (fault : QueryFault) (one : Option A) (all : Option B)
+    → GivesPattern {A = A} (Err fault) one → (one ≡ None → all ≡ None)
+    → GivesPattern {A = B} (Err fault) all
+refused_pattern PatternTooLong one all h none = none h
+refused_pattern NoMemory one all h none = tt
+refused_pattern LeftOutKey one all h none = absurd h
+refused_pattern ExpressionAndProgram one all h none = absurd h
+refused_pattern (Expression fault) one all h none = absurd h
+refused_pattern UnknownField one all h none = absurd h
+refused_pattern BadGenerator one all h none = absurd h
+refused_pattern BadClockSpec one all h none = absurd h
+refused_pattern WrongValue one all h none = absurd h

@@ -41,8 +41,8 @@ program_decides (Some name) raw t says r = refl
 
 -- generators with this bound
 pub with_bound : (g : Generators) (bound : Bound) → g.since ≡ Some bound
-    → g ≡ record { since = Some bound; suffix = g.suffix; path = g.path }
-with_bound g bound is = ap (λ since. record { since = since; suffix = g.suffix; path = g.path }) is
+    → g ≡ record { since = Some bound; suffix = g.suffix; path = g.path; glob = g.glob }
+with_bound g bound is = ap (λ since. record { since = since; suffix = g.suffix; path = g.path; glob = g.glob }) is
 
 -- two filters are one
 filter-both : (p q : ℕ → Bool) (xs : List ℕ) → filter q (filter p xs) ≡ filter (λ x. p x && q x) xs

@@ -10,7 +10,8 @@ use Rattle.wq_clock.specs.Law.{TextsSayWhatTheySpell}
 use Rattle.wq_clock.specs.declared.bound.Bound.TheVariants.{Fresh}
 use Rattle.wq_query.specs.declared.fault.QueryFault.{QueryFault}
 use Rattle.wq_query.specs.declared.fault.QueryFault.TheVariants.{BadGenerator, BadClockSpec}
-use Rattle.wq_query.specs.Grammar.{AreSuffixes, ArePaths, IsSinceKey}
+use Rattle.wq_query.specs.Glob.{glob_flags}
+use Rattle.wq_query.specs.Grammar.{AreGlobs, AreSuffixes, ArePaths, IsSinceKey}
 use Rattle.wq_query.specs.Law.{ValuesAskWhatTheyWrite}
 use Rattle.wq_query.specs.Query.{QueryData, SinceData, at_bound, at_cursor, since_cursor}
 use Rattle.wq_query.specs.Reading.{asks, cursor_in}
@@ -34,10 +35,11 @@ kept (Err fault) generator cursor query is = absurd (at (comes_first fault) gene
     at false false true is = cc is
     at false false false is = cc is
 
-neither : (a b : Option Data) → (is_some a || is_some b) ≡ false → (a ≡ None) × (b ≡ None)
-neither None None e = (refl, refl)
-neither None (Some b) e = absurd (cc e)
-neither (Some a) b e = absurd (cc e)
+neither : (a b c : Option Data) → (is_some a || is_some b || is_some c) ≡ false → (a ≡ None) × (b ≡ None) × (c ≡ None)
+neither None None None e = (refl, refl, refl)
+neither None None (Some c) e = absurd (cc e)
+neither None (Some b) c e = absurd (cc e)
+neither (Some a) b c e = absurd (cc e)
 
 no_cursor : TextsSayWhatTheySpell → (instance : InstanceData) (o : Option Data) (since : SinceData)
     → is_some (option_and_then cursor_in o) ≡ false
@@ -51,10 +53,11 @@ no_cursor texts instance (Some d) (at_cursor name) none h =
 pub subscriptions_are_plain : TextsSayWhatTheySpell → ValuesAskWhatTheyWrite → SubscriptionsArePlain
 subscriptions_are_plain texts values instance d query is =
     let asked = kept (asks instance d) (has_generator d) (has_cursor d) query is in
-    let keys = neither (get (codes "suffix") d) (get (codes "path") d) asked.1 in
+    let keys = neither (get (codes "suffix") d) (get (codes "path") d) (get (codes "glob") d) asked.1 in
     let written = (values instance query d).0 asked.0 in
     record {
       suffix = subst (λ o. MatchOption o (query.suffix ≡ None) (AreSuffixes query.suffix)) keys.0 written.suffix;
       path = subst (λ o. MatchOption o (query.path ≡ None) (ArePaths query.path)) keys.1 written.path;
+      glob = subst (λ o. MatchOption o (query.glob ≡ None) (AreGlobs (glob_flags (get (codes "glob_includedotfiles") d)) query.glob)) keys.2 written.glob;
       since = no_cursor texts instance (get (codes "since") d) query.since asked.2 written.since;
     }

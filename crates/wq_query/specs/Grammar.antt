@@ -1,7 +1,7 @@
 -- The grammar of queries: by which JSON values each of them may be written.
 -- The keys are those of Watchman's documentation of file queries.
 use Rattle.std.specs.Prelude.{ℕ, ℤ, pos, negsuc, ◌≡◌, ◌≤◌, ◌⊎◌, false, true, List, [], ◌∷◌, codes}
-use Rattle.std.specs.Prelude.{Option, Some, None}
+use Rattle.std.specs.Prelude.{Bool, length, Option, Some, None}
 use Rattle.std.specs.Option.{MatchOption}
 use Rattle.std.specs.List.{AllByRecursion}
 use Rattle.serde_json.specs.Data.{Data, boolean, string, array}
@@ -13,6 +13,9 @@ use Rattle.wq_clock.specs.ClockSpec.{named_cursor}
 use Rattle.wq_clock.specs.Spelling.{IsClockSpelling}
 use Rattle.wq_clock.specs.declared.bound.Bound.TheVariants.{Fresh}
 use Rattle.wq_gen.specs.declared.generators.PathGen.{PathGen}
+use Rattle.wq_glob.specs.Limit.{max_pattern_length}
+use Rattle.wq_glob.specs.Pattern.{PatternData}
+use Rattle.wq_glob.specs.declared.flag.Flags.{Flags}
 use Rattle.wq_term.specs.Limit.{max_depth}
 use Rattle.wq_term.specs.Expr.{ExprData, always, depth_of}
 use Rattle.wq_term.specs.Grammar.{IsWrittenBy as IsTermWrittenBy}
@@ -20,6 +23,7 @@ use Rattle.wq_term.specs.ArgumentGrammar.{AreTexts, IsBetween, IsDirectory, IsWo
 use Rattle.wq_term.specs.ArgumentGrammar.{IsWhole, IsBound}
 use Rattle.wq_query.specs.declared.field.Field.{Field}
 use Rattle.wq_query.specs.Field.{field_name, default_fields}
+use Rattle.wq_query.specs.Glob.{glob_flags}
 use Rattle.wq_query.specs.Query.{QueryData, SinceData, at_bound, at_cursor}
 use Rattle.wq_query.specs.Reading.{left_out_keys}
 
@@ -62,6 +66,22 @@ abbrev pub ArePaths : Option (List PathGen) → Data → Type 0
 ArePaths (Some paths) (array ds) = ListPaths paths ds
 ArePaths _ _ = ⊥
 
+-- a pattern: a text of at most 255 bytes
+abbrev pub IsGlob : Flags → PatternData → Data → Type 0
+IsGlob flags p d =
+    (d ≡ string p.text) × (length p.text ≤ max_pattern_length) × (p.flags ≡ flags)
+
+-- patterns, one after the other
+abbrev pub ListGlobs : Flags → List PatternData → Items → Type 0
+ListGlobs flags [] no_items = Unit {0}
+ListGlobs flags (p ∷ ps) (item d ds) = IsGlob flags p d × ListGlobs flags ps ds
+ListGlobs flags _ _ = ⊥
+
+-- a list of patterns
+abbrev pub AreGlobs : Flags → Option (List PatternData) → Data → Type 0
+AreGlobs flags (Some patterns) (array ds) = ListGlobs flags patterns ds
+AreGlobs flags _ _ = ⊥
+
 -- a cursor: its name, of 1 to 255 bytes, follows `n:`
 abbrev pub IsCursor : List ℕ → Data → Type 0
 IsCursor name (string text) = IsClockSpelling (named_cursor name) text
@@ -100,6 +120,9 @@ pub record IsWrittenBy (instance : InstanceData) (query : QueryData) (d : Data) 
   pub suffix : MatchOption (get (codes "suffix") d) (query.suffix ≡ None) (AreSuffixes query.suffix)
   -- files at every path, or those at some
   pub path : MatchOption (get (codes "path") d) (query.path ≡ None) (ArePaths query.path)
+  -- files of every name, or those that fit some patterns
+  pub glob : MatchOption (get (codes "glob") d) (query.glob ≡ None)
+      (AreGlobs (glob_flags (get (codes "glob_includedotfiles") d)) query.glob)
   -- nothing is known to the client, or a bound, or a cursor
   pub since : MatchOption (get (codes "since") d)
       (query.since ≡ at_bound Fresh) (IsSinceKey instance query.since)
@@ -107,6 +130,9 @@ pub record IsWrittenBy (instance : InstanceData) (query : QueryData) (d : Data) 
   pub empty_on_fresh_instance : MatchOption (get (codes "empty_on_fresh_instance") d)
       (query.empty_on_fresh_instance ≡ false)
       (λ value. value ≡ boolean query.empty_on_fresh_instance)
+  -- patterns take dots at the front of names, or do not
+  pub glob_includedotfiles : MatchOption (get (codes "glob_includedotfiles") d)
+      (Unit {0}) (λ value. (b : Bool) × (value ≡ boolean b))
   -- any whole number, which changes nothing here
   pub sync_timeout : MatchOption (get (codes "sync_timeout") d)
       (Unit {0}) (λ value. (n : ℤ) × IsWhole n value)

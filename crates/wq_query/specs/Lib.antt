@@ -1,11 +1,13 @@
 pub mod Field
 pub mod Generator
+pub mod Glob
 pub mod Query
 pub mod Reading
 pub mod Outcome
 pub mod Listing
 pub mod Reply
 pub mod Printing
+pub mod Rows
 pub mod Grammar
 pub mod Law
 pub mod Meaning

@@ -21,12 +21,14 @@ is_new Fresh r = true
 is_new (Tick t) r = nat_lt t r.ctick
 is_new (Second s) r = int_lt s r.csec
 
--- the generators of a plan's candidates: its bound, and the suffixes and paths of its query
+-- the generators of a plan's candidates: its bound, and the suffixes, paths and patterns of its
+-- query
 abbrev pub generators_of : PlanData → Generators
 generators_of plan = record {
   since = Some plan.bound;
   suffix = (plan.query).suffix;
   path = (plan.query).path;
+  glob = (plan.query).glob;
 }
 
 -- whether the program answers yes for the file, or the expression matches it if there is none

@@ -2,12 +2,14 @@
 -- defines it.
 use Rattle.std.specs.Prelude.{◌≡◌, ℕ, List, Option, Some, None, Result, Ok, Err, Vec}
 use Rattle.std.specs.declared.alloc.Global.{Global}
+use Rattle.wq_glob.specs.Pattern.{PatternData}
 use Rattle.wq_term.specs.declared.expr.Expr.{Expr}
 use Rattle.wq_term.specs.declared.fault.TermFault.{TermFault}
 use Rattle.wq_term.specs.Expr.{ExprData, term_of}
 use Rattle.wq_query.specs.declared.fault.QueryFault.{QueryFault}
 use Rattle.wq_query.specs.declared.fault.QueryFault.TheVariants.{Expression, UnknownField, BadGenerator}
 use Rattle.wq_query.specs.declared.fault.QueryFault.TheVariants.{BadClockSpec, WrongValue, NoMemory}
+use Rattle.wq_query.specs.declared.fault.QueryFault.TheVariants.{PatternTooLong}
 use Rattle.wq_query.specs.declared.field.Field.{Field}
 use Rattle.wq_query.specs.declared.query.Query.{Query}
 use Rattle.wq_query.specs.declared.query.Since.{Since}
@@ -39,6 +41,20 @@ GivesGenerator (Ok generator) answer = answer ≡ Some generator
 GivesGenerator (Err BadGenerator) answer = answer ≡ None
 GivesGenerator (Err NoMemory) answer = Unit {0}
 GivesGenerator (Err _) answer = ⊥
+
+-- the same of patterns, or of one pattern, of texts
+abbrev pub GivesPattern : {A : Type 0} → Result A QueryFault → Option A → Type 0
+GivesPattern (Ok pattern) answer = answer ≡ Some pattern
+GivesPattern (Err PatternTooLong) answer = answer ≡ None
+GivesPattern (Err NoMemory) answer = Unit {0}
+GivesPattern (Err _) answer = ⊥
+
+-- the same of the patterns of a query
+abbrev pub GivesGlobs : Result (Option (List PatternData)) QueryFault
+    → Result (Option (List PatternData)) QueryFault → Type 0
+GivesGlobs (Ok patterns) answer = answer ≡ Ok patterns
+GivesGlobs (Err NoMemory) answer = Unit {0}
+GivesGlobs (Err fault) answer = answer ≡ Err fault
 
 -- the same of the point from which changes are asked for
 abbrev pub GivesSince : Result Since QueryFault → Option SinceData → Type 0

@@ -4,6 +4,7 @@ use Rattle.std.specs.Prelude.{ℕ, Bool, List, Option, Some, None, option_map}
 use Rattle.wq_clock.specs.declared.bound.Bound.{Bound}
 use Rattle.wq_code.specs.declared.raw.Raw.{Raw}
 use Rattle.wq_gen.specs.declared.generators.PathGen.{PathGen}
+use Rattle.wq_glob.specs.Pattern.{PatternData}
 use Rattle.wq_term.specs.Expr.{ExprData, term_of}
 use Rattle.wq_query.specs.declared.field.Field.{Field}
 use Rattle.wq_query.specs.declared.query.Query.{Query}
@@ -29,8 +30,8 @@ since_cursor (at_cursor name) = Some name
 
 -- A query asks for the files that its expression matches; if it names a program, for those for
 -- which the program answers yes. It has the fields that are told of each file, and the point from
--- which changes are asked for. It has its suffixes and paths, and says whether the list is empty if
--- nothing is known to the client.
+-- which changes are asked for. It has its suffixes, paths and patterns, and says whether the list
+-- is empty if nothing is known to the client.
 pub record QueryData : Type 0 where
   pub expression : ExprData
   pub program : Option (List ℕ)
@@ -38,6 +39,7 @@ pub record QueryData : Type 0 where
   pub since : SinceData
   pub suffix : Option (List (List ℕ))
   pub path : Option (List PathGen)
+  pub glob : Option (List PatternData)
   pub empty_on_fresh_instance : Bool
 
 -- a query, the bound with which it is answered, and the program that was kept under the name that
@@ -61,6 +63,7 @@ asked_of query = record {
   since = since_data query.since;
   suffix = (query.generators).suffix;
   path = (query.generators).path;
+  glob = (query.generators).glob;
   empty_on_fresh_instance = query.empty_on_fresh_instance;
 }
 

@@ -7,7 +7,8 @@ use Rattle.std.specs.Result.{result_ok}
 use Rattle.std.specs.List.{list_any}
 use Rattle.serde_json.specs.Data.{Data, string, array, Items, no_items, item}
 use Rattle.serde_json.specs.Find.{get, as_bool}
-use Rattle.wq_base.specs.Fault.{is_true, or_fault, or_its_fault, unless_fault, with_first}
+use Rattle.wq_base.specs.Fault.{is_true, or_fault, or_its_fault, or_own_fault, unless_fault}
+use Rattle.wq_base.specs.Fault.{with_first}
 use Rattle.wq_clock.specs.Instance.{InstanceData}
 use Rattle.wq_clock.specs.ClockSpec.{SpecData, named_cursor, clock_spec_of}
 use Rattle.wq_clock.specs.declared.bound.Bound.{Bound}
@@ -25,13 +26,13 @@ use Rattle.wq_query.specs.declared.fault.QueryFault.TheVariants.{BadClockSpec, W
 use Rattle.wq_query.specs.declared.field.Field.{Field}
 use Rattle.wq_query.specs.Field.{field_named, default_fields}
 use Rattle.wq_query.specs.Generator.{suffixes_of, paths_of}
+use Rattle.wq_query.specs.Glob.{glob_flags, globs_of}
 use Rattle.wq_query.specs.Query.{QueryData, SinceData, at_bound, at_cursor}
 
 -- the keys that would change the answer and are not there
 abbrev pub left_out_keys : List (List ℕ)
 left_out_keys =
-    codes "relative_root" ∷ codes "settle_period" ∷ codes "settle_timeout" ∷ codes "glob"
-    ∷ codes "glob_includedotfiles" ∷ []
+    codes "relative_root" ∷ codes "settle_period" ∷ codes "settle_timeout" ∷ []
 
 -- whether the query has one of these keys
 abbrev pub has_key_of : List (List ℕ) → Data → Bool
@@ -104,6 +105,10 @@ abbrev pub flag_of : Option Data → Option Bool
 flag_of None = Some false
 flag_of (Some d) = as_bool d
 
+-- whether it is true or false, or not there
+abbrev pub is_flag_or_absent : Option Data → Bool
+is_flag_or_absent d = is_some (flag_of d)
+
 -- whether it is a whole number, or not there
 abbrev pub is_whole_or_absent : Option Data → Bool
 is_whole_or_absent None = true
@@ -118,9 +123,12 @@ asks instance d =
     or_fault UnknownField (fields_of (get (codes "fields") d)) (λ fields.
     or_fault BadGenerator (suffixes_of (get (codes "suffix") d)) (λ suffix.
     or_fault BadGenerator (paths_of (get (codes "path") d)) (λ path.
+    or_own_fault (globs_of (glob_flags (get (codes "glob_includedotfiles") d))
+    (get (codes "glob") d)) (λ glob.
     or_fault BadClockSpec (since_of instance (get (codes "since") d)) (λ since.
     or_fault WrongValue (program_name (get (codes "program") d)) (λ program.
     or_fault WrongValue (flag_of (get (codes "empty_on_fresh_instance") d)) (λ flag.
+    unless_fault WrongValue (is_flag_or_absent (get (codes "glob_includedotfiles") d)) (
     unless_fault WrongValue (is_whole_or_absent (get (codes "sync_timeout") d)) (
     Ok (record {
       expression = expression;
@@ -129,5 +137,6 @@ asks instance d =
       since = since;
       suffix = suffix;
       path = path;
+      glob = glob;
       empty_on_fresh_instance = flag;
-    })))))))))))
+    })))))))))))))

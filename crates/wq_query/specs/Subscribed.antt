@@ -15,7 +15,9 @@ use Rattle.wq_query.specs.Reading.{asks, cursor_in}
 
 -- whether an object has a key of a generator, whatever its value is
 abbrev pub has_generator : Data → Bool
-has_generator d = is_some (get (codes "suffix") d) || is_some (get (codes "path") d)
+has_generator d =
+    is_some (get (codes "suffix") d) || is_some (get (codes "path") d)
+    || is_some (get (codes "glob") d)
 
 -- whether `since` says a cursor
 abbrev pub has_cursor : Data → Bool
@@ -49,10 +51,11 @@ without_generators asked generator cursor =
 abbrev pub subscribes : InstanceData → Data → Result QueryData QueryFault
 subscribes instance d = without_generators (asks instance d) (has_generator d) (has_cursor d)
 
--- a query has neither suffixes nor paths nor a cursor
+-- a query has neither suffixes nor paths nor patterns, and no cursor
 pub record HasBoundAlone (query : QueryData) : Type 0 where
   pub suffix : query.suffix ≡ None
   pub path : query.path ≡ None
+  pub glob : query.glob ≡ None
   pub since : since_cursor query.since ≡ None
 
 -- each query of a subscription is of this kind

@@ -44,8 +44,8 @@ pub(crate) fn evaluate<R: Threads + Sync, G: Gate + Sync>(
     filter_workers(rt, alloc, gate, workers, PIECE, program, view, positions)
 }
 
-/// How many of so many threads a query uses for this number of candidates.
-fn workers_for(workers: u32, candidates: usize) -> u32
+/// How many of so many threads a query uses for this number of candidates, or of files to list.
+pub(crate) fn workers_for(workers: u32, candidates: usize) -> u32
     requires { AreFew workers }
     ensures { AreFew result }
 {

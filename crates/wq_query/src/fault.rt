@@ -19,10 +19,13 @@ pub enum QueryFault {
     /// `fields` is no list of texts, is empty, or names an unknown field.
     #[error("unknown field")]
     UnknownField,
-    /// `suffix` is no text or list of texts, or `path` no list of paths. Or a text has over 4,096
-    /// bytes, or a depth is below -1 or over 2^62.
+    /// `suffix` is no text or list of texts, `path` no list of paths, or `glob` no list of texts.
+    /// Or a text of the first two has over 4,096 bytes, or a depth is below -1 or over 2^62.
     #[error("bad generator")]
     BadGenerator,
+    /// A text of `glob` has over 255 bytes.
+    #[error("pattern too long")]
+    PatternTooLong,
     /// The value of `since` is no clock spec.
     #[error("bad clockspec")]
     BadClockSpec,

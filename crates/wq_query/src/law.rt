@@ -18,8 +18,8 @@ pub fn values_ask_what_they_write()
     numbers_say_what_they_write();
 }
 
-/// A query that [`Query::read_subscription`](crate::Query::read_subscription) reads has neither
-/// suffixes nor paths, and no cursor.
+/// A query that [`Query::read_subscription`](crate::Query::read_subscription) reads has no
+/// suffixes, paths or patterns, and no cursor.
 pub fn subscriptions_are_plain()
     ensures { SubscriptionsArePlain }
 {

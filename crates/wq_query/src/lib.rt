@@ -8,6 +8,7 @@ mod field;
 mod following;
 mod form;
 mod generating;
+mod globbing;
 mod law;
 mod listing;
 mod planning;
@@ -16,6 +17,7 @@ mod query;
 mod reading;
 mod reply;
 mod room;
+mod rows;
 mod subscribing;
 
 pub use fault::QueryFault;

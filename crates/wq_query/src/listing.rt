@@ -42,12 +42,15 @@ pub(crate) fn listed_workers<R: Threads + Sync, G: Gate + Sync>(
 ) -> Result<Vec<u32>, AllocError>
     requires { AreFew workers }
     ensures within { IfOk result (λ places. AreWithin view.now.records places.items) }
+    ensures count { IfOk result (λ places. length places.items ≤ max_records) }
     ensures files { IfOk result (λ places. records_at view.now.records places.items
         ≡ files_of (planned plan.now) view.now.records) }
 {
     if is_empty(plan) {
         return Ok(Vec::new(alloc));
     }
+    // Only the proof uses the contract of this call, which is about the length of a view.
+    view.len();
     positions_filter();
     positions_are_there();
     let matching = matching_workers(rt, alloc, gate, workers, plan, view)?;

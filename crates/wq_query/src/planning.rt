@@ -11,7 +11,7 @@ ghost use Rattle.wq_query.specs.Reading.{asks};
 
 use crate::fault::QueryFault;
 use crate::query::{Plan, Query, Since};
-use crate::{generating, reading};
+use crate::{generating, globbing, reading};
 use serde_json::Value;
 use std::alloc::Global;
 use std::sync::Arc;
@@ -41,12 +41,17 @@ impl Query {
         let fields = reading::fields(alloc, value.get("fields"))?;
         let suffix = generating::suffixes(alloc, value.get("suffix"))?;
         let path = generating::paths(alloc, value.get("path"))?;
+        let flags = globbing::glob_flags(value.get("glob_includedotfiles"));
+        let glob = globbing::globs(alloc, value.get("glob"), flags)?;
         let since = reading::since(alloc, value.get("since"), instance)?;
         let program = reading::program(alloc, value.get("program"))?;
         let Some(empty_on_fresh_instance) = reading::flag(value.get("empty_on_fresh_instance"))
         else {
             return Err(QueryFault::WrongValue);
         };
+        if !reading::is_flag(value.get("glob_includedotfiles")) {
+            return Err(QueryFault::WrongValue);
+        }
         if !reading::is_whole(value.get("sync_timeout")) {
             return Err(QueryFault::WrongValue);
         }
@@ -59,6 +64,7 @@ impl Query {
                 since: None,
                 suffix,
                 path,
+                glob,
             },
             empty_on_fresh_instance,
         })

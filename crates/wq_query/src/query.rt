@@ -30,7 +30,7 @@ pub struct Query {
     pub(crate) program: Option<Text>,
     pub(crate) fields: Vec<Field>,
     pub(crate) since: Since,
-    /// Its suffixes and its paths. Their bound is the one of the plan, once there is one.
+    /// Its suffixes, paths and patterns. Their bound is the one of the plan, once there is one.
     pub(crate) generators: Generators,
     pub(crate) empty_on_fresh_instance: bool,
     ghost limits: { IsTrue (expr_fits (term_of expr)) },

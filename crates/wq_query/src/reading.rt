@@ -7,7 +7,8 @@ ghost use Rattle.wq_term.specs.Fits.{expr_fits};
 ghost use Rattle.wq_query.specs.Outcome.{GivesExpression, GivesFields, GivesProgram, GivesSince};
 ghost use Rattle.wq_query.specs.Reading.{has_both, has_key_of, has_left_out_key, is_plain_case};
 ghost use Rattle.wq_query.specs.Reading.{expression_of, field_of, fields_in, fields_of, since_of};
-ghost use Rattle.wq_query.specs.Reading.{cursor_in, flag_of, is_whole_or_absent, program_name};
+ghost use Rattle.wq_query.specs.Reading.{cursor_in, flag_of, is_flag_or_absent};
+ghost use Rattle.wq_query.specs.Reading.{is_whole_or_absent, program_name};
 
 use crate::fault::QueryFault;
 use crate::field::Field;
@@ -19,13 +20,7 @@ use wq_clock::{Bound, Instance, Spec, parse};
 use wq_term::{Expr, TermFault, read_bound, read_expr, whole_number};
 
 /// The keys that would change the answer and are left out.
-const LEFT_OUT_KEYS: [&str; 5] = [
-    "relative_root",
-    "settle_period",
-    "settle_timeout",
-    "glob",
-    "glob_includedotfiles",
-];
+const LEFT_OUT_KEYS: [&str; 3] = ["relative_root", "settle_period", "settle_timeout"];
 
 /// Whether the query has a key that would change the answer and is left out.
 pub(crate) fn has_left_out_key(query: &Value) -> bool
@@ -138,6 +133,13 @@ pub fn flag(value: Option<&Value>) -> Option<bool>
         None => Some(false),
         Some(value) => value.as_bool(),
     }
+}
+
+/// Whether a key that is there is true or false.
+pub(crate) fn is_flag(value: Option<&Value>) -> bool
+    ensures { result ≡ is_flag_or_absent (option_map (λ v. data_of v.now) value.entry) }
+{
+    flag(value).is_some()
 }
 
 /// Whether a key that is there is a whole number from -2^62 to 2^62.

@@ -1,23 +1,28 @@
 //! The reply to a query, as a JSON value and as its text.
-ghost use Rattle.std.specs.Prelude.{◌≡◌, ◌≤◌, [], ◌∷◌, map, IfOk};
-ghost use Rattle.serde_json.specs.Data.{string};
-ghost use Rattle.serde_json.specs.View.{view as data_of};
+ghost use Rattle.std.specs.Prelude.{◌≡◌, ◌≤◌, ◌*◌, [], ◌∷◌, ◌++◌, map, length, IfOk};
+ghost use Rattle.serde_json.specs.Data.{array, string};
+ghost use Rattle.serde_json.specs.View.{items_of, view as data_of};
 ghost use Rattle.serde_json.specs.Written.{compact_text};
 ghost use Rattle.wq_clock.specs.ClockText.{clock_text};
 ghost use Rattle.wq_clock.specs.Instance.{instance_data};
 ghost use Rattle.wq_base.specs.Limit.{AreFew};
+ghost use Rattle.wq_clock.specs.Bound.{is_fresh};
 ghost use Rattle.wq_view.specs.Kind.{letter_of};
+ghost use Rattle.wq_view.specs.Limit.{max_records};
 ghost use Rattle.wq_query.specs.Query.{planned};
 ghost use Rattle.wq_query.specs.Listing.{AreWithin, files_of};
 ghost use Rattle.wq_view.specs.Position.{records_at};
 ghost use Rattle.wq_query.specs.Reply.{field_data, file_data, reply_of};
+ghost use Rattle.wq_query.specs.Rows.{end_text, rows_data, start_text};
 
+use crate::evaluating::workers_for;
 use crate::field::Field;
 use crate::form::Form;
 use crate::listing::{is_new, listed, listed_workers};
 use crate::printing::print_reply;
 use crate::query::Plan;
-use crate::room::room_of;
+use crate::room::{room_of, with_room};
+use crate::rows::{Rows, put_end, put_list, put_start, size_for};
 use json::Writer;
 use serde_json::{Map, Value, json};
 use std::alloc::{AllocError, Global};
@@ -82,7 +87,7 @@ pub fn answer_workers<R: Threads + Sync, G: Gate + Sync>(
         ≡ compact_text (reply_of (planned plan.now) (instance_data instance.now) view.now)) }
 {
     let places = listed_workers(rt, alloc, gate, workers, plan, view)?;
-    text_of(alloc, plan, instance, view, &places)
+    text_of_workers(rt, alloc, workers, plan, instance, view, &places)
 }
 
 /// The text of the reply that lists the files at these places.
@@ -107,15 +112,63 @@ fn text_of(
     Ok(text)
 }
 
-/// No bytes yet, with room for so many. If that much is refused there is no room, and the bytes
-/// grow.
-fn with_room(alloc: Global, room: usize) -> Vec<u8>
-    ensures { result.items ≡ [] }
+/// The text that [`text_of`] gives, printed by up to so many threads.
+fn text_of_workers<R: Threads + Sync>(
+    rt: &R,
+    alloc: Global,
+    workers: u32,
+    plan: &Plan,
+    instance: &Instance,
+    view: &View,
+    places: &[u32],
+) -> Result<Vec<u8>, AllocError>
+    requires workers { AreFew workers }
+    requires within { AreWithin view.now.records places.now }
+    requires count { length places.now ≤ max_records }
+    requires files { records_at view.now.records places.now
+        ≡ files_of (planned plan.now) view.now.records }
+    ensures { IfOk result (λ text. text.items
+        ≡ compact_text (reply_of (planned plan.now) (instance_data instance.now) view.now)) }
 {
-    match Vec::with_capacity(alloc, room) {
-        Ok(bytes) => bytes,
-        Err(_) => Vec::new(alloc),
+    let pieces = workers_for(workers, places.len());
+    if pieces == 1 {
+        return text_of(alloc, plan, instance, view, places);
     }
+    let form = Form::of(alloc, &plan.query.fields)?;
+    let rows = Rows {
+        form: &form,
+        instance,
+        bound: plan.bound,
+        view,
+        places,
+        size: size_for(places, pieces),
+    };
+    text_in_pieces(rt, alloc, pieces, &rows)
+}
+
+/// The text of the reply with these rows, each piece of which is printed by a thread of its own.
+fn text_in_pieces<R: Threads + Sync>(
+    rt: &R,
+    alloc: Global,
+    pieces: u32,
+    rows: &Rows<'_>,
+) -> Result<Vec<u8>, AllocError>
+    requires within { AreWithin rows.now.view.now.records rows.now.places.now }
+    requires pieces { length rows.now.places.now ≤ pieces * rows.now.size }
+    ensures { IfOk result (λ text. text.items
+        ≡ start_text (clock_text (instance_data rows.now.instance.now) rows.now.view.now.tick)
+        ++ (compact_text (array (items_of (rows_data rows.now))) ++ end_text (is_fresh rows.now.bound))) }
+{
+    let room = room_of(rows.instance, rows.view, rows.places, rows.form);
+    let mut text = with_room(alloc, room);
+    put_start(
+        &mut text,
+        alloc,
+        print(rows.instance, rows.view.tick()).as_str(),
+    )?;
+    put_list(&mut text, rt, alloc, rows, pieces)?;
+    put_end(&mut text, rows.bound.is_fresh())?;
+    Ok(text)
 }
 
 /// The values of the files at these places, as the plan tells them.

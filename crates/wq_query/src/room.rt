@@ -1,9 +1,11 @@
 //! About how many bytes a reply takes, so that they are asked for once. It is a guess, of which no
 //! contract speaks: a reply that is longer grows.
+ghost use Rattle.std.specs.Prelude.{◌≡◌, []};
 ghost use Rattle.wq_query.specs.Listing.{AreWithin};
 
 use crate::field::Field;
 use crate::form::Form;
+use std::alloc::Global;
 use wq_clock::{Instance, print};
 use wq_view::View;
 
@@ -24,6 +26,17 @@ const SAMPLES: usize = 1024;
 struct Lengths {
     name: usize,
     clock: usize,
+}
+
+/// No bytes yet, with room for so many. If that much is refused there is no room, and the bytes
+/// grow.
+pub(crate) fn with_room(alloc: Global, room: usize) -> Vec<u8>
+    ensures { result.items ≡ [] }
+{
+    match Vec::with_capacity(alloc, room) {
+        Ok(bytes) => bytes,
+        Err(_) => Vec::new(alloc),
+    }
 }
 
 /// The room of a reply that tells of the files at these places.

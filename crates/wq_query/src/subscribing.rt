@@ -74,7 +74,10 @@ fn comes_first(fault: QueryFault) -> bool
         | QueryFault::Expression(_)
         | QueryFault::UnknownField
         | QueryFault::NoMemory => true,
-        QueryFault::BadGenerator | QueryFault::BadClockSpec | QueryFault::WrongValue => false,
+        QueryFault::BadGenerator
+        | QueryFault::PatternTooLong
+        | QueryFault::BadClockSpec
+        | QueryFault::WrongValue => false,
     }
 }
 
@@ -82,7 +85,7 @@ fn comes_first(fault: QueryFault) -> bool
 fn has_generator(value: &Value) -> bool
     ensures { result ≡ has_generator (data_of value.now) }
 {
-    value.get("suffix").is_some() || value.get("path").is_some()
+    value.get("suffix").is_some() || value.get("path").is_some() || value.get("glob").is_some()
 }
 
 /// Whether `since` says a cursor.

@@ -7,11 +7,12 @@ use Rattle.serde_json.specs.View.{view as data_of}
 use Rattle.wq_base.specs.Fault.{or_fault, or_its_fault, or_own_fault, unless_fault}
 use Rattle.wq_clock.specs.Instance.{InstanceData}
 use Rattle.wq_query.specs.Generator.{suffixes_of, paths_of}
+use Rattle.wq_query.specs.Glob.{glob_flags, globs_of}
 use Rattle.wq_query.specs.Outcome.{GivesQuery}
 use Rattle.wq_query.specs.Query.{QueryData, asked_of}
 use Rattle.wq_query.specs.declared.query.Query.{Query}
 use Rattle.wq_query.specs.Reading.{asks as queries, expression_of, fields_of, flag_of, has_both, has_left_out_key}
-use Rattle.wq_query.specs.Reading.{is_whole_or_absent, program_name, since_of}
+use Rattle.wq_query.specs.Reading.{is_flag_or_absent, is_whole_or_absent, program_name, since_of}
 use Rattle.wq_query.specs.Subscribed.{comes_first, has_cursor, has_generator, subscribes, without_generators}
 use Rattle.wq_query.specs.declared.fault.QueryFault.{QueryFault}
 use Rattle.wq_query.specs.declared.fault.QueryFault.TheVariants.{LeftOutKey, ExpressionAndProgram, Expression, UnknownField}
@@ -359,41 +360,49 @@ expression_in (Ok q) = Ok q.expression
 expression_in (Err fault) = Ok always
 
 -- all tests hold of a query that was read, and its parts are there
-has_expression : {F S P C N G : Type 0} (one other last : Bool) (e : Result ExprData TermFault) (fields : Option F) (suffix : Option S)
-    (path : Option P) (since : Option C) (program : Option N) (flag : Option G) (made : ExprData → F → S → P → C → N → G → QueryData)
-    → ((e : ExprData) (f : F) (s : S) (p : P) (c : C) (n : N) (g : G) → (made e f s p c n g).expression ≡ e) → (q : QueryData)
+has_expression : {F S P G C N B : Type 0} (one other dotted last : Bool) (e : Result ExprData TermFault) (fields : Option F) (suffix : Option S)
+    (path : Option P) (glob : Result G QueryFault) (since : Option C) (program : Option N) (flag : Option B)
+    (made : ExprData → F → S → P → G → C → N → B → QueryData)
+    → ((e : ExprData) (f : F) (s : S) (p : P) (g : G) (c : C) (n : N) (b : B) → (made e f s p g c n b).expression ≡ e) → (q : QueryData)
     → unless_fault LeftOutKey one (unless_fault ExpressionAndProgram other (or_its_fault Expression e (λ e.
     or_fault UnknownField fields (λ fields. or_fault BadGenerator suffix (λ suffix. or_fault BadGenerator path (λ path.
+    or_own_fault glob (λ glob.
     or_fault BadClockSpec since (λ since. or_fault WrongValue program (λ program. or_fault WrongValue flag (λ flag.
-    unless_fault WrongValue last (Ok (made e fields suffix path since program flag))))))))))) ≡ Ok q → e ≡ Ok q.expression
+    unless_fault WrongValue dotted (unless_fault WrongValue last (Ok (made e fields suffix path glob since program flag))))))))))))) ≡ Ok q
+    → e ≡ Ok q.expression
 unfolding expression_in
-has_expression true true true (Ok e) (Some fields) (Some suffix) (Some path) (Some since) (Some program) (Some flag) made kept q is =
-    ap Ok (sym (kept e fields suffix path since program flag)) ∙ ap expression_in is
-has_expression false other last e fields suffix path since program flag made kept q is = absurd cc
-has_expression true false last e fields suffix path since program flag made kept q is = absurd cc
-has_expression true true last (Err fault) fields suffix path since program flag made kept q is = absurd cc
-has_expression true true last (Ok e) None suffix path since program flag made kept q is = absurd cc
-has_expression true true last (Ok e) (Some fields) None path since program flag made kept q is = absurd cc
-has_expression true true last (Ok e) (Some fields) (Some suffix) None since program flag made kept q is = absurd cc
-has_expression true true last (Ok e) (Some fields) (Some suffix) (Some path) None program flag made kept q is = absurd cc
-has_expression true true last (Ok e) (Some fields) (Some suffix) (Some path) (Some since) None flag made kept q is = absurd cc
-has_expression true true last (Ok e) (Some fields) (Some suffix) (Some path) (Some since) (Some program) None made kept q is = absurd cc
-has_expression true true false (Ok e) (Some fields) (Some suffix) (Some path) (Some since) (Some program) (Some flag) made kept q is = absurd cc
+has_expression true true true true (Ok e) (Some fields) (Some suffix) (Some path) (Ok glob) (Some since) (Some program) (Some flag) made kept q is =
+    ap Ok (sym (kept e fields suffix path glob since program flag)) ∙ ap expression_in is
+has_expression false other dotted last e fields suffix path glob since program flag made kept q is = absurd cc
+has_expression true false dotted last e fields suffix path glob since program flag made kept q is = absurd cc
+has_expression true true dotted last (Err fault) fields suffix path glob since program flag made kept q is = absurd cc
+has_expression true true dotted last (Ok e) None suffix path glob since program flag made kept q is = absurd cc
+has_expression true true dotted last (Ok e) (Some fields) None path glob since program flag made kept q is = absurd cc
+has_expression true true dotted last (Ok e) (Some fields) (Some suffix) None glob since program flag made kept q is = absurd cc
+has_expression true true dotted last (Ok e) (Some fields) (Some suffix) (Some path) (Err fault) since program flag made kept q is = absurd cc
+has_expression true true dotted last (Ok e) (Some fields) (Some suffix) (Some path) (Ok glob) None program flag made kept q is = absurd cc
+has_expression true true dotted last (Ok e) (Some fields) (Some suffix) (Some path) (Ok glob) (Some since) None flag made kept q is = absurd cc
+has_expression true true dotted last (Ok e) (Some fields) (Some suffix) (Some path) (Ok glob) (Some since) (Some program) None made kept q is = absurd cc
+has_expression true true false last (Ok e) (Some fields) (Some suffix) (Some path) (Ok glob) (Some since) (Some program) (Some flag) made kept q is = absurd cc
+has_expression true true true false (Ok e) (Some fields) (Some suffix) (Some path) (Ok glob) (Some since) (Some program) (Some flag) made kept q is = absurd cc
 
 -- so it has the expression that its object says
 pub expression_asked : (instance : InstanceData) (d : Data) (q : QueryData) → queries instance d ≡ Ok q
     → expression_of instance (get (codes "expression") d) ≡ Ok q.expression
 expression_asked instance d q is =
-    has_expression (not (has_left_out_key d)) (not (has_both d)) (is_whole_or_absent (get (codes "sync_timeout") d))
+    has_expression (not (has_left_out_key d)) (not (has_both d)) (is_flag_or_absent (get (codes "glob_includedotfiles") d))
+    (is_whole_or_absent (get (codes "sync_timeout") d))
     (expression_of instance (get (codes "expression") d)) (fields_of (get (codes "fields") d)) (suffixes_of (get (codes "suffix") d))
-    (paths_of (get (codes "path") d)) (since_of instance (get (codes "since") d)) (program_name (get (codes "program") d))
+    (paths_of (get (codes "path") d)) (globs_of (glob_flags (get (codes "glob_includedotfiles") d)) (get (codes "glob") d))
+    (since_of instance (get (codes "since") d)) (program_name (get (codes "program") d))
     (flag_of (get (codes "empty_on_fresh_instance") d))
-    (λ e fields suffix path since program flag. record {
+    (λ e fields suffix path glob since program flag. record {
       expression = e;
       program = program;
       fields = fields;
       since = since;
       suffix = suffix;
       path = path;
+      glob = glob;
       empty_on_fresh_instance = flag;
-    }) (λ e fields suffix path since program flag. refl) q is
+    }) (λ e fields suffix path glob since program flag. refl) q is

@@ -68,3 +68,9 @@ abbrev pub hands_in : Ask → Bool
 hands_in (AddProgram name program) = true
 hands_in (AddTrigger root trigger) = true
 hands_in _ = false
+
+-- whether an ask has a query that is read before the shelf is held
+abbrev pub has_query : Ask → Bool
+has_query (Query root crawl query) = true
+has_query (Subscribe root name query) = true
+has_query _ = false

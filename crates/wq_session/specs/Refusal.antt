@@ -11,6 +11,7 @@ use Rattle.wq_term.specs.declared.fault.TermFault.TheVariants.{PatternTooLong, N
 use Rattle.wq_query.specs.declared.fault.QueryFault.{QueryFault}
 use Rattle.wq_query.specs.declared.fault.QueryFault.TheVariants.{LeftOutKey, ExpressionAndProgram, Expression}
 use Rattle.wq_query.specs.declared.fault.QueryFault.TheVariants.{UnknownField, BadGenerator, BadClockSpec}
+use Rattle.wq_query.specs.declared.fault.QueryFault.TheVariants.{PatternTooLong as LongGlob}
 use Rattle.wq_query.specs.declared.fault.QueryFault.TheVariants.{WrongValue, NoMemory as NoQueryMemory}
 use Rattle.wq_session.specs.declared.refusal.Refusal.{Refusal}
 use Rattle.wq_session.specs.declared.refusal.Refusal.TheVariants.{LineTooLong, NotJson, NotACommand}
@@ -40,6 +41,7 @@ query_text ExpressionAndProgram = codes "E29: expression and program"
 query_text (Expression fault) = term_text fault
 query_text UnknownField = codes "E21: unknown field"
 query_text BadGenerator = codes "E22: bad generator"
+query_text LongGlob = codes "E28: pattern too long"
 query_text BadClockSpec = codes "E23: bad clockspec"
 query_text WrongValue = codes "E37: wrong query value"
 query_text NoQueryMemory = codes "E60: no memory"

@@ -4,7 +4,7 @@ ghost use Rattle.std.specs.Prelude.{◌≡◌, option_map, true, false, IfErr};
 ghost use Rattle.serde_json.specs.View.{items_view};
 ghost use Rattle.wq_session.specs.Argument.{behind};
 ghost use Rattle.wq_session.specs.At.{at_data};
-ghost use Rattle.wq_session.specs.Begun.{hands_in, takes_memory, tried};
+ghost use Rattle.wq_session.specs.Begun.{hands_in, has_query, takes_memory, tried};
 ghost use Rattle.wq_session.specs.Command.{command_named};
 ghost use Rattle.wq_session.specs.Need.{need_of, seen};
 ghost use Rattle.wq_session.specs.Needed.{need_data};
@@ -210,11 +210,32 @@ fn tried_as(
         ends_session refusal ≡ false → takes_memory ask.now ≡ true) }
 {
     match ask {
+        Ask::Query { root, .. } => begin_query(alloc, root, read, at, shelf),
+        Ask::Subscribe { root, name, .. } => begin_subscribe(alloc, root, name, read, at, shelf),
+        ask => tried_plainly(alloc, ask, at, shelf),
+    }
+}
+
+/// The same for an ask that has no query either.
+fn tried_plainly(
+    alloc: Global,
+    ask: &Ask,
+    at: Option<At<'_>>,
+    shelf: &mut Shelf<Trigger>,
+) -> Result<Work, Refusal>
+    requires plain { hands_in ask.now ≡ false }
+    requires unread { has_query ask.now ≡ false }
+    ensures begun { Begins (tried ask.now (option_map at_data at.entry) (shelf_data shelf.old)) (shelf_data shelf.old)
+        result (shelf_data shelf.new) }
+    ensures memory { IfErr result (λ refusal.
+        ends_session refusal ≡ false → takes_memory ask.now ≡ true) }
+{
+    match ask {
         Ask::Refused(refusal) => Err(*refusal),
         Ask::Watch { root } => begin_watch(alloc, root, at, shelf),
         Ask::ListRoots => begin_list(alloc, shelf),
         Ask::Unwatch { root } => begin_unwatch(alloc, root, at, shelf),
-        Ask::Query { root, .. } => begin_query(alloc, root, read, at, shelf),
+        Ask::Query { .. } => unreachable!(),
         Ask::Clock { root, .. } => begin_clock(alloc, root, at, shelf),
         Ask::Version => Ok(Work::Says(Out::version())),
         Ask::SocketName => begin_socket(alloc, shelf),
@@ -222,7 +243,7 @@ fn tried_as(
         Ask::AddProgram { .. } => unreachable!(),
         Ask::ListPrograms => begin_names(alloc, shelf),
         Ask::DeleteProgram { name } => begin_delete(alloc, name, shelf),
-        Ask::Subscribe { root, name, .. } => begin_subscribe(alloc, root, name, read, at, shelf),
+        Ask::Subscribe { .. } => unreachable!(),
         Ask::Unsubscribe { root, name } => begin_unsubscribe(alloc, root, name, at, shelf),
         Ask::AddTrigger { .. } => unreachable!(),
         Ask::ListTriggers { root } => begin_list_triggers(alloc, root, at, shelf),

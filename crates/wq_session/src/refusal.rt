@@ -117,6 +117,8 @@ impl Refusal {
 
 const BAD_CLOCK_SPEC: &str = "E23: bad clockspec";
 
+const PATTERN_TOO_LONG: &str = "E28: pattern too long";
+
 const NO_MEMORY: &str = "E60: no memory";
 
 fn query_text(fault: QueryFault) -> &'static str
@@ -128,6 +130,7 @@ fn query_text(fault: QueryFault) -> &'static str
         QueryFault::Expression(fault) => term_text(fault),
         QueryFault::UnknownField => "E21: unknown field",
         QueryFault::BadGenerator => "E22: bad generator",
+        QueryFault::PatternTooLong => PATTERN_TOO_LONG,
         QueryFault::BadClockSpec => BAD_CLOCK_SPEC,
         QueryFault::WrongValue => "E37: wrong query value",
         QueryFault::NoMemory => NO_MEMORY,
@@ -143,7 +146,7 @@ fn term_text(fault: TermFault) -> &'static str
         TermFault::TooDeep => "E26: expression too deep",
         TermFault::BadClockSpec => BAD_CLOCK_SPEC,
         TermFault::CursorInTerm => "E27: cursor in a term",
-        TermFault::PatternTooLong => "E28: pattern too long",
+        TermFault::PatternTooLong => PATTERN_TOO_LONG,
         TermFault::NoMemory => NO_MEMORY,
     }
 }
