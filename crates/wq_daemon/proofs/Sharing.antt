@@ -7,6 +7,7 @@ use Rattle.wq_base.proofs.table.Table.TheSendSync as Table
 use Rattle.wq_base.proofs.text.Text.TheSendSync as Text
 use Rattle.wq_clock.proofs.bound.Bound.TheSendSync as Bound
 use Rattle.wq_follow.specs.contracts.trigger.Trigger.{the_row}
+use Rattle.wq_glob.proofs.pattern.Pattern.TheSendSync as Pattern
 use Rattle.wq_query.proofs.field.Field.TheSendSync as Field
 use Rattle.wq_term.proofs.expr.Expr.TheLaws.TheKnot.{crosses as expressions}
 use Rattle.wq_verify.proofs.program.Program.TheSendSync as Program
@@ -20,6 +21,7 @@ trigger_send = search (
   Text.the_send,
   Bound.the_send,
   Field.the_send,
+  Pattern.the_send,
   values,
   expressions,
   maps,

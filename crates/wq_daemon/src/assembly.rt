@@ -8,7 +8,8 @@ use crate::running::run;
 use crate::socket::Listening;
 use std::alloc::Global;
 use std::io;
-use std::sync::Wait;
+use std::sync::atomic::AtomicU64;
+use std::sync::{Arc, Wait};
 use std::thread::Threads;
 use std::time::Clock;
 use wq_base::Workers;
@@ -42,6 +43,8 @@ pub struct Parts<T: Tree + Drop, S: Seconds + Drop, O: Notices + Drop, P: Spawn 
     pub pace: Pace,
     /// How many threads may look for the files of a query.
     pub workers: Workers,
+    /// The server counts here the calls of sessions that wait for a crawl. The tree may look at it.
+    pub waiting: Arc<AtomicU64>,
 }
 
 /// Serves the clients of a socket until one asks that the server ends. It tells the operator that it listens.
@@ -76,6 +79,7 @@ where
         parts.notices,
         parts.spawn,
         parts.workers,
+        parts.waiting,
     )?;
     run_host(rt, alloc, listening, host, parts.pace)
 }

@@ -21,6 +21,7 @@ mod server;
 mod socket;
 mod stop;
 mod stream_reader;
+mod waiting_roots;
 
 pub use assembly::{Parts, SEATS, serve_clients};
 pub use clients::MAX_SESSIONS;

@@ -7,9 +7,11 @@ use crate::host::{Host, Notices};
 use crate::moments::RootNumbers;
 use crate::refusal::refuse;
 use crate::rounds::Rounds;
+use crate::waiting_roots::WaitingRoots;
 use serde_json::Value;
 use std::alloc::{AllocError, Global};
 use std::io::Write;
+use std::sync::atomic::AtomicU64;
 use std::sync::{Arc, Mutex, Wait};
 use std::thread::Threads;
 use wq_base::Workers;
@@ -48,6 +50,8 @@ where
     notices: O,
     /// How many threads may look for the files of a query.
     workers: Workers,
+    /// How many calls of all sessions wait for a crawl.
+    waiting: Arc<AtomicU64>,
 }
 
 /// The seats of a server.
@@ -71,7 +75,8 @@ where
     P: Spawn + Drop,
 {
     /// A server over this crawler and this shelf. It has a seat for each session that may be, one for idle moments and
-    /// one for rounds of triggers. `spawn` starts commands, and so many threads may look for the files of a query.
+    /// one for rounds of triggers. `spawn` starts commands, and so many threads may look for the files of a query. The
+    /// last parameter counts the calls of sessions that wait for a crawl.
     pub fn new(
         rt: R,
         alloc: Global,
@@ -81,6 +86,7 @@ where
         notices: O,
         spawn: P,
         workers: Workers,
+        waiting: Arc<AtomicU64>,
     ) -> Result<LockHost<N, R, T, S, O, P, Trigger>, AllocError> {
         let greeting = format!(in alloc; "listening on {}", shelf.sockname())?;
         let shelf = Arc::new(alloc, Mutex::new(shelf))?;
@@ -98,12 +104,16 @@ where
             greeting,
             notices,
             workers,
+            waiting,
         })
     }
 
     /// The roots, for a session.
-    fn lock_roots(&self) -> Result<LockRoots<N, R, T, S>, AllocError> {
-        Ok(LockRoots::new(self.crawler.clone()?, self.rt, self.workers))
+    fn waiting_roots(&self) -> Result<WaitingRoots<N, R, T, S>, AllocError> {
+        Ok(WaitingRoots {
+            roots: LockRoots::new(self.crawler.clone()?, self.rt, self.workers),
+            waiting: self.waiting.clone()?,
+        })
     }
 
     /// The shelf, for a session.
@@ -243,7 +253,7 @@ where
         inbox: &mut I,
         writer: &mut W,
     ) -> bool {
-        let (Ok(mut roots), Ok(mut desk)) = (self.lock_roots(), self.lock_desk()) else {
+        let (Ok(mut roots), Ok(mut desk)) = (self.waiting_roots(), self.lock_desk()) else {
             refuse(writer, Refusal::NoMemory);
             return false;
         };

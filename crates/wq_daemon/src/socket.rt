@@ -168,7 +168,14 @@ fn listen_in<R: Files + Net>(
 ) -> io::Result<(UnixListener, FileId)> {
     let made = format!(in alloc; "{directory}/s")?;
     clear(rt, path, &made)?;
-    let listener = UnixListener::bind(rt, made.as_str())?;
+    let listener = match UnixListener::bind(rt, made.as_str()) {
+        Ok(listener) => listener,
+        Err(error) => {
+            // The file may be there even so, if the socket has a name and cannot listen.
+            let _ = fs::remove_file(rt, made.as_str());
+            return Err(error);
+        }
+    };
     let named = name(rt, &made, path);
     let _ = fs::remove_file(rt, made.as_str());
     Ok((listener, named?))

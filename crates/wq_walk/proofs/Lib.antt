@@ -4,3 +4,4 @@ mod Pieces
 mod Entries
 mod Walking
 mod Walked
+mod Drawn

@@ -1,5 +1,5 @@
 -- A listing of a tree, which joins the walks of its parts. No public document defines it.
-use Rattle.std.specs.Prelude.{◌≡◌, ◌⊎◌, ℕ, List, [], ◌∷◌, ◌++◌, length, map, take}
+use Rattle.std.specs.Prelude.{◌≡◌, ◌⊎◌, ℕ, List, [], ◌∷◌, ◌++◌, Some, map, slice_get}
 use Rattle.std.specs.Prelude.{Result, Vec, IfOk, IfErr}
 use Rattle.std.specs.List.{All, flat_map}
 use Rattle.std.specs.Str.{byte}
@@ -10,6 +10,7 @@ use Rattle.wq_view.specs.Seen.{SeenData}
 use Rattle.wq_walk.specs.declared.part.Part.{Part}
 use Rattle.wq_walk.specs.declared.piece.Piece.{Piece}
 use Rattle.wq_walk.specs.declared.rows.Rows.{Rows}
+use Rattle.wq_walk.specs.declared.walks.Walked.{Walked}
 use Rattle.wq_walk.specs.Pieces.{IsSharedOut}
 use Rattle.wq_walk.specs.Told.{Has, IsRootFault, IsUnreadable, Says}
 use Rattle.wq_walk.specs.Walk.{IsWalk}
@@ -27,13 +28,22 @@ abbrev pub AreWalks : Says → Has → List ℕ → List Rows → Type 0
 AreWalks says has root walked =
     All (λ rows. IsWalk says has root rows.part rows.rows.items) walked
 
--- the first of these pieces were walked, in their order, or a walk failed
-abbrev pub AreWalkedFrom : Says → Has → (List ℕ → Type 0) → List ℕ → List Piece
-    → Result (Vec Rows Global) TreeFault → Type 0
-AreWalkedFrom says has fails root pieces result =
-    IfOk result (λ walked. AreWalks says has root walked.items)
-    × IfOk result (λ walked.
-    walked_parts walked.items ≡ take (length walked.items) (parts_of pieces))
+-- the rows of a walk of the piece at a place
+unfoldable pub IsWalkOfPiece : Says → Has → List ℕ → List Piece → ℕ → Rows → Type 0
+IsWalkOfPiece says has root pieces place rows =
+    IsWalk says has root rows.part rows.rows.items
+    × (slice_get (parts_of pieces) place ≡ Some rows.part)
+
+-- rows that are each those of a walk of the piece at their place
+unfoldable pub AreOfPieces : Says → Has → List ℕ → List Piece → List Walked → Type 0
+AreOfPieces says has root pieces list =
+    All (λ walked. IsWalkOfPiece says has root pieces walked.place walked.rows) list
+
+-- pieces that a thread drew were each walked, or a walk failed
+unfoldable pub IsDrawn : Says → Has → (List ℕ → Type 0) → List ℕ → List Piece
+    → Result (Vec Walked Global) TreeFault → Type 0
+IsDrawn says has fails root pieces result =
+    IfOk result (λ list. AreOfPieces says has root pieces list.items)
     × IfErr result (IsRootFault says has fails root)
 
 -- rows of a tree in which each of these parts was walked once, in this order

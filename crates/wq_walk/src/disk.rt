@@ -1,5 +1,5 @@
-//! The questions of a walk to a disk: the names in a directory, and the kind, size and time of a file. Two threads may
-//! ask at once.
+//! The questions of a walk to a disk: the names in a directory, and the kind, size and time of a file. Several threads
+//! may ask at once.
 ghost use Rattle.std.specs.Prelude.{IfErr, IfOk};
 ghost use Rattle.std.specs.Option.{option_map};
 ghost use Rattle.wq_walk.specs.Directory.{left_of};

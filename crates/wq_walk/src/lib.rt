@@ -16,5 +16,6 @@ mod stat;
 mod unseen;
 mod walk;
 mod walker;
+mod walks;
 
 pub use walker::Walker;

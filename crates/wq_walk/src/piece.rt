@@ -1,19 +1,22 @@
 //! The pieces in which a tree is walked: parts of it, each with the records of its last view. Another module walks
 //! them.
 
-ghost use Rattle.std.specs.Prelude.{◌≡◌, IfOk};
+ghost use Rattle.std.specs.Prelude.{◌≡◌, ◌≤◌, IfOk};
 ghost use Rattle.wq_walk.specs.Pieces.{IsSharedOut, IsSharedOutBelow, is_behind};
 
 use crate::part::Part;
 use std::alloc::{AllocError, Global};
+use wq_base::Workers;
 use wq_view::{Known, View};
 
-/// The greatest number of pieces. With more pieces two threads end closer together, and more directories are read
-/// twice.
-pub(crate) const MOST_PIECES: usize = 8;
+/// The greatest number of pieces. With more pieces threads end closer together, and more directories are read twice.
+pub(crate) const MOST_PIECES: usize = 32;
 
-/// Trees with fewer records than this in their last view are walked in one piece.
-const FEW: usize = 2000;
+/// The greatest number of pieces for each thread, if there are several.
+const PIECES_EACH: usize = 8;
+
+/// There is a piece for so many records of the last view.
+const USUAL: usize = 1000;
 
 /// A part of a tree, and the records of its last view whose names are in the part.
 #[derive(Clone, Copy)]
@@ -119,20 +122,39 @@ impl<'a> Cuts<'a> {
     }
 }
 
-/// The pieces of a tree with this last view, in the order of names. Each name is in exactly one piece.
-pub(crate) fn pieces_of(alloc: Global, last: &View) -> Result<Vec<Piece<'_>>, AllocError>
+/// The greatest number of pieces for so many threads. One thread walks a tree whole, and reads no directory twice.
+fn most_pieces(walkers: Workers) -> usize
+    ensures { 1 ≤ result }
+{
+    if walkers.count == 1 {
+        return 1;
+    }
+    (walkers.count as usize * PIECES_EACH).min(MOST_PIECES)
+}
+
+/// The pieces of a tree with this last view, for so many threads, in the order of names. Each name is in exactly one
+/// piece.
+pub(crate) fn pieces_of(
+    alloc: Global,
+    walkers: Workers,
+    last: &View,
+) -> Result<Vec<Piece<'_>>, AllocError>
     ensures { IfOk result (λ pieces. IsSharedOut pieces.items) }
 {
-    let most = if last.len() < FEW { 1 } else { MOST_PIECES };
+    let most = (last.len() / USUAL).clamp(1, most_pieces(walkers));
     pieces_cut(alloc, most, CutNames::Last(last))
 }
 
-/// The pieces of a tree that had no view yet, cut at some of these names, which rise. Each name is in exactly one
-/// piece.
-pub(crate) fn first_pieces(alloc: Global, names: &[Vec<u8>]) -> Result<Vec<Piece<'_>>, AllocError>
+/// The pieces of a tree that had no view yet, for so many threads, cut at some of these names, which rise. Each name is
+/// in exactly one piece.
+pub(crate) fn first_pieces(
+    alloc: Global,
+    walkers: Workers,
+    names: &[Vec<u8>],
+) -> Result<Vec<Piece<'_>>, AllocError>
     ensures { IfOk result (λ pieces. IsSharedOut pieces.items) }
 {
-    pieces_cut(alloc, MOST_PIECES, CutNames::First(names))
+    pieces_cut(alloc, most_pieces(walkers), CutNames::First(names))
 }
 
 /// At most so many pieces, in the order of names. The cuts have equal numbers of these names between them.
@@ -140,13 +162,14 @@ pub(crate) fn first_pieces(alloc: Global, names: &[Vec<u8>]) -> Result<Vec<Piece
 /// No cut is made within the directory in which its piece begins, because the directory would be read once more for it.
 /// The cut in the middle is made even so.
 fn pieces_cut(alloc: Global, most: usize, names: CutNames<'_>) -> Result<Vec<Piece<'_>>, AllocError>
+    requires { 1 ≤ most }
     ensures { IfOk result (λ pieces. IsSharedOut pieces.items) }
 {
     let mut cuts = Cuts::new(alloc, most)?;
     let mut start = 0;
     for number in 1..most {
-        let end = names.len().saturating_mul(number) / MOST_PIECES;
-        let is_middle = number == MOST_PIECES / 2;
+        let end = names.len().saturating_mul(number) / most;
+        let is_middle = number == most / 2;
         if let Some(name) = cut_between(names, start, end, is_middle)
             && cuts.cut(name, names.known(start), names.count(start, end))?
         {

@@ -2,46 +2,44 @@
 ghost use Rattle.std.specs.Prelude.{◌≡◌, IfErr};
 ghost use Rattle.wq_crawl.specs.declared.tree.TreeFault.TheVariants.{TooManyRows};
 
+use crate::piece::MOST_PIECES;
 use crate::rows::Rows;
 use std::sync::atomic::{AtomicUsize, Ordering};
 use wq_crawl::TreeFault;
 use wq_view::MAX_LISTING_ROWS;
 
-/// The number of rows of a piece that are counted at once. So no single row costs a write to memory that the other
-/// thread writes too. Rows are not counted before they fill a batch. So a walk may hold up to this many rows more for
+/// The number of rows of a piece that are counted at once. So no single row costs a write to memory that other
+/// threads write too. Rows are not counted before they fill a batch. So a walk may hold up to this many rows more for
 /// each piece.
 const BATCH: usize = 1024;
 
 /// The progress of the threads that walk one tree.
 #[derive(Drop)]
 pub(crate) struct Progress {
-    /// The number of pieces of the tree.
-    pieces: usize,
-    /// The number of pieces that were taken. If no piece is left, it is the number of all pieces, or more.
-    taken: AtomicUsize,
+    /// The place of the piece that is drawn next. If no piece is left, it is the number of all pieces, or more.
+    next: AtomicUsize,
     /// The number of rows of all pieces that were counted. Names of different pieces are different, so these are rows
     /// of the tree.
     counted: AtomicUsize,
 }
 
 impl Progress {
-    /// The progress in a tree of so many pieces, before the first is taken.
-    pub(crate) fn new(pieces: usize) -> Progress {
+    /// The progress before the first piece is drawn.
+    pub(crate) fn new() -> Progress {
         Progress {
-            pieces,
-            taken: AtomicUsize::new(0),
+            next: AtomicUsize::new(0),
             counted: AtomicUsize::new(0),
         }
     }
 
-    /// Takes a piece, and returns whether one was left.
-    pub(crate) fn take(&self) -> bool {
-        self.taken.fetch_add(1, Ordering::SeqCst) < self.pieces
+    /// The place of the next piece. There may be no such piece.
+    pub(crate) fn draw(&self) -> usize {
+        self.next.fetch_add(1, Ordering::SeqCst)
     }
 
-    /// Leaves no piece to be taken, because the walk of one failed.
+    /// Leaves no piece to be drawn, because the walk of one failed.
     pub(crate) fn stop(&self) {
-        self.taken.fetch_add(self.pieces, Ordering::SeqCst);
+        self.next.fetch_add(MOST_PIECES, Ordering::SeqCst);
     }
 
     /// Counts the last rows of a piece, each time that they fill a batch.

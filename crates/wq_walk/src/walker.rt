@@ -4,43 +4,70 @@ ghost use Rattle.std.specs.List.{list_all};
 ghost use Rattle.wq_crawl.specs.Tree.{IsCounted};
 ghost use Rattle.wq_view.specs.Limit.{max_listing_rows};
 ghost use Rattle.wq_view.specs.Seen.{is_lawful_row};
+ghost use Rattle.wq_walk.specs.System.{IsListedHere, IsUnreadHere};
 
 use crate::disk::FileDisk;
 use crate::listing::{first_rows, rows_again};
 use std::alloc::Global;
+use std::sync::Arc;
+use std::sync::atomic::{AtomicU64, Ordering};
 use std::thread::Threads;
+use wq_base::Workers;
 use wq_crawl::{Tree, TreeFault};
 use wq_view::{Seen, View};
 
-/// Walks the trees of a disk, and counts how often a root could not be read. Two threads walk a large tree.
+/// Walks the trees of a disk, and counts how often a root could not be read. Several threads walk a large tree if
+/// somebody waits for its listing.
 #[derive(Drop)]
 pub struct Walker<T: Threads + Drop> {
     disk: FileDisk,
     threads: T,
     alloc: Global,
+    /// How many threads may walk a tree if somebody waits for its listing.
+    walkers: Workers,
+    /// How many callers wait for a listing.
+    waiting: Arc<AtomicU64>,
     failures: u64,
 }
 
 impl<T: Threads + Drop> Walker<T> {
-    /// A walker that has listed nothing and counted no failure. It takes no memory.
-    pub fn new(files: &HostRuntime, threads: T, alloc: Global) -> Walker<T>
+    /// A walker that has listed nothing and counted no failure. Up to so many threads walk a tree, or one if this count
+    /// of callers that wait for a listing is 0. The call takes no memory.
+    pub fn new(
+        files: &HostRuntime,
+        threads: T,
+        walkers: Workers,
+        waiting: Arc<AtomicU64>,
+    ) -> Walker<T>
         ensures { result.failures ≡ 0 }
     {
         Walker {
             disk: FileDisk::new(files),
             threads,
-            alloc,
+            alloc: files.alloc(),
+            walkers,
+            waiting,
             failures: 0,
         }
     }
 
-    /// Counts a listing that failed because its root cannot be read.
-    fn count(&mut self, listed: &Result<Vec<Seen>, TreeFault>)
-        ensures { IfErr listed.now (IsCounted self.old.failures self.new.failures) }
-    {
-        if let Err(TreeFault::Unreadable) = listed {
-            self.failures = self.failures.saturating_add(1);
+    /// How many threads may walk a tree now.
+    fn walkers_now(&self) -> Workers {
+        if self.waiting.load(Ordering::SeqCst) > 0 {
+            self.walkers
+        } else {
+            Workers { count: 1 }
         }
+    }
+}
+
+/// How many listings failed because their root cannot be read, after this one, if there were so many before.
+fn failures_after(before: u64, listed: &Result<Vec<Seen>, TreeFault>) -> u64
+    ensures { IfErr listed.now (IsCounted before result) }
+{
+    match listed {
+        Err(TreeFault::Unreadable) => before.saturating_add(1),
+        _ => before,
     }
 }
 
@@ -51,22 +78,28 @@ impl<T: Threads + Drop> Tree for Walker<T> {
     /// row.
     fn list(&mut self, root: &str) -> Result<Vec<Seen>, TreeFault>
         ensures counted { IfErr result (IsCounted self.old.failures self.new.failures) }
+        ensures unread { IfErr result (IsUnreadHere root.now) }
         ensures lawful { IfOk result (λ rows. IsTrue (list_all is_lawful_row rows.items)) }
         ensures few { IfOk result (λ rows. length rows.items ≤ max_listing_rows) }
+        ensures walked { IfOk result (λ rows. IsListedHere root.now rows.items) }
     {
-        let listed = first_rows(&self.threads, &self.disk, self.alloc, root);
-        self.count(&listed);
+        let walkers = self.walkers_now();
+        let listed = first_rows(&self.threads, walkers, &self.disk, self.alloc, root);
+        self.failures = failures_after(self.failures, &listed);
         listed
     }
 
     /// The rows of the files below a root, as above. They share the names of the records of its last view.
     fn list_again(&mut self, root: &str, last: &View) -> Result<Vec<Seen>, TreeFault>
         ensures counted { IfErr result (IsCounted self.old.failures self.new.failures) }
+        ensures unread { IfErr result (IsUnreadHere root.now) }
         ensures lawful { IfOk result (λ rows. IsTrue (list_all is_lawful_row rows.items)) }
         ensures few { IfOk result (λ rows. length rows.items ≤ max_listing_rows) }
+        ensures walked { IfOk result (λ rows. IsListedHere root.now rows.items) }
     {
-        let listed = rows_again(&self.threads, &self.disk, self.alloc, root, last);
-        self.count(&listed);
+        let walkers = self.walkers_now();
+        let listed = rows_again(&self.threads, walkers, &self.disk, self.alloc, root, last);
+        self.failures = failures_after(self.failures, &listed);
         listed
     }
 

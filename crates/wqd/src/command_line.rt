@@ -21,8 +21,11 @@ const MAX_INTERVAL: u64 = 3_600_000;
 /// The most percent of a processor to which rounds of crawls may be limited.
 const MAX_PERCENT: u64 = 100;
 
-/// How many threads walk a tree in a round of crawls.
+/// How many threads may walk a tree for which a client waits, unless more may look for the files of a query.
 const WALKERS: u32 = 2;
+
+/// How many threads walk a tree in a round of crawls that no client waits for.
+const ROUND_WALKERS: u32 = 1;
 
 /// The task that the command line asks for.
 #[derive(Debug, Drop)]
@@ -73,14 +76,19 @@ fn settings_of(alloc: Global, given: &ArgMatches<'_>) -> Result<Settings, Comman
     if interval < MIN_INTERVAL || count == 0 {
         return Err(CommandLineFault::Wrong);
     }
+    let workers = Workers {
+        count: count as u32,
+    };
+    let walkers = Workers {
+        count: workers.count.max(WALKERS),
+    };
     Ok(Settings {
         sockname: String::from_str(alloc, sockname)?,
         run: Run::new(start, pid),
         interval,
         share: share_of(given)?,
-        workers: Workers {
-            count: count as u32,
-        },
+        walkers,
+        workers,
     })
 }
 
@@ -92,7 +100,7 @@ fn share_of(given: &ArgMatches<'_>) -> Result<Option<Share>, CommandLineFault> {
     match unsigned_number(text, MAX_PERCENT) {
         Some(percent) if percent > 0 => Ok(Some(Share {
             percent: percent as u32,
-            threads: WALKERS,
+            threads: ROUND_WALKERS,
         })),
         _ => Err(CommandLineFault::Wrong),
     }

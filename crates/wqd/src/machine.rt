@@ -4,7 +4,8 @@ use std::alloc::Global;
 use std::io;
 use std::marker::Brand;
 use std::process::ExitCode;
-use std::sync::Wait;
+use std::sync::atomic::AtomicU64;
+use std::sync::{Arc, Wait};
 use std::thread::Threads;
 use std::time::{Clock, Duration};
 use wq_base::Workers;
@@ -22,6 +23,8 @@ pub(crate) struct Settings {
     pub(crate) run: Run,
     /// How many milliseconds the server waits between two rounds of crawls.
     pub(crate) interval: u64,
+    /// How many threads may walk a tree if a client waits for it.
+    pub(crate) walkers: Workers,
     /// How much of a processor rounds of crawls may take, if that is limited.
     pub(crate) share: Option<Share>,
     /// How many threads may look for the files of a query.
@@ -49,6 +52,8 @@ pub(crate) struct Machine<T: Tree + Drop, S: Seconds + Drop, O: Notices + Drop, 
     pub(crate) seconds: S,
     pub(crate) notices: O,
     pub(crate) spawn: P,
+    /// How many calls of sessions wait for a crawl. The tree looks at it.
+    pub(crate) waiting: Arc<AtomicU64>,
 }
 
 /// Serves clients until one of them asks that the server ends, and gives the exit status. Threads
@@ -77,7 +82,8 @@ where
     }
 }
 
-fn cannot_listen(rt: &HostRuntime) -> ExitCode {
+/// The exit status of a server that cannot start. It says so on standard error.
+pub(crate) fn cannot_listen(rt: &HostRuntime) -> ExitCode {
     eprintln!(rt; "cannot listen").ok();
     ExitCode::FAILURE
 }
@@ -108,6 +114,7 @@ where
             share: settings.share,
         },
         workers: settings.workers,
+        waiting: machine.waiting,
     };
     let blank = Blank::new(alloc, &rt, SEATS)?;
     serve_clients::<Brand, R, T, S, O, P>(rt, alloc, listening, blank, parts)

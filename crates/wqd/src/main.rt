@@ -7,11 +7,14 @@ mod command_line;
 mod machine;
 
 use command_line::{CommandLineFault, Task};
-use machine::{Machine, StandardError, serve};
+use machine::{Machine, StandardError, cannot_listen, serve};
+use std::alloc::{AllocError, Global};
 use std::env;
 use std::fs::File;
 use std::io::{self, BufReader, BufWriter, ErrorKind, Read, Write};
 use std::process::ExitCode;
+use std::sync::Arc;
+use std::sync::atomic::AtomicU64;
 use wq_check::{FAULT, MAX_FILE, check};
 use wq_crawl::MachineClock;
 use wq_launch::System;
@@ -26,11 +29,15 @@ fn main(rt: HostRuntime) -> ExitCode {
         Ok(Task::Replay) => replay_status(&rt, replay_script(&rt)),
         Ok(Task::Check(path)) => ExitCode::from(check_file(&rt, &path)),
         Ok(Task::Serve(settings)) => {
+            let Ok((waiting, seen)) = shared_count(rt.alloc()) else {
+                return cannot_listen(&rt);
+            };
             let machine = Machine {
-                tree: Walker::new(&rt, rt, rt.alloc()),
+                tree: Walker::new(&rt, rt, settings.walkers, seen),
                 seconds: MachineClock::new(rt),
                 notices: StandardError { rt },
                 spawn: System::new(rt),
+                waiting,
             };
             serve(&rt, rt, machine, settings)
         }
@@ -40,6 +47,12 @@ fn main(rt: HostRuntime) -> ExitCode {
         }
         Err(CommandLineFault::NoMemory) => replay_status(&rt, Err(ReplayFault::Memory)),
     }
+}
+
+/// A count at 0, twice shared.
+fn shared_count(alloc: Global) -> Result<(Arc<AtomicU64>, Arc<AtomicU64>), AllocError> {
+    let count = Arc::new(alloc, AtomicU64::new(0))?;
+    Ok((count.clone()?, count))
 }
 
 /// The task that the command line asks for, if its words are in UTF-8 and ask for a task.
