@@ -101,6 +101,7 @@ fn make_parts(
             share: None,
         },
         workers: Workers { count: 1 },
+        waiting: Arc::new(alloc, AtomicU64::new(0))?,
     })
 }
 

@@ -78,6 +78,7 @@ fn no_generators() -> Generators {
         since: None,
         suffix: None,
         path: None,
+        glob: None,
     }
 }
 

@@ -38,7 +38,7 @@ unfolding IsReached
 round_reached instance view shelf left shown after round (sockname, turns, led) =
     (sockname, rounds instance view shown after ∷ turns, (shelf, led, round))
 
-after_both : (first later : List CallNow) (shelf : ShelfNow) → after_all (first ++ later) shelf ≡ after_all later (after_all first shelf)
+pub after_both : (first later : List CallNow) (shelf : ShelfNow) → after_all (first ++ later) shelf ≡ after_all later (after_all first shelf)
 after_both [] later shelf = refl
 after_both (c ∷ cs) later shelf = after_both cs later _
 

@@ -5,5 +5,6 @@ pub mod Run
 pub mod Ready
 pub mod Idling
 pub mod Serving
+pub mod Stays
 pub mod Limit
 pub mod Answering

@@ -59,6 +59,7 @@ fn faults_of_queries_have_words(rt: HostRuntime) -> Result<(), Fail> {
             (Expression(TermFault::TooDeep), "expression too deep"),
             (UnknownField, "unknown field"),
             (BadGenerator, "bad generator"),
+            (QueryFault::PatternTooLong, "pattern too long"),
             (QueryFault::BadClockSpec, "bad clockspec"),
             (WrongValue, "wrong query value"),
             (QueryFault::NoMemory, "no memory"),

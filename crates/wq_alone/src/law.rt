@@ -1,0 +1,56 @@
+//! Laws of sessions that are served alone, each a function whose contract is the law.
+ghost use Rattle.wq_alone.specs.Alone.{AloneGoesOn, EndsShowAWorld, EventsAreRuns, GoingOnIsARun};
+ghost use Rattle.wq_alone.specs.Alone.{ServedAloneIsARun};
+ghost use Rattle.wq_alone.specs.Lists.{LooksFindRoots, NumbersFindRoots};
+
+use wq_replay::runs_go_on;
+use wq_view::history_has_one_view;
+
+/// A look at a root by its text finds what the table of the list has under that text.
+pub fn looks_find_roots()
+    ensures { LooksFindRoots }
+{
+    history_has_one_view();
+}
+
+/// A look at a root by its number finds what the table of the list has under that number.
+pub fn numbers_find_roots()
+    ensures { NumbersFindRoots }
+{
+    history_has_one_view();
+}
+
+/// Ends that show what they have show a world.
+pub fn ends_show_a_world()
+    ensures { EndsShowAWorld }
+{}
+
+/// An event of a session that is served alone is a run of the world, unless its look was refused.
+pub fn events_are_runs()
+    ensures { EventsAreRuns }
+{
+    history_has_one_view();
+}
+
+/// A session that goes on alone is a run of the world, unless one of its looks was refused. The run
+/// sends the lines that the session writes.
+pub fn going_on_is_a_run()
+    ensures { GoingOnIsARun }
+{
+    history_has_one_view();
+    runs_go_on();
+}
+
+/// A session that is served alone is a run of the world to its last event, unless one of its looks
+/// was refused.
+pub fn served_alone_is_a_run()
+    ensures { ServedAloneIsARun }
+{
+    history_has_one_view();
+    runs_go_on();
+}
+
+/// A session that goes on alone goes on as the contract of `serve` says of each session.
+pub fn alone_goes_on()
+    ensures { AloneGoesOn }
+{}
