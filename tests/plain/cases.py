@@ -54,8 +54,9 @@ def expected_cases() -> List[str]:
     cases += ["script ends well"] + [f"script line: {fault}" for fault in SCRIPT_FAULTS]
     cases += [f"field {name}" for name in FIELDS] + [f"bound: {bound}" for bound in BOUNDS]
     cases += [f"new is {value} after a {kind}" for kind in ("tick", "second") for value in ("true", "false")]
-    cases += [f"generator {name} with {bound}" for name in ("suffix", "path") for bound in BOUNDS]
+    cases += [f"generator {name} with {bound}" for name in ("suffix", "path", "glob") for bound in BOUNDS]
     cases += ["generator with no entry", "path to any depth", "path to a depth", "deleted file by a generator"]
+    cases += ["patterns that take dots", "patterns that take no dots"]
     cases += [f"left out key {key}" for key in LEFT_OUT_KEYS]
     cases += [f"term {name} {answer}" for name in [*COMBINATIONS, *TERMS] for answer in answers_of(name)]
     cases += [f"since {field} with a {kind}" for field in SINCE_FIELDS for kind in ("fresh", "tick", "second")
@@ -213,11 +214,13 @@ def count_query(asked: Dict[str, Any], query: Query, view: View, counts: Counter
 
 
 def count_generators(asked: Dict[str, Any], query: Query, view: View, counts: Counter) -> None:
-    for name in ("suffix", "path"):
+    for name in ("suffix", "path", "glob"):
         counts[f"generator {name} with {bound_case(asked, query, view)}"] += name in asked
         counts["generator with no entry"] += asked.get(name) == []
     for path in query.generators.paths or []:
         counts["path to any depth" if path.depth == ANY_DEPTH else "path to a depth"] += 1
+    if query.generators.globs:
+        counts["patterns that take dots" if query.generators.takes_dots else "patterns that take no dots"] += 1
     alone = query._replace(bound=query.bound._replace(number=MAX_NUMBER)) if query.bound.kind != "fresh" else query
     counts["deleted file by a generator"] += any(not record.exists for record in listed_records(alone, view))
 

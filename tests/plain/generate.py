@@ -13,7 +13,7 @@ sys.path.insert(0, str(Path(__file__).resolve().parents[2] / "clients"))
 sys.dont_write_bytecode = True
 
 from draws import Draws, array, json_object
-from generate_terms import MAX, WRONG_NUMBERS, World, clock_spec, expression, paths, suffixes
+from generate_terms import MAX, WRONG_NUMBERS, World, clock_spec, expression, globs, paths, suffixes
 from generate_triggers import rounds, trigger_command
 from programs import FAULTS, PROGRAMS
 
@@ -34,7 +34,7 @@ LETTERS = "fffffffddddlbcpsD?"
 WRONG_FIELDS = [
     '"name"', "[]", '["name",7]', '["mode"]', '["Name"]', "null", "{}", '[["name"]]', '[""]', '["name",null]',
 ]
-LEFT_OUT_KEYS = ["glob", "glob_includedotfiles", "relative_root", "settle_period", "settle_timeout"]
+LEFT_OUT_KEYS = ["relative_root", "settle_period", "settle_timeout"]
 SUBSCRIPTION_NAMES = ['"s"', '"s"', '"s"', '"t"', '"ü"', '""', '"' + "s" * 256 + '"', "7"]
 PROGRAM_NAMES = ['"p"', '"p"', '"p"', '"q"', '"ü"', '""', '"' + "p" * 256 + '"', "7"]
 IGNORED_KEYS = ["dedup_results", "defer", "drop", "frob", "", "Fields", "case_sensitive "]
@@ -336,6 +336,10 @@ def query(draws: Draws, world: World) -> str:
         members.append(("suffix", suffixes(draws)))
     if draws.one_in(4):
         members.append(("path", paths(draws, world)))
+    if draws.one_in(4):
+        members.append(("glob", globs(draws, world)))
+    if draws.one_in(6):
+        members.append(("glob_includedotfiles", draws.pick(["true"] * 8 + ["false"] * 3 + ["null", "1", '"true"'])))
     if draws.one_in(6):
         members.append(("empty_on_fresh_instance", draws.pick(["true"] * 4 + ["false"] * 3 + ["null", "1", '"true"'])))
     if draws.one_in(6):

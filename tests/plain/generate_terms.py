@@ -144,6 +144,15 @@ def paths(draws: Draws, world: World) -> str:
     return array(draws, [path(draws, world) for _ in range(draws.between(0, 3))])
 
 
+def globs(draws: Draws, world: World) -> str:
+    """The value of the query key `glob`."""
+    if draws.one_in(20):
+        return draws.pick(['"*"', "7", "null", "{}", "[7]", '["*",null]', array(draws, ["7", long_text(draws, 255)])])
+    if draws.one_in(20):
+        return array(draws, [long_text(draws, 255)])
+    return array(draws, [json_text(draws, pattern(draws, world, True)) for _ in range(draws.between(0, 3))])
+
+
 def path(draws: Draws, world: World) -> str:
     if draws.one_in(40):
         wrong = ["7", "null", '["a"]', "{}", '{"path":"a"}', '{"depth":0}', '{"path":7,"depth":0}']

@@ -3,8 +3,10 @@
 from typing import Any, List, NamedTuple, Optional
 
 from wqprogram.clocks import Bound
-from wqprogram.errors import BAD_GENERATOR, Refused
+from wqprogram.errors import BAD_GENERATOR, PATTERN_TOO_LONG, Refused
 from wqprogram.json_values import is_whole_number
+from wqprogram.limits import MAX_PATTERN
+from wqprogram.patterns import Flags, atoms_of, fits
 from wqprogram.records import Record
 from wqprogram.terms import Test, is_short_text
 
@@ -21,11 +23,15 @@ class Path(NamedTuple):
 class Generators(NamedTuple):
     suffixes: Optional[List[bytes]] = None
     paths: Optional[List[Path]] = None
+    globs: Optional[List[bytes]] = None
+    takes_dots: bool = False
 
 
 def read_generators(asked: Any) -> Generators:
     suffixes = read_suffixes(asked["suffix"]) if "suffix" in asked else None
-    return Generators(suffixes, read_paths(asked["path"]) if "path" in asked else None)
+    paths = read_paths(asked["path"]) if "path" in asked else None
+    globs = read_globs(asked["glob"]) if "glob" in asked else None
+    return Generators(suffixes, paths, globs, asked.get("glob_includedotfiles") is True)
 
 
 def require(is_right: bool) -> None:
@@ -52,6 +58,14 @@ def read_path(value: Any) -> Path:
     return Path(text.encode().rstrip(b"/"), depth)
 
 
+def read_globs(value: Any) -> List[bytes]:
+    require(isinstance(value, list) and all(isinstance(text, str) for text in value))
+    patterns = [text.encode() for text in value]
+    if any(len(pattern) > MAX_PATTERN for pattern in patterns):
+        raise Refused(PATTERN_TOO_LONG)
+    return patterns
+
+
 def candidate_test(bound: Bound, generators: Generators) -> Test:
     """Whether a record is one that the query starts from. `bytes.lower` changes A to Z alone."""
     tests = []
@@ -64,6 +78,10 @@ def candidate_test(bound: Bound, generators: Generators) -> Test:
         tests.append(lambda record: record.suffix is not None and record.suffix.lower() in folded)
     if generators.paths is not None:
         tests.append(lambda record: any(is_at(record, path) for path in generators.paths))
+    if generators.globs is not None:
+        flags = Flags(wholename=True, dotfiles=generators.takes_dots)
+        rows = [atoms_of(pattern, flags) for pattern in generators.globs]
+        tests.append(lambda record: record.exists and any(fits(atoms, flags, record.name) for atoms in rows))
     return lambda record: not tests or any(test(record) for test in tests)
 
 

@@ -13,7 +13,7 @@ from wqprogram.json_values import is_whole_number
 from wqprogram.records import Record
 from wqprogram.terms import Test, read_term
 
-LEFT_OUT_KEYS = ["glob", "glob_includedotfiles", "relative_root", "settle_period", "settle_timeout"]
+LEFT_OUT_KEYS = ["relative_root", "settle_period", "settle_timeout"]
 DEFAULT_FIELDS = ["name", "exists", "new", "size"]
 
 # What a field says of a record. Of `new` the bound of the query decides.
@@ -52,7 +52,7 @@ def read_query(asked: Dict[str, Any], root: int = FIRST_ROOT, is_subscription: b
         raise Refused(EXPRESSION_AND_PROGRAM)
     matches = read_term(asked.get("expression", "true"), at_root(root))
     fields = read_fields(asked.get("fields", DEFAULT_FIELDS))
-    if is_subscription and ("suffix" in asked or "path" in asked):
+    if is_subscription and any(key in asked for key in ("suffix", "path", "glob")):
         raise Refused(BAD_GENERATOR)
     generators = read_generators(asked)
     cursor, bound = None, FRESH
@@ -69,6 +69,8 @@ def read_query(asked: Dict[str, Any], root: int = FIRST_ROOT, is_subscription: b
     if "program" in asked and not isinstance(program, str):
         raise Refused(WRONG_QUERY_VALUE)
     is_empty_on_fresh = asked.get("empty_on_fresh_instance", False)
+    if not isinstance(asked.get("glob_includedotfiles", False), bool):
+        raise Refused(WRONG_QUERY_VALUE)
     if not isinstance(is_empty_on_fresh, bool) or not is_whole_number(asked.get("sync_timeout", 0)):
         raise Refused(WRONG_QUERY_VALUE)
     return Query(matches, fields, bound, is_empty_on_fresh, generators, cursor, program, root)
