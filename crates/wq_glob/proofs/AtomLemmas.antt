@@ -10,6 +10,7 @@ use Rattle.wq_glob.specs.Atom.{Atom, One, Star, Dirs, class_of, literal_of, open
 use Rattle.wq_glob.specs.Step.{IsStepOf, AllStand, step_opens}
 use Rattle.wq_glob.specs.declared.class.Item.{Item}
 use Rattle.wq_glob.specs.declared.flag.Flags.{Flags}
+use Rattle.wq_glob.specs.declared.rules.Rules.{Rules}
 use Rattle.wq_glob.specs.declared.step.Step.{Step}
 use Rattle.wq_glob.proofs.ItemLemmas.{Shorter, NotLonger, letter_shorter, first_shorter}
 
@@ -135,23 +136,23 @@ atoms_few f (suc n) start (x ∷ xs) =
     let h = atoms_few f n (opens r.0) r.1 in omega arith
 
 -- steps for the atoms that are left complete those that were read
-pub atoms_more : (f : Flags) (step : Step) (start : Bool) (text after : List ℕ) (steps tail : List Step) (opening : Bool) (all : List Atom) → 0 < length text →
-    IsStepOf f step (first_atom f start text).0 → after ≡ (first_atom f start text).1 → opening ≡ step_opens step →
-    ((tail : List Step) → AllStand f tail (atoms_from (length text) f start text) → AllStand f (steps ++ tail) all) →
-    AllStand f tail (atoms_from (length after) f opening after) → AllStand f ((steps ++ step ∷ []) ++ tail) all
-atoms_more f step start text after steps tail opening all some stands after_is opening_is was left =
-    let r : Atom × List ℕ = first_atom f start text in
+pub atoms_more : (f : Rules) (flags : Flags) (step : Step) (start : Bool) (text after : List ℕ) (steps tail : List Step) (opening : Bool) (all : List Atom) → 0 < length text →
+    IsStepOf f step (first_atom flags start text).0 → after ≡ (first_atom flags start text).1 → opening ≡ step_opens step →
+    ((tail : List Step) → AllStand f tail (atoms_from (length text) flags start text) → AllStand f (steps ++ tail) all) →
+    AllStand f tail (atoms_from (length after) flags opening after) → AllStand f ((steps ++ step ∷ []) ++ tail) all
+atoms_more f flags step start text after steps tail opening all some stands after_is opening_is was left =
+    let r : Atom × List ℕ = first_atom flags start text in
     let opens_is : opening ≡ opens r.0 = opening_is ∙ stands.same_opening in
-    let later : AllStand f tail (atoms_from (length r.1) f (opens r.0) r.1) =
-    subst (λ (o : Bool). AllStand f tail (atoms_from (length r.1) f o r.1)) opens_is
-    (subst (λ (t : List ℕ). AllStand f tail (atoms_from (length t) f opening t)) after_is left) in
-    let here : AllStand f (step ∷ tail) (atoms_from (length text) f start text) =
-    subst (AllStand f (step ∷ tail)) (sym (atoms_step f start text some)) (stands, later) in
+    let later : AllStand f tail (atoms_from (length r.1) flags (opens r.0) r.1) =
+    subst (λ (o : Bool). AllStand f tail (atoms_from (length r.1) flags o r.1)) opens_is
+    (subst (λ (t : List ℕ). AllStand f tail (atoms_from (length t) flags opening t)) after_is left) in
+    let here : AllStand f (step ∷ tail) (atoms_from (length text) flags start text) =
+    subst (AllStand f (step ∷ tail)) (sym (atoms_step flags start text some)) (stands, later) in
     subst (λ (l : List Step). AllStand f l all) (sym (append_assoc steps (step ∷ []) tail)) (was (step ∷ tail) here)
 
 -- if nothing is left, all was read
-pub atoms_end : (f : Flags) (start : Bool) (text : List ℕ) (steps : List Step) (all : List Atom) → length text ≡ 0 →
-    ((tail : List Step) → AllStand f tail (atoms_from (length text) f start text) → AllStand f (steps ++ tail) all) → AllStand f steps all
+pub atoms_end : (f : Rules) (flags : Flags) (start : Bool) (text : List ℕ) (steps : List Step) (all : List Atom) → length text ≡ 0 →
+    ((tail : List Step) → AllStand f tail (atoms_from (length text) flags start text) → AllStand f (steps ++ tail) all) → AllStand f steps all
 unfolding atoms_from
-atoms_end f start [] steps all none was = subst (λ (l : List Step). AllStand f l all) (append-nil steps) (was [] tt)
-atoms_end f start (x ∷ xs) steps all none was = absurd (omega arith)
+atoms_end f flags start [] steps all none was = subst (λ (l : List Step). AllStand f l all) (append-nil steps) (was [] tt)
+atoms_end f flags start (x ∷ xs) steps all none was = absurd (omega arith)

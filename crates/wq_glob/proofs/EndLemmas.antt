@@ -6,7 +6,7 @@ use Rattle.std.proofs.Math.ListN.{replicate, length-replicate}
 use Rattle.wq_glob.specs.Step.{step_reach}
 use Rattle.wq_glob.specs.Cell.{cell_of, dead_cell, step_fits, IsRow, IsWindow, IsBlank, may_be_empty}
 use Rattle.wq_glob.proofs.RowLemmas.{drop_all}
-use Rattle.wq_glob.specs.declared.flag.Flags.{Flags}
+use Rattle.wq_glob.specs.declared.rules.Rules.{Rules}
 use Rattle.wq_glob.specs.declared.row.Cell.{Cell}
 use Rattle.wq_glob.specs.declared.row.Window.{Window}
 use Rattle.wq_glob.specs.declared.step.Step.{Step}
@@ -17,7 +17,7 @@ or_nothing true = refl
 or_nothing false = refl
 
 -- at the end of the text a step fits if it may take nothing and the next ones fit
-end_step : (f : Flags) (s : Step) (later : List Step) → cell_of f (s ∷ later) [] ≡ record { fits = may_be_empty (step_reach s) && step_fits f later []; begun = false }
+end_step : (f : Rules) (s : Step) (later : List Step) → cell_of f (s ∷ later) [] ≡ record { fits = may_be_empty (step_reach s) && step_fits f later []; begun = false }
 end_step f (Byte b) later = refl
 end_step f AnyByte later = refl
 end_step f (Set set) later = refl
@@ -27,31 +27,31 @@ end_step f Tail later = refl
 end_step f Never later = refl
 
 -- at the end of the text no part has begun
-pub end_cell : (f : Flags) (steps : List Step) → cell_of f steps [] ≡ record { fits = step_fits f steps []; begun = false }
+pub end_cell : (f : Rules) (steps : List Step) → cell_of f steps [] ≡ record { fits = step_fits f steps []; begun = false }
 end_cell f [] = refl
 end_cell f (s ∷ later) = end_step f s later ∙ ap (λ (b : Bool). record { fits = b; begun = false }) (sym (ap (λ (c : Cell). c.fits) (end_step f s later)))
 
-end_at : (f : Flags) (steps : List Step) (j : ℕ) (d : Step) → j < length steps → step_fits f (drop j steps) [] ≡ (may_be_empty (step_reach (get_or steps j d)) && step_fits f (drop (suc j) steps) [])
+end_at : (f : Rules) (steps : List Step) (j : ℕ) (d : Step) → j < length steps → step_fits f (drop j steps) [] ≡ (may_be_empty (step_reach (get_or steps j d)) && step_fits f (drop (suc j) steps) [])
 end_at f steps j d within =
     ap (λ (l : List Step). step_fits f l []) (drop-cons steps j d within)
     ∙ ap (λ (c : Cell). c.fits) (end_step f (get_or steps j d) (drop (suc j) steps))
 
 -- below a tail that does not fit none fits
-pub none_below : (f : Flags) (steps : List Step) (n : ℕ) → n < length steps → step_fits f (drop n steps) [] ≡ false → (d j : ℕ) → j + d ≡ n → step_fits f (drop j steps) [] ≡ false
+pub none_below : (f : Rules) (steps : List Step) (n : ℕ) → n < length steps → step_fits f (drop n steps) [] ≡ false → (d j : ℕ) → j + d ≡ n → step_fits f (drop j steps) [] ≡ false
 none_below f steps n within not_here zero j ends = subst (λ (i : ℕ). step_fits f (drop i steps) [] ≡ false) (let e : n ≡ j = omega arith in e) not_here
 none_below f steps n within not_here (suc d) j ends =
     end_at f steps j Never (omega arith)
     ∙ and_right _ _ (none_below f steps n within not_here d (suc j) (omega arith))
 
 -- the steps before `low` may not take nothing, and those from it on do
-pub record IsEndRow (f : Flags) (steps : List Step) (row : List Cell) (low : ℕ) : Type 0 where
+pub record IsEndRow (f : Rules) (steps : List Step) (row : List Cell) (low : ℕ) : Type 0 where
   pub within : low ≤ length steps
   pub filled : (j : ℕ) → low ≤ j → j ≤ length steps → get_or row j dead_cell ≡ cell_of f (drop j steps) []
   pub fitting : step_fits f (drop low steps) [] ≡ true
   pub blank : (j : ℕ) → j < low → get_or row j dead_cell ≡ dead_cell
   pub each : (j : ℕ) → low ≤ j → j ≤ length steps → step_fits f (drop j steps) [] ≡ true
 
-module _ (f : Flags) (steps : List Step) where
+module _ (f : Rules) (steps : List Step) where
   -- the last cell of a row that was blank
   pub end_none : (row : List Cell) (last : Cell) → last ≡ record { fits = true; begun = false } → length steps < length row → IsBlank row → IsEndRow f steps (set row (length steps) last) (length steps)
   end_none row last last_is room blank =

@@ -8,38 +8,38 @@ use Rattle.wq_glob.specs.Step.{is_byte, step_admits, step_form}
 use Rattle.wq_glob.proofs.MarkLemmas.{marks_step}
 use Rattle.wq_glob.proofs.RowLemmas.{drop_all, drop_step}
 use Rattle.wq_glob.proofs.RunLemmas.{marks_end}
-use Rattle.wq_glob.specs.declared.flag.Flags.{Flags}
+use Rattle.wq_glob.specs.declared.rules.Rules.{Rules}
 use Rattle.wq_glob.specs.declared.step.Step.{Step}
 use Rattle.wq_glob.specs.declared.step.Step.TheVariants.{Byte, AnyByte, Set, Stars, Below, Tail, Never}
 
 -- a step agrees with the byte at its place
-pub agrees_here : (f : Flags) (steps : List Step) (text : List ℕ) (at : ℕ) (d : Step) → at < length steps → at < length text →
+pub agrees_here : (f : Rules) (steps : List Step) (text : List ℕ) (at : ℕ) (d : Step) → at < length steps → at < length text →
     (is_byte (get_or steps at d) && step_admits f (get_or steps at d) (mark_at f text at)) ≡ agrees (step_form f) (drop at steps) (marks_at f text at)
 agrees_here f steps text at d within inside =
     sym
     (ap (λ (l : List Step). agrees (step_form f) l (marks_at f text at)) (drop_step steps at d within)
     ∙ ap (agrees (step_form f) (get_or steps at d ∷ drop (at + 1) steps)) (marks_step f text at inside))
 
-agrees_nothing : (f : Flags) (steps : List Step) → agrees (step_form f) steps [] ≡ false
+agrees_nothing : (f : Rules) (steps : List Step) → agrees (step_form f) steps [] ≡ false
 agrees_nothing f [] = refl
 agrees_nothing f (s ∷ steps) = refl
 
 -- and nothing agrees after the last step or at the end of the text
-pub agrees_past : (f : Flags) (steps : List Step) (text : List ℕ) (at : ℕ) → length steps ≤ at → false ≡ agrees (step_form f) (drop at steps) (marks_at f text at)
+pub agrees_past : (f : Rules) (steps : List Step) (text : List ℕ) (at : ℕ) → length steps ≤ at → false ≡ agrees (step_form f) (drop at steps) (marks_at f text at)
 agrees_past f steps text at past = sym (ap (λ (l : List Step). agrees (step_form f) l (marks_at f text at)) (drop_all steps at past))
 
 -- nor does a step agree with the end of the text
-pub agrees_end : (f : Flags) (steps : List Step) (text : List ℕ) (at : ℕ) → at ≤ length text → length text ≤ at → false ≡ agrees (step_form f) (drop at steps) (marks_at f text at)
+pub agrees_end : (f : Rules) (steps : List Step) (text : List ℕ) (at : ℕ) → at ≤ length text → length text ≤ at → false ≡ agrees (step_form f) (drop at steps) (marks_at f text at)
 agrees_end f steps text at within past =
     let e : at ≡ length text = omega arith in
     sym (ap (agrees (step_form f) (drop at steps)) (ap (marks_at f text) e ∙ marks_end f text) ∙ agrees_nothing f (drop at steps))
 
 -- a byte that agrees is one more of the front, and leaves the answer to the rest
-front_cons : (f : Flags) (s : Step) (later : List Step) (x : Mark) (text : List Mark) → agrees (step_form f) (s ∷ later) (x ∷ text) ≡ true →
+front_cons : (f : Rules) (s : Step) (later : List Step) (x : Mark) (text : List Mark) → agrees (step_form f) (s ∷ later) (x ∷ text) ≡ true →
     front (step_form f) (s ∷ later) (x ∷ text) ≡ 1 + front (step_form f) later text
 front_cons f s later x text is = rw is refl
 
-fits_cons : (f : Flags) (s : Step) (later : List Step) (x : Mark) (text : List Mark) → agrees (step_form f) (s ∷ later) (x ∷ text) ≡ true →
+fits_cons : (f : Rules) (s : Step) (later : List Step) (x : Mark) (text : List Mark) → agrees (step_form f) (s ∷ later) (x ∷ text) ≡ true →
     step_fits f (s ∷ later) (x ∷ text) ≡ step_fits f later text
 fits_cons f (Byte b) later x text is = rw is refl
 fits_cons f AnyByte later x text is = absurd (false≢true is)
@@ -49,7 +49,7 @@ fits_cons f Below later x text is = absurd (false≢true is)
 fits_cons f Tail later x text is = absurd (false≢true is)
 fits_cons f Never later x text is = absurd (false≢true is)
 
-module _ (f : Flags) (steps : List Step) (text : List ℕ) (n : ℕ) (within : n < length steps) (inside : n < length text) (is : agrees (step_form f) (drop n steps) (marks_at f text n) ≡ true) where
+module _ (f : Rules) (steps : List Step) (text : List ℕ) (n : ℕ) (within : n < length steps) (inside : n < length text) (is : agrees (step_form f) (drop n steps) (marks_at f text n) ≡ true) where
   here : agrees (step_form f) (get_or steps n Never ∷ drop (n + 1) steps) (mark_at f text n ∷ marks_at f text (n + 1)) ≡ true
   here = agrees_here f steps text n Never within inside ∙ is
 
@@ -68,13 +68,13 @@ module _ (f : Flags) (steps : List Step) (text : List ℕ) (n : ℕ) (within : n
       ∙ fits_cons f (get_or steps n Never) (drop (n + 1) steps) (mark_at f text n) (marks_at f text (n + 1)) here
 
 -- if no byte agrees, the front ends
-pub front_stop : (f : Flags) (steps : List Step) (text : List Mark) → agrees (step_form f) steps text ≡ false → front (step_form f) steps text ≡ 0
+pub front_stop : (f : Rules) (steps : List Step) (text : List Mark) → agrees (step_form f) steps text ≡ false → front (step_form f) steps text ≡ 0
 front_stop f [] text is = refl
 front_stop f (s ∷ later) [] is = refl
 front_stop f (s ∷ later) (x ∷ text) is = rw is refl
 
 -- and if a byte was to agree, the text does not fit
-pub differs_no : (f : Flags) (steps : List Step) (text : List Mark) → begins_literal (step_form f) steps ≡ true → agrees (step_form f) steps text ≡ false → step_fits f steps text ≡ false
+pub differs_no : (f : Rules) (steps : List Step) (text : List Mark) → begins_literal (step_form f) steps ≡ true → agrees (step_form f) steps text ≡ false → step_fits f steps text ≡ false
 differs_no f [] text first is = absurd (false≢true first)
 differs_no f (Byte b ∷ later) [] first is = refl
 differs_no f (Byte b ∷ later) (x ∷ text) first is = rw is refl

@@ -5,15 +5,15 @@ use Rattle.std.proofs.lemmas.List.{drop-drop}
 use Rattle.std.specs.List.{list_all}
 use Rattle.wq_base.specs.Byte.{is_slash}
 use Rattle.wq_glob.specs.Byte.{lower_if}
-use Rattle.wq_glob.specs.Mark.{Mark, marks}
+use Rattle.wq_glob.specs.Mark.{Mark}
 use Rattle.wq_glob.specs.Fits.{has_no_hidden_dot, is_wild}
 use Rattle.wq_glob.specs.FitsTest.{Reach, Single, Many, Directories, directories, many, part_of}
 use Rattle.wq_glob.specs.Step.{step_admits, step_reach}
-use Rattle.wq_glob.specs.Cell.{marks_at, mark_at, may_be_empty, step_fits}
+use Rattle.wq_glob.specs.Cell.{marks_of, marks_at, mark_at, may_be_empty, step_fits}
 use Rattle.wq_glob.specs.Leftmost.{AreTaken, HasNoName, IsKeptOff, IsNextName, IsSettled, are_shown, begins_below, begins_stars, begins_tail, first_takes, fits_from, single_takes}
 use Rattle.wq_glob.proofs.MarkLemmas.{marks_step, length-marks_from}
 use Rattle.wq_glob.proofs.RowLemmas.{drop_all, drop_step}
-use Rattle.wq_glob.specs.declared.flag.Flags.{Flags}
+use Rattle.wq_glob.specs.declared.rules.Rules.{Rules}
 use Rattle.wq_glob.specs.declared.step.Step.{Step}
 use Rattle.wq_glob.specs.declared.step.Step.TheVariants.{Byte, AnyByte, Set, Stars, Below, Tail, Never}
 
@@ -23,7 +23,7 @@ same_from true b to from = sym (to refl)
 same_from false true to from = from refl
 same_from false false to from = refl
 
-and_is : (a b : Bool) → a ≡ true → (a && b) ≡ b
+pub and_is : (a b : Bool) → a ≡ true → (a && b) ≡ b
 and_is true b is = refl
 and_is false b is = absurd (false≢true is)
 
@@ -58,7 +58,7 @@ part_end Many test fit one = absurd (false≢true one)
 part_end Directories test fit one = absurd (false≢true one)
 
 -- a step of one byte that does not take the first fits nothing
-single_none : (f : Flags) (s : Step) (later : List Step) (t : List Mark) → not (may_be_empty (step_reach s)) ≡ true → first_takes f (s ∷ later) t ≡ false → step_fits f (s ∷ later) t ≡ false
+single_none : (f : Rules) (s : Step) (later : List Step) (t : List Mark) → not (may_be_empty (step_reach s)) ≡ true → first_takes f (s ∷ later) t ≡ false → step_fits f (s ∷ later) t ≡ false
 single_none f s later [] one is = part_end (step_reach s) (step_admits f s) (step_fits f later) one
 single_none f s later (x ∷ t) one is = part_none (step_reach s) (step_admits f s) (step_fits f later) x t one is
 
@@ -68,7 +68,7 @@ part_some Single test fit x t one h = (and_parts (test x) (fit t) h).0
 part_some Many test fit x t one h = absurd (false≢true one)
 part_some Directories test fit x t one h = absurd (false≢true one)
 
-single_some : (f : Flags) (s : Step) (later : List Step) (t : List Mark) → not (may_be_empty (step_reach s)) ≡ true → step_fits f (s ∷ later) t ≡ true → first_takes f (s ∷ later) t ≡ true
+single_some : (f : Rules) (s : Step) (later : List Step) (t : List Mark) → not (may_be_empty (step_reach s)) ≡ true → step_fits f (s ∷ later) t ≡ true → first_takes f (s ∷ later) t ≡ true
 single_some f s later [] one h = absurd (false≢true (sym (part_end (step_reach s) (step_admits f s) (step_fits f later) one) ∙ h))
 single_some f s later (x ∷ t) one h = part_some (step_reach s) (step_admits f s) (step_fits f later) x t one h
 
@@ -111,18 +111,18 @@ tail_first (Tail ∷ later) is = refl
 tail_first (Never ∷ later) is = absurd (false≢true is)
 
 -- a last `**` takes all that is left
-takes_all : (f : Flags) (t : List Mark) → list_all has_no_hidden_dot t ≡ true → step_fits f (Tail ∷ []) t ≡ true
+takes_all : (f : Rules) (t : List Mark) → list_all has_no_hidden_dot t ≡ true → step_fits f (Tail ∷ []) t ≡ true
 takes_all f [] all = refl
 takes_all f (x ∷ t) all =
     let parts = and_parts (has_no_hidden_dot x) (list_all has_no_hidden_dot t) all in
     and_from _ _ parts.0 (takes_all f t parts.1)
 
-module _ (f : Flags) (steps : List Step) (text : List ℕ) where
+module _ (f : Rules) (steps : List Step) (text : List ℕ) where
   -- after the text there are no marks
   pub marks_past : (at : ℕ) → length text ≤ at → marks_at f text at ≡ []
   marks_past at past =
-      let e : length (marks f.dotfiles text) ≤ at = omega (arith, length-marks_from f.dotfiles true text) in
-      drop_all (marks f.dotfiles text) at e
+      let e : length (marks_of f text) ≤ at = omega (arith, length-marks_from f.flags.dotfiles true text) in
+      drop_all (marks_of f text) at e
 
   -- whether the step at a place takes the byte at another
   pub first_here : (k at : ℕ) (d : Step) → k < length steps → at < length text → single_takes f (get_or steps k d) (mark_at f text at) ≡ first_takes f (drop k steps) (marks_at f text at)
@@ -163,7 +163,7 @@ module _ (f : Flags) (steps : List Step) (text : List ℕ) where
   rest_more : (k at j : ℕ) → first_takes f (drop k steps) (marks_at f text at) ≡ true → k < length steps → at < length text → fits_from f steps text k j ≡ true → fits_from f steps text (k + 1) (j + 1) ≡ true
   rest_more k at j is within inside h =
       let s : Step = get_or steps k Never in
-      subst (λ (t : List Mark). step_fits f (drop (k + 1) steps) t ≡ true) (drop-drop 1 j (marks f.dotfiles text))
+      subst (λ (t : List Mark). step_fits f (drop (k + 1) steps) t ≡ true) (drop-drop 1 j (marks_of f text))
       (part_rest (step_reach s) (step_admits f s) (step_fits f (drop (k + 1) steps)) (marks_at f text j) (is_single k at is within inside) (tail_fits k j within h))
 
   -- and it takes the byte there
@@ -226,10 +226,19 @@ module _ (f : Flags) (steps : List Step) (text : List ℕ) where
       (subst (λ (l : List Step). first_takes f l (marks_at f text at) ≡ false) tail none)
 
   -- a byte that the text has not at a place
-  pub byte_differs : (k at b : ℕ) (d : Step) → k < length steps → get_or steps k d ≡ Byte b → at < length text → (lower_if f.fold (get_or text at 0) == b) ≡ false → fits_from f steps text k at ≡ false
+  pub byte_differs : (k at b : ℕ) (d : Step) → k < length steps → get_or steps k d ≡ Byte b → at < length text → (lower_if f.flags.fold (get_or text at 0) == b) ≡ false → fits_from f steps text k at ≡ false
   byte_differs k at b d within is inside differs =
       turn_differs k at (Byte b) d within is refl
       (sym (first_here k at d within inside) ∙ ap (λ (s : Step). single_takes f s (mark_at f text at)) is ∙ differs)
+
+  -- or that it has at no place from one on
+  pub byte_nowhere : (k at b : ℕ) (d : Step) → k < length steps → get_or steps k d ≡ Byte b → ((i : ℕ) → at ≤ i → i < length text → (lower_if f.flags.fold (get_or text i 0) == b) ≡ false) →
+      (j : ℕ) → at ≤ j → fits_from f steps text k j ≡ false
+  byte_nowhere k at b d within is other j from =
+      elim (cases_lt j (length text)) [
+        | inl inside ↦ byte_differs k j b d within is inside (other j from inside)
+        | inr past ↦ turn_differs k j (Byte b) d within is refl (sym (first_end k j past))
+      ]
 
   -- a star
   pub turn_star : (k : ℕ) (d : Step) → k < length steps → get_or steps k d ≡ Stars → begins_stars (drop k steps) ≡ true
@@ -251,21 +260,21 @@ module _ (f : Flags) (steps : List Step) (text : List ℕ) where
     from_stars at = ap (λ (l : List Step). step_fits f l (marks_at f text at)) tail_is
 
     at_stars : (at : ℕ) → at < length text → fits_from f steps text star at
-        ≡ (step_fits f (drop (star + 1) steps) (mark_at f text at ∷ marks_at f text (at + 1)) || (is_wild f (mark_at f text at) && step_fits f (Stars ∷ drop (star + 1) steps) (marks_at f text (at + 1))))
+        ≡ (step_fits f (drop (star + 1) steps) (mark_at f text at ∷ marks_at f text (at + 1)) || (is_wild f.flags (mark_at f text at) && step_fits f (Stars ∷ drop (star + 1) steps) (marks_at f text (at + 1))))
     at_stars at inside = from_stars at ∙ ap (step_fits f (Stars ∷ drop (star + 1) steps)) (marks_step f text at inside)
 
     not_here : (at : ℕ) → at < length text → fits_from f steps text (star + 1) at ≡ false → step_fits f (drop (star + 1) steps) (mark_at f text at ∷ marks_at f text (at + 1)) ≡ false
     not_here at inside none = sym (ap (step_fits f (drop (star + 1) steps)) (marks_step f text at inside)) ∙ none
 
     -- if the later steps do not fit at a byte that it may take, it takes the byte
-    pub stars_pass : (at : ℕ) → at < length text → fits_from f steps text (star + 1) at ≡ false → is_wild f (mark_at f text at) ≡ true → fits_from f steps text star at ≡ fits_from f steps text star (at + 1)
+    pub stars_pass : (at : ℕ) → at < length text → fits_from f steps text (star + 1) at ≡ false → is_wild f.flags (mark_at f text at) ≡ true → fits_from f steps text star at ≡ fits_from f steps text star (at + 1)
     stars_pass at inside none wild =
         at_stars at inside
         ∙ goes_over _ _ _ (not_here at inside none) wild
         ∙ sym (from_stars (at + 1))
 
     -- and at another byte, or at the end, the text does not fit
-    pub stars_stop : (at : ℕ) → at < length text → fits_from f steps text (star + 1) at ≡ false → is_wild f (mark_at f text at) ≡ false → fits_from f steps text star at ≡ false
+    pub stars_stop : (at : ℕ) → at < length text → fits_from f steps text (star + 1) at ≡ false → is_wild f.flags (mark_at f text at) ≡ false → fits_from f steps text star at ≡ false
     stars_stop at inside none wild = at_stars at inside ∙ stays _ _ _ (not_here at inside none) wild
 
     pub stars_end : (at : ℕ) → length text ≤ at → fits_from f steps text (star + 1) at ≡ false → fits_from f steps text star at ≡ false
@@ -277,10 +286,10 @@ module _ (f : Flags) (steps : List Step) (text : List ℕ) where
 
     -- if the later steps fit, so do all
     pub stars_fit : (at : ℕ) → fits_from f steps text (star + 1) at ≡ true → fits_from f steps text star at ≡ true
-    stars_fit at h = from_stars at ∙ many_here (is_wild f) (step_fits f (drop (star + 1) steps)) (marks_at f text at) h
+    stars_fit at h = from_stars at ∙ many_here (is_wild f.flags) (step_fits f (drop (star + 1) steps)) (marks_at f text at) h
 
     -- bytes that it may take, at which the later steps do not fit, are passed
-    pub stars_seek : (d at : ℕ) → at + d ≤ length text → ((i : ℕ) → at ≤ i → i < at + d → is_wild f (mark_at f text i) ≡ true) → ((i : ℕ) → at ≤ i → i < at + d → fits_from f steps text (star + 1) i ≡ false) →
+    pub stars_seek : (d at : ℕ) → at + d ≤ length text → ((i : ℕ) → at ≤ i → i < at + d → is_wild f.flags (mark_at f text i) ≡ true) → ((i : ℕ) → at ≤ i → i < at + d → fits_from f steps text (star + 1) i ≡ false) →
         fits_from f steps text star at ≡ fits_from f steps text star (at + d)
     stars_seek zero at within wild none = let e : at ≡ at + 0 = omega arith in ap (fits_from f steps text star) e
     stars_seek (suc d) at within wild none =
@@ -290,23 +299,29 @@ module _ (f : Flags) (steps : List Step) (text : List ℕ) where
         ∙ ap (fits_from f steps text star) e
 
     -- up to another place
-    pub stars_to : (at to : ℕ) → at ≤ to → to ≤ length text → ((i : ℕ) → at ≤ i → i < to → is_wild f (mark_at f text i) ≡ true) → ((i : ℕ) → at ≤ i → i < to → fits_from f steps text (star + 1) i ≡ false) →
+    pub stars_to : (at to : ℕ) → at ≤ to → to ≤ length text → ((i : ℕ) → at ≤ i → i < to → is_wild f.flags (mark_at f text i) ≡ true) → ((i : ℕ) → at ≤ i → i < to → fits_from f steps text (star + 1) i ≡ false) →
         fits_from f steps text star at ≡ fits_from f steps text star to
     stars_to at to after within wild none =
         let e : at + (to - at) ≡ to = omega arith in
         stars_seek (to - at) at (omega arith) (λ i from before. wild i from (omega arith)) (λ i from before. none i from (omega arith))
         ∙ ap (fits_from f steps text star) e
 
+    -- a last star may take all that is left
+    pub stars_rest : (at : ℕ) → length steps ≤ star + 1 → at ≤ length text → ((i : ℕ) → at ≤ i → i < length text → is_wild f.flags (mark_at f text i) ≡ true) → fits_from f steps text star at ≡ true
+    stars_rest at last within wild =
+        stars_to at (length text) within (omega arith) wild (λ i from before. turn_goes_on (star + 1) i last before)
+        ∙ stars_fit (length text) (turn_ends (star + 1) (length text) last (omega arith))
+
     -- if all fit, the later steps fit after bytes that it may take
     abbrev Found : ℕ → Type 0
-    Found begin = (j : ℕ) × (begin ≤ j) × ((i : ℕ) → begin ≤ i → i < j → is_wild f (mark_at f text i) ≡ true) × (fits_from f steps text (star + 1) j ≡ true)
+    Found begin = (j : ℕ) × (begin ≤ j) × ((i : ℕ) → begin ≤ i → i < j → is_wild f.flags (mark_at f text i) ≡ true) × (fits_from f steps text (star + 1) j ≡ true)
 
-    found_further : (begin : ℕ) → is_wild f (mark_at f text begin) ≡ true → Found (begin + 1) → Found begin
+    found_further : (begin : ℕ) → is_wild f.flags (mark_at f text begin) ≡ true → Found (begin + 1) → Found begin
     found_further begin wild (j, from, all, fits) = (
       j,
       omega arith,
       λ i after before. elim (cases_eq i begin) [
-        | inl same ↦ ap (λ (n : ℕ). is_wild f (mark_at f text n)) same ∙ wild
+        | inl same ↦ ap (λ (n : ℕ). is_wild f.flags (mark_at f text n)) same ∙ wild
         | inr other ↦ all i (omega arith) before
       ],
       fits,
@@ -332,12 +347,20 @@ module _ (f : Flags) (steps : List Step) (text : List ℕ) where
             ap (step_fits f (drop (star + 1) steps)) (marks_step f text begin inside) ∙ here,
           )
           | inr there ↦
-              let parts = and_parts (is_wild f (mark_at f text begin)) (step_fits f (Stars ∷ drop (star + 1) steps) (marks_at f text (begin + 1))) there in
+              let parts = and_parts (is_wild f.flags (mark_at f text begin)) (step_fits f (Stars ∷ drop (star + 1) steps) (marks_at f text (begin + 1))) there in
               found_further begin parts.0 (stars_found d (begin + 1) (omega arith) (from_stars (begin + 1) ∙ parts.1))
         ]
 
+    -- if the later steps fit nowhere, nothing fits
+    pub stars_nowhere : (at : ℕ) → at ≤ length text → ((j : ℕ) → at ≤ j → fits_from f steps text (star + 1) j ≡ false) → fits_from f steps text star at ≡ false
+    stars_nowhere at within none = of_it (fits_from f steps text star at) refl
+      where
+        of_it : (b : Bool) → fits_from f steps text star at ≡ b → fits_from f steps text star at ≡ false
+        of_it false is = is
+        of_it true is = let found = stars_found (length text - at) at (omega arith) is in absurd (false≢true (sym (none found.0 found.1) ∙ found.3))
+
     -- bytes that it may take are taken before a place at which all fit
-    stars_absorb : (d at : ℕ) → ((i : ℕ) → at ≤ i → i < at + d → i < length text → is_wild f (mark_at f text i) ≡ true) → fits_from f steps text star (at + d) ≡ true → fits_from f steps text star at ≡ true
+    stars_absorb : (d at : ℕ) → ((i : ℕ) → at ≤ i → i < at + d → i < length text → is_wild f.flags (mark_at f text i) ≡ true) → fits_from f steps text star (at + d) ≡ true → fits_from f steps text star at ≡ true
     stars_absorb zero at wild h = let e : at ≡ at + 0 = omega arith in ap (fits_from f steps text star) e ∙ h
     stars_absorb (suc d) at wild h =
         elim (cases_lt at (length text)) [
@@ -351,7 +374,7 @@ module _ (f : Flags) (steps : List Step) (text : List ℕ) where
   -- a later star may begin at the first place at which the steps before it fit
   module _ (star n : ℕ) (stars : begins_stars (drop star steps) ≡ true) (next : begins_stars (drop (star + 1 + n) steps) ≡ true) (begin : ℕ) (taken : AreTaken f steps text (star + 1) begin n) (settled : IsSettled f steps text (star + 1) n (begin + n)) where
     -- since those steps do not reach over the byte that keeps off
-    reaches_not : (j : ℕ) → begin ≤ j → ((i : ℕ) → begin ≤ i → i < j → is_wild f (mark_at f text i) ≡ true) → fits_from f steps text (star + 1) j ≡ true → IsKeptOff f steps text (star + 1) n settled.end → settled.end < j + n → ⊥
+    reaches_not : (j : ℕ) → begin ≤ j → ((i : ℕ) → begin ≤ i → i < j → is_wild f.flags (mark_at f text i) ≡ true) → fits_from f steps text (star + 1) j ≡ true → IsKeptOff f steps text (star + 1) n settled.end → settled.end < j + n → ⊥
     reaches_not j from wild fits off over =
         elim (cases_lt settled.end j) [
           | inl before ↦ false≢true (sym off.not_wild ∙ wild settled.end (omega (arith, settled.from)) before)
@@ -365,7 +388,7 @@ module _ (f : Flags) (steps : List Step) (text : List ℕ) where
               ∙ taken.takes i j few fits)
         ]
 
-    stays_wild : (j : ℕ) → begin ≤ j → ((i : ℕ) → begin ≤ i → i < j → is_wild f (mark_at f text i) ≡ true) → fits_from f steps text (star + 1) j ≡ true → (i : ℕ) → begin + n ≤ i → i < j + n → i < length text → is_wild f (mark_at f text i) ≡ true
+    stays_wild : (j : ℕ) → begin ≤ j → ((i : ℕ) → begin ≤ i → i < j → is_wild f.flags (mark_at f text i) ≡ true) → fits_from f steps text (star + 1) j ≡ true → (i : ℕ) → begin + n ≤ i → i < j + n → i < length text → is_wild f.flags (mark_at f text i) ≡ true
     stays_wild j from wild fits i after before inside =
         elim (cases_lt i settled.end) [
           | inl early ↦ settled.wild i after early
@@ -393,7 +416,7 @@ module _ (f : Flags) (steps : List Step) (text : List ℕ) where
     below_is : drop k steps ≡ Below ∷ drop (k + 1) steps
     below_is = below_first (drop k steps) below ∙ ap (λ (l : List Step). Below ∷ l) (drop-drop 1 k steps)
 
-    from_below : (at : ℕ) → fits_from f steps text k at ≡ (fits_from f steps text (k + 1) at || directories has_no_hidden_dot (step_fits f (drop (k + 1) steps)) (marks_at f text at))
+    pub from_below : (at : ℕ) → fits_from f steps text k at ≡ (fits_from f steps text (k + 1) at || directories has_no_hidden_dot (step_fits f (drop (k + 1) steps)) (marks_at f text at))
     from_below at = ap (λ (l : List Step). step_fits f l (marks_at f text at)) below_is
 
     -- `**/` takes nothing if the later steps fit
@@ -419,14 +442,14 @@ module _ (f : Flags) (steps : List Step) (text : List ℕ) where
       ∙ takes_all f (marks_at f text at) shown
 
 -- no dot of the end of the text is hidden, nor one of the text up to it
-pub shown_end : (f : Flags) (text : List ℕ) (at : ℕ) → length text ≤ at → are_shown f text at ≡ true
+pub shown_end : (f : Rules) (text : List ℕ) (at : ℕ) → length text ≤ at → are_shown f text at ≡ true
 shown_end f text at past = ap (list_all has_no_hidden_dot) (marks_past f [] text at past)
 
-pub shown_more : (f : Flags) (text : List ℕ) (at : ℕ) → at < length text → has_no_hidden_dot (mark_at f text at) ≡ true → are_shown f text at ≡ are_shown f text (at + 1)
+pub shown_more : (f : Rules) (text : List ℕ) (at : ℕ) → at < length text → has_no_hidden_dot (mark_at f text at) ≡ true → are_shown f text at ≡ are_shown f text (at + 1)
 shown_more f text at inside shown = ap (list_all has_no_hidden_dot) (marks_step f text at inside) ∙ and_is _ _ shown
 
 -- the places that `**/` goes over
-module _ (f : Flags) (text : List ℕ) (at : ℕ) where
+module _ (f : Rules) (text : List ℕ) (at : ℕ) where
   pub names_end : length text ≤ at → HasNoName f text at
   names_end past fit = ap (directories has_no_hidden_dot fit) (marks_past f [] text at past)
 

@@ -16,3 +16,5 @@ pub mod BackLemmas
 pub mod CountLemmas
 pub mod SeenLemmas
 pub mod CostLemmas
+pub mod SeekLemmas
+pub mod NameLemmas

@@ -1,21 +1,21 @@
 -- Row after row, from the end of the text to a place.
 use Rattle.std.proofs.Common.{◌≡◌, ℕ, zero, suc, ◌+◌, ◌≤◌, true, false, List, [], length, drop, refl, sym, ap, subst, arith}
-use Rattle.wq_glob.specs.Mark.{Mark, marks}
-use Rattle.wq_glob.specs.Cell.{cell_of, dead_cell, step_fits, marks_at, mark_at}
+use Rattle.wq_glob.specs.Mark.{Mark}
+use Rattle.wq_glob.specs.Cell.{marks_of, cell_of, dead_cell, step_fits, marks_at, mark_at}
 use Rattle.wq_glob.proofs.RowLemmas.{dead_above, drop_all}
 use Rattle.wq_glob.proofs.MarkLemmas.{marks_step, length-marks_from}
-use Rattle.wq_glob.specs.declared.flag.Flags.{Flags}
+use Rattle.wq_glob.specs.declared.rules.Rules.{Rules}
 use Rattle.wq_glob.specs.declared.row.Cell.{Cell}
 use Rattle.wq_glob.specs.declared.step.Step.{Step}
 
 -- at the end of the text there are no marks
-pub marks_end : (f : Flags) (text : List ℕ) → marks_at f text (length text) ≡ []
+pub marks_end : (f : Rules) (text : List ℕ) → marks_at f text (length text) ≡ []
 marks_end f text =
-    let e : length (marks f.dotfiles text) ≤ length text = omega (arith, length-marks_from f.dotfiles true text) in
-    drop_all (marks f.dotfiles text) (length text) e
+    let e : length (marks_of f text) ≤ length text = omega (arith, length-marks_from f.flags.dotfiles true text) in
+    drop_all (marks_of f text) (length text) e
 
 -- a row of dead cells stays so up to the front of the text
-pub dead_from : (f : Flags) (steps : List Step) (text : List ℕ) (d at from : ℕ) → from + d ≡ at → at ≤ length text →
+pub dead_from : (f : Rules) (steps : List Step) (text : List ℕ) (d at from : ℕ) → from + d ≡ at → at ≤ length text →
     ((j : ℕ) → 0 ≤ j → j ≤ length steps → cell_of f (drop j steps) (marks_at f text at) ≡ dead_cell) → step_fits f steps (marks_at f text from) ≡ false
 dead_from f steps text zero at from ends within none =
     let e : at ≡ from = omega arith in

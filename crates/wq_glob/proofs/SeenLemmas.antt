@@ -5,7 +5,7 @@ use Rattle.wq_glob.specs.Mark.{Mark}
 use Rattle.wq_glob.specs.Cost.{is_live, is_looked_at, is_seen_at_end, lives_from, lives_to, next_fits, new_cells, row_cells}
 use Rattle.wq_glob.specs.Cell.{cell_of, dead_cell, step_row, step_fits, marks_at, mark_at, IsWindow}
 use Rattle.wq_glob.specs.Step.{step_form}
-use Rattle.wq_glob.specs.declared.flag.Flags.{Flags}
+use Rattle.wq_glob.specs.declared.rules.Rules.{Rules}
 use Rattle.wq_glob.specs.declared.row.Cell.{Cell}
 use Rattle.wq_glob.specs.declared.row.Window.{Window}
 use Rattle.wq_glob.specs.declared.step.Step.{Step}
@@ -15,11 +15,11 @@ use Rattle.wq_glob.proofs.RowLemmas.{dead_above}
 use Rattle.wq_glob.proofs.SweepLemmas.{IsSwept, low_dead}
 
 -- the cell before `k` is looked at: it lived, or the one after it fits at one of the two texts
-abbrev pub IsOpened : Flags → List Step → Mark → List Mark → ℕ → ℕ → Type 0
+abbrev pub IsOpened : Rules → List Step → Mark → List Mark → ℕ → ℕ → Type 0
 IsOpened f steps x text low j =
     (nat_le low j || next_fits (step_row f steps text) j || next_fits (step_row f steps (x ∷ text)) j) ≡ true
 
-module _ (f : Flags) (steps : List Step) (text : List Mark) where
+module _ (f : Rules) (steps : List Step) (text : List Mark) where
   -- some cell from `k` on lives up to the window's end
   from_is : (w : Window) → IsWindow f steps text 0 w → (k : ℕ) → lives_from (length steps) (step_row f steps text) k ≡ nat_le k w.high
   from_is w lives k =
@@ -152,7 +152,7 @@ stops k low old_next new_next is =
     ]
 
 -- the cells at the end of the text, by the first that fits there
-pub ended_cells : (f : Flags) (steps : List Step) (low : ℕ) → low ≤ length steps → ((j : ℕ) → low ≤ j → j ≤ length steps → step_fits f (drop j steps) [] ≡ true) →
+pub ended_cells : (f : Rules) (steps : List Step) (low : ℕ) → low ≤ length steps → ((j : ℕ) → low ≤ j → j ≤ length steps → step_fits f (drop j steps) [] ≡ true) →
     ((j : ℕ) → j < low → step_fits f (drop j steps) [] ≡ false) → row_cells (step_form f) steps [] ≡ length steps + 1 - (low - 1)
 ended_cells f steps low within fits none =
     count_within _ (length steps + 1) (low - 1) (length steps + 1) (omega arith)
@@ -174,7 +174,7 @@ ended_cells f steps low within fits none =
         ]
 
 -- row after row without a live cell costs nothing
-pub nothing_more : (f : Flags) (steps : List Step) (text : List ℕ) (d at from : ℕ) → from + d ≡ at → at ≤ length text →
+pub nothing_more : (f : Rules) (steps : List Step) (text : List ℕ) (d at from : ℕ) → from + d ≡ at → at ≤ length text →
     ((j : ℕ) → 0 ≤ j → j ≤ length steps → cell_of f (drop j steps) (marks_at f text at) ≡ dead_cell) →
     row_cells (step_form f) steps (marks_at f text from) ≡ row_cells (step_form f) steps (marks_at f text at)
 nothing_more f steps text zero at from ends within none = ap (λ (i : ℕ). row_cells (step_form f) steps (marks_at f text i)) (let e : from ≡ at = omega arith in e)

@@ -4,19 +4,19 @@ use Rattle.std.proofs.lemmas.Bool.{cases_lt, cases_eq}
 use Rattle.wq_glob.specs.Mark.{Mark}
 use Rattle.wq_glob.specs.Cell.{cell_of, dead_cell, step_fits, IsRow, IsWindow, Bounds}
 use Rattle.wq_glob.proofs.RowLemmas.{dead_above, dead_below}
-use Rattle.wq_glob.specs.declared.flag.Flags.{Flags}
+use Rattle.wq_glob.specs.declared.rules.Rules.{Rules}
 use Rattle.wq_glob.specs.declared.row.Cell.{Cell}
 use Rattle.wq_glob.specs.declared.row.Window.{Window}
 use Rattle.wq_glob.specs.declared.step.Step.{Step}
 
 -- the row after a part of a sweep from its end, with the cells from `k` on renewed for the byte `x`
-pub record IsSwept (f : Flags) (steps : List Step) (x : Mark) (text : List Mark) (row : List Cell) (k : ℕ) (old_next new_next : Bool) : Type 0 where
+pub record IsSwept (f : Rules) (steps : List Step) (x : Mark) (text : List Mark) (row : List Cell) (k : ℕ) (old_next new_next : Bool) : Type 0 where
   pub renewed : (j : ℕ) → k ≤ j → j ≤ length steps → get_or row j dead_cell ≡ cell_of f (drop j steps) (x ∷ text)
   pub left : (j : ℕ) → j < k → j ≤ length steps → get_or row j dead_cell ≡ cell_of f (drop j steps) text
   pub old_fits : k ≤ length steps → old_next ≡ step_fits f (drop k steps) text
   pub new_fits : k ≤ length steps → new_next ≡ step_fits f (drop k steps) (x ∷ text)
 
-module _ (f : Flags) (steps : List Step) (x : Mark) (text : List Mark) where
+module _ (f : Rules) (steps : List Step) (x : Mark) (text : List Mark) where
   -- after the window all cells are dead, and stay so
   pub high_dead : (w : Window) → IsWindow f steps text 0 w → (j : ℕ) → w.high + 1 ≤ j → j ≤ length steps → cell_of f (drop j steps) (x ∷ text) ≡ dead_cell
   high_dead w lives = dead_above f steps x text (w.high + 1) (λ j from within. lives.above j (omega arith) within)

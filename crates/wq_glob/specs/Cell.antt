@@ -9,26 +9,26 @@ use Rattle.wq_glob.specs.FitsTest.{Reach, Single, Many, Directories, fits_by}
 use Rattle.wq_glob.specs.Cost.{agrees, is_live, row_cells}
 use Rattle.wq_glob.specs.Table.{Row, cell_by, row_by}
 use Rattle.wq_glob.specs.Step.{step_reach, step_takes, step_form}
-use Rattle.wq_glob.specs.declared.flag.Flags.{Flags}
 use Rattle.wq_glob.specs.declared.row.Cell.{Cell}
 use Rattle.wq_glob.specs.declared.row.Seen.{Seen}
 use Rattle.wq_glob.specs.declared.row.Window.{Window}
+use Rattle.wq_glob.specs.declared.rules.Rules.{Rules}
 use Rattle.wq_glob.specs.declared.step.Step.{Step}
 
 -- the steps fit the text
-abbrev pub step_fits : Flags → List Step → List Mark → Bool
+abbrev pub step_fits : Rules → List Step → List Mark → Bool
 step_fits f steps text = fits_by (step_form f) steps text
 
 -- the steps from `k` on fit the end of a text
-abbrev pub fits_at_end : Flags → List Step → ℕ → Bool
+abbrev pub fits_at_end : Rules → List Step → ℕ → Bool
 fits_at_end f steps k = step_fits f (drop k steps) []
 
 -- the cell of the steps at the text
-abbrev pub cell_of : Flags → List Step → List Mark → Cell
+abbrev pub cell_of : Rules → List Step → List Mark → Cell
 cell_of f steps text = cell_by (step_form f) steps text
 
 -- the row of the steps at the text
-abbrev pub step_row : Flags → List Step → List Mark → Row
+abbrev pub step_row : Rules → List Step → List Mark → Row
 step_row f steps text = row_by (step_form f) steps text
 
 -- the cell of a tail that has begun no `**/`
@@ -48,12 +48,12 @@ next_cell Directories takes slash old old_next new_next =
     record { fits = new_next || begins; begun = begins }
 
 -- the cell of a step at a byte, from the cells around it
-abbrev pub step_cell : Step → Seen → Cell → Bool → Bool → Cell
-step_cell step seen old old_next new_next =
-    next_cell (step_reach step) (step_takes step seen) seen.slash old old_next new_next
+abbrev pub step_cell : Rules → Step → Seen → Cell → Bool → Bool → Cell
+step_cell f step seen old old_next new_next =
+    next_cell (step_reach step) (step_takes f step seen) seen.slash old old_next new_next
 
 -- the cells around the one at `k` before the byte `x`: its own, and whether the next one fits
-pub record AreRound (f : Flags) (steps : List Step) (k : ℕ) (x : Mark) (text : List Mark)
+pub record AreRound (f : Rules) (steps : List Step) (k : ℕ) (x : Mark) (text : List Mark)
     (old : Cell) (old_next : Bool) (new_next : Bool) : Type 0 where
   pub own : old ≡ step_row f steps text k
   pub behind : k < length steps → old_next ≡ step_fits f (drop (k + 1) steps) text
@@ -64,19 +64,23 @@ abbrev pub is_front : List ℕ → ℕ → Bool
 is_front text at = at == 0 || is_slash (slice_index text (at - 1))
 
 -- the mark at a place of a text
-abbrev pub mark_at : Flags → List ℕ → ℕ → Mark
-mark_at f text at = mark f.dotfiles (is_front text at) (slice_index text at)
+abbrev pub mark_at : Rules → List ℕ → ℕ → Mark
+mark_at f text at = mark f.flags.dotfiles (is_front text at) (slice_index text at)
+
+-- the marks of a text
+abbrev pub marks_of : Rules → List ℕ → List Mark
+marks_of f text = marks f.flags.dotfiles text
 
 -- the marks of a text from a place on
-abbrev pub marks_at : Flags → List ℕ → ℕ → List Mark
-marks_at f text at = drop at (marks f.dotfiles text)
+abbrev pub marks_at : Rules → List ℕ → ℕ → List Mark
+marks_at f text at = drop at (marks_of f text)
 
 -- the step at a place is a byte that the text has there
-abbrev pub step_agrees : Flags → List Step → List ℕ → ℕ → Bool
+abbrev pub step_agrees : Rules → List Step → List ℕ → ℕ → Bool
 step_agrees f steps text at = agrees (step_form f) (drop at steps) (marks_at f text at)
 
 -- how many cells the rows of the steps cost
-abbrev pub step_cells : Flags → List Step → List Mark → ℕ
+abbrev pub step_cells : Rules → List Step → List Mark → ℕ
 step_cells f steps text = row_cells (step_form f) steps text
 
 -- the row has no live cell
@@ -84,16 +88,16 @@ abbrev pub IsBlank : List Cell → Type 0
 IsBlank row = (j : ℕ) → slice_index_or row j dead_cell ≡ dead_cell
 
 -- the row holds the cell of each tail of the steps
-abbrev pub IsRow : Flags → List Step → List Mark → List Cell → Type 0
+abbrev pub IsRow : Rules → List Step → List Mark → List Cell → Type 0
 IsRow f steps text row =
     (j : ℕ) → j ≤ length steps → slice_index_or row j dead_cell ≡ step_row f steps text j
 
 -- the cells of the steps from `k` on are dead
-abbrev pub AreDead : Flags → List Step → List Mark → ℕ → Type 0
+abbrev pub AreDead : Rules → List Step → List Mark → ℕ → Type 0
 AreDead f steps text k = (j : ℕ) → k ≤ j → j ≤ length steps → step_row f steps text j ≡ dead_cell
 
 -- of the cells from `k` on, the first that lives and the last
-pub record IsWindow (f : Flags) (steps : List Step) (text : List Mark) (k : ℕ)
+pub record IsWindow (f : Rules) (steps : List Step) (text : List Mark) (k : ℕ)
     (w : Window) : Type 0 where
   pub from : k ≤ w.low
   pub ordered : w.low ≤ w.high
@@ -104,12 +108,12 @@ pub record IsWindow (f : Flags) (steps : List Step) (text : List Mark) (k : ℕ)
   pub last : IsTrue (is_live (step_row f steps text w.high))
 
 -- the window of the cells from `k` on, or none if all of them are dead
-abbrev pub Bounds : Flags → List Step → List Mark → ℕ → Option Window → Type 0
+abbrev pub Bounds : Rules → List Step → List Mark → ℕ → Option Window → Type 0
 Bounds f steps text k w = MatchOption w (AreDead f steps text k) (IsWindow f steps text k)
 
 -- the window of the cells after `k`, and the one with the cell at `k`
 abbrev pub Widens : ℕ → Cell → Option Window → Option Window → Type 0
-Widens k cell narrow wide = (f : Flags) (steps : List Step) (text : List Mark)
+Widens k cell narrow wide = (f : Rules) (steps : List Step) (text : List Mark)
     → k ≤ length steps → Bounds f steps text (k + 1) narrow
     → cell ≡ step_row f steps text k → Bounds f steps text k wide
 

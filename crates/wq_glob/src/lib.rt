@@ -24,6 +24,8 @@ mod matching;
 mod pattern;
 mod reading;
 mod row;
+mod rules;
+mod search;
 mod step;
 
 pub use flag::Flags;

@@ -9,6 +9,7 @@ use crate::flag::Flags;
 use crate::limit::MAX_PATTERN;
 use crate::matching::{Hit, fits_of, hit_of};
 use crate::reading::read_steps;
+use crate::rules::Rules;
 use crate::step::Step;
 use std::alloc::{AllocError, Global};
 use std::marker::Model;
@@ -41,7 +42,7 @@ impl From<AllocError> for PatternFault {
 #[derive(Debug, Drop)]
 pub struct Pattern {
     text: Vec<u8>,
-    flags: Flags,
+    rules: Rules,
     steps: Vec<Step>,
 }
 
@@ -51,9 +52,9 @@ impl Model for Pattern {
 
     ghost Value = { PatternData };
 
-    ghost view = { λ p. record { text = p.text.items; flags = p.flags } };
+    ghost view = { λ p. record { text = p.text.items; flags = p.rules.flags } };
 
-    ghost invariant = { λ p. IsCompiled p.text.items p.flags p.steps.items };
+    ghost invariant = { λ p. IsCompiled p.text.items p.rules p.steps.items };
 }
 
 impl Clone for Pattern {
@@ -64,7 +65,7 @@ impl Clone for Pattern {
     fn clone(&self) -> Result<Pattern, AllocError> {
         Ok(Pattern {
             text: self.text.clone()?,
-            flags: self.flags,
+            rules: self.rules.clone()?,
             steps: self.steps.clone()?,
         })
     }
@@ -84,7 +85,7 @@ impl PartialEq for Pattern {
         ensures value { result ≡ same_pattern self.now other.now }
         ensures same { IsTrue result ↔ (self.now ≡ other.now) }
     {
-        self.flags == other.flags && self.text.as_slice() == other.text.as_slice()
+        self.rules.flags == other.rules.flags && self.text.as_slice() == other.text.as_slice()
     }
 }
 
@@ -110,9 +111,13 @@ impl Pattern {
         if text.len() > MAX_PATTERN {
             return Err(PatternFault::TooLong);
         }
-        let steps = read_steps(alloc, text, flags)?;
+        let compiled = read_steps(alloc, text, flags)?;
         let text = Vec::from_slice(alloc, text)?;
-        Ok(Pattern { text, flags, steps })
+        Ok(Pattern {
+            text,
+            rules: compiled.rules,
+            steps: compiled.steps,
+        })
     }
 
     /// The text that the pattern was read from.
@@ -127,7 +132,7 @@ impl Pattern {
     pub fn flags(&self) -> Flags
         ensures { result ≡ self.now.flags }
     {
-        self.flags
+        self.rules.flags
     }
 
     /// How many atoms the pattern has: literals, `?`, classes, `*`, `**/` and a last `**` count one
@@ -164,7 +169,7 @@ impl Pattern {
         ensures counted { IsTrue result.yes → length text.now + 1 ≤ result.cells }
         ensures looked { 1 ≤ result.cells }
     {
-        hit_of(self.steps.as_slice(), text, self.flags)
+        hit_of(self.steps.as_slice(), text, &self.rules)
     }
 
     /// Whether the pattern fits a text of at most
@@ -176,6 +181,6 @@ impl Pattern {
         ensures test { result ≡ fits self.now text.now }
         ensures cuts { IsTrue result ↔ Fits self.now text.now }
     {
-        fits_of(self.steps.as_slice(), text, self.flags)
+        fits_of(self.steps.as_slice(), text, &self.rules)
     }
 }

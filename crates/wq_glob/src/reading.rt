@@ -1,5 +1,5 @@
 //! Reads a pattern into the steps that the matcher runs, one for each atom, from left to right.
-//! `class` reads classes, and `row` says how steps take a text.
+//! `class` reads classes, `rules` keeps their sets, and `row` says how steps take a text.
 ghost use Rattle.std.specs.Prelude.{◌≡◌, ◌<◌, ◌≤◌, ℕ, List, [], ◌∷◌, ◌++◌, ◌&&◌, ◌||◌, length};
 ghost use Rattle.std.specs.Prelude.{drop, if◌then◌else◌, IfOk, true};
 ghost use Rattle.wq_glob.specs.Atom.{atoms_from, first_atom, known_class, literal_at, one_of_at};
@@ -8,36 +8,52 @@ ghost use Rattle.std.specs.List.{prefix_len};
 ghost use Rattle.wq_glob.specs.Byte.{is_star};
 ghost use Rattle.wq_glob.specs.Member.{AreMembers};
 ghost use Rattle.wq_glob.specs.Reading.{begins, is_negation};
-ghost use Rattle.wq_glob.specs.Step.{AllStand, IsStepOf, step_opens};
+ghost use Rattle.wq_glob.specs.Step.{AllStand, IsKept, IsPieceOf, step_opens};
 ghost use Rattle.wq_glob.specs.declared.class.Item.{Item};
 
 use crate::byte::{begins, behind, lower_if};
+use crate::byte_set::ByteSet;
 use crate::class::{Members, class_set, letter, read_items};
 use crate::flag::Flags;
+use crate::limit::MAX_PATTERN;
+use crate::rules::Rules;
 use crate::step::Step;
 use std::alloc::{AllocError, Global};
 
-/// The step of the byte at the front of a text, or of the one after its backslash.
+/// What is read of an atom: its step, or the set of its class, which has no number yet.
+pub(crate) enum Piece {
+    Plain(Step),
+    Held(ByteSet),
+}
+
+/// A pattern as it was read: its steps, and what these refer to.
+#[derive(Drop)]
+pub(crate) struct Compiled {
+    pub(crate) rules: Rules,
+    pub(crate) steps: Vec<Step>,
+}
+
+/// The byte at the front of a text, or the one after its backslash, and the rest.
 #[tactic(auto, unfolding(crate::specs::Atom::literal_at))]
-fn literal(text: &[u8], flags: Flags) -> (Step, &[u8])
-    ensures stands { IsStepOf flags result.0 (literal_at flags.noescape text.now).0 }
+fn literal(text: &[u8], flags: Flags) -> (Piece, &[u8])
+    ensures stands { IsPieceOf flags result.0 (literal_at flags.noescape text.now).0 }
     ensures rest { result.1.now ≡ (literal_at flags.noescape text.now).1 }
 {
     match letter(text, flags.noescape) {
-        Some((byte, after)) => (Step::Byte(lower_if(flags.fold, byte)), after),
-        None => (Step::Never, &text[..0]),
+        Some((byte, after)) => (Piece::Plain(Step::Byte(lower_if(flags.fold, byte))), after),
+        None => (Piece::Plain(Step::Never), &text[..0]),
     }
 }
 
-/// The step of a class with these members.
-fn class_step(members: Members, negated: bool, flags: Flags) -> Step
+/// A class with these members.
+fn class_piece(members: Members, negated: bool, flags: Flags) -> Piece
     ensures { (items : List Item) → AreMembers members items
-        → IsStepOf flags result (known_class record { negated = negated; items = items }) }
+        → IsPieceOf flags result (known_class record { negated = negated; items = items }) }
 {
     if members.known {
-        Step::Set(class_set(&members.set, negated, flags.fold))
+        Piece::Held(class_set(&members.set, negated, flags.fold))
     } else {
-        Step::Never
+        Piece::Plain(Step::Never)
     }
 }
 
@@ -55,14 +71,14 @@ fn items_of(text: &[u8]) -> &[u8]
     if is_negated(text) { behind(text) } else { text }
 }
 
-/// The step of the class after a `[`.
-fn one_of(text: &[u8], flags: Flags) -> (Step, &[u8])
-    ensures stands { IsStepOf flags result.0 (one_of_at flags.noescape text.now).0 }
+/// The class after a `[`, and the rest.
+fn one_of(text: &[u8], flags: Flags) -> (Piece, &[u8])
+    ensures stands { IsPieceOf flags result.0 (one_of_at flags.noescape text.now).0 }
     ensures rest { result.1.now ≡ (one_of_at flags.noescape text.now).1 }
 {
     match read_items(items_of(text), flags.noescape) {
-        Some((members, after)) => (class_step(members, is_negated(text), flags), after),
-        None => (Step::Never, &text[..0]),
+        Some((members, after)) => (class_piece(members, is_negated(text), flags), after),
+        None => (Piece::Plain(Step::Never), &text[..0]),
     }
 }
 
@@ -74,36 +90,36 @@ fn star_run(text: &[u8]) -> usize
     text.iter().take_while(|b| **b == b'*').count()
 }
 
-/// The step of the run of stars at the front of a text.
+/// The run of stars at the front of a text, and the rest.
 #[tactic(auto, unfolding(crate::specs::Atom::stars_at))]
-fn stars(text: &[u8], at_start: bool, flags: Flags) -> (Step, &[u8])
-    ensures stands { IsStepOf flags result.0 (stars_at flags.wholename at_start text.now).0 }
+fn stars(text: &[u8], at_start: bool, flags: Flags) -> (Piece, &[u8])
+    ensures stands { IsPieceOf flags result.0 (stars_at flags.wholename at_start text.now).0 }
     ensures rest { result.1.now ≡ (stars_at flags.wholename at_start text.now).1 }
 {
     let run = star_run(text);
     let after = &text[run..];
     if !(flags.wholename && at_start && run >= 2) {
-        (Step::Stars, after)
+        (Piece::Plain(Step::Stars), after)
     } else if after.is_empty() {
-        (Step::Tail, after)
+        (Piece::Plain(Step::Tail), after)
     } else if begins(after, b'/') {
-        (Step::Below, behind(after))
+        (Piece::Plain(Step::Below), behind(after))
     } else {
-        (Step::Stars, after)
+        (Piece::Plain(Step::Stars), after)
     }
 }
 
-/// The step of the atom at the front of a text, and the rest.
+/// The atom at the front of a text, and the rest.
 #[tactic(auto, unfolding(crate::specs::Atom::first_atom))]
-fn first_step(text: &[u8], at_start: bool, flags: Flags) -> (Step, &[u8])
+fn first_piece(text: &[u8], at_start: bool, flags: Flags) -> (Piece, &[u8])
     requires { 0 < length text.now }
-    ensures stands { IsStepOf flags result.0 (first_atom flags at_start text.now).0 }
+    ensures stands { IsPieceOf flags result.0 (first_atom flags at_start text.now).0 }
     ensures rest { result.1.now ≡ (first_atom flags at_start text.now).1 }
 {
     if begins(text, b'*') {
         stars(text, at_start, flags)
     } else if begins(text, b'?') {
-        (Step::AnyByte, behind(text))
+        (Piece::Plain(Step::AnyByte), behind(text))
     } else if begins(text, b'[') {
         one_of(behind(text), flags)
     } else {
@@ -122,19 +138,41 @@ fn opens(step: &Step) -> bool
     }
 }
 
-/// The steps of a pattern, one for each of its atoms.
-pub(crate) fn read_steps(alloc: Global, text: &[u8], flags: Flags) -> Result<Vec<Step>, AllocError>
-    ensures { IfOk result
-        (λ steps. AllStand flags steps.items (atoms_from (length text.now) flags true text.now)) }
+/// The step of a piece, whose set, if it has one, is put after the others.
+fn kept(piece: Piece, sets: &mut Vec<ByteSet>) -> Result<Step, AllocError>
+    requires room { length sets.old.items < 256 }
+    ensures { IfOk result (λ step. IsKept piece sets.old.items sets.new.items step) }
+{
+    match piece {
+        Piece::Plain(step) => Ok(step),
+        Piece::Held(set) => {
+            let number = sets.len() as u8;
+            sets.push(set)?;
+            Ok(Step::Set(number))
+        }
+    }
+}
+
+/// The steps of a pattern, one for each of its atoms, and the sets of its classes.
+pub(crate) fn read_steps(alloc: Global, text: &[u8], flags: Flags) -> Result<Compiled, AllocError>
+    requires short { length text.now ≤ MAX_PATTERN }
+    ensures { IfOk result (λ compiled. (compiled.rules.flags ≡ flags)
+        × AllStand compiled.rules compiled.steps.items
+        (atoms_from (length text.now) flags true text.now)) }
 {
     let mut steps = Vec::new(alloc);
+    let mut sets = Vec::new(alloc);
     let mut rest = text;
     let mut at_start = true;
     while !rest.is_empty() {
-        let (step, after) = first_step(rest, at_start, flags);
+        let (piece, after) = first_piece(rest, at_start, flags);
+        let step = kept(piece, &mut sets)?;
         steps.push(step)?;
         at_start = opens(&step);
         rest = after;
     }
-    Ok(steps)
+    Ok(Compiled {
+        rules: Rules { flags, sets },
+        steps,
+    })
 }

@@ -10,7 +10,7 @@ ghost use Rattle.wq_glob.specs.Step.{step_reach, seen_of};
 ghost use Rattle.wq_glob.specs.Mark.{Mark};
 
 use crate::byte::lower_if;
-use crate::flag::Flags;
+use crate::rules::Rules;
 use crate::step::{Step, may_take_nothing};
 
 /// The state of a tail of the pattern at a place of the text.
@@ -60,31 +60,38 @@ pub(crate) struct Seen {
 
 /// The byte at a place of the text.
 #[inline(always)]
-pub(crate) fn seen_at(text: &[u8], at: usize, flags: Flags) -> Seen
+pub(crate) fn seen_at(text: &[u8], at: usize, rules: &Rules) -> Seen
     requires { at < length text.now }
-    ensures { result ≡ seen_of flags (mark_at flags text.now at) }
+    ensures { result ≡ seen_of rules.now (mark_at rules.now text.now at) }
 {
     let byte = text[at];
     let slash = byte == b'/';
-    let shown = flags.dotfiles || byte != b'.' || (at > 0 && text[at - 1] != b'/');
+    let shown = rules.flags.dotfiles || byte != b'.' || (at > 0 && text[at - 1] != b'/');
     Seen {
         byte,
-        folded: lower_if(flags.fold, byte),
+        folded: lower_if(rules.flags.fold, byte),
         slash,
         shown,
-        wild: shown && !(flags.wholename && slash),
+        wild: shown && !(rules.flags.wholename && slash),
     }
 }
 
 /// A cell, from the cell of the same step and from those of the next step, after the byte and at
 /// it.
-fn next_cell(step: &Step, seen: &Seen, old: Cell, old_next: bool, new_next: bool) -> Cell
-    ensures { result ≡ step_cell step.now seen.now old old_next new_next }
+fn next_cell(
+    step: &Step,
+    seen: &Seen,
+    old: Cell,
+    old_next: bool,
+    new_next: bool,
+    rules: &Rules,
+) -> Cell
+    ensures { result ≡ step_cell rules.now step.now seen.now old old_next new_next }
 {
     match step {
         Step::Byte(byte) => Cell::fit(old_next && seen.folded == *byte),
         Step::AnyByte => Cell::fit(old_next && seen.wild),
-        Step::Set(set) => Cell::fit(old_next && seen.wild && set.has(seen.byte)),
+        Step::Set(set) => Cell::fit(old_next && seen.wild && rules.in_set(*set, seen.byte)),
         Step::Stars => Cell::fit(new_next || (old.fits && seen.wild)),
         Step::Tail => Cell::fit(new_next || (old.fits && seen.shown)),
         Step::Below => {
@@ -99,14 +106,22 @@ fn next_cell(step: &Step, seen: &Seen, old: Cell, old_next: bool, new_next: bool
 }
 
 /// The cell of the steps from `k` on at a byte, from the cells around it: dead if no step is left.
-fn cell_at(steps: &[Step], k: usize, seen: &Seen, old: Cell, old_next: bool, new_next: bool) -> Cell
+fn cell_at(
+    steps: &[Step],
+    k: usize,
+    seen: &Seen,
+    old: Cell,
+    old_next: bool,
+    new_next: bool,
+    rules: &Rules,
+) -> Cell
     requires { k ≤ length steps.now }
-    ensures { (f : Flags) (x : Mark) (text : List Mark) → seen.now ≡ seen_of f x
-        → AreRound f steps.now k x text old old_next new_next
-        → result ≡ cell_of f (drop k steps.now) (x ∷ text) }
+    ensures { (x : Mark) (text : List Mark) → seen.now ≡ seen_of rules.now x
+        → AreRound rules.now steps.now k x text old old_next new_next
+        → result ≡ cell_of rules.now (drop k steps.now) (x ∷ text) }
 {
     if k < steps.len() {
-        next_cell(&steps[k], seen, old, old_next, new_next)
+        next_cell(&steps[k], seen, old, old_next, new_next, rules)
     } else {
         Cell::DEAD
     }
@@ -127,22 +142,22 @@ pub(crate) fn renew(
     steps: &[Step],
     text: &[u8],
     at: usize,
-    flags: Flags,
+    rules: &Rules,
 ) -> Renewal
     requires room { length steps.now < length row.old }
     requires small { length steps.now < 256 }
     requires place { at < length text.now }
-    requires filled { IsRow flags steps.now (marks_at flags text.now (at + 1)) row.old }
-    requires lives { IsWindow flags steps.now (marks_at flags text.now (at + 1)) 0 window }
+    requires filled { IsRow rules.now steps.now (marks_at rules.now text.now (at + 1)) row.old }
+    requires lives { IsWindow rules.now steps.now (marks_at rules.now text.now (at + 1)) 0 window }
 
-    ensures row { IsRow flags steps.now (marks_at flags text.now at) row.new }
-    ensures window { Bounds flags steps.now (marks_at flags text.now at) 0 result.window }
-    ensures cells { step_cells flags steps.now (marks_at flags text.now at)
-        ≡ step_cells flags steps.now (marks_at flags text.now (at + 1)) + result.cells }
+    ensures row { IsRow rules.now steps.now (marks_at rules.now text.now at) row.new }
+    ensures window { Bounds rules.now steps.now (marks_at rules.now text.now at) 0 result.window }
+    ensures cells { step_cells rules.now steps.now (marks_at rules.now text.now at)
+        ≡ step_cells rules.now steps.now (marks_at rules.now text.now (at + 1)) + result.cells }
     ensures counted { 1 ≤ result.cells }
     ensures bounded { result.cells ≤ length steps.now + 1 }
 {
-    let seen = seen_at(text, at, flags);
+    let seen = seen_at(text, at, rules);
     let mut k = window.high + 1;
     let mut old_next = false;
     let mut new_next = false;
@@ -150,7 +165,7 @@ pub(crate) fn renew(
     while is_open(k, window.low, old_next, new_next) {
         k -= 1;
         let old = row[k];
-        let new = cell_at(steps, k, &seen, old, old_next, new_next);
+        let new = cell_at(steps, k, &seen, old, old_next, new_next, rules);
         row[k] = new;
         live = window_with(live, k, new);
         old_next = old.fits;
@@ -190,7 +205,7 @@ fn window_with(window: Option<Window>, k: usize, cell: Cell) -> Option<Window>
 fn is_skipped(steps: &[Step], low: usize) -> bool
     requires { low ≤ length steps.now }
     ensures later { IsTrue result → 0 < low }
-    ensures skipped { (f : Flags) → fits_at_end f steps.now low ≡ true → MatchBool result
+    ensures skipped { (f : Rules) → fits_at_end f steps.now low ≡ true → MatchBool result
         (fits_at_end f steps.now (low - 1) ≡ true)
         ((low ≡ 0) ⊎ (fits_at_end f steps.now (low - 1) ≡ false)) }
 {
@@ -202,11 +217,11 @@ fn is_skipped(steps: &[Step], low: usize) -> bool
 pub(crate) fn fill_end(row: &mut [Cell], steps: &[Step]) -> Window
     requires room { length steps.now < length row.old }
     requires blank { IsBlank row.old }
-    ensures row { (f : Flags) → IsRow f steps.now [] row.new }
-    ensures lives { (f : Flags) → IsWindow f steps.now [] 0 result }
+    ensures row { (f : Rules) → IsRow f steps.now [] row.new }
+    ensures lives { (f : Rules) → IsWindow f steps.now [] 0 result }
     ensures ordered { result.low ≤ result.high }
     ensures last { result.high ≡ length steps.now }
-    ensures cells { (f : Flags) → step_cells f steps.now [] ≡ result.high + 1 - (result.low - 1) }
+    ensures cells { (f : Rules) → step_cells f steps.now [] ≡ result.high + 1 - (result.low - 1) }
 {
     let mut low = steps.len();
     row[low] = Cell::fit(true);

@@ -1,9 +1,8 @@
-//! The form of a pattern that the matcher runs: one step for each atom.
+//! The form of a pattern that the matcher runs: one small step for each atom. `rules` has the sets
+//! of bytes that steps name.
 ghost use Rattle.std.specs.Prelude.{◌≡◌};
 ghost use Rattle.wq_glob.specs.Cell.{may_be_empty};
 ghost use Rattle.wq_glob.specs.Step.{step_reach};
-
-use crate::byte_set::ByteSet;
 
 /// The bytes of a text that an atom takes.
 #[derive(Clone, Copy, Debug)]
@@ -12,8 +11,8 @@ pub(crate) enum Step {
     Byte(u8),
     /// `?`: one byte.
     AnyByte,
-    /// A class: one byte of the set.
-    Set(ByteSet),
+    /// A class: one byte of the set with this number.
+    Set(u8),
     /// `*`: as many bytes as it likes.
     Stars,
     /// `**/`: directories with their slashes, however many.
@@ -23,6 +22,9 @@ pub(crate) enum Step {
     /// A byte that no text has.
     Never,
 }
+
+// A pattern has as many steps as atoms, and thousands of patterns may be kept.
+const _: () = prove!(size_of::<Step>() <= 8);
 
 /// Whether the part of a step may be empty.
 pub(crate) fn may_take_nothing(step: &Step) -> bool

@@ -7,7 +7,7 @@ returns-then-branch c =
     let was = c.loop-next.invariant in
     sym
     (was.same
-    ∙ below_fit c.args.flags c.args.steps.now c.args.text.now c.args.k c.requires.below c.loop-next.begin (sym c.in_ok-fits_names.ensures ∙ c.if-branch.true))
+    ∙ below_fit c.args.rules.now c.args.steps.now c.args.text.now c.args.k c.requires.below c.loop-next.begin (sym c.in_ok-fits_names.ensures ∙ c.if-branch.true))
 
 pub loop-next-preserved : goal.loop-next-preserved
 loop-next-preserved c =
@@ -15,7 +15,7 @@ loop-next-preserved c =
     record {
       place = c.in-Some.ensures.within;
       same = was.same
-          ∙ below_next c.args.flags c.args.steps.now c.args.text.now c.args.k c.requires.below c.loop-next.begin c.in-Some.next
+          ∙ below_next c.args.rules.now c.args.steps.now c.args.text.now c.args.k c.requires.below c.loop-next.begin c.in-Some.next
           (sym c.in_ok-fits_names.ensures ∙ c.if-branch.false) c.in-Some.ensures.next;
     }
 
@@ -24,5 +24,5 @@ returns-in-None c =
     let was = c.loop-next.invariant in
     sym
     (was.same
-    ∙ below_none c.args.flags c.args.steps.now c.args.text.now c.args.k c.requires.below c.loop-next.begin (sym c.in_ok-fits_names.ensures ∙ c.if-branch.false)
+    ∙ below_none c.args.rules.now c.args.steps.now c.args.text.now c.args.k c.requires.below c.loop-next.begin (sym c.in_ok-fits_names.ensures ∙ c.if-branch.false)
     c.in-None.ensures.next)

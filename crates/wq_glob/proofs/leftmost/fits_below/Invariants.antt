@@ -5,7 +5,7 @@ use Rattle.wq_glob.proofs.leftmost.fits_below.Given as goal
 abbrev pub invariant-loop-next : goal.invariant-loop-next
 invariant-loop-next l = record {
   place : l.begin ≤ length l.text;
-  same : fits_from l.flags l.steps l.text l.k l.from ≡ fits_from l.flags l.steps l.text l.k l.begin;
+  same : fits_from l.rules l.steps l.text l.k l.from ≡ fits_from l.rules l.steps l.text l.k l.begin;
 }
 
 abbrev pub decreases-loop-next : goal.decreases-loop-next

@@ -5,7 +5,7 @@ use Rattle.wq_glob.proofs.leftmost.is_shown.Given as goal
 abbrev pub invariant-loop-at : goal.invariant-loop-at
 invariant-loop-at l = record {
   within : l.at ≤ length l.text;
-  same : are_shown l.flags l.text l.from ≡ are_shown l.flags l.text l.at;
+  same : are_shown l.rules l.text l.from ≡ are_shown l.rules l.text l.at;
 }
 
 abbrev pub decreases-loop-at : goal.decreases-loop-at

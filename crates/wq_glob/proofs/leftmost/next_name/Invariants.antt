@@ -9,7 +9,7 @@ abbrev pub invariant-loop-at : goal.invariant-loop-at
 invariant-loop-at l = record {
   after : l.from ≤ l.at;
   within : l.at ≤ length l.text;
-  same : (fit : List Mark → Bool) → directories has_no_hidden_dot fit (marks_at l.flags l.text l.from) ≡ directories has_no_hidden_dot fit (marks_at l.flags l.text l.at);
+  same : (fit : List Mark → Bool) → directories has_no_hidden_dot fit (marks_at l.rules l.text l.from) ≡ directories has_no_hidden_dot fit (marks_at l.rules l.text l.at);
 }
 
 abbrev pub decreases-loop-at : goal.decreases-loop-at

@@ -1,17 +1,21 @@
-use Rattle.std.proofs.Common.{◌≡◌, ◌==◌, ℕ, true, false, refl, slice_index, arith}
-use Rattle.wq_glob.specs.Byte.{lower_if}
+use Rattle.std.proofs.Common.{◌∙◌, ℕ, refl, sym, arith, ap, inl, inr}
+use Rattle.std.proofs.lemmas.Bool.{cases_order}
 use Rattle.wq_glob.specs.Cell.{mark_at}
 use Rattle.wq_glob.specs.Fits.{is_wild}
-use Rattle.wq_glob.proofs.LeftmostLemmas.{up_to_next}
 use Rattle.wq_glob.proofs.leftmost.pass.Goals as goal
 
-pub loop-flags-preserved : goal.loop-flags-preserved
-loop-flags-preserved c =
-    let was = c.loop-flags.invariant in
-    let here = c.loop-flags-test.ensures in
+pub loop-at-preserved : goal.loop-at-preserved
+loop-at-preserved c =
+    let was = c.loop-at.invariant in
+    let here = c.loop-at-test.ensures in
+    let inside = here.within refl in
+    let next = c.plain_end-at.ensures in
     record {
-      after = omega (arith, was.after);
-      within = omega (arith, here.within refl);
-      wild = up_to_next (λ (i : ℕ). is_wild c.args.flags (mark_at c.args.flags c.args.text.now i) ≡ true) c.args.from c.loop-flags.at was.wild (here.wild refl);
-      other = up_to_next (λ (i : ℕ). (lower_if c.args.flags.fold (slice_index c.args.text.now i) == c.args.wanted) ≡ false) c.args.from c.loop-flags.at was.other (here.other refl);
+      after = omega (arith, was.after, next.after);
+      within = next.within;
+      wild = λ i from before. elim (cases_order i c.loop-at.at) [
+        | inl same ↦ ap (λ (n : ℕ). is_wild c.args.rules.now.flags (mark_at c.args.rules.now c.args.text.now n)) same ∙ sym (here.wild inside)
+        | inr (inl earlier) ↦ was.wild i from earlier
+        | inr (inr later) ↦ next.wild c.args.rules.now i later before
+      ];
     }

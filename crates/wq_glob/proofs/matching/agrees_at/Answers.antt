@@ -9,12 +9,12 @@ use Rattle.wq_glob.proofs.matching.agrees_at.Goals.{then-at-steps-via-then-at-st
 pub returns-then-at-steps-clause-value : goal.returns-then-at-steps-clause-value
 returns-then-at-steps-clause-value c within =
     elim c.then-at-steps.branch [
-      | then-at-steps-via-then-at-steps w ↦ agrees_past c.args.flags c.args.steps.now c.args.text.now c.args.at w.if-at-steps.true
-      | then-at-steps-via-else-at-steps+then-at-text w ↦ agrees_end c.args.flags c.args.steps.now c.args.text.now c.args.at within w.if-at-text.true
+      | then-at-steps-via-then-at-steps w ↦ agrees_past c.args.rules.now c.args.steps.now c.args.text.now c.args.at w.if-at-steps.true
+      | then-at-steps-via-else-at-steps+then-at-text w ↦ agrees_end c.args.rules.now c.args.steps.now c.args.text.now c.args.at within w.if-at-text.true
     ]
 
 pub returns-in-Byte-clause-value : goal.returns-in-Byte-clause-value
 returns-in-Byte-clause-value c within =
     ap (λ (b : ℕ). b == c.in-Byte.byte) c.lower_if.ensures
-    ∙ sym (ap (λ (s : Step). is_byte s && step_admits c.args.flags s (mark_at c.args.flags c.args.text.now c.args.at)) c.in-Byte.is)
-    ∙ agrees_here c.args.flags c.args.steps.now c.args.text.now c.args.at _ c.if-at-steps.false c.if-at-text.false
+    ∙ sym (ap (λ (s : Step). is_byte s && step_admits c.args.rules.now s (mark_at c.args.rules.now c.args.text.now c.args.at)) c.in-Byte.is)
+    ∙ agrees_here c.args.rules.now c.args.steps.now c.args.text.now c.args.at _ c.if-at-steps.false c.if-at-text.false

@@ -8,9 +8,9 @@ abbrev pub invariant-loop-at : goal.invariant-loop-at
 invariant-loop-at l = record {
   from : l.from ≤ l.at;
   within : l.at ≤ length l.text;
-  filled : IsRow l.flags l.steps (marks_at l.flags l.text l.at) l.row;
-  lives : IsWindow l.flags l.steps (marks_at l.flags l.text l.at) 0 l.window;
-  cells : l.cells ≡ row_cells (step_form l.flags) l.steps (marks_at l.flags l.text l.at);
+  filled : IsRow l.rules l.steps (marks_at l.rules l.text l.at) l.row;
+  lives : IsWindow l.rules l.steps (marks_at l.rules l.text l.at) 0 l.window;
+  cells : l.cells ≡ row_cells (step_form l.rules) l.steps (marks_at l.rules l.text l.at);
   bounded : l.cells ≤ (length l.steps + 1) * (length l.text - l.at + 1);
   counted : length l.text - l.at + 1 ≤ l.cells;
 }

@@ -1,6 +1,6 @@
 use Rattle.std.proofs.Common.{◌≡◌, ◌∙◌, sym}
 use Rattle.wq_glob.specs.Pattern.{fits}
-use Rattle.wq_glob.proofs.PatternLemmas.{compiled_as, matched, steps_few, fits_cuts, cuts_fits}
+use Rattle.wq_glob.proofs.PatternLemmas.{matched, steps_few, fits_cuts, cuts_fits}
 use Rattle.wq_glob.proofs.pattern.Pattern.fits.Goals as goal
 use Rattle.wq_glob.proofs.pattern.Pattern.fits.Goals.{After-fits_of}
 
@@ -9,8 +9,7 @@ tested c = matched c.args.self.now c.args.text.now _ _ c.self.inside.steps.items
 
 pub fits_of-requires-clause-small : goal.fits_of-requires-clause-small
 fits_of-requires-clause-small c =
-    let compiled = compiled_as c.args.self.now _ _ c.self.inside.steps.items c.self.view_is c.self.invariant in
-    let few = steps_few c.args.self.now _ compiled in
+    let few = steps_few c.args.self.now _ _ c.self.inside.steps.items c.self.view_is c.self.invariant in
     rw c.as_slice.ensures.value few
 
 pub returns-clause-test : goal.returns-clause-test

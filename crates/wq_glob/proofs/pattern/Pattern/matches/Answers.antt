@@ -2,7 +2,7 @@ use Rattle.std.proofs.Common.{◌≡◌, ◌∙◌, ◌≤◌, ◌+◌, ◌*◌,
 use Rattle.wq_glob.specs.Pattern.{fits}
 use Rattle.wq_glob.specs.declared.step.Step.{Step}
 use Rattle.wq_glob.proofs.CostLemmas.{cost_of}
-use Rattle.wq_glob.proofs.PatternLemmas.{compiled_as, matched, steps_count, steps_few, fits_cuts, cuts_fits}
+use Rattle.wq_glob.proofs.PatternLemmas.{matched, steps_count, steps_few, fits_cuts, cuts_fits}
 use Rattle.wq_glob.proofs.pattern.Pattern.matches.Goals as goal
 use Rattle.wq_glob.proofs.pattern.Pattern.matches.Goals.{After-hit_of}
 
@@ -11,8 +11,7 @@ tested c = matched c.args.self.now c.args.text.now _ _ c.self.inside.steps.items
 
 pub hit_of-requires-clause-small : goal.hit_of-requires-clause-small
 hit_of-requires-clause-small c =
-    let compiled = compiled_as c.args.self.now _ _ c.self.inside.steps.items c.self.view_is c.self.invariant in
-    let few = steps_few c.args.self.now _ compiled in
+    let few = steps_few c.args.self.now _ _ c.self.inside.steps.items c.self.view_is c.self.invariant in
     rw c.as_slice.ensures.value few
 
 pub returns-clause-test : goal.returns-clause-test
@@ -26,9 +25,8 @@ returns-clause-cuts c = (
 
 pub returns-clause-bounded : goal.returns-clause-bounded
 returns-clause-bounded c =
-    let compiled = compiled_as c.args.self.now _ _ c.self.inside.steps.items c.self.view_is c.self.invariant in
     subst (λ (m : ℕ). c.hit_of.result.cells ≤ (m + 1) * (length c.args.text.now + 1))
-    (ap (λ (l : List Step). length l) c.as_slice.ensures.value ∙ steps_count c.args.self.now _ compiled) c.hit_of.ensures.bounded
+    (ap (λ (l : List Step). length l) c.as_slice.ensures.value ∙ steps_count c.args.self.now _ _ c.self.inside.steps.items c.self.view_is c.self.invariant) c.hit_of.ensures.bounded
 
 pub returns-clause-cells : goal.returns-clause-cells
 returns-clause-cells c = cost_of c.args.self.now c.args.text.now _ _ c.self.inside.steps.items c.as_slice.result.now _ c.self.view_is c.self.invariant c.as_slice.ensures.value (λ i. (c.type_inv.text i).fits) c.hit_of.ensures.cells

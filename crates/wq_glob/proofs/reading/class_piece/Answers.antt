@@ -1,5 +1,5 @@
 use Rattle.wq_glob.proofs.StepLemmas.{stands_class}
-use Rattle.wq_glob.proofs.reading.class_step.Goals as goal
+use Rattle.wq_glob.proofs.reading.class_piece.Goals as goal
 
 pub returns-then-members : goal.returns-then-members
 returns-then-members c items are =
