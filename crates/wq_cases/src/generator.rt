@@ -1,7 +1,10 @@
-//! Calls on the generators of a query. A list of suffixes is `list (c) (h)`, and a list of paths
-//! with their depths is `list (-1 src) (0 )`. `list` alone is empty, and `none` is no generator.
+//! Calls on the generators of a query. A list of suffixes is `list (c) (h)`, a list of paths with
+//! their depths is `list (-1 src) (0 )`, and a list of patterns of whole names is `list (src/*.c)`.
+//! `list` alone is empty, and `none` is no generator. There are no patterns if their word is left
+//! out.
 
 use crate::history::view_of;
+use crate::pattern::flags;
 use crate::word::{cut, number, text};
 use anyhow::{Context, Result, bail};
 use std::alloc::Global;
@@ -9,9 +12,10 @@ use std::sync::ArcSlice;
 use wq_base::{Table, Text};
 use wq_clock::Bound;
 use wq_gen::{Counted, Generators, PathGen, candidates, candidates_counted};
+use wq_glob::Pattern;
 use wq_view::{Kind, Pass, Seen, View};
 
-/// `candidates HISTORY SINCE SUFFIXES PATHS`: the candidates in the view after the history, each
+/// `candidates HISTORY SINCE SUFFIXES PATHS [PATTERNS]`: the candidates in the view after the history, each
 /// with its position.
 pub(crate) fn candidates_case(alloc: Global, words: &[Vec<u8>]) -> Result<String> {
     let mut moves = String::new(alloc);
@@ -27,7 +31,7 @@ pub(crate) fn candidates_case(alloc: Global, words: &[Vec<u8>]) -> Result<String
     Ok(answer)
 }
 
-/// `counted HISTORY SINCE SUFFIXES PATHS`: how many candidates there are in the view after the
+/// `counted HISTORY SINCE SUFFIXES PATHS [PATTERNS]`: how many candidates there are in the view after the
 /// history, and how many looks they took.
 pub(crate) fn counted_case(alloc: Global, words: &[Vec<u8>]) -> Result<String> {
     let mut moves = String::new(alloc);
@@ -80,7 +84,7 @@ fn generators(alloc: Global, words: &[Vec<u8>]) -> Result<Generators> {
         since: since(text(words, 2)?)?,
         suffix: suffixes(alloc, text(words, 3)?)?,
         path: paths(alloc, text(words, 4)?)?,
-        glob: None,
+        glob: patterns(alloc, words)?,
     })
 }
 
@@ -128,4 +132,18 @@ fn paths(alloc: Global, list: &str) -> Result<Option<Table<PathGen>>> {
         }
     }
     Ok(Some(Table::from_vec(paths)))
+}
+
+fn patterns(alloc: Global, words: &[Vec<u8>]) -> Result<Option<Table<Pattern>>> {
+    if words.len() < 6 {
+        return Ok(None);
+    }
+    let flags = flags("wholename")?;
+    let mut patterns = Vec::new(alloc);
+    for piece in text(words, 5)?.split('(') {
+        if let Some(pattern) = piece.trim_end().strip_suffix(')') {
+            patterns.push(Pattern::parse(alloc, pattern.as_bytes(), flags)?)?;
+        }
+    }
+    Ok(Some(Table::from_vec(patterns)))
 }

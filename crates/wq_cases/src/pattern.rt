@@ -7,7 +7,7 @@ use std::alloc::{AllocError, Global};
 use wq_glob::{Flags, Hit, MAX_MATCHED_TEXT, Pattern, PatternFault};
 
 /// The flags that a word names, with a comma between two. `plain` is no flag.
-fn flags(word: &str) -> Result<Flags> {
+pub(crate) fn flags(word: &str) -> Result<Flags> {
     let mut flags = Flags {
         wholename: false,
         dotfiles: false,

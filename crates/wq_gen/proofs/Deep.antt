@@ -15,11 +15,11 @@ use Rattle.wq_gen.specs.declared.generators.PathGen.{PathGen}
 use Rattle.wq_gen.specs.Candidate.{is_under, is_within}
 use Rattle.wq_gen.specs.Depth.{IsDeep}
 
-abbrev slash : ℕ
+abbrev pub slash : ℕ
 slash = byte "/"
 
 -- what follows a directory and a slash, byte by byte
-abbrev after : List ℕ → List ℕ → Option (List ℕ)
+abbrev pub after : List ℕ → List ℕ → Option (List ℕ)
 after [] name = after_slash name
 after (d ∷ dir) [] = None
 after (d ∷ dir) (b ∷ name) = if b == d then after dir name else None
@@ -33,7 +33,7 @@ after_is (d ∷ dir) (b ∷ name) = at (b == d) (after_is dir name)
     at true rest = rest
     at false rest = refl
 
-below_is : (d : ℕ) (dir name : List ℕ) → rest_below Exact (d ∷ dir) name ≡ after (d ∷ dir) name
+pub below_is : (d : ℕ) (dir name : List ℕ) → rest_below Exact (d ∷ dir) name ≡ after (d ∷ dir) name
 below_is d dir name =
     let some : (length (d ∷ dir) == 0) ≡ false = ne_eqb (length (d ∷ dir)) 0 (λ e. omega (arith, e)) in
     ap (λ b. if b then Some name else (if bytes_eq (take (length (d ∷ dir)) name) (d ∷ dir) then after_slash (drop (length (d ∷ dir)) name) else None)) some ∙ after_is (d ∷ dir) name
@@ -50,7 +50,7 @@ slash_form (b ∷ q) y e = at (is_slash b) refl e
     at false is e = absurd (none_some y e)
 
 -- a name is its directory, a slash and the rest
-after_form : (f q y : List ℕ) → after f q ≡ Some y → q ≡ f ++ (slash ∷ y)
+pub after_form : (f q y : List ℕ) → after f q ≡ Some y → q ≡ f ++ (slash ∷ y)
 after_form [] q y e = slash_form q y e
 after_form (d ∷ f) [] y e = absurd (none_some y e)
 after_form (d ∷ f) (b ∷ q) y e = at (b == d) refl e (after_form f q y)
@@ -64,7 +64,7 @@ after_intro [] y = refl
 after_intro (d ∷ f) y = rw (eq-eqb d d refl) (after_intro f y)
 
 -- what follows a directory, of a name below a directory in it
-through : (p f q y : List ℕ) → after (p ++ (slash ∷ f)) q ≡ Some y → after p q ≡ Some (f ++ (slash ∷ y))
+pub through : (p f q y : List ℕ) → after (p ++ (slash ∷ f)) q ≡ Some y → after p q ≡ Some (f ++ (slash ∷ y))
 through p f q y e =
     ap (after p) (after_form (p ++ (slash ∷ f)) q y e ∙ append_assoc p (slash ∷ f) (slash ∷ y)) ∙ after_intro p (f ++ (slash ∷ y))
 
@@ -93,7 +93,7 @@ cut rest k h is =
     sym (take-append-drop k rest)
     ∙ ap (λ l. take k rest ++ l) (drop_more rest k 0 h ∙ ap (λ b. b ∷ drop (k + 1) rest) (eqb-true (get_or rest k 0) slash is))
 
-from_some : (o : Option (List ℕ)) (goal : Type 0) → is_some o ≡ true → ((y : List ℕ) → o ≡ Some y → goal) → goal
+pub from_some : (o : Option (List ℕ)) (goal : Type 0) → is_some o ≡ true → ((y : List ℕ) → o ≡ Some y → goal) → goal
 from_some None goal e by = absurd (false≢true e)
 from_some (Some y) goal e by = by y refl
 

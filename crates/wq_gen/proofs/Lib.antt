@@ -9,3 +9,7 @@ pub mod Looks
 pub mod Prefixes
 pub mod Deep
 pub mod Between
+pub mod Holding
+pub mod PathOrder
+pub mod Kept
+pub mod Suffixed

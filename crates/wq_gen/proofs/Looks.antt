@@ -20,7 +20,7 @@ range_few f start (suc k) passes =
     let one = ap (λ n. length (filter f (range_with_len 0 n))) next ∙ ap length (more f 0 (start + k) (start + k) (omega arith)) ∙ ap (λ b. length (filter f (range_with_len 0 (start + k)) ++ cond b ((start + k) ∷ []) [])) (passes (start + k) (omega arith) (omega arith)) ∙ length-append (filter f (range_with_len 0 (start + k))) ((start + k) ∷ []) in
     omega (arith, one, range_few f start k (λ i low high. passes i low (omega (arith, high))))
 
-grows : (f : ℕ → Bool) (n k : ℕ) → length (filter f (range_with_len 0 n)) ≤ length (filter f (range_with_len 0 (n + k)))
+pub grows : (f : ℕ → Bool) (n k : ℕ) → length (filter f (range_with_len 0 n)) ≤ length (filter f (range_with_len 0 (n + k)))
 grows f n zero =
     let same : n + 0 ≡ n = omega arith in
     omega (arith, ap (λ x. length (filter f (range_with_len 0 x))) same)

@@ -1,9 +1,11 @@
 -- The positions of the files at a path.
-use Rattle.std.proofs.Common.{◌≡◌, ℕ, ◌<◌, ◌≤◌, Bool, true, false, cond, ◌&&◌, ◌||◌, ◌==◌, nat_le, nat_lt, is_some, List, [], ◌∷◌, ◌++◌, length, filter, slice_get, Option, Some, None, refl, ap, sym, ◌∙◌, get_or, arith}
+use Rattle.std.proofs.Common.{◌≡◌, ℕ, ◌+◌, ◌<◌, ◌≤◌, Bool, true, false, cond, ◌&&◌, ◌||◌, ◌==◌, nat_le, nat_lt, is_some, List, [], ◌∷◌, ◌++◌, length, map, sum_by, filter, slice_get, Option, Some, None, refl, ap, sym, ◌∙◌, get_or, arith}
 use Rattle.std.specs.List.{range_with_len}
 use Rattle.std.specs.Option.{option_map_or}
 use Rattle.std.proofs.lemmas.Bool.{and_left, and_right, lt-leb, le-ltb, ne_eqb}
 use Rattle.std.proofs.lemmas.List.Folds.{list_any-append}
+use Rattle.std.proofs.lemmas.List.{map-append}
+use Rattle.std.proofs.lemmas.List.Sums.{sum_by-append, sum_by-cons}
 use mathlib.Core.Bool.{true≢false}
 use Rattle.wq_base.specs.Directory.{rest_below}
 use Rattle.wq_base.specs.declared.compare.Case.TheVariants.{Exact}
@@ -76,3 +78,29 @@ pub only_path : (ps : List PathGen) (p : PathGen) (rs : List RecordData) → 1 �
 only_path [] p rs low high is = absurd (omega (arith, low))
 only_path (q ∷ []) p rs low high is = one_path p rs ∙ ap (λ x. positions_of (is_on_path (x ∷ [])) rs) is
 only_path (q ∷ q' ∷ ps) p rs low high is = absurd (omega (arith, high))
+
+-- the same for lists that have the paths
+module _ {A : Type 0} (f : A → PathGen) where
+  pub no_paths_of : (ps : List A) (rs : List RecordData) → length ps < 1 → [] ≡ positions_of (is_on_path (map f ps)) rs
+  no_paths_of [] rs low = no_paths [] rs low
+  no_paths_of (p ∷ ps) rs low = absurd (omega (arith, low))
+
+  pub only_path_of : (ps : List A) (p : A) (rs : List RecordData) → 1 ≤ length ps → length ps < 2 → p ≡ get_or ps 0 p → positions_of (λ r. is_itself (f p) r || is_under (f p) r) rs ≡ positions_of (is_on_path (map f ps)) rs
+  only_path_of [] p rs low high is = absurd (omega (arith, low))
+  only_path_of (q ∷ []) p rs low high is = only_path (f q ∷ []) (f p) rs low high (ap f is)
+  only_path_of (q ∷ q' ∷ ps) p rs low high is = absurd (omega (arith, high))
+
+  pub both_paths_of : (ps qs : List A) (rs : List RecordData) → positions_of (λ r. is_on_path (map f ps) r || is_on_path (map f qs) r) rs ≡ positions_of (is_on_path (map f (ps ++ qs))) rs
+  both_paths_of ps qs rs = both_paths (map f ps) (map f qs) rs ∙ ap (λ l. positions_of (is_on_path l) rs) (sym (map-append f ps qs))
+
+  module _ (cost : PathGen → ℕ) where
+    pub one_sum_of : (ps : List A) (p : A) → 1 ≤ length ps → length ps < 2 → p ≡ get_or ps 0 p → cost (f p) ≡ sum_by cost (map f ps)
+    one_sum_of [] p low high is = absurd (omega (arith, low))
+    one_sum_of (q ∷ []) p low high is =
+        let one : sum_by cost (f q ∷ []) ≡ cost (f q) + sum_by cost [] = sum_by-cons cost (f q) [] in
+        ap (λ x. cost (f x)) is ∙ omega (arith, one)
+    one_sum_of (q ∷ q' ∷ ps) p low high is = absurd (omega (arith, high))
+
+    pub both_sums_of : (ps qs all : List A) → all ≡ ps ++ qs → sum_by cost (map f all) ≡ sum_by cost (map f ps) + sum_by cost (map f qs)
+    both_sums_of ps qs all is =
+        ap (λ l. sum_by cost (map f l)) is ∙ ap (sum_by cost) (map-append f ps qs) ∙ sum_by-append cost (map f ps) (map f qs)

@@ -12,6 +12,7 @@ use Rattle.wq_view.specs.View.{ViewData}
 use Rattle.wq_gen.specs.declared.generators.Generators.{Generators}
 use Rattle.wq_gen.specs.declared.generators.PathGen.{PathGen}
 use Rattle.wq_gen.specs.Candidate.{changed_since}
+use Rattle.wq_gen.specs.Outer.{outer}
 
 -- a view, and how many looks it took
 pub record CountedData : Type 0 where
@@ -43,10 +44,10 @@ suffix_looks (Some texts) records = sum_by (text_looks records) texts
 abbrev pub one_path_looks : List RecordData → PathGen → ℕ
 one_path_looks records path = count_by (is_below path.path) records + 3
 
--- the looks that paths may take
+-- the looks that paths may take: those of the paths that no other one holds
 abbrev pub path_looks : Option (List PathGen) → List RecordData → ℕ
 path_looks None records = 0
-path_looks (Some paths) records = sum_by (one_path_looks records) paths
+path_looks (Some paths) records = sum_by (one_path_looks records) (outer paths)
 
 -- the looks that patterns may take: one for each file, whatever the number of patterns
 abbrev pub glob_looks : Option (List PatternData) → List RecordData → ℕ

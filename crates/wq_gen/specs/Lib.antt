@@ -2,3 +2,5 @@ pub mod Candidate
 pub mod Union
 pub mod Counted
 pub mod Depth
+pub mod Outer
+pub mod Among

@@ -1,15 +1,20 @@
 //! A view whose looks are counted. So the cost of a search for candidates can be stated.
-ghost use Rattle.std.specs.Prelude.{◌≡◌, ◌≤◌, ◌<◌, ◌==◌, ◌&&◌, ℕ, false, nat_le, nat_lt, length, slice_get, IfSome, MatchOption, Some};
+ghost use Rattle.std.specs.Prelude.{◌≡◌, ◌≤◌, ◌<◌, ◌==◌, ◌&&◌, ℕ, false, map, nat_le, nat_lt, length, slice_get, IfSome, MatchOption, Some};
+ghost use Rattle.std.specs.List.Sorted.{IsSortedBy};
+ghost use Rattle.std.specs.Ordering.{is_lt};
 ghost use Rattle.wq_view.specs.Below.{is_below};
 ghost use Rattle.wq_view.specs.Limit.{max_records};
 ghost use Rattle.wq_view.specs.Order.{Known};
 ghost use Rattle.wq_view.specs.Position.{has_name, passes_at, positions_of};
-ghost use Rattle.wq_view.specs.Suffix.{has_suffix, passing_before};
+ghost use Rattle.wq_view.specs.Suffix.{IsNext, has_suffix, passing_before};
 ghost use Rattle.wq_view.specs.View.{newest_of};
+ghost use Rattle.wq_gen.specs.Among.{folded_order};
+ghost use Rattle.wq_gen.specs.Candidate.{suffix_is_among};
 ghost use Rattle.wq_gen.specs.Counted.{IsFound, one_more};
 
+use crate::among::is_among;
 use std::marker::Model;
-use wq_base::is_suffix;
+use wq_base::{Text, is_suffix};
 use wq_view::{Reader, Record, View};
 
 /// A record that was found by suffix, and the number of records with that suffix before it.
@@ -116,6 +121,21 @@ impl<'a> Counted<'a> {
         found
     }
 
+    /// The first position from one on whose record has a suffix that is among these texts. The call
+    /// looks for the suffix of each record up to that one among the texts.
+    pub(crate) fn next_among(&mut self, sorted: &[&Text], from: usize) -> Option<usize>
+        requires { IsSortedBy (λ s t. is_lt (folded_order s.now t.now)) sorted.now }
+        ensures next { IsNext (suffix_is_among (map (λ t. t.now) sorted.now))
+            self.old.view.records from result }
+        ensures few { IfSome result (λ i. i < max_records) }
+        ensures same { self.new.view ≡ self.old.view }
+        ensures count { self.new.count ≡ one_more self.old.count }
+    {
+        self.count = one_more(self.count);
+        let len = self.view.len();
+        next_among(&mut self.reader, len, sorted, from)
+    }
+
     /// The range of the positions of the records strictly below a directory. All records are below the empty one.
     pub fn below(&mut self, dir: &str) -> (usize, usize)
         ensures exact { (i : ℕ) → passes_at (is_below dir.now) self.old.view.records i
@@ -150,6 +170,22 @@ fn one_more(count: u64) -> u64
     ensures { result ≡ one_more count }
 {
     count.saturating_add(1)
+}
+
+/// The first position from one on whose record has a suffix that is among these texts.
+fn next_among(reader: &mut Reader<'_>, len: usize, sorted: &[&Text], from: usize) -> Option<usize>
+    requires len { len ≡ length reader.old }
+    requires sorted { IsSortedBy (λ s t. is_lt (folded_order s.now t.now)) sorted.now }
+    ensures next { IsNext (suffix_is_among (map (λ t. t.now) sorted.now)) reader.old from result }
+    ensures bound { IfSome result (λ i. i < len) }
+    ensures same { reader.new ≡ reader.old }
+{
+    for i in from..len {
+        if is_among(sorted, reader.get(i).suffix()) {
+            return Some(i);
+        }
+    }
+    None
 }
 
 /// A place from which a search by suffix may begin, and the number of records with the suffix before it. The record

@@ -5,11 +5,13 @@
 //! crates read the client's texts.
 #![tactic(auto)]
 
+mod among;
 mod candidate;
 mod counted;
 mod depth;
 mod generators;
 mod glob;
+mod outer;
 mod path;
 mod position;
 mod since;

@@ -1,6 +1,6 @@
 //! The files at paths. The files below a path are neighbours in a view. So the cost grows with
 //! their number, and not with the size of the view.
-ghost use Rattle.std.specs.Prelude.{◌≡◌, ◌≤◌, ◌<◌, ◌+◌, ◌++◌, ◌||◌, true, false, count_by, length, sum_by, IfOk};
+ghost use Rattle.std.specs.Prelude.{◌≡◌, ◌≤◌, ◌<◌, ◌+◌, ◌++◌, ◌||◌, true, false, count_by, length, map, sum_by, IfOk};
 ghost use Rattle.wq_gen.specs.Candidate.{gives, is_itself, is_on_path, is_under};
 ghost use Rattle.wq_gen.specs.Counted.{one_path_looks, path_looks};
 ghost use Rattle.wq_view.specs.Below.{is_below};
@@ -12,6 +12,7 @@ ghost use Rattle.wq_view.specs.RecordData.{RecordData};
 use crate::counted::Counted;
 use crate::depth::deep_directory;
 use crate::generators::PathGen;
+use crate::outer::outer_paths;
 use crate::position::{keep_if, union};
 use std::alloc::{AllocError, Global};
 use wq_base::{Case, Table, rest_below};
@@ -33,7 +34,7 @@ pub(crate) fn with_path(
     ensures same { counted.new.view ≡ counted.old.view }
 {
     match paths {
-        Some(paths) => on_paths(alloc, counted, paths.as_slice()),
+        Some(paths) => on_paths(alloc, counted, &outer_paths(alloc, paths.as_slice())?),
         None => Ok(Vec::new(alloc)),
     }
 }
@@ -42,12 +43,12 @@ pub(crate) fn with_path(
 fn on_paths(
     alloc: Global,
     counted: &mut Counted<'_>,
-    paths: &[PathGen],
+    paths: &[&PathGen],
 ) -> Result<Vec<u32>, AllocError>
     ensures found { IfOk result (λ found. found.items
-        ≡ positions_of (is_on_path paths.now) counted.old.view.records) }
-    ensures few { counted.new.count
-        ≤ counted.old.count + sum_by (one_path_looks counted.old.view.records) paths.now }
+        ≡ positions_of (is_on_path (map (λ p. p.now) paths.now)) counted.old.view.records) }
+    ensures few { counted.new.count ≤ counted.old.count
+        + sum_by (one_path_looks counted.old.view.records) (map (λ p. p.now) paths.now) }
     ensures same { counted.new.view ≡ counted.old.view }
 {
     match paths {

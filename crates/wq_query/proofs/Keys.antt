@@ -1,6 +1,7 @@
 -- The query that is asked, from the values of its keys.
-use Rattle.std.proofs.Common.{◌≡◌, ℕ, Bool, false, ◌==◌, List, [], ◌∷◌, length, codes}
-use Rattle.std.proofs.Common.{Option, Some, None, Result, Ok, Err, Vec, refl, sym, ap, subst}
+use Rattle.std.proofs.Common.{◌≡◌, ℕ, Bool, true, false, ◌==◌, List, [], ◌∷◌, length, codes}
+use Rattle.std.proofs.Common.{Option, Some, None, is_some, Result, Ok, Err, Vec, refl, sym, ap, subst, ◌∙◌}
+use Rattle.std.specs.Prelude.{◌&&◌, if◌then◌else◌}
 use mathlib.Core.Bool.{false≢true}
 use Rattle.std.specs.declared.alloc.Global.{Global}
 use Rattle.serde_json.specs.Data.{Data, null, boolean, number, string, array, object, Items}
@@ -24,7 +25,7 @@ use Rattle.wq_query.specs.Generator.{suffixes_of, paths_of}
 use Rattle.wq_query.specs.Glob.{glob_flags, globs_of}
 use Rattle.wq_query.specs.Outcome.{GivesQuery, GivesFields, GivesGlobs, GivesProgram, GivesSince}
 use Rattle.wq_query.specs.Reading.{asks, has_both, has_left_out_key, expression_of, fields_in}
-use Rattle.wq_query.specs.Reading.{fields_of, since_of, program_name, flag_of, is_flag_or_absent, is_whole_or_absent}
+use Rattle.wq_query.specs.Reading.{fields_of, since_of, program_name, flag_of, is_flag_or_absent, is_whole_or_absent, last_of}
 
 module _ (instance : InstanceData) (d : Data) (t : ExprData) (fields : List Field) (suffix : Option (List (List ℕ)))
     (path : Option (List PathGen)) (none : has_left_out_key d ≡ false) (one : has_both d ≡ false)
@@ -76,15 +77,18 @@ module _ (instance : InstanceData) (d : Data) (t : ExprData) (fields : List Fiel
       asks_unnamed BadClockSpec is = absurd is
 
       module _ (program : Option (List ℕ)) (name : program_name (get (codes "program") d) ≡ Some program) where
-        -- a query whose flag is neither true nor false
-        pub asks_unflagged : flag_of (get (codes "empty_on_fresh_instance") d) ≡ None → asks instance d ≡ Err WrongValue
+        -- a query whose last values are wrong
+        asks_unflagged : flag_of (get (codes "empty_on_fresh_instance") d) ≡ None → asks instance d ≡ Err WrongValue
         asks_unflagged said = rw (none, one, expression, named, ends, at, fits, from, name, said) refl
 
-        -- a query whose keys say this, but for the last two
-        pub asks_at : (flag dotted whole : Bool) → flag_of (get (codes "empty_on_fresh_instance") d) ≡ Some flag
-            → is_flag_or_absent (get (codes "glob_includedotfiles") d) ≡ dotted
+        asks_undotted : (flag : Bool) → flag_of (get (codes "empty_on_fresh_instance") d) ≡ Some flag
+            → is_flag_or_absent (get (codes "glob_includedotfiles") d) ≡ false → asks instance d ≡ Err WrongValue
+        asks_undotted flag said dots = rw (none, one, expression, named, ends, at, fits, from, name, said, dots) refl
+
+        asks_timed : (flag whole : Bool) → flag_of (get (codes "empty_on_fresh_instance") d) ≡ Some flag
+            → is_flag_or_absent (get (codes "glob_includedotfiles") d) ≡ true
             → is_whole_or_absent (get (codes "sync_timeout") d) ≡ whole
-            → asks instance d ≡ unless_fault WrongValue dotted (unless_fault WrongValue whole (Ok (record {
+            → asks instance d ≡ unless_fault WrongValue whole (Ok (record {
               expression = t;
               program = program;
               fields = fields;
@@ -93,13 +97,52 @@ module _ (instance : InstanceData) (d : Data) (t : ExprData) (fields : List Fiel
               path = path;
               glob = glob;
               empty_on_fresh_instance = flag;
-            })))
-        asks_at flag dotted whole said dots is = rw (none, one, expression, named, ends, at, fits, from, name, said, dots, is) refl
+            }))
+        asks_timed flag whole said dots is = rw (none, one, expression, named, ends, at, fits, from, name, said, dots, is) refl
 
-        -- a query whose `glob_includedotfiles` is neither true nor false
-        pub asks_undotted : (flag : Bool) → flag_of (get (codes "empty_on_fresh_instance") d) ≡ Some flag
-            → is_flag_or_absent (get (codes "glob_includedotfiles") d) ≡ false → asks instance d ≡ Err WrongValue
-        asks_undotted flag said dots = rw (none, one, expression, named, ends, at, fits, from, name, said, dots) refl
+        pub asks_wrong : last_of d ≡ None → asks instance d ≡ Err WrongValue
+        asks_wrong = by (flag_of (get (codes "empty_on_fresh_instance") d)) (is_flag_or_absent (get (codes "glob_includedotfiles") d)) (is_whole_or_absent (get (codes "sync_timeout") d)) refl refl refl
+          where
+            by : (flag : Option Bool) (dotted whole : Bool) → flag_of (get (codes "empty_on_fresh_instance") d) ≡ flag
+                → is_flag_or_absent (get (codes "glob_includedotfiles") d) ≡ dotted
+                → is_whole_or_absent (get (codes "sync_timeout") d) ≡ whole
+                → (if dotted && whole then flag else None) ≡ None → asks instance d ≡ Err WrongValue
+            by None dotted whole said dots is h = asks_unflagged said
+            by (Some flag) false whole said dots is h = asks_undotted flag said dots
+            by (Some flag) true false said dots is h = asks_timed flag false said dots is
+            by (Some flag) true true said dots is h = absurd (false≢true (sym (ap is_some h)))
+
+        -- a query whose keys say this
+        pub asks_at : (flag : Bool) → last_of d ≡ Some flag
+            → asks instance d ≡ Ok (record {
+              expression = t;
+              program = program;
+              fields = fields;
+              since = since;
+              suffix = suffix;
+              path = path;
+              glob = glob;
+              empty_on_fresh_instance = flag;
+            })
+        asks_at flag = by (flag_of (get (codes "empty_on_fresh_instance") d)) (is_flag_or_absent (get (codes "glob_includedotfiles") d)) (is_whole_or_absent (get (codes "sync_timeout") d)) refl refl refl
+          where
+            by : (said : Option Bool) (dotted whole : Bool) → flag_of (get (codes "empty_on_fresh_instance") d) ≡ said
+                → is_flag_or_absent (get (codes "glob_includedotfiles") d) ≡ dotted
+                → is_whole_or_absent (get (codes "sync_timeout") d) ≡ whole
+                → (if dotted && whole then said else None) ≡ Some flag
+                → asks instance d ≡ Ok (record {
+                  expression = t;
+                  program = program;
+                  fields = fields;
+                  since = since;
+                  suffix = suffix;
+                  path = path;
+                  glob = glob;
+                  empty_on_fresh_instance = flag;
+                })
+            by said false whole said_is dots is h = absurd (false≢true (ap is_some h))
+            by said true false said_is dots is h = absurd (false≢true (ap is_some h))
+            by said true true said_is dots is h = asks_timed flag true (said_is ∙ h) dots is
 
 -- a value that has items is their array
 array_from : (d : Data) (ds : Items) → Some ds ≡ as_array d → d ≡ array ds

@@ -1,6 +1,6 @@
 -- The query that a JSON object asks, or its first fault. The keys are those of Watchman's
 -- documentation of file queries.
-use Rattle.std.specs.Prelude.{ℕ, Bool, true, false, not, ◌&&◌, ◌||◌, List, [], ◌∷◌, codes}
+use Rattle.std.specs.Prelude.{ℕ, Bool, true, false, not, ◌&&◌, ◌||◌, if◌then◌else◌, List, [], ◌∷◌, codes}
 use Rattle.std.specs.Prelude.{Option, Some, None, is_some, option_map, Result, Ok}
 use Rattle.std.specs.Option.{option_and_then}
 use Rattle.std.specs.Result.{result_ok}
@@ -113,6 +113,14 @@ is_flag_or_absent d = is_some (flag_of d)
 abbrev pub is_whole_or_absent : Option Data → Bool
 is_whole_or_absent None = true
 is_whole_or_absent (Some d) = is_some (whole_number_of d)
+
+-- the value of `empty_on_fresh_instance`, if it is right and the values that are tested after it are
+abbrev pub last_of : Data → Option Bool
+last_of d =
+    if is_flag_or_absent (get (codes "glob_includedotfiles") d)
+    && is_whole_or_absent (get (codes "sync_timeout") d)
+    then flag_of (get (codes "empty_on_fresh_instance") d)
+    else None
 
 -- the query that an object asks at an instance: its faults are looked for in this order
 abbrev pub asks : InstanceData → Data → Result QueryData QueryFault

@@ -45,16 +45,9 @@ impl Query {
         let glob = globbing::globs(alloc, value.get("glob"), flags)?;
         let since = reading::since(alloc, value.get("since"), instance)?;
         let program = reading::program(alloc, value.get("program"))?;
-        let Some(empty_on_fresh_instance) = reading::flag(value.get("empty_on_fresh_instance"))
-        else {
+        let Some(empty_on_fresh_instance) = reading::last_values(value) else {
             return Err(QueryFault::WrongValue);
         };
-        if !reading::is_flag(value.get("glob_includedotfiles")) {
-            return Err(QueryFault::WrongValue);
-        }
-        if !reading::is_whole(value.get("sync_timeout")) {
-            return Err(QueryFault::WrongValue);
-        }
         Ok(Query {
             expr,
             program,

@@ -8,7 +8,7 @@ ghost use Rattle.wq_query.specs.Outcome.{GivesExpression, GivesFields, GivesProg
 ghost use Rattle.wq_query.specs.Reading.{has_both, has_key_of, has_left_out_key, is_plain_case};
 ghost use Rattle.wq_query.specs.Reading.{expression_of, field_of, fields_in, fields_of, since_of};
 ghost use Rattle.wq_query.specs.Reading.{cursor_in, flag_of, is_flag_or_absent};
-ghost use Rattle.wq_query.specs.Reading.{is_whole_or_absent, program_name};
+ghost use Rattle.wq_query.specs.Reading.{is_whole_or_absent, last_of, program_name};
 
 use crate::fault::QueryFault;
 use crate::field::Field;
@@ -135,15 +135,28 @@ pub fn flag(value: Option<&Value>) -> Option<bool>
     }
 }
 
+/// The value of `empty_on_fresh_instance`, if it is right and so are the values that are tested after
+/// it: `glob_includedotfiles` and `sync_timeout`.
+pub(crate) fn last_values(query: &Value) -> Option<bool>
+    ensures { result ≡ last_of (data_of query.now) }
+{
+    let is_right = is_flag(query.get("glob_includedotfiles"))
+        && is_whole(query.get("sync_timeout"));
+    if !is_right {
+        return None;
+    }
+    flag(query.get("empty_on_fresh_instance"))
+}
+
 /// Whether a key that is there is true or false.
-pub(crate) fn is_flag(value: Option<&Value>) -> bool
+fn is_flag(value: Option<&Value>) -> bool
     ensures { result ≡ is_flag_or_absent (option_map (λ v. data_of v.now) value.entry) }
 {
     flag(value).is_some()
 }
 
 /// Whether a key that is there is a whole number from -2^62 to 2^62.
-pub(crate) fn is_whole(value: Option<&Value>) -> bool
+fn is_whole(value: Option<&Value>) -> bool
     ensures { result ≡ is_whole_or_absent (option_map (λ v. data_of v.now) value.entry) }
 {
     match value {

@@ -1,0 +1,14 @@
+-- A search by the folded order finds a suffix exactly if it is among the texts.
+use Rattle.std.proofs.Common.{rules, map, length, sym, ◌∙◌}
+use Rattle.std.proofs.lemmas.Bool.{eq-eqb, eqb-true, false≢true}
+use Rattle.std.proofs.lemmas.Fn.{always_returns_same}
+use Rattle.wq_gen.specs.Among.{folded_order}
+use Rattle.wq_gen.proofs.Suffixed.{found_among, none_among}
+use Rattle.wq_gen.proofs.among.is_among.Goals as goal
+
+pub returns-then-is_empty : goal.returns-then-is_empty
+returns-then-is_empty c = none_among (map (λ t. t.now) c.args.sorted.now) c.args.suffix.now (eqb-true (length c.args.suffix.now) 0 (sym c.is_empty.ensures ∙ c.if-is_empty.true))
+
+pub returns : goal.returns
+returns c =
+    c.is_ok.ensures.value ∙ found_among (λ t. t.now) c.args.sorted.now c.requires c.args.suffix.now c.binary_search_by-at.result (λ e. false≢true (sym c.if-is_empty.false ∙ c.is_empty.ensures ∙ eq-eqb (length c.args.suffix.now) 0 e)) c.binary_search_by-at.ensures.bound (c.binary_search_by-at.ensures.position (λ t. folded_order t.now c.args.suffix.now) (always_returns_same _ _ _ (λ a r g called. search rules)))
