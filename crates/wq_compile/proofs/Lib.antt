@@ -6,3 +6,4 @@ pub mod TermTypings
 pub mod Programs
 pub mod Sizes
 pub mod Putting
+pub mod Costs

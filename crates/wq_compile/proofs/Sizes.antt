@@ -261,18 +261,22 @@ mutual
       let q = or_parts (has_long_list t) (have_long_list ts) l in
       ((λ at. term-fits t p.0 q.0 at), terms-fit ts p.1 q.1)
 
--- the program of an expression that fits and is not too large keeps the limits
-program-fits : (t : ExprData) → expr_fits t ≡ true → is_too_large t ≡ false → raw_fits (program_of t) ≡ true
+-- the program of an expression that fits and is not too large is small
+pub program-small : (t : ExprData) → expr_fits t ≡ true → is_too_large t ≡ false → IsSmall (program_of t)
 unfolding program_of expr_fits
-program-fits t f l =
+program-small t f l =
     let p = and_parts _ (keeps_limits t) f in
+    let q = or_parts (nat_lt max_table_rows (code_len t + 1)) (has_long_list t) l in
+    put_all-small (code_of t 0 ++ plain Return ∷ []) blank blank-small
+    (list_all-append constant_fits (code_of t 0) (plain Return ∷ []) ∙ and_from _ _ (term-fits t p.1 q.1 0) refl)
+
+-- so it keeps the limits
+program-fits : (t : ExprData) → expr_fits t ≡ true → is_too_large t ≡ false → raw_fits (program_of t) ≡ true
+program-fits t f l =
     let q = or_parts (nat_lt max_table_rows (code_len t + 1)) (has_long_list t) l in
     let long = program_long t in
     let few = ltb-false max_table_rows (code_len t + 1) q.0 in
-    small-fits (program_of t)
-    (put_all-small (code_of t 0 ++ plain Return ∷ []) blank blank-small
-    (list_all-append constant_fits (code_of t 0) (plain Return ∷ []) ∙ and_from _ _ (term-fits t p.1 q.1 0) refl))
-    (omega (arith, long, few))
+    small-fits (program_of t) (program-small t f l) (omega (arith, long, few))
 
 -- and it may run
 pub program_valid : (t : ExprData) → expr_fits t ≡ true → is_too_large t ≡ false → IsValid (program_of t)

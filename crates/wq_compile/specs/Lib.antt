@@ -3,3 +3,4 @@ pub mod Draft
 pub mod Code
 pub mod Large
 pub mod Meaning
+pub mod Cost

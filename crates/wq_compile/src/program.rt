@@ -1,9 +1,12 @@
 //! From an expression to its program.
-ghost use Rattle.std.specs.Prelude.{◌≡◌, ◌+◌, ◌↔◌, false, IfOk, IsErrOf, IsTrue, length};
+ghost use Rattle.std.specs.Prelude.{◌≡◌, ◌≤◌, ◌+◌, ◌↔◌, false, IfOk, IsErrOf, IsTrue, length};
 ghost use Rattle.wq_term.specs.CodeLength.{code_len};
 ghost use Rattle.wq_term.specs.Expr.{term_of};
 ghost use Rattle.wq_term.specs.Fits.{expr_fits};
+ghost use Rattle.wq_verify.specs.Budget.{budget_of};
+ghost use Rattle.wq_view.specs.Limit.{max_name};
 ghost use Rattle.wq_compile.specs.Code.{program_of};
+ghost use Rattle.wq_compile.specs.Cost.{most_steps_of};
 ghost use Rattle.wq_compile.specs.Large.{is_too_large};
 ghost use Rattle.wq_compile.specs.Meaning.{AnswersMeaning};
 
@@ -33,6 +36,8 @@ pub fn compile(alloc: Global, expr: &Expr) -> Result<Program, CompileFault>
     ensures meaning { IfOk result (λ program. AnswersMeaning program (term_of expr.now)) }
     ensures length { IfOk result (λ program.
         length program.code ≡ code_len (term_of expr.now) + 1) }
+    ensures cost { IfOk result (λ program.
+        budget_of program max_name ≤ most_steps_of (term_of expr.now)) }
     ensures large { IsErrOf result CompileFault.TooLarge
         ↔ IsTrue (is_too_large (term_of expr.now)) }
 {

@@ -18,7 +18,8 @@ is_kept pieces = passes_at (says_yes pieces.program.now) pieces.view.now.records
 -- what was kept is what the program keeps of the piece of this number
 abbrev pub IsRight : Pieces → Done → Type 0
 IsRight pieces done =
-    done.kept.items ≡ filter (is_kept pieces) (piece_of pieces.size pieces.positions.now done.number)
+    done.kept.items
+    ≡ filter (is_kept pieces) (piece_of pieces.size pieces.positions.now done.number)
 
 -- this holds of each evaluated piece of a list
 abbrev pub AreRight : Pieces → List Done → Type 0

@@ -2,25 +2,42 @@
 ghost use Rattle.std.specs.Prelude.{◌≡◌};
 ghost use Rattle.wq_term.specs.Head.{head_named};
 
-/// The head of a term.
+/// The head of a term: the name that begins it in the grammar of expressions.
 #[derive(Clone, Copy)]
-pub(crate) enum Head {
+pub enum Head {
+    /// `true`.
     True,
+    /// `false`.
     False,
+    /// `exists`.
     Exists,
+    /// `empty`.
     Empty,
+    /// `type`.
     KindIs,
+    /// `name`.
     Name,
+    /// `iname`.
     Iname,
+    /// `match`.
     Match,
+    /// `imatch`.
     Imatch,
+    /// `suffix`.
     Suffix,
+    /// `size`.
     Size,
+    /// `since`.
     Since,
+    /// `dirname`.
     Dirname,
+    /// `idirname`.
     Idirname,
+    /// `not`.
     Not,
+    /// `allof`.
     AllOf,
+    /// `anyof`.
     AnyOf,
 }
 

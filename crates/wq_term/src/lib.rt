@@ -14,6 +14,7 @@ mod reading;
 pub use code_length::code_len;
 pub use expr::{Depth, Expr, Scope, Since};
 pub use fault::TermFault;
+pub use head::Head;
 pub use law::{
     bounds_say_what_they_write, numbers_say_what_they_write, read_expressions_are_shallow,
     read_expressions_fit, values_say_what_they_write,

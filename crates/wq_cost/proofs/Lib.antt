@@ -1,0 +1,5 @@
+mod Contents
+mod Lexemes
+mod Values
+mod Terms
+mod Lines
