@@ -85,7 +85,12 @@ def check_a_root_that_goes_during_walks(tally: built.Tally, room: Path) -> None:
 
 def told_of(root: Path) -> bytes:
     """The line by which the operator is told of a root that cannot be read."""
-    return f"{json.dumps(str(root), ensure_ascii=False)}: the root cannot be read\n".encode()
+    return told(root, "the root cannot be read")
+
+
+def told(root: Path, fault: str) -> bytes:
+    """The line by which the operator is told of a root with this fault."""
+    return f"{json.dumps(str(root), ensure_ascii=False)}: {fault}\n".encode()
 
 
 def seconds_of_a_crawl(client: Client, root: Path) -> float:

@@ -8,8 +8,8 @@ from pathlib import Path
 from typing import Callable
 
 import built
-from client import A_HOUR, PATIENCE, Client, Server, query_of_names, same
-from gone import UNREADABLE, fill_directory
+from client import A_HOUR, LOOKS, PATIENCE, Client, Server, query_of_names, same
+from gone import UNREADABLE, fill_directory, told
 
 DIRECTORIES = 100
 FILES = 40
@@ -22,7 +22,7 @@ class Scarcity:
 
     def __init__(self, process: int) -> None:
         self.process = process
-        self.least = next_handle(process)
+        self.least = least_handle(process)
         self.most = resource.prlimit(process, resource.RLIMIT_NOFILE)[1]
         self.ended = threading.Event()
         self.thread = threading.Thread(target=self.go_on)
@@ -64,6 +64,27 @@ def check_no_handles(tally: built.Tally, room: Path) -> None:
         same(tally, "a crawl with handles again", (reply["files"], reply["clock"]), ([], first))
 
 
+def check_no_handles_are_told(tally: built.Tally, room: Path) -> None:
+    """Want of handles is told to the operator by its name, once for each time, and to a client as before. When there are
+    handles again, the root is crawled as if nothing had been."""
+    root = room / "tree"
+    fill_directory(root, 1)
+    with Server(room, interval=20) as server, server.client() as client:
+        client.ask("watch", str(root))
+        line, scarcity = told(root, "no file handle is left"), Scarcity(server.process.pid)
+        said = f"listening on {server.sockname}\n".encode()
+        for turn in (1, 2):
+            scarcity.allow(scarcity.least)
+            tally.check(f"want of handles is told by its name, {turn}", server.says(said + turn * line), [repr(server.errors())])
+            same(tally, f"a crawl without handles, {turn}", client.ask("query", str(root), query_of_names()), UNREADABLE)
+            scarcity.allow(scarcity.most)
+            (root / f"after{turn}").touch()
+            seen = client.ask_until("query", str(root), {"sync_timeout": 0}, lambda reply: len(reply["files"]) == 1 + turn)
+            same(tally, f"a crawl with handles again, {turn}", len(seen["files"]), 1 + turn)
+        same(tally, "the end of a server that wanted for handles", server.shut_down(client), 0)
+        same(tally, "what is told, once each time", server.errors(), said + 2 * line)
+
+
 def check_clients_that_went(tally: built.Tally, room: Path) -> None:
     """A client that goes gives its handle back before anybody else comes. So queries of another client find handles."""
     root = room / "tree"
@@ -97,6 +118,15 @@ def comes_to(is_so: Callable[[], bool]) -> bool:
 def crawl(client: Client, root: Path, since: str) -> dict:
     """What changed in a tree that is crawled for the answer."""
     return client.ask("query", str(root), {"since": since, **query_of_names()})
+
+
+def least_handle(process: int) -> int:
+    """The number that the next file has that the process opens, if no walk has a directory open."""
+    looks = []
+    for _ in range(LOOKS):
+        looks.append(next_handle(process))
+        time.sleep(0.003)
+    return min(looks)
 
 
 def next_handle(process: int) -> int:

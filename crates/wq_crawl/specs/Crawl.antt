@@ -17,10 +17,10 @@ use Rattle.wq_crawl.specs.Tree.{IsCounted, ListedData, Lists, listed_code}
 use Rattle.wq_crawl.specs.declared.tree.TreeFault.{TreeFault}
 use Rattle.wq_crawl.specs.declared.tree.TreeFault.TheVariants.{Unreadable as UnreadableTree}
 use Rattle.wq_crawl.specs.declared.tree.TreeFault.TheVariants.{TooManyRows as TooManyTreeRows}
-use Rattle.wq_crawl.specs.declared.tree.TreeFault.TheVariants.{NoMemory as NoTreeMemory}
+use Rattle.wq_crawl.specs.declared.tree.TreeFault.TheVariants.{NoHandle as NoTreeHandle, NoMemory as NoTreeMemory}
 use Rattle.wq_crawl.specs.declared.fault.CrawlFault.{CrawlFault}
 use Rattle.wq_crawl.specs.declared.fault.CrawlFault.TheVariants.{Unreadable, TooManyFiles}
-use Rattle.wq_crawl.specs.declared.fault.CrawlFault.TheVariants.{TooManyRoots, NoMemory}
+use Rattle.wq_crawl.specs.declared.fault.CrawlFault.TheVariants.{NoHandle, TooManyRoots, NoMemory}
 use Rattle.wq_crawl.specs.declared.place.Place.{Place}
 use Rattle.wq_crawl.specs.declared.place.Place.TheVariants.{Shown, Full, Free}
 
@@ -51,6 +51,7 @@ crawler_code =
 -- the crawl fault of a root that the tree does not list
 abbrev pub not_listed : TreeFault → CrawlFault
 not_listed UnreadableTree = Unreadable
+not_listed NoTreeHandle = NoHandle
 not_listed TooManyTreeRows = TooManyFiles
 not_listed NoTreeMemory = NoMemory
 

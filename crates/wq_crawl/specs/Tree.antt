@@ -1,22 +1,30 @@
 -- The listings of a tree, as it shows them, and when it may call a root unreadable. No public
 -- document defines it.
 use Rattle.std.specs.Prelude.{◌≡◌, ◌<◌, ◌⊎◌, ◌^◌, ◌-◌, ℕ, List, Option, Result, Ok, Err}
-use Rattle.std.specs.Prelude.{Vec, refl}
+use Rattle.std.specs.Prelude.{Bool, true, false, IsTrue, Vec, refl}
 use Rattle.std.specs.Coded.{Coded, code_by, coded×, coded_ℕ, coded_list, coded_result}
 use Rattle.std.specs.declared.alloc.Global.{Global}
 use Rattle.wq_view.specs.Seen.{SeenData, Stat, entry_of, stat_code}
 use Rattle.wq_crawl.specs.Device.{Gave}
 use Rattle.wq_crawl.specs.contracts.tree.TreeFault.{the_row}
 use Rattle.wq_crawl.specs.declared.tree.TreeFault.{TreeFault}
-use Rattle.wq_crawl.specs.declared.tree.TreeFault.TheVariants.{Unreadable}
+use Rattle.wq_crawl.specs.declared.tree.TreeFault.TheVariants.{NoHandle, Unreadable}
 
 -- the greatest count of failures
 abbrev pub max_count : ℕ
 max_count = 2 ^ 64 - 1
 
--- a root is unreadable only if the count of failures rose; at the greatest count it may have risen
+-- whether a fault is one of the device: the root cannot be read, or no file handle is left
+abbrev pub is_of_device : TreeFault → Bool
+is_of_device Unreadable = true
+is_of_device NoHandle = true
+is_of_device fault = false
+
+-- a fault is one of the device only if the count of failures rose; at the greatest count it may
+-- have risen
 abbrev pub IsCounted : ℕ → ℕ → TreeFault → Type 0
-IsCounted before after fault = fault ≡ Unreadable → (before < after) ⊎ (after ≡ max_count)
+IsCounted before after fault =
+    IsTrue (is_of_device fault) → (before < after) ⊎ (after ≡ max_count)
 
 -- a listing of a tree: its root, and the rows that the tree gave, or the fault for which it gave
 -- none

@@ -14,6 +14,9 @@ pub enum CrawlFault {
     /// The root could not be read, a name comes twice in its listing, or the second is out of range.
     #[error("the root cannot be read")]
     Unreadable,
+    /// No file handle was left for reading the root.
+    #[error("no file handle is left")]
+    NoHandle,
     /// The root has more files than a view may have.
     #[error("too many files")]
     TooManyFiles,
@@ -34,6 +37,7 @@ pub(crate) fn not_listed(fault: TreeFault) -> CrawlFault
 {
     match fault {
         TreeFault::Unreadable => CrawlFault::Unreadable,
+        TreeFault::NoHandle => CrawlFault::NoHandle,
         TreeFault::TooManyRows => CrawlFault::TooManyFiles,
         TreeFault::NoMemory => CrawlFault::NoMemory,
     }

@@ -14,6 +14,9 @@ pub enum TreeFault {
     /// The root cannot be read, because a device failed.
     #[error("the root cannot be read")]
     Unreadable,
+    /// No file handle is left in this process or in the machine, so nothing is known of the root.
+    #[error("no file handle is left")]
+    NoHandle,
     /// The listing has over 1,000,000 rows.
     #[error("too many files")]
     TooManyRows,
@@ -48,7 +51,8 @@ pub trait Tree {
 
     /// The rows of the files below a root, in any order. Each row has a valid name, and its numbers are in range.
     ///
-    /// A root is unreadable only if the count of failures rose in this call, or is at its greatest value.
+    /// A root is unreadable, or no file handle is left, only if the count of failures rose in this call, or is at its
+    /// greatest value.
     fn list(&mut self, root: &str) -> Result<Vec<Seen>, TreeFault>
         ensures counted { IfErr result (IsCounted (failed self.old) (failed self.new)) }
         ensures lawful { IfOk result (λ rows. IsTrue (list_all is_lawful_row rows.items)) }

@@ -1,16 +1,17 @@
 -- The refusal of a line if its root could not be crawled, opened or retired.
 -- It is this server's own.
 use Rattle.wq_crawl.specs.declared.fault.CrawlFault.{CrawlFault}
-use Rattle.wq_crawl.specs.declared.fault.CrawlFault.TheVariants.{Unreadable, TooManyFiles as TooManyRows}
+use Rattle.wq_crawl.specs.declared.fault.CrawlFault.TheVariants.{NoHandle, Unreadable, TooManyFiles as TooManyRows}
 use Rattle.wq_crawl.specs.declared.fault.CrawlFault.TheVariants.{TooManyRoots as TooManyShown}
 use Rattle.wq_crawl.specs.declared.fault.CrawlFault.TheVariants.{TicksSpent as NoTicks, NoMemory as NoRoom}
 use Rattle.wq_session.specs.declared.refusal.Refusal.{Refusal}
 use Rattle.wq_session.specs.declared.refusal.Refusal.TheVariants.{UnreadableRoot, TooManyFiles, TooManyRoots}
 use Rattle.wq_session.specs.declared.refusal.Refusal.TheVariants.{TicksSpent, NoMemory}
 
--- the refusal of the line
+-- the refusal of the line; that no file handle is left is told to the operator alone
 abbrev pub crawl_refusal : CrawlFault → Refusal
 crawl_refusal Unreadable = UnreadableRoot
+crawl_refusal NoHandle = UnreadableRoot
 crawl_refusal TooManyRows = TooManyFiles
 crawl_refusal TooManyShown = TooManyRoots
 crawl_refusal NoTicks = TicksSpent

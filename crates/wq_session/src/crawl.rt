@@ -11,7 +11,7 @@ impl From<CrawlFault> for Refusal {
 
     fn from(fault: CrawlFault) -> Refusal {
         match fault {
-            CrawlFault::Unreadable => Refusal::UnreadableRoot,
+            CrawlFault::Unreadable | CrawlFault::NoHandle => Refusal::UnreadableRoot,
             CrawlFault::TooManyFiles => Refusal::TooManyFiles,
             CrawlFault::TooManyRoots => Refusal::TooManyRoots,
             CrawlFault::TicksSpent => Refusal::TicksSpent,

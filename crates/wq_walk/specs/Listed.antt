@@ -12,7 +12,7 @@ use Rattle.wq_walk.specs.declared.piece.Piece.{Piece}
 use Rattle.wq_walk.specs.declared.rows.Rows.{Rows}
 use Rattle.wq_walk.specs.declared.walks.Walked.{Walked}
 use Rattle.wq_walk.specs.Pieces.{IsSharedOut}
-use Rattle.wq_walk.specs.Told.{Has, IsRootFault, IsUnreadable, Says}
+use Rattle.wq_walk.specs.Told.{Has, IsHandleFault, IsRootFault, IsUnreadable, Says}
 use Rattle.wq_walk.specs.Walk.{IsWalk}
 
 -- the parts of pieces
@@ -62,8 +62,9 @@ IsListed says has root rows =
     (path : List ℕ) × (pieces : List Piece) × IsPathOf root path × IsSharedOut pieces
     × IsWalked says has path (parts_of pieces) rows
 
--- a fault of a listing: it says that the root cannot be read only if the root could not be read
+-- a fault of a listing: it says that the root cannot be read only if the root could not be read, and
+-- that no file handle is left only if a call of the system failed so
 abbrev pub IsUnread : Says → Has → (List ℕ → Type 0) → List ℕ → TreeFault → Type 0
 IsUnread says has fails root fault =
-    fault ≡ Unreadable
-    → (path : List ℕ) × IsPathOf root path × IsUnreadable says has fails path
+    (fault ≡ Unreadable → (path : List ℕ) × IsPathOf root path × IsUnreadable says has path)
+    × IsHandleFault fails fault

@@ -30,7 +30,7 @@ says_here path told = MatchOption told HasMissed IsOfMetadata
 abbrev pub has_here : Has
 has_here path told = MatchOption told HasMissed AreEntries
 
--- a call of the system failed
+-- a call of the system failed because no file handle was left
 abbrev pub fails_here : List ℕ → Type 0
 fails_here path = HasFailed
 
@@ -38,6 +38,7 @@ fails_here path = HasFailed
 abbrev pub IsListedHere : List ℕ → List SeenData → Type 0
 IsListedHere root rows = IsListed says_here has_here root rows
 
--- a fault of a listing on this disk: it says that the root cannot be read only if a call failed
+-- a fault of a listing on this disk: it says that the root cannot be read, or that no file handle is
+-- left, only if a call failed so
 abbrev pub IsUnreadHere : List ℕ → TreeFault → Type 0
 IsUnreadHere root fault = IsUnread says_here has_here fails_here root fault

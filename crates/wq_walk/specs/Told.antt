@@ -3,7 +3,7 @@
 use Rattle.std.specs.Prelude.{◌≡◌, ◌⊎◌, ℕ, List, [], Option, Some, None}
 use Rattle.std.specs.Str.{IsUtf8}
 use Rattle.wq_crawl.specs.declared.tree.TreeFault.{TreeFault}
-use Rattle.wq_crawl.specs.declared.tree.TreeFault.TheVariants.{Unreadable}
+use Rattle.wq_crawl.specs.declared.tree.TreeFault.TheVariants.{NoHandle, Unreadable}
 use Rattle.wq_view.specs.Seen.{Stat}
 
 -- the stats that a disk may give for the file of a path: none if it cannot look at the file
@@ -14,9 +14,13 @@ Says = List ℕ → Option Stat → Type 0
 abbrev pub Has : Type 1
 Has = List ℕ → Option (List (List ℕ)) → Type 0
 
--- if a fault says that nothing can be read, a call of the system failed at some path
+-- a fault says that no file handle is left only if a call of the system failed so at some path
+abbrev pub IsHandleFault : (List ℕ → Type 0) → TreeFault → Type 0
+IsHandleFault fails fault = fault ≡ NoHandle → (path : List ℕ) × fails path
+
+-- a fault that a disk may give below a root: it never says that the root cannot be read
 abbrev pub IsFailure : (List ℕ → Type 0) → TreeFault → Type 0
-IsFailure fails fault = fault ≡ Unreadable → (path : List ℕ) × fails path
+IsFailure fails fault = (fault ≡ Unreadable → ⊥) × IsHandleFault fails fault
 
 -- a directory of this path was read, and has these names; none if it cannot be read, or the path is
 -- no text
@@ -24,12 +28,12 @@ abbrev pub IsRead : Has → List ℕ → List (List ℕ) → Type 0
 IsRead has path names =
     has path (Some names) ⊎ ((names ≡ []) × (has path None ⊎ (IsUtf8 path → ⊥)))
 
--- a root cannot be read: the disk cannot read its directory or cannot look at it. Or a call of the
--- system failed at some path, in a way that says nothing of that path
-abbrev pub IsUnreadable : Says → Has → (List ℕ → Type 0) → List ℕ → Type 0
-IsUnreadable says has fails root =
-    has root None ⊎ (says root None ⊎ ((path : List ℕ) × fails path))
+-- a root cannot be read: the disk cannot read its directory, or cannot look at it
+abbrev pub IsUnreadable : Says → Has → List ℕ → Type 0
+IsUnreadable says has root = has root None ⊎ says root None
 
--- a fault says that a root cannot be read only if it cannot be read
+-- a fault says that a root cannot be read only if it cannot be read, and that no file handle is left
+-- only if a call of the system failed so
 abbrev pub IsRootFault : Says → Has → (List ℕ → Type 0) → List ℕ → TreeFault → Type 0
-IsRootFault says has fails root fault = fault ≡ Unreadable → IsUnreadable says has fails root
+IsRootFault says has fails root fault =
+    (fault ≡ Unreadable → IsUnreadable says has root) × IsHandleFault fails fault

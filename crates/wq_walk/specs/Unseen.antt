@@ -1,12 +1,12 @@
 -- The meaning of an error of the system at one path for a walk. The numbers are those of errno(3)
 -- on Linux. The rule that such an error ends the walk is this server's own.
-use Rattle.std.specs.Prelude.{◌≡◌, ℤ, pos, negsuc, Bool, false, ◌==◌, ◌||◌, if◌then◌else◌, Option, Some, None}
+use Rattle.std.specs.Prelude.{◌≡◌, IsTrue, ℤ, pos, negsuc, Bool, false, ◌==◌, ◌||◌, if◌then◌else◌, Option, Some, None}
 use Rattle.std.specs.IoError.{error_kind, raw_os_error}
 use Rattle.std.specs.declared.io.Error.{Error}
 use Rattle.std.specs.declared.io.ErrorKind.{ErrorKind}
 use Rattle.std.specs.declared.io.ErrorKind.TheVariants.{OutOfMemory}
 use Rattle.wq_crawl.specs.declared.tree.TreeFault.{TreeFault}
-use Rattle.wq_crawl.specs.declared.tree.TreeFault.TheVariants.{NoMemory, Unreadable}
+use Rattle.wq_crawl.specs.declared.tree.TreeFault.TheVariants.{NoHandle, NoMemory, Unreadable}
 
 -- whether an error with this number says that no more files can be opened: in the machine, or in
 -- this process
@@ -23,12 +23,16 @@ memory_fault kind = None
 -- the fault of a whole walk that an error with this number and of this kind means; none if the
 -- error is about its path alone
 abbrev pub walk_fault : Option ℤ → ErrorKind → Option TreeFault
-walk_fault number kind = if is_of_handles number then Some Unreadable else memory_fault kind
+walk_fault number kind = if is_of_handles number then Some NoHandle else memory_fault kind
 
--- a call of the system failed with an error that says nothing of its path
+-- a call of the system failed because no file handle was left, which says nothing of its path
 abbrev pub HasFailed : Type 0
-HasFailed =
-    (error : Error) × (walk_fault (raw_os_error error) (error_kind error) ≡ Some Unreadable)
+HasFailed = (error : Error) × IsTrue (is_of_handles (raw_os_error error))
+
+-- a fault that a call of the system may mean: it never says that the root cannot be read, and says
+-- that no file handle is left only if a call failed so
+abbrev pub IsCallFault : TreeFault → Type 0
+IsCallFault fault = (fault ≡ Unreadable → ⊥) × (fault ≡ NoHandle → HasFailed)
 
 -- a call of the system failed with an error that is about its path alone
 abbrev pub HasMissed : Type 0

@@ -11,8 +11,8 @@ use crate::unseen::walk_fault;
 use std::fs::Files;
 use wq_crawl::TreeFault;
 
-/// A source of directories and files. It fails if no answer can be had for any of them, because no more files can be
-/// opened or memory ran out.
+/// A source of directories and files. It fails if no answer can be had for any of them, because no file handle is left
+/// or memory ran out.
 pub(crate) trait Disk {
     ghost use Rattle.std.specs.Prelude.{ℕ, List, Option};
     ghost use Rattle.wq_view.specs.Seen.{Stat};
@@ -23,7 +23,7 @@ pub(crate) trait Disk {
     // The names that it may give for the directory of a path: none if it cannot read the directory.
     ghost has: { Self → List ℕ → Option (List (List ℕ)) → Type 0 };
 
-    // A call of the system failed at a path, in a way that allows no answer for any path.
+    // A call of the system failed at a path because no file handle was left. So no path has an answer.
     ghost fails: { Self → List ℕ → Type 0 };
 
     /// The names in the directory of this path, each once, or nothing if the directory cannot be read. If a path ends

@@ -1,7 +1,8 @@
 //! A listing of a tree, from pieces of it. Another module has threads walk the pieces.
-ghost use Rattle.std.specs.Prelude.{◌≡◌, ◌+◌, ◌≤◌, ◌<◌, ◌++◌, length, take, IfErr, IfOk, IsTrue};
+ghost use Rattle.std.specs.Prelude.{◌≡◌, false, ◌+◌, ◌≤◌, ◌<◌, ◌++◌, length, take, IfErr, IfOk, IsTrue};
 ghost use Rattle.std.specs.List.{flat_map, list_all};
-ghost use Rattle.wq_crawl.specs.declared.tree.TreeFault.TheVariants.{TooManyRows, Unreadable};
+ghost use Rattle.wq_crawl.specs.declared.tree.TreeFault.TheVariants.{TooManyRows};
+ghost use Rattle.wq_crawl.specs.Tree.{is_of_device};
 ghost use Rattle.wq_view.specs.Limit.{max_listing_rows};
 ghost use Rattle.wq_view.specs.Seen.{is_lawful_row};
 ghost use Rattle.wq_walk.specs.Listed.{IsListed, IsUnread, IsWalked, parts_of};
@@ -103,7 +104,7 @@ fn joined(alloc: Global, pieces: Vec<Rows<'_>>) -> Result<Vec<Seen>, TreeFault>
         rows.items ≡ flat_map (λ piece. piece.rows.items) pieces.entry.items) }
     ensures many { IfErr result (λ fault. fault ≡ TooManyRows
         → max_listing_rows < length (flat_map (λ piece. piece.rows.items) pieces.entry.items)) }
-    ensures fault { IfErr result (λ fault. fault ≡ Unreadable → ⊥) }
+    ensures fault { IfErr result (λ fault. is_of_device fault ≡ false) }
     ensures lawful { IfOk result (λ rows. IsTrue (list_all is_lawful_row rows.items)) }
     ensures few { IfOk result (λ rows. length rows.items ≤ max_listing_rows) }
 {
@@ -132,7 +133,7 @@ fn with_rows(mut first: Vec<Seen>, mut rest: Vec<Seen>) -> Result<Vec<Seen>, Tre
     ensures all { IfOk result (λ rows. rows.items ≡ first.items ++ rest.items) }
     ensures many { IfErr result (λ fault. fault ≡ TooManyRows
         → max_listing_rows < length first.items + length rest.items) }
-    ensures fault { IfErr result (λ fault. fault ≡ Unreadable → ⊥) }
+    ensures fault { IfErr result (λ fault. is_of_device fault ≡ false) }
     ensures lawful { IfOk result (λ rows. IsTrue (list_all is_lawful_row rows.items)) }
     ensures few { IfOk result (λ rows. length rows.items ≤ max_listing_rows) }
 {

@@ -1,9 +1,8 @@
 //! The names in one directory on disk. Another module looks at their files.
 ghost use Rattle.std.specs.Prelude.{◌≡◌, ◌++◌, ◌∷◌, [], IfErr, IfNone, IfOk, IfSome, IsTrue, None};
-ghost use Rattle.wq_crawl.specs.declared.tree.TreeFault.TheVariants.{Unreadable};
 ghost use Rattle.wq_walk.specs.Entries.{is_entry};
 ghost use Rattle.wq_walk.specs.Names.{AreOfEntries, name_at};
-ghost use Rattle.wq_walk.specs.Unseen.{HasFailed, HasMissed};
+ghost use Rattle.wq_walk.specs.Unseen.{HasMissed, IsCallFault};
 
 use crate::unseen::walk_fault;
 use std::alloc::{AllocError, Global};
@@ -140,7 +139,7 @@ pub(crate) fn names_in<R: Files>(
     path: &str,
 ) -> Result<Option<Names>, TreeFault>
     ensures none { IfOk result (λ names. IfNone names HasMissed) }
-    ensures fault { IfErr result (λ fault. fault ≡ Unreadable → HasFailed) }
+    ensures fault { IfErr result IsCallFault }
 {
     let mut directory = match files.open_dir(path) {
         Ok(directory) => directory,
@@ -191,7 +190,7 @@ fn text_at(bytes: &[u8], place: Place) -> &[u8]
 /// No names, if an error is about their directory alone.
 fn nothing(error: &Error) -> Result<Option<Names>, TreeFault>
     ensures none { IfOk result (λ names. (names ≡ None) × HasMissed) }
-    ensures fault { IfErr result (λ fault. fault ≡ Unreadable → HasFailed) }
+    ensures fault { IfErr result IsCallFault }
 {
     match walk_fault(error) {
         Some(fault) => Err(fault),

@@ -1,7 +1,8 @@
 //! The rows of a listing that is being made. Other modules find the files.
-ghost use Rattle.std.specs.Prelude.{◌≡◌, ◌≤◌, ◌++◌, ◌∷◌, [], length, IfErr, IfOk, OnOk, IsTrue};
+ghost use Rattle.std.specs.Prelude.{◌≡◌, false, ◌≤◌, ◌++◌, ◌∷◌, [], length, IfErr, IfOk, OnOk, IsTrue};
 ghost use Rattle.std.specs.List.{list_all};
-ghost use Rattle.wq_crawl.specs.declared.tree.TreeFault.TheVariants.{TooManyRows, Unreadable};
+ghost use Rattle.wq_crawl.specs.declared.tree.TreeFault.TheVariants.{TooManyRows};
+ghost use Rattle.wq_crawl.specs.Tree.{is_of_device};
 ghost use Rattle.wq_view.specs.Limit.{max_listing_rows};
 ghost use Rattle.wq_view.specs.Seen.{is_lawful_row};
 ghost use Rattle.wq_walk.specs.Part.{IsListing, is_row_in};
@@ -56,7 +57,7 @@ impl<'a> Rows<'a> {
         ensures row { OnOk result (self.new.rows.items ≡ self.old.rows.items ++ (row ∷ [])) }
         ensures many { IfErr result (λ fault. fault ≡ TooManyRows
             → length self.old.rows.items ≡ max_listing_rows) }
-        ensures fault { IfErr result (λ fault. fault ≡ Unreadable → ⊥) }
+        ensures fault { IfErr result (λ fault. is_of_device fault ≡ false) }
     {
         if self.rows.len() >= MAX_LISTING_ROWS {
             return Err(TreeFault::TooManyRows);

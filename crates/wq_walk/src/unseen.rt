@@ -1,8 +1,8 @@
 //! The meaning of an error of the system for a walk: whether the error is about its path alone. Another module makes
 //! the calls.
-ghost use Rattle.std.specs.Prelude.{◌≡◌};
+ghost use Rattle.std.specs.Prelude.{◌≡◌, IfSome};
 ghost use Rattle.std.specs.IoError.{error_kind, raw_os_error};
-ghost use Rattle.wq_walk.specs.Unseen.{walk_fault};
+ghost use Rattle.wq_walk.specs.Unseen.{IsCallFault, walk_fault};
 
 use std::io::{Error, ErrorKind};
 use wq_crawl::TreeFault;
@@ -18,10 +18,11 @@ const EMFILE: i32 = 24;
 ///
 /// If no more files can be opened, or memory ran out, an error says nothing of its path.
 pub(crate) fn walk_fault(error: &Error) -> Option<TreeFault>
-    ensures { result ≡ walk_fault (raw_os_error error.now) (error_kind error.now) }
+    ensures fault { result ≡ walk_fault (raw_os_error error.now) (error_kind error.now) }
+    ensures call { IfSome result IsCallFault }
 {
     match (error.raw_os_error(), error.kind()) {
-        (Some(ENFILE | EMFILE), _) => Some(TreeFault::Unreadable),
+        (Some(ENFILE | EMFILE), _) => Some(TreeFault::NoHandle),
         (_, ErrorKind::OutOfMemory) => Some(TreeFault::NoMemory),
         _ => None,
     }

@@ -3,7 +3,7 @@ ghost use Rattle.std.specs.Prelude.{◌≡◌, ◌⊎◌, ◌++◌, ◌∷◌, [
 ghost use Rattle.std.specs.Prelude.{IfErr, IfOk, IsTrue, None, OnOk, Some};
 ghost use Rattle.std.specs.Arc.{arc_slice_items};
 ghost use Rattle.std.specs.Str.{IsUtf8, byte};
-ghost use Rattle.wq_crawl.specs.declared.tree.TreeFault.TheVariants.{Unreadable};
+ghost use Rattle.wq_crawl.specs.Tree.{is_of_device};
 ghost use Rattle.wq_view.specs.Name.{is_valid_name};
 ghost use Rattle.wq_view.specs.Seen.{SeenData, is_lawful_row};
 ghost use Rattle.wq_walk.specs.Directory.{data_of, entry_at, left_of, walk_of};
@@ -197,7 +197,7 @@ impl Walk<'_, '_> {
         ensures above { self.new.above ≡ self.old.above }
         ensures row { OnOk result (self.new.rows.rows.items ≡ self.old.rows.rows.items
             ++ rows_of_file self.old.rows.part (arc_slice_items name) stat.now) }
-        ensures fault { IfErr result (λ fault. fault ≡ Unreadable → ⊥) }
+        ensures fault { IfErr result (λ fault. is_of_device fault ≡ false) }
     {
         if self.rows.part().has(&name) {
             self.rows.add(row_of(name, stat))?;

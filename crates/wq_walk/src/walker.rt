@@ -16,8 +16,8 @@ use wq_base::Workers;
 use wq_crawl::{Tree, TreeFault};
 use wq_view::{Seen, View};
 
-/// Walks the trees of a disk, and counts how often a root could not be read. Several threads walk a large tree if
-/// somebody waits for its listing.
+/// Walks the trees of a disk, and counts how often a root could not be read or no file handle was left. Several threads
+/// walk a large tree if somebody waits for its listing.
 #[derive(Drop)]
 pub struct Walker<T: Threads + Drop> {
     disk: FileDisk,
@@ -61,12 +61,13 @@ impl<T: Threads + Drop> Walker<T> {
     }
 }
 
-/// How many listings failed because their root cannot be read, after this one, if there were so many before.
+/// How many listings failed because their root cannot be read or no file handle was left, after this one, if there
+/// were so many before.
 fn failures_after(before: u64, listed: &Result<Vec<Seen>, TreeFault>) -> u64
     ensures { IfErr listed.now (IsCounted before result) }
 {
     match listed {
-        Err(TreeFault::Unreadable) => before.saturating_add(1),
+        Err(TreeFault::Unreadable | TreeFault::NoHandle) => before.saturating_add(1),
         _ => before,
     }
 }
