@@ -6,8 +6,8 @@ use Rattle.wq_view.specs.RecordData.{RecordData}
 use Rattle.wq_view.specs.View.{ViewData}
 use Rattle.wq_follow.specs.Batch.{BatchData, FollowerData, is_told, last_or, listing, nothing, polled, told_up_to}
 use Rattle.wq_follow.specs.Follower.{IsBatch, batch_at}
-use Rattle.wq_follow.specs.Launcher.{AsksRun, LauncherData, StartsRun, goes_on}
-use Rattle.wq_follow.specs.Round.{Agrees, FiredData, Fires, IsFree, TriggerData, WantsMemory, batch_of, is_short, stopped, runs, quiet, started, failed, short}
+use Rattle.wq_follow.specs.Launcher.{AsksRun, LauncherData, Rose, StartsRun, goes_on}
+use Rattle.wq_follow.specs.Round.{Agrees, CountsFailure, FailedStartsStay, FiredData, Fires, IsFree, TriggerData, WantsMemory, batch_of, is_short, stopped, runs, quiet, started, failed, short}
 use Rattle.wq_follow.specs.Start.{StartData, start_of}
 use Rattle.wq_follow.specs.declared.batch.Batch.{Batch}
 use Rattle.wq_follow.proofs.Places.{length_at}
@@ -80,25 +80,26 @@ pub some_files : (records : List RecordData) (said : BatchData) (batch : Batch) 
 some_files records said batch is some none =
     some (sym (length_at records batch.files.items is.1) ∙ ap length (ap (λ b. b.files) is.0 ∙ none))
 
--- a round had an effect on a trigger that is then so, and agrees with the facts that are shown
-abbrev pub Does : InstanceData → ViewData → TriggerData → TriggerData → Option LauncherData → Option LauncherData → Bool → Type 0
-Does instance view t after before shown errs = (fired : FiredData) × Fires instance view t fired after
-    × Agrees fired t.running before shown × (is_short fired ≡ errs)
+-- a round had an effect on a trigger that is then so, and agrees with the facts that are shown and with the count of failures
+abbrev pub Does : InstanceData → ViewData → TriggerData → TriggerData → Option LauncherData → Option LauncherData → Bool → ℕ → ℕ → Type 0
+Does instance view t after before shown errs count counted = (fired : FiredData) × Fires instance view t fired after
+    × Agrees fired t.running before shown × (is_short fired ≡ errs) × CountsFailure fired count counted
 
 -- its follower, once the batch was told
 followed : (view : ViewData) (t : TriggerData) (batch : Batch) (next : FollowerData) → IsBatch view.records (batch_of t view) batch
     → next ≡ told_up_to batch.tick t.follower → next ≡ told_up_to (batch_of t view).now t.follower
 followed view t batch next is moves = moves ∙ ap (λ (b : BatchData). told_up_to b.now t.follower) is.0
 
-pub does_runs : (instance : InstanceData) (view : ViewData) (t : TriggerData) (before shown : Option LauncherData)
-    → AsksRun t.running false before shown → Does instance view t t before shown false
-does_runs instance view t before shown asks =
+pub does_runs : (instance : InstanceData) (view : ViewData) (t : TriggerData) (before shown : Option LauncherData) (count counted : ℕ)
+    → AsksRun t.running false before shown → counted ≡ count → Does instance view t t before shown false count counted
+does_runs instance view t before shown count counted asks stays =
     let is = agrees_runs t.running before shown asks in
-    (runs is.0, (is.1, refl), is.2, refl)
+    (runs is.0, (is.1, refl), is.2, refl, stays)
 
-pub does_short : (instance : InstanceData) (view : ViewData) (t : TriggerData) (before shown : Option LauncherData)
-    → AsksRun t.running true before shown → WantsMemory view t → Does instance view t (stopped t) before shown true
-does_short instance view t before shown asks wants = (short, (wants, refl), agrees_short t.running before shown asks, refl)
+pub does_short : (instance : InstanceData) (view : ViewData) (t : TriggerData) (before shown : Option LauncherData) (count counted : ℕ)
+    → AsksRun t.running true before shown → counted ≡ count → WantsMemory view t
+    → Does instance view t (stopped t) before shown true count counted
+does_short instance view t before shown count counted asks stays wants = (short, (wants, refl), agrees_short t.running before shown asks, refl, stays)
 
 -- a follower with files to tell is polled at a newer view
 pub wants_memory : (f : FollowerData) (view : ViewData) → (polled f view).files ≢ [] → is_told f.last view.tick ≡ false
@@ -109,17 +110,17 @@ wants_memory f view some = at (is_told f.last view.tick) refl
     at true e = absurd (some (ap (λ b. (if b then nothing f.plan (last_or view.tick f.last) else listing f.plan view).files) e))
 
 -- memory ran out for its start
-pub does_short_start : (instance : InstanceData) (view : ViewData) (t : TriggerData) (batch : Batch) (before shown : Option LauncherData)
-    → AsksRun t.running true before shown → IsBatch view.records (batch_of t view) batch → length batch.files.items ≢ 0
-    → Does instance view t (stopped t) before shown true
-does_short_start instance view t batch before shown asks is some =
-    does_short instance view t before shown asks (wants_memory t.follower view (some_files view.records (batch_of t view) batch is some))
+pub does_short_start : (instance : InstanceData) (view : ViewData) (t : TriggerData) (batch : Batch) (before shown : Option LauncherData) (count counted : ℕ)
+    → AsksRun t.running true before shown → counted ≡ count → IsBatch view.records (batch_of t view) batch → length batch.files.items ≢ 0
+    → Does instance view t (stopped t) before shown true count counted
+does_short_start instance view t batch before shown count counted asks stays is some =
+    does_short instance view t before shown count counted asks stays (wants_memory t.follower view (some_files view.records (batch_of t view) batch is some))
 
-pub does_quiet : (instance : InstanceData) (view : ViewData) (t : TriggerData) (batch : Batch) (next : FollowerData) (before shown : Option LauncherData)
-    → AsksRun t.running true before shown → IsBatch view.records (batch_of t view) batch → length batch.files.items ≡ 0
+pub does_quiet : (instance : InstanceData) (view : ViewData) (t : TriggerData) (batch : Batch) (next : FollowerData) (before shown : Option LauncherData) (count counted : ℕ)
+    → AsksRun t.running true before shown → counted ≡ count → IsBatch view.records (batch_of t view) batch → length batch.files.items ≡ 0
     → next ≡ told_up_to batch.tick t.follower
-    → Does instance view t (record { order = t.order; follower = next; object = t.object; running = None }) before shown false
-does_quiet instance view t batch next before shown asks is none moves = (
+    → Does instance view t (record { order = t.order; follower = next; object = t.object; running = None }) before shown false count counted
+does_quiet instance view t batch next before shown count counted asks stays is none moves = (
   quiet,
   (
     no_files view.records (batch_of t view) batch is none,
@@ -127,14 +128,15 @@ does_quiet instance view t batch next before shown asks is none moves = (
   ),
   agrees_quiet t.running before shown asks,
   refl,
+  stays,
 )
 
-pub does_started : (instance : InstanceData) (view : ViewData) (t : TriggerData) (batch : Batch) (next : FollowerData) (start : StartData) (run : ℕ) (before mid shown : Option LauncherData)
-    → AsksRun t.running true before mid → IsBatch view.records (batch_of t view) batch → length batch.files.items ≢ 0
+pub does_started : (instance : InstanceData) (view : ViewData) (t : TriggerData) (batch : Batch) (next : FollowerData) (start : StartData) (run : ℕ) (before mid shown : Option LauncherData) (count counted : ℕ)
+    → AsksRun t.running true before mid → counted ≡ count → IsBatch view.records (batch_of t view) batch → length batch.files.items ≢ 0
     → start ≡ start_of t.order instance (batch_at view.records batch) → StartsRun mid start (Some run) shown
     → next ≡ told_up_to batch.tick t.follower
-    → Does instance view t (record { order = t.order; follower = next; object = t.object; running = Some run }) before shown false
-does_started instance view t batch next start run before mid shown asks is some made starts moves = (
+    → Does instance view t (record { order = t.order; follower = next; object = t.object; running = Some run }) before shown false count counted
+does_started instance view t batch next start run before mid shown count counted asks stays is some made starts moves = (
   started run start,
   (
     (some_files view.records (batch_of t view) batch is some, made ∙ ap (start_of t.order instance) is.0),
@@ -142,13 +144,14 @@ does_started instance view t batch next start run before mid shown asks is some 
   ),
   agrees_started t.running run start before mid shown asks starts,
   refl,
+  stays,
 )
 
-pub does_failed : (instance : InstanceData) (view : ViewData) (t : TriggerData) (batch : Batch) (start : StartData) (before mid shown : Option LauncherData)
-    → AsksRun t.running true before mid → IsBatch view.records (batch_of t view) batch → length batch.files.items ≢ 0
+pub does_failed : (instance : InstanceData) (view : ViewData) (t : TriggerData) (batch : Batch) (start : StartData) (before mid shown : Option LauncherData) (count counted : ℕ)
+    → AsksRun t.running true before mid → Rose count counted → IsBatch view.records (batch_of t view) batch → length batch.files.items ≢ 0
     → start ≡ start_of t.order instance (batch_at view.records batch) → StartsRun mid start None shown
-    → Does instance view t (stopped t) before shown false
-does_failed instance view t batch start before mid shown asks is some made starts = (
+    → Does instance view t (stopped t) before shown false count counted
+does_failed instance view t batch start before mid shown count counted asks rose is some made starts = (
   failed start,
   (
     (some_files view.records (batch_of t view) batch is some, made ∙ ap (start_of t.order instance) is.0),
@@ -156,4 +159,9 @@ does_failed instance view t batch start before mid shown asks is some made start
   ),
   agrees_failed t.running start before mid shown asks starts,
   refl,
+  rose,
 )
+
+-- a start that failed leaves the follower
+pub failed_starts_stay : FailedStartsStay
+failed_starts_stay instance view t start after does later = ap (λ (x : TriggerData). batch_of x later) does.1

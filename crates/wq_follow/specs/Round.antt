@@ -5,7 +5,7 @@ use Rattle.serde_json.specs.Data.{Data}
 use Rattle.wq_clock.specs.Instance.{InstanceData}
 use Rattle.wq_view.specs.View.{ViewData}
 use Rattle.wq_follow.specs.Batch.{BatchData, FollowerData, is_told, polled, told_up_to}
-use Rattle.wq_follow.specs.Launcher.{LauncherData, StartsRun, goes_on}
+use Rattle.wq_follow.specs.Launcher.{LauncherData, Rose, StartsRun, goes_on}
 use Rattle.wq_follow.specs.Start.{OrderData, StartData, start_of}
 
 -- a trigger: how it starts its command, its follower, the object that defines it, and the run of its
@@ -89,3 +89,15 @@ AgreesWith _ running l after = IsFree running l × (after ≡ Some l)
 abbrev pub Agrees : FiredData → Option ℕ → Option LauncherData → Option LauncherData → Type 0
 Agrees fired running None after = after ≡ None
 Agrees fired running (Some l) after = AgreesWith fired running l after
+
+-- the count of a launcher's failures before and after this: it rose if the start failed, and else it
+-- stayed
+abbrev pub CountsFailure : FiredData → ℕ → ℕ → Type 0
+CountsFailure (failed start) before after = Rose before after
+CountsFailure _ before after = after ≡ before
+
+-- after a start that failed, each later batch of the trigger is the one that it would have been before
+abbrev pub FailedStartsStay : Type 0
+FailedStartsStay = (instance : InstanceData) (view : ViewData) (t : TriggerData) (start : StartData)
+    (after : TriggerData) → Fires instance view t (failed start) after
+    → (later : ViewData) → batch_of after later ≡ batch_of t later

@@ -3,7 +3,7 @@ ghost use Rattle.std.specs.Prelude.{◌≡◌, is_err};
 ghost use Rattle.wq_clock.specs.Instance.{instance_data};
 ghost use Rattle.wq_follow.specs.Followed.{trigger_data};
 ghost use Rattle.wq_follow.specs.Launcher.{AsksRun};
-ghost use Rattle.wq_follow.specs.Round.{Agrees, FiredData, Fires, is_short};
+ghost use Rattle.wq_follow.specs.Round.{Agrees, CountsFailure, FiredData, Fires, is_short};
 
 use crate::launch::Launch;
 use crate::starting::start_of;
@@ -27,7 +27,8 @@ impl Trigger {
             × Fires (instance_data instance.now) view.now
             (trigger_data self.old) fired (trigger_data self.new)
             × Agrees fired self.old.running (L.shown launcher.old) (L.shown launcher.new)
-            × (is_short fired ≡ is_err result) }
+            × (is_short fired ≡ is_err result)
+            × CountsFailure fired (L.failures_of launcher.old) (L.failures_of launcher.new) }
     {
         if !self.is_free(launcher) {
             return Ok(());
@@ -49,7 +50,9 @@ impl Trigger {
 
     /// Whether its command does not run.
     fn is_free<L: Launch>(&self, launcher: &mut L) -> bool
-        ensures { AsksRun self.now.running result (L.shown launcher.old) (L.shown launcher.new) }
+        ensures asked { AsksRun self.now.running result (L.shown launcher.old)
+            (L.shown launcher.new) }
+        ensures counted { L.failures_of launcher.new ≡ L.failures_of launcher.old }
     {
         match self.running {
             Some(run) => launcher.ended(run),

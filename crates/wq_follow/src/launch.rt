@@ -1,5 +1,5 @@
 //! The launcher, which starts the commands of triggers. `wq_launch` implements it.
-ghost use Rattle.std.specs.Prelude.{◌≡◌, IfErr};
+ghost use Rattle.std.specs.Prelude.{◌≡◌, IfErr, OnOk};
 ghost use Rattle.wq_follow.specs.Launcher.{EndsRun, Rose, StartsRun, run_of};
 ghost use Rattle.wq_follow.specs.Started.{start_data};
 
@@ -25,9 +25,10 @@ pub trait Launch {
     ghost shown: { Self → Option LauncherData };
 
     /// Starts a command, and gives the number of its run. If it fails, then the count of failures
-    /// rose in this call, or it is at the greatest number that can be told.
+    /// rose in this call, or it is at the greatest number that can be told. Else the count stays.
     fn start(&mut self, start: Start) -> Result<u32, LaunchFault>
         ensures counted { IfErr result (λ _. Rose (failures_of self.old) (failures_of self.new)) }
+        ensures kept { OnOk result (failures_of self.new ≡ failures_of self.old) }
         ensures told { StartsRun (shown self.old) (start_data start) (run_of result)
             (shown self.new) };
 

@@ -2,6 +2,7 @@
 ghost use Rattle.wq_follow.specs.Interval.{IntervalsAdjoin};
 ghost use Rattle.wq_follow.specs.Missing.{NothingIsMissed, ViewsAreReached};
 ghost use Rattle.wq_follow.specs.Plain.{DefinitionsHaveNoFloat};
+ghost use Rattle.wq_follow.specs.Round.{FailedStartsStay};
 ghost use Rattle.wq_follow.specs.Start.{LongestFront};
 
 use wq_query::values_ask_what_they_write;
@@ -38,3 +39,9 @@ pub fn definitions_have_no_float()
 {
     values_ask_what_they_write();
 }
+
+/// A start that failed leaves the trigger's last tick, so the next batch begins where the last one that was told ended.
+#[tactic(auto, using(crate::proofs::Rounds::failed_starts_stay))]
+pub fn failed_starts_stay()
+    ensures { FailedStartsStay }
+{}

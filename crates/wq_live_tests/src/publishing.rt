@@ -15,8 +15,8 @@ use wq_clock::Run;
 use wq_crawl::{CrawlFault, Crawler, LockRoots, Roots, SharedCrawler, Tree, TreeFault};
 use wq_live::{Blank, Named, Told};
 use wq_registry::{CacheKey, Compiled};
-use wq_serve::{Desk, LockDesk, MemoryInbox, Unset, serve};
-use wq_session::{Cursor, Prepared, Work};
+use wq_serve::{Desk, LockDesk, MemoryInbox, Turn, Unset, serve};
+use wq_session::{Cursor, Work};
 use wq_stream::Splitter;
 use wq_verify::Program;
 use wq_view::Seen;
@@ -106,9 +106,9 @@ impl<N: Named, R: Wait + Drop> Desk for Holding<N, R> {
         self.desk.keep(compiled);
     }
 
-    fn hold(&mut self, alloc: Global, prepared: Prepared<'_>) -> Work {
+    fn hold(&mut self, turn: Turn<'_>) -> Work {
         publish_twice(&mut self.roots);
-        self.desk.hold(alloc, prepared)
+        self.desk.hold(turn)
     }
 
     fn unset(&mut self, cursor: Cursor) -> Unset {

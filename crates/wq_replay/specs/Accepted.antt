@@ -60,17 +60,21 @@ AcceptsOf world (asked client ask) sent calls =
     (out : OutData) × AcceptsFor client world ask out calls × (sent ≡ sent_to client out)
 AcceptsOf world (idle client root) sent calls = calls ≡ []
 AcceptsOf world (round root succeeds) sent calls = (table : TableData)
-    × IsTableOf world.events table × AcceptsRound (root_by_text root table) succeeds world sent calls
+    × IsTableOf world.events table
+    × AcceptsRound (root_by_text root table) succeeds world sent calls
 AcceptsOf world (ended run) sent calls = calls ≡ []
 
 -- these happenings come in turn, and these are the accepted calls of all of them. The calls of each
 -- happening lead from the shelf before it to the shelf after it
-abbrev pub RunsWith : WorldData → List HappeningData → List SentData → WorldData → List CallNow → Type 0
+abbrev pub RunsWith : WorldData → List HappeningData → List SentData → WorldData
+    → List CallNow → Type 0
 RunsWith world [] sent after calls = (sent ≡ []) × (after ≡ world) × (calls ≡ [])
 RunsWith world (happening ∷ later) sent after calls =
-    (next : WorldData) × (first rest : List SentData) × (now : List CallNow) × (behind : List CallNow)
+    (next : WorldData) × (first rest : List SentData)
+    × (now : List CallNow) × (behind : List CallNow)
     × Does world happening first next × AcceptsOf world happening first now
-    × (next.shelf ≡ after_all now world.shelf) × (sent ≡ first ++ rest) × (calls ≡ now ++ behind) × RunsWith next later rest after behind
+    × (next.shelf ≡ after_all now world.shelf) × (sent ≡ first ++ rest)
+    × (calls ≡ now ++ behind) × RunsWith next later rest after behind
 
 -- the shelf of a world is the result of the accepted calls of all happenings, after the call for the
 -- root of a new world

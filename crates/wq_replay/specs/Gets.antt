@@ -28,8 +28,10 @@ refused_fault root (Some refused) = if bytes_eq refused.root root then Some refu
 -- the fault of the crawl or the watching that an ask needs, if that was refused. A crawl counts if
 -- its root is shown, a watching if it is not
 abbrev pub fault_for : NeedData → TableData → Option RefusedData → Option CrawlFault
-fault_for (crawl_of root) table refused = if shows root table then refused_fault root refused else None
-fault_for (watch_of root) table refused = if shows root table then None else refused_fault root refused
+fault_for (crawl_of root) table refused =
+    if shows root table then refused_fault root refused else None
+fault_for (watch_of root) table refused =
+    if shows root table then None else refused_fault root refused
 fault_for _ table refused = None
 
 -- the number of the root that an ask ends, if it is shown

@@ -18,6 +18,7 @@ use crate::client::Client;
 use crate::crew::Crew;
 use crate::desk::Desk;
 use crate::looking::{SharedAt, look_for, number_for, share_for};
+use crate::turn::Turn;
 use std::alloc::Global;
 use std::thread::Threads;
 use wq_clock::Instance;
@@ -95,7 +96,7 @@ fn take<D: Desk>(alloc: Global, ask: Ask, at: Option<At<'_>>, desk: &mut D) -> W
         (D.shelf desk.new) }
 {
     let prepared = prepare(alloc, ask, at, desk);
-    desk.hold(alloc, prepared)
+    desk.hold(Turn::new(alloc, prepared))
 }
 
 /// An ask with its query read. The program of the query is found at the desk, or compiled and kept there.

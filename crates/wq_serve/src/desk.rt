@@ -5,17 +5,17 @@ ghost use Rattle.wq_serve.specs.Desk.{HoldsShelf, Unsets};
 ghost use Rattle.wq_session.specs.Prepared.{IsPrepared, asked, asked_at};
 ghost use Rattle.wq_session.specs.Work.{work_data};
 
+use crate::turn::Turn;
 use crate::unset::Unset;
-use std::alloc::Global;
 use std::sync::Arc;
 use wq_registry::{CacheKey, Compiled, Shelf};
-use wq_session::{Cursor, Prepared, Work};
+use wq_session::{Cursor, Work};
 use wq_verify::Program;
 
 /// A session's way to the shelf. It is held for an ask, to unset a cursor, and to find a program in the cache or keep
 /// one there. Each is a hold of its own, so that nothing is read or compiled while the shelf is held.
 ///
-/// It may show its shelf.
+/// It may show its shelf. No call gives it an allocator, so it can make no shelf of its own.
 pub trait Desk {
     ghost use Rattle.std.specs.Prelude.{Option};
     ghost use Rattle.wq_session.specs.At.{ShelfNow};
@@ -33,11 +33,11 @@ pub trait Desk {
     fn keep(&mut self, compiled: Compiled)
         ensures { shelf self.new ≡ shelf self.old };
 
-    /// Takes an ask ([`Prepared::take`]) at the shelf as it is.
-    fn hold(&mut self, alloc: Global, prepared: Prepared<'_>) -> Work
-        requires { IsPrepared prepared }
-        ensures { HoldsShelf (shelf self.old) (asked prepared.entry) (asked_at prepared.entry)
-            (work_data result) (shelf self.new) };
+    /// Takes a session's turn ([`Turn::take`]) at the shelf as it is.
+    fn hold(&mut self, turn: Turn<'_>) -> Work
+        requires { IsPrepared turn.prepared }
+        ensures { HoldsShelf (shelf self.old) (asked turn.entry.prepared)
+            (asked_at turn.entry.prepared) (work_data result) (shelf self.new) };
 
     /// Unsets a cursor ([`Shelf::unset_cursor`]) on the shelf as it is, and gives the receipt that only this makes.
     fn unset(&mut self, cursor: Cursor) -> Unset

@@ -19,6 +19,7 @@ mod looking;
 mod memory_desk;
 mod serving;
 mod shared_shelf;
+mod turn;
 mod unset;
 mod writing;
 
@@ -30,4 +31,5 @@ pub use lock_desk::LockDesk;
 pub use memory_desk::MemoryDesk;
 pub use serving::{Ended, MAX_EVENTS, serve};
 pub use shared_shelf::{ReachedShelf, SharedShelf, reached_by_calls};
+pub use turn::Turn;
 pub use unset::Unset;

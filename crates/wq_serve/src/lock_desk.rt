@@ -3,11 +3,11 @@ ghost use Rattle.std.specs.Prelude.{◌≡◌};
 
 use crate::desk::Desk;
 use crate::shared_shelf::SharedShelf;
+use crate::turn::Turn;
 use crate::unset::Unset;
-use std::alloc::Global;
 use std::sync::{Arc, Mutex, Wait};
 use wq_registry::{CacheKey, Compiled};
-use wq_session::{Cursor, Prepared, Work};
+use wq_session::{Cursor, Work};
 use wq_verify::Program;
 
 /// A desk over a shelf that threads share. It shows no shelf, and keeps none.
@@ -39,8 +39,8 @@ impl<R: Wait + Drop> Desk for LockDesk<R> {
         self.shelf.lock(&self.rt).keep(compiled);
     }
 
-    fn hold(&mut self, alloc: Global, prepared: Prepared<'_>) -> Work {
-        self.shelf.lock(&self.rt).take(alloc, prepared)
+    fn hold(&mut self, turn: Turn<'_>) -> Work {
+        self.shelf.lock(&self.rt).take(turn)
     }
 
     fn unset(&mut self, cursor: Cursor) -> Unset {

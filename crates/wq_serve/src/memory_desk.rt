@@ -2,12 +2,12 @@
 ghost use Rattle.std.specs.Prelude.{◌≡◌};
 
 use crate::desk::Desk;
+use crate::turn::Turn;
 use crate::unset::Unset;
-use std::alloc::Global;
 use std::sync::Arc;
 use wq_follow::Trigger;
 use wq_registry::{CacheKey, Compiled, Shelf};
-use wq_session::{Cursor, Prepared, Work};
+use wq_session::{Cursor, Work};
 use wq_verify::Program;
 
 /// A desk over a shelf that this session has alone. It shows the shelf.
@@ -31,8 +31,8 @@ impl Desk for MemoryDesk {
         self.shelf.cache().keep(compiled);
     }
 
-    fn hold(&mut self, alloc: Global, prepared: Prepared<'_>) -> Work {
-        prepared.take(alloc, &mut self.shelf)
+    fn hold(&mut self, turn: Turn<'_>) -> Work {
+        turn.take(&mut self.shelf)
     }
 
     fn unset(&mut self, cursor: Cursor) -> Unset {

@@ -6,11 +6,12 @@ ghost use Rattle.wq_registry.specs.Shelf.{blank, cursor_unset};
 ghost use Rattle.wq_serve.specs.Reached.{IsReached, ReachedByCalls};
 ghost use Rattle.wq_session.specs.Answer.{TakesAsk};
 ghost use Rattle.wq_session.specs.Prepared.{IsPrepared, asked, asked_at};
-ghost use Rattle.wq_session.specs.Round.{IsRound};
+ghost use Rattle.wq_session.specs.Round.{IsCountedRound};
 ghost use Rattle.wq_session.specs.Shelved.{shelf_data};
 ghost use Rattle.wq_session.specs.Work.{work_data};
 
 use crate::kept::Kept;
+use crate::turn::Turn;
 use crate::unset::Unset;
 use std::alloc::Global;
 use std::marker::Model;
@@ -18,7 +19,7 @@ use std::sync::Arc;
 use wq_clock::Instance;
 use wq_follow::{Launch, Trigger};
 use wq_registry::{Cache, CacheKey, Compiled, Root, Shelf};
-use wq_session::{Cursor, Prepared, Work, answers_are_calls, round, rounds_are_calls};
+use wq_session::{Cursor, Work, answers_are_calls, round, rounds_are_calls};
 use wq_verify::Program;
 use wq_view::View;
 
@@ -68,14 +69,14 @@ impl ReachedShelf<Trigger> {
         self.shelf.roots()
     }
 
-    /// Takes an ask of a session ([`Prepared::take`]).
-    pub(crate) fn take(&mut self, alloc: Global, prepared: Prepared<'_>) -> Work
-        requires { IsPrepared prepared }
+    /// Takes a session's turn ([`Turn::take`]).
+    pub(crate) fn take(&mut self, turn: Turn<'_>) -> Work
+        requires { IsPrepared turn.prepared }
         ensures reached { IsReached (shelf_data self.old) }
-        ensures taken { TakesAsk (asked prepared.entry) (asked_at prepared.entry)
+        ensures taken { TakesAsk (asked turn.entry.prepared) (asked_at turn.entry.prepared)
             (shelf_data self.old) (work_data result) (shelf_data self.new) }
     {
-        prepared.take(alloc, &mut self.shelf)
+        turn.take(&mut self.shelf)
     }
 
     /// The program that the cache keeps for an expression.
@@ -112,8 +113,9 @@ impl ReachedShelf<Trigger> {
         launcher: &mut L,
     )
         ensures reached { IsReached (shelf_data self.old) }
-        ensures round { IsRound (instance_data instance.now) view.now (shelf_data self.old)
-            (L.shown launcher.old) (shelf_data self.new) (L.shown launcher.new) }
+        ensures round { IsCountedRound (instance_data instance.now) view.now (shelf_data self.old)
+            (L.shown launcher.old) (L.failures_of launcher.old) (shelf_data self.new)
+            (L.shown launcher.new) (L.failures_of launcher.new) }
     {
         round(alloc, instance, view, &mut self.shelf, launcher);
     }

@@ -1,6 +1,7 @@
 mod Behind
 mod Texts
 mod Constants
+mod Counted
 mod Rooted
 pub mod Shelves
 mod Strings

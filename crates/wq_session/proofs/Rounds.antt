@@ -5,7 +5,7 @@ use Rattle.std.proofs.lemmas.Option.{same_Some}
 use Rattle.wq_clock.specs.Instance.{InstanceData}
 use Rattle.wq_follow.specs.Followed.{trigger_data}
 use Rattle.wq_follow.specs.Launcher.{LauncherData}
-use Rattle.wq_follow.specs.Round.{Agrees, FiredData, Fires, TriggerData}
+use Rattle.wq_follow.specs.Round.{Agrees, CountsFailure, FiredData, Fires, TriggerData}
 use Rattle.wq_follow.specs.declared.trigger.Trigger.{Trigger}
 use Rattle.wq_registry.proofs.Changes.{places_are_names}
 use Rattle.wq_registry.proofs.Watches.{triggers_are_made}
@@ -16,7 +16,7 @@ use Rattle.wq_registry.specs.Root.{RootData, changed, numbered, triggers_in, wit
 use Rattle.wq_registry.specs.Shelf.{ShelfData, blank, trigger_changed, triggers_of}
 use Rattle.wq_view.specs.View.{ViewData}
 use Rattle.wq_session.specs.At.{ShelfNow}
-use Rattle.wq_session.specs.Round.{HasTurn, HaveTurns, IsRound, RoundsAreCalls, TurnData, after_turns, turn_calls, with_triggers}
+use Rattle.wq_session.specs.Round.{CountFailures, HasTurn, HaveTurns, IsCountedRound, RoundsAreCalls, TurnData, after_turns, turn_calls, with_triggers}
 use Rattle.wq_session.specs.Shelved.{each, shelf_data}
 use Rattle.wq_session.proofs.Shelves.{changed_with, triggers_now}
 
@@ -118,7 +118,7 @@ other_shelf root first second shelf = ap (shelf_of shelf) (both_changes root (ho
 
 -- the turns of so many triggers
 pub record Had (instance : InstanceData) (view : ViewData) (ts : ByName TriggerData) (shelf : ShelfNow) (shown : Option LauncherData)
-    (place : ℕ) (now : ShelfNow) (left : Option LauncherData) : Type 0 where
+    (count place : ℕ) (now : ShelfNow) (left : Option LauncherData) (counted : ℕ) : Type 0 where
   pub front : ByName TriggerData
   pub later : ByName TriggerData
   pub turns : List TurnData
@@ -126,10 +126,17 @@ pub record Had (instance : InstanceData) (view : ViewData) (ts : ByName TriggerD
   pub placed : length front ≡ place
   pub had : HaveTurns instance view front shown turns left
   pub is : now ≡ with_triggers instance.root (after_turns turns ++ later) shelf
+  pub counts : CountFailures turns count counted
 
-module _ (instance : InstanceData) (view : ViewData) (shelf : ShelfNow) (shown : Option LauncherData) where
+-- one more turn is counted
+count_more : (turns : List TurnData) (turn : TurnData) (count next counted : ℕ) → CountFailures turns count next
+    → CountsFailure turn.fired next counted → CountFailures (turns ++ turn ∷ []) count counted
+count_more [] turn count next counted is counts = (counted, subst (λ n. CountsFailure turn.fired n counted) is counts, refl)
+count_more (u ∷ turns) turn count next counted (mid, first, rest) counts = (mid, first, count_more turns turn mid next counted rest counts)
+
+module _ (instance : InstanceData) (view : ViewData) (shelf : ShelfNow) (shown : Option LauncherData) (count : ℕ) where
   -- at first no trigger had its turn
-  pub none_had : Had instance view (triggers_of instance.root shelf) shelf shown 0 shelf shown
+  pub none_had : Had instance view (triggers_of instance.root shelf) shelf shown count 0 shelf shown count
   none_had = record {
     front = [];
     later = triggers_of instance.root shelf;
@@ -138,6 +145,7 @@ module _ (instance : InstanceData) (view : ViewData) (shelf : ShelfNow) (shown :
     placed = refl;
     had = refl;
     is = sym (same_shelf instance.root shelf);
+    counts = refl;
   }
 
   -- one more turn
@@ -176,14 +184,14 @@ module _ (instance : InstanceData) (view : ViewData) (shelf : ShelfNow) (shown :
       ∙ set_triggers instance.root (after_turns turns ++ t ∷ later) shelf.roots t later front parts
 
   -- the next trigger had its turn
-  one_had : (place : ℕ) (now after : ShelfNow) (left last : Option LauncherData) (front later : ByName TriggerData) (turns : List TurnData)
+  one_had : (place : ℕ) (now after : ShelfNow) (left last : Option LauncherData) (next counted : ℕ) (front later : ByName TriggerData) (turns : List TurnData)
       → triggers_of instance.root shelf ≡ front ++ later → length front ≡ place → place < length (triggers_of instance.root shelf)
       → HaveTurns instance view front shown turns left → now ≡ with_triggers instance.root (after_turns turns ++ later) shelf
-      → HasTurn instance view now place left after last
-      → Had instance view (triggers_of instance.root shelf) shelf shown (place + 1) after last
-  one_had place now after left last front [] turns parts placed more had is turn =
+      → CountFailures turns count next → HasTurn instance view now place left next after last counted
+      → Had instance view (triggers_of instance.root shelf) shelf shown count (place + 1) after last counted
+  one_had place now after left last next counted front [] turns parts placed more had is counts turn =
       absurd (omega (arith, more, ap length parts, length-append front [], placed))
-  one_had place now after left last front (t ∷ later) turns parts placed more had is turn =
+  one_had place now after left last next counted front (t ∷ later) turns parts placed more had is counts turn =
       let it = turn (after_turns turns) t later (there_now place now left front later t turns parts is) (as_many front turns shown left had ∙ placed) in
       record {
         front = front ++ t ∷ [];
@@ -199,20 +207,21 @@ module _ (instance : InstanceData) (view : ViewData) (shelf : ShelfNow) (shown :
             (ap (λ name. after_turns turns ++ (name, (it.0).after) ∷ later) (sym it.1)
             ∙ sym (append_assoc (after_turns turns) (((it.0).name, (it.0).after) ∷ []) later)
             ∙ ap (λ ts. ts ++ later) (sym (after_more turns it.0)));
+        counts = count_more turns it.0 count next counted counts it.5;
       }
 
-  pub next_had : (place : ℕ) (now after : ShelfNow) (left last : Option LauncherData)
-      → Had instance view (triggers_of instance.root shelf) shelf shown place now left
-      → place < length (triggers_of instance.root shelf) → HasTurn instance view now place left after last
-      → Had instance view (triggers_of instance.root shelf) shelf shown (place + 1) after last
-  next_had place now after left last so more turn =
-      one_had place now after left last so.front so.later so.turns so.parts so.placed more so.had so.is turn
+  pub next_had : (place : ℕ) (now after : ShelfNow) (left last : Option LauncherData) (next counted : ℕ)
+      → Had instance view (triggers_of instance.root shelf) shelf shown count place now left next
+      → place < length (triggers_of instance.root shelf) → HasTurn instance view now place left next after last counted
+      → Had instance view (triggers_of instance.root shelf) shelf shown count (place + 1) after last counted
+  next_had place now after left last next counted so more turn =
+      one_had place now after left last next counted so.front so.later so.turns so.parts so.placed more so.had so.is so.counts turn
 
   -- there are as many triggers as before
-  pub as_many_now : (place : ℕ) (now : ShelfNow) (left : Option LauncherData)
-      → Had instance view (triggers_of instance.root shelf) shelf shown place now left
+  pub as_many_now : (place : ℕ) (now : ShelfNow) (left : Option LauncherData) (next : ℕ)
+      → Had instance view (triggers_of instance.root shelf) shelf shown count place now left next
       → place < length (triggers_of instance.root shelf) → place < length (triggers_of instance.root now)
-  as_many_now place now left so more = by so.front so.later so.turns so.parts so.placed so.had so.is
+  as_many_now place now left next so more = by so.front so.later so.turns so.parts so.placed so.had so.is
     where
       by : (front later : ByName TriggerData) (turns : List TurnData) → triggers_of instance.root shelf ≡ front ++ later
           → length front ≡ place → HaveTurns instance view front shown turns left
@@ -228,20 +237,24 @@ module _ (instance : InstanceData) (view : ViewData) (shelf : ShelfNow) (shown :
           )
 
   -- all had their turns
-  pub all_had : (place : ℕ) (now : ShelfNow) (left : Option LauncherData)
-      → Had instance view (triggers_of instance.root shelf) shelf shown place now left
-      → place ≡ length (triggers_of instance.root shelf) → IsRound instance view shelf shown now left
-  all_had place now left so all = by so.front so.later so.turns so.parts so.placed so.had so.is
+  pub all_had : (place : ℕ) (now : ShelfNow) (left : Option LauncherData) (counted : ℕ)
+      → Had instance view (triggers_of instance.root shelf) shelf shown count place now left counted
+      → place ≡ length (triggers_of instance.root shelf) → IsCountedRound instance view shelf shown count now left counted
+  all_had place now left counted so all = by so.front so.later so.turns so.parts so.placed so.had so.is so.counts
     where
       by : (front later : ByName TriggerData) (turns : List TurnData) → triggers_of instance.root shelf ≡ front ++ later
           → length front ≡ place → HaveTurns instance view front shown turns left
-          → now ≡ with_triggers instance.root (after_turns turns ++ later) shelf → IsRound instance view shelf shown now left
-      by front [] turns parts placed had is = record {
-        turns = turns;
-        had = subst (λ ts. HaveTurns instance view ts shown turns left) (sym (parts ∙ append-nil front)) had;
-        is = is ∙ ap (λ ts. with_triggers instance.root ts shelf) (append-nil (after_turns turns));
-      }
-      by front (t ∷ later) turns parts placed had is =
+          → now ≡ with_triggers instance.root (after_turns turns ++ later) shelf → CountFailures turns count counted
+          → IsCountedRound instance view shelf shown count now left counted
+      by front [] turns parts placed had is counts = (
+        record {
+          turns = turns;
+          had = subst (λ ts. HaveTurns instance view ts shown turns left) (sym (parts ∙ append-nil front)) had;
+          is = is ∙ ap (λ ts. with_triggers instance.root ts shelf) (append-nil (after_turns turns));
+        },
+        counts,
+      )
+      by front (t ∷ later) turns parts placed had is counts =
           absurd (omega (arith, all, ap length parts, length-append front (t ∷ later), placed))
 
 -- another trigger at a place, on the shelf of the code
@@ -274,14 +287,15 @@ found root s k front t later parts placed =
     get_with (x ∷ xs) (suc k) = get_with xs k
 
 -- a trigger had its turn by these, on the shelf of the code
-pub had_turn : (instance : InstanceData) (view : ViewData) (s : ShelfData Trigger) (k : ℕ) (shown left : Option LauncherData) (old new : Trigger)
+pub had_turn : (instance : InstanceData) (view : ViewData) (s : ShelfData Trigger) (k : ℕ) (shown left : Option LauncherData) (count counted : ℕ) (old new : Trigger)
     → slice_get (values (triggers_of instance.root s)) k ≡ Some old
     → (front : ByName TriggerData) (t : List ℕ × TriggerData) (later : ByName TriggerData)
     → triggers_of instance.root (shelf_data s) ≡ front ++ t ∷ later → length front ≡ k
     → (fired : FiredData) → Fires instance view (trigger_data old) fired (trigger_data new) → Agrees fired (trigger_data old).running shown left
-    → (turn : TurnData) × (turn.name ≡ t.0) × Fires instance view t.1 turn.fired turn.after × Agrees turn.fired (t.1).running shown left
+    → CountsFailure fired count counted → (turn : TurnData) × (turn.name ≡ t.0) × Fires instance view t.1 turn.fired turn.after × Agrees turn.fired (t.1).running shown left
     × (shelf_data (trigger_changed instance.root k new s) ≡ with_triggers instance.root (front ++ (t.0, turn.after) ∷ later) (shelf_data s))
-had_turn instance view s k shown left old new got front t later parts placed fired fires agrees =
+    × CountsFailure turn.fired count counted
+had_turn instance view s k shown left count counted old new got front t later parts placed fired fires agrees counts =
     let same : trigger_data old ≡ t.1 =
     same_Some (trigger_data old) t.1 (ap (option_map trigger_data) (sym got) ∙ found instance.root s k front t later parts placed) in (
       record { name = t.0; fired = fired; after = trigger_data new },
@@ -289,6 +303,7 @@ had_turn instance view s k shown left old new got front t later parts placed fir
       subst (λ (x : TriggerData). Fires instance view x fired (trigger_data new)) same fires,
       subst (λ (x : TriggerData). Agrees fired x.running shown left) same agrees,
       turned instance.root s k new front t later parts placed,
+      counts,
     )
 
 module _ (instance : InstanceData) (view : ViewData) (shelf : ShelfNow) (places : PlacesAreNames TriggerData) where

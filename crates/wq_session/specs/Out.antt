@@ -59,7 +59,8 @@ refuses refusal = record {
 
 -- no reply, and whether the session goes on
 abbrev pub silence : Bool → OutData
-silence goes_on = record { reply = None; lists = []; goes_on = goes_on; shuts = false; unset = None }
+silence goes_on =
+    record { reply = None; lists = []; goes_on = goes_on; shuts = false; unset = None }
 
 -- memory ran out, with the cursor that was moved
 abbrev pub runs_out : Option Cursor → OutData

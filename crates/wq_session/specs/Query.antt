@@ -1,7 +1,7 @@
 -- `query`: the files of a root, or those that changed. This is what the query takes from the shelf,
 -- and leaves there: its program and its cursor.
--- From Watchman's documentation of `query`, of synchronisation (`sync_timeout`) and of named cursors;
--- programs are this server's own.
+-- From Watchman's documentation of `query`, of synchronisation (`sync_timeout`) and of named
+-- cursors; programs are this server's own.
 use Rattle.std.specs.Prelude.{◌≡◌, ℕ, pos, Bool, true, false, not, List, codes}
 use Rattle.std.specs.Prelude.{Option, Some, None, Result, Ok}
 use Rattle.std.specs.Option.{option_map_or}

@@ -1,6 +1,7 @@
 -- `trigger`, `trigger-list` and `trigger-del`: the server starts commands for the files of a root,
 -- lists them, and no longer starts them.
--- From Watchman's documentation of these commands; programs and the order of faults are this server's own.
+-- From Watchman's documentation of these commands; programs and the order of faults are this
+-- server's own.
 use Rattle.std.specs.Prelude.{◌≡◌, ℕ, Bool, true, false, not, List, codes, map}
 use Rattle.std.specs.Prelude.{Option, Some, None, is_some, Result, Ok}
 use Rattle.std.specs.Option.{option_and_then}
@@ -130,7 +131,8 @@ abbrev pub put_trigger : List ℕ → ℕ → DefinitionData → Option Raw → 
 put_trigger root number d program shelf =
     unless_fault TooManyTriggers (not (has_no_trigger_place number (name_in d) shelf)) (
     Ok (record {
-      work = says (replies (trigger_reply (name_in d) (is_some (trigger_called number (name_in d) shelf))));
+      work = says (replies (trigger_reply (name_in d)
+          (is_some (trigger_called number (name_in d) shelf))));
       shelf = trigger_added number (name_in d) (trigger_in root number d program shelf) shelf;
     }))
 
@@ -151,7 +153,8 @@ try_trigger root d at shelf =
 abbrev pub try_list_triggers : List ℕ → Option AtData → ShelfNow → Result BegunData Refusal
 try_list_triggers root at shelf =
     or_fault NotWatched (watched root at shelf) (λ at.
-    Ok (saying (replies (triggers_reply (objects_of (triggers_of (at.instance).root shelf)))) shelf))
+    Ok (saying (replies (triggers_reply
+    (objects_of (triggers_of (at.instance).root shelf)))) shelf))
 
 -- the beginning of `trigger-del`
 abbrev pub try_delete_trigger : List ℕ → List ℕ → Option AtData → ShelfNow

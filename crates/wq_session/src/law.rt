@@ -1,7 +1,7 @@
 //! Laws of answers, each a function without a body whose contract is the law.
 ghost use Rattle.wq_session.specs.Accepted.{AnswersAreCalls};
 ghost use Rattle.wq_session.specs.Law.{WatchingAgainChangesNothing};
-ghost use Rattle.wq_session.specs.Round.{RoundsAreCalls};
+ghost use Rattle.wq_session.specs.Round.{FailedStartsAreCounted, RoundsAreCalls};
 
 /// Watching a root that is already watched, under the number of the root that is looked at, changes nothing. Its answer
 /// is the same as the first time.
@@ -22,4 +22,10 @@ pub fn answers_are_calls()
 #[tactic(auto, using(crate::proofs::Rounds::rounds_are_calls))]
 pub fn rounds_are_calls()
     ensures { RoundsAreCalls }
+{}
+
+/// A start fails in a round only if the launcher's count of failures rose over the round.
+#[tactic(auto, using(crate::proofs::Counted::failed_starts_are_counted))]
+pub fn failed_starts_are_counted()
+    ensures { FailedStartsAreCounted }
 {}

@@ -34,7 +34,9 @@ pub use ask::Ask;
 pub use at::At;
 pub use cursor::Cursor;
 pub use followed::MAX_SUBSCRIPTIONS;
-pub use law::{answers_are_calls, rounds_are_calls, watching_again_changes_nothing};
+pub use law::{
+    answers_are_calls, failed_starts_are_counted, rounds_are_calls, watching_again_changes_nothing,
+};
 pub use line::Line;
 pub use need::Need;
 pub use outcome::Out;

@@ -2,7 +2,7 @@
 ghost use Rattle.std.specs.Prelude.{◌≡◌, ◌<◌, length};
 ghost use Rattle.wq_clock.specs.Instance.{instance_data};
 ghost use Rattle.wq_registry.specs.Shelf.{triggers_of};
-ghost use Rattle.wq_session.specs.Round.{HasTurn, IsRound};
+ghost use Rattle.wq_session.specs.Round.{HasTurn, IsCountedRound};
 ghost use Rattle.wq_session.specs.Shelved.{shelf_data};
 
 use std::alloc::Global;
@@ -14,7 +14,8 @@ use wq_view::View;
 /// A round of the triggers of a root, in their order, at a view of it. It does nothing if the root is not on the shelf
 /// under the number of the instance.
 ///
-/// If memory runs out for a trigger, that one has not moved, and has its turn again in a later round.
+/// If memory runs out for a trigger, or its command cannot be started, that one has not moved, and has its turn again in
+/// a later round. The launcher's count of failures rose in each turn whose start failed, and in no other.
 pub fn round<L: Launch>(
     alloc: Global,
     instance: &Instance,
@@ -22,8 +23,9 @@ pub fn round<L: Launch>(
     shelf: &mut Shelf<Trigger>,
     launcher: &mut L,
 )
-    ensures { IsRound (instance_data instance.now) view.now (shelf_data shelf.old)
-        (L.shown launcher.old) (shelf_data shelf.new) (L.shown launcher.new) }
+    ensures { IsCountedRound (instance_data instance.now) view.now (shelf_data shelf.old)
+        (L.shown launcher.old) (L.failures_of launcher.old) (shelf_data shelf.new)
+        (L.shown launcher.new) (L.failures_of launcher.new) }
 {
     let count = count_of(shelf, instance.root);
     for k in 0..count {
@@ -52,7 +54,8 @@ fn fire_at<L: Launch>(
 )
     requires { k < length (triggers_of instance.now.root (shelf_data shelf.old)) }
     ensures { HasTurn (instance_data instance.now) view.now (shelf_data shelf.old) k
-        (L.shown launcher.old) (shelf_data shelf.new) (L.shown launcher.new) }
+        (L.shown launcher.old) (L.failures_of launcher.old) (shelf_data shelf.new)
+        (L.shown launcher.new) (L.failures_of launcher.new) }
 {
     if let Some(trigger) = shelf.trigger_mut(instance.root, k) {
         // If memory ran out, it has not moved, and has its turn in a later round.

@@ -11,7 +11,8 @@ pub returns-in-Some : goal.returns-in-Some
 returns-in-Some g c front t later parts placed =
     let got : slice_get (values (triggers_of c.args.instance.now.root c.args.shelf.now)) c.args.k ≡ Some c.in-Some.trigger.now = search rules in
     had_turn (instance_data c.args.instance.now) c.args.view.now c.args.shelf.now c.args.k (g.L.Launch.shown c.args.launcher.now) (g.L.Launch.shown c.fire.new.launcher)
-    c.in-Some.trigger.now c.fire.new.self got front t later parts placed _ (c.fire.ensures.1) (c.fire.ensures.2)
+    (g.L.Launch.failures_of c.args.launcher.now) (g.L.Launch.failures_of c.fire.new.launcher)
+    c.in-Some.trigger.now c.fire.new.self got front t later parts placed _ (c.fire.ensures.1) (c.fire.ensures.2) (c.fire.ensures.4)
 
 pub returns-in_default : goal.returns-in_default
 returns-in_default g c front t later parts placed =

@@ -35,7 +35,7 @@ returns c = λ before stands.
     let held : before.runs ≡ mine = stands.runs ∙ ap runs_data (sym c.replace-runs.ensures.value) in
     let about : c.in_ok-lines.lines ≡ map tried_text (all_tried launcher.tried.items) = c.in_ok-lines.ensures ∙ ap (λ tried. map tried_text (all_tried tried)) c.deref.ensures.value in
     let had = has_round before (instance_data c.instance-instance.result) c.in-Some.view.now c.args.succeeds (shelf_data c.args.self.now.shelf) left mine launcher
-    (launcher_shown c.new-launcher.result) c.in_ok-lines.lines stands.shelf held c.round.ensures c.new-launcher.ensures c.if-launcher.false about in
+    (launcher_shown c.new-launcher.result) c.in_ok-lines.lines stands.shelf held c.round.ensures.0 c.new-launcher.ensures c.if-launcher.false about in
     let after = fired left (runs_after c.args.succeeds before.runs (runs_data launcher.runs)) before in (
       after,
       (
