@@ -117,6 +117,28 @@ def check_streams_that_fail(tally: built.Tally, room: Path) -> None:
                 tally.check(f"the end, {call}", server.shut_down(last) == 0)
 
 
+def check_a_cursor_whose_reply_fails(tally: built.Tally, room: Path) -> None:
+    """Each thread's second write fails. A cursor whose reply was cut off has moved all the same."""
+    if not has_strace(tally):
+        return
+    root = room / "tree"
+    root.mkdir()
+    (root / "a").touch()
+    asked = {"since": "n:k", "sync_timeout": 0, "fields": ["name"]}
+    fault = Fault("sendto", "EIO", "2")
+    with Server(room, interval=A_HOUR, through=[*SERVED, "-o", "/dev/null", *fault.words()]) as server:
+        with server.client() as client:
+            client.ask("watch", str(root))
+            client.send("query", str(root), asked)
+            tally.check("no reply of a cursor", client.rest() == b"")
+        with server.client() as other:
+            expected = {**VERSION, "clock": "c:7:9:1:1", "files": [], "is_fresh_instance": False}
+            reply = other.ask("query", str(root), asked)
+            tally.check("the cursor has moved", reply == expected, [f"{reply}"])
+        with server.client() as last:
+            tally.check("the end after a cursor", server.shut_down(last) == 0)
+
+
 def check_sockets_that_fail(tally: built.Tally, room: Path) -> None:
     """A call that makes the socket fails: the server says so, ends with status 1, and leaves nothing behind."""
     if not has_strace(tally):
