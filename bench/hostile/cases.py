@@ -69,14 +69,14 @@ def dear_program() -> str:
     """About the dearest program that the verifier accepts."""
     code = [Operation(BY_NAME["basename"], 0, 0), Operation(BY_NAME["match"], 0, 0), Operation(BY_NAME["drop"], 0, 0)] * MATCHES
     code += [Operation(BY_NAME["basename"], 0, 0), Operation(BY_NAME["match"], 0, 0), Operation(BY_NAME["ret"], 0, 0)]
-    program = Program([], [], [], [(0, b"?" * ATOMS)], code)
+    program = Program([], [], [], [(0, b"?" * ATOMS)], [], code)
     return base64.b64encode(written(program)).decode()
 
 
 def large_program() -> str:
     """A program whose line is about as long as a line may be."""
     code = [Operation(BY_NAME["basename"], 0, 0), Operation(BY_NAME["oneof"], 0, 0), Operation(BY_NAME["ret"], 0, 0)]
-    program = Program([], [], [[text.encode() for text in texts(MOST_ENTRIES, 9)]], [], code)
+    program = Program([], [], [[text.encode() for text in texts(MOST_ENTRIES, 9)]], [], [], code)
     return base64.b64encode(written(program)).decode()
 
 
