@@ -13,7 +13,7 @@ from following import Caller, Follower, Subscriber, watched
 from injected import STRACE, has_strace
 
 LANES = 4
-# What one walk of the tree takes of each call.
+# How often one walk of the tree makes each call.
 WALK = {"openat": 2, "getdents64": 4, "statx": 4}
 # The first reply of each session is written, and the first line of each is read. A subscriber has its first list too.
 STREAM = range(2, 5)
@@ -127,7 +127,7 @@ def is_met(log: Path) -> bool:
 
 
 def queries(room: Path, pair: Pair) -> List[str]:
-    """A follower by a clock and by a cursor, in as many sessions as it takes. It is told all, and nothing twice."""
+    """A follower by a clock and by a cursor, in as many sessions as it takes. It hears of all, and of nothing twice."""
     root, log = room / "tree", room / "log"
     root.mkdir()
     with Server(room, interval=A_HOUR, through=pair.through(log)) as server:
@@ -142,7 +142,7 @@ def queries(room: Path, pair: Pair) -> List[str]:
 
 
 def subscriptions(room: Path, pair: Pair) -> List[str]:
-    """A subscriber that begins anew where its session ended. It is told all, and nothing twice."""
+    """A subscriber that begins anew where its session ended. It hears of all, and of nothing twice."""
     root, log = room / "tree", room / "log"
     root.mkdir()
     with Server(room, interval=INTERVAL, through=pair.through(log)) as server:
@@ -157,7 +157,7 @@ def subscriptions(room: Path, pair: Pair) -> List[str]:
 
 
 def triggers(room: Path, pair: Pair) -> List[str]:
-    """A trigger that writes down what it is told. It is told of each file once, in their order."""
+    """A trigger that writes down the files of its batches. Each file comes once, in their order."""
     root, log, told = room / "tree", room / "log", room / "told"
     root.mkdir()
     # The shell's own first calls of a name may fail too: so it opens some files before.

@@ -89,7 +89,7 @@ def told_of(root: Path) -> bytes:
 
 
 def told(root: Path, fault: str) -> bytes:
-    """The line by which the operator is told of a root with this fault."""
+    """The operator's line about a root with this fault."""
     return f"{json.dumps(str(root), ensure_ascii=False)}: {fault}\n".encode()
 
 

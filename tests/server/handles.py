@@ -65,7 +65,7 @@ def check_no_handles(tally: built.Tally, room: Path) -> None:
 
 
 def check_no_handles_are_told(tally: built.Tally, room: Path) -> None:
-    """Want of handles is told to the operator by its name, once for each time, and to a client as before. When there are
+    """The server says want of handles to the operator by its name, once for each time, and answers a client as before. When there are
     handles again, the root is crawled as if nothing had been."""
     root = room / "tree"
     fill_directory(root, 1)
