@@ -1,8 +1,8 @@
 -- A byte is in a set of four words if it was put there.
-use Rattle.std.proofs.Common.{◌≡◌, ◌≢◌, ℕ, zero, suc, ◌*◌, ◌/◌, ◌%◌, ◌^◌, ◌<◌, Bool, true, false, ◌==◌, ◌||◌, List, [], ◌∷◌, length, get_or, set, bit_or, w64, refl, sym, ◌∙◌, ap, inl, inr, arith, get_or-set_same, get_or-set_other}
+use Rattle.std.proofs.Common.{◌≡◌, ◌≢◌, ℕ, zero, suc, ◌*◌, ◌/◌, ◌%◌, ◌^◌, ◌<◌, Bool, true, false, ◌==◌, ◌||◌, List, [], ◌∷◌, length, get_or, set, bit_or, bit_xor, not, ◌+◌, w64, refl, sym, ◌∙◌, ap, inl, inr, arith, get_or-set_same, get_or-set_other}
 use Rattle.std.specs.Int.{bit_at}
 use Rattle.std.proofs.lemmas.Bool.{cases_eq, eq-eqb, ne_eqb, or_right}
-use Rattle.std.proofs.lemmas.Nat.Bits.{bit_at_set_same, bit_at_set_other}
+use Rattle.std.proofs.lemmas.Nat.Bits.{bit_at_set_same, bit_at_set_other, bit_at_xor, bit_at_ones, bit_at-lt}
 
 -- each word of an empty set is zero
 pub zeros : (i : ℕ) → get_or {A = ℕ} (0 ∷ 0 ∷ 0 ∷ 0 ∷ []) i 0 ≡ 0
@@ -42,3 +42,32 @@ set_has words byte b within =
           (ap (λ (n : ℕ). n == 1) (same_bit words byte within) ∙ sym (or_right _ _ (eq-eqb byte byte refl)))
       | inr ne ↦ ap (λ (n : ℕ). n == 1) (other_bit words byte b within ne) ∙ or_false _ _ (ne_eqb b byte ne)
     ]
+
+-- a bit is the other one after it was turned
+turned : (word i : ℕ) → i < 64 → (bit_at (bit_xor word 18446744073709551615) i == 1) ≡ not (bit_at word i == 1)
+turned word i within =
+    let one : bit_at 18446744073709551615 i ≡ 1 = bit_at_ones 64 i within in
+    ap (λ (n : ℕ). n == 1) (bit_at_xor word 18446744073709551615 i ∙ ap (λ (n : ℕ). (bit_at word i + n) % 2) one)
+    ∙ at (bit_at word i) (bit_at-lt word i)
+  where
+    at : (n : ℕ) → n < 2 → ((n + 1) % 2 == 1) ≡ not (n == 1)
+    at zero h = refl
+    at (suc zero) h = refl
+    at (suc (suc n)) h = absurd (omega arith)
+
+-- the four words of the other bytes
+abbrev others : List ℕ → List ℕ
+others words =
+    bit_xor (get_or words 0 0) 18446744073709551615 ∷ bit_xor (get_or words 1 0) 18446744073709551615
+    ∷ bit_xor (get_or words 2 0) 18446744073709551615 ∷ bit_xor (get_or words 3 0) 18446744073709551615 ∷ []
+
+-- a byte is in them if it is not in the set
+pub others_have : (words : List ℕ) (b : ℕ) → b < 256 → (bit_at (get_or (others words) (b / 64) 0) (b % 64) == 1) ≡ not (bit_at (get_or words (b / 64) 0) (b % 64) == 1)
+others_have words b small = at (b / 64) (omega arith)
+  where
+    at : (i : ℕ) → i < 4 → (bit_at (get_or (others words) i 0) (b % 64) == 1) ≡ not (bit_at (get_or words i 0) (b % 64) == 1)
+    at zero h = turned (get_or words 0 0) (b % 64) (omega arith)
+    at (suc zero) h = turned (get_or words 1 0) (b % 64) (omega arith)
+    at (suc (suc zero)) h = turned (get_or words 2 0) (b % 64) (omega arith)
+    at (suc (suc (suc zero))) h = turned (get_or words 3 0) (b % 64) (omega arith)
+    at (suc (suc (suc (suc i)))) h = absurd (omega arith)

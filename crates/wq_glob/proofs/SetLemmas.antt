@@ -1,12 +1,23 @@
--- A set that is filled byte by byte, from 0 on.
-use Rattle.std.proofs.Common.{◌≡◌, ℕ, ◌+◌, ◌<◌, Bool, true, false, not, ◌&&◌, ◌||◌, ◌==◌, nat_lt, if◌then◌else◌, List, [], ◌∷◌, ◌++◌, refl, sym, ◌∙◌, ap, inl, inr, arith}
+-- A set that is filled byte by byte, from one byte to another.
+use Rattle.std.proofs.Common.{◌≡◌, ℕ, ◌+◌, ◌<◌, ◌≤◌, ◌⊎◌, Bool, true, false, not, ◌&&◌, ◌||◌, ◌==◌, nat_lt, nat_le, if◌then◌else◌, List, [], ◌∷◌, ◌++◌, refl, sym, ◌∙◌, ap, inl, inr, arith}
 use Rattle.std.specs.List.{list_any}
-use Rattle.std.proofs.lemmas.Bool.{cases_order, cases_eq, lt-ltb, le-ltb, eq-eqb, ne_eqb}
-use mathlib.Core.Bool.{beq}
+use Rattle.std.proofs.lemmas.Bool.{cases_order, cases_eq, lt-ltb, le-ltb, lt-leb, le-leb, eq-eqb, ne_eqb}
+use Rattle.wq_glob.specs.Byte.{is_between, is_upper, is_lower, lower_of, upper_of}
+use Rattle.wq_glob.specs.Class.{in_items, in_either_case}
+use Rattle.wq_glob.specs.declared.class.Item.{Item}
 
-or_false : (x : Bool) → (x || false) ≡ x
+-- nothing is added
+pub or_false : (x : Bool) → (x || false) ≡ x
 or_false true = refl
 or_false false = refl
+
+and_false : (x : Bool) → (x && false) ≡ false
+and_false true = refl
+and_false false = refl
+
+or_assoc : (a b c : Bool) → ((a || b) || c) ≡ (a || (b || c))
+or_assoc true b c = refl
+or_assoc false b c = refl
 
 -- the bytes below n + 1 are those below n, and n
 below_next : (b n : ℕ) → nat_lt b (n + 1) ≡ (nat_lt b n || b == n)
@@ -54,36 +65,91 @@ skip_more old held test b n was fails =
     ∙ ap (λ (q : Bool). (old || (nat_lt b n && test b)) || q) (sym (and_false (b == n)))
     ∙ sym (spread old (nat_lt b n) (b == n) (test b) false (at_here b n test false fails))
     ∙ ap (λ (p : Bool). old || (p && test b)) (sym (below_next b n))
-  where
-    and_false : (q : Bool) → (q && false) ≡ false
-    and_false true = refl
-    and_false false = refl
 
 -- after the last byte every one that passes is in
 pub put_all : (old held : Bool) (test : ℕ → Bool) (b n : ℕ) → b < n → held ≡ (old || (nat_lt b n && test b)) → held ≡ (old || test b)
 put_all old held test b n below is = is ∙ rw (lt-ltb b n below) refl
 
+below_or : (b n : ℕ) → (b < n) ⊎ (n ≤ b)
+below_or b n =
+    elim (cases_order b n) [
+      | inl same ↦ inr (omega arith)
+      | inr (inl below) ↦ inl below
+      | inr (inr above) ↦ inr (omega arith)
+    ]
+
+-- below a range no byte is in it
+pub range_begin : (old held : Bool) (first last b n : ℕ) → n ≡ first → held ≡ old → held ≡ (old || (nat_lt b n && is_between first last b))
+range_begin old held first last b n same is =
+    elim (below_or b first) [
+      | inr from ↦ is ∙ rw (same, le-ltb b first from) (sym (or_false old))
+      | inl below ↦ is ∙ rw (same, lt-ltb b first below, lt-leb first b below) (sym (or_false old))
+    ]
+
+-- a byte of a range is put into the set
+pub range_more : (old held new : Bool) (first last b n byte : ℕ) → held ≡ (old || (nat_lt b n && is_between first last b)) → first ≤ n → n ≤ last → byte ≡ n → new ≡ (held || b == byte) →
+    new ≡ (old || (nat_lt b (n + 1) && is_between first last b))
+range_more old held new first last b n byte was from to same is =
+    let passes : is_between first last n ≡ true = rw (le-leb first n from, le-leb n last to) refl in
+    put_more old held new (is_between first last) b n was passes (is ∙ ap (λ (m : ℕ). held || b == m) same)
+
+-- after its last byte the whole range is in
+pub range_end : (old held : Bool) (first last b n : ℕ) → last < n → held ≡ ((old || b == first) || (nat_lt b n && is_between first last b)) → held ≡ (old || (b == first || is_between first last b))
+range_end old held first last b n past is = is ∙ ap (λ (r : Bool). (old || b == first) || r) inside ∙ or_assoc old (b == first) (is_between first last b)
+  where
+    inside : (nat_lt b n && is_between first last b) ≡ is_between first last b
+    inside =
+        elim (below_or b n) [
+          | inr above ↦ rw (le-ltb b n above, lt-leb b last (omega arith)) (sym (and_false (nat_le first b)))
+          | inl below ↦ rw (lt-ltb b n below) refl
+        ]
+
+-- a byte that is no letter has no other form
+no_letter : (items : List Item) (b : ℕ) → is_upper b ≡ false → is_lower b ≡ false → in_either_case true items b ≡ in_items items b
+unfolding lower_of upper_of
+no_letter items b upper lower = rw (upper, lower) (three (in_items items b))
+  where
+    three : (x : Bool) → (x || (x || x)) ≡ x
+    three true = refl
+    three false = refl
+
+below_letters : (items : List Item) (b : ℕ) → b < 65 → in_either_case true items b ≡ in_items items b
+below_letters items b below = no_letter items b (rw (lt-leb 65 b below) refl) (rw (lt-leb 97 b (omega arith)) refl)
+
+above_letters : (items : List Item) (b : ℕ) → 122 < b → in_either_case true items b ≡ in_items items b
+above_letters items b above =
+    no_letter items b (rw (lt-leb b 90 (omega arith)) (and_false (nat_le 65 b))) (rw (lt-leb b 122 above) (and_false (nat_le 97 b)))
+
+-- below the letters nothing is added
+pub cases_begin : (old : Bool) (items : List Item) (b : ℕ) → old ≡ in_items items b → old ≡ (old || (nat_lt b 65 && in_either_case true items b))
+cases_begin old items b is =
+    elim (below_or b 65) [
+      | inr from ↦ rw (le-ltb b 65 from) (sym (or_false old))
+      | inl below ↦ rw (lt-ltb b 65 below, below_letters items b below, ← is) (sym (twice old))
+    ]
+  where
+    twice : (x : Bool) → (x || x) ≡ x
+    twice true = refl
+    twice false = refl
+
+-- and after them all are in
+pub cases_end : (old held : Bool) (items : List Item) (b n : ℕ) → n ≡ 123 → old ≡ in_items items b → held ≡ (old || (nat_lt b n && in_either_case true items b)) → held ≡ in_either_case true items b
+cases_end old held items b n last is all =
+    elim (below_or b 123) [
+      | inr above ↦ all ∙ rw (last, le-ltb b 123 above) (or_false old ∙ is ∙ sym (above_letters items b above))
+      | inl below ↦ all ∙ rw (last, lt-ltb b 123 below, is) (within (in_items items b) (in_items items (lower_of b) || in_items items (upper_of b)))
+    ]
+  where
+    within : (x y : Bool) → (x || (x || y)) ≡ (x || y)
+    within true y = refl
+    within false y = refl
+
 -- one item more
 pub any_push : {A : Type 0} (test : A → Bool) (items : List A) (item : A) → list_any test (items ++ item ∷ []) ≡ (list_any test items || test item)
 any_push test [] item = or_false (test item)
 any_push test (x ∷ xs) item = ap (λ (b : Bool). test x || b) (any_push test xs item) ∙ sym (or_assoc (test x) (list_any test xs) (test item))
-  where
-    or_assoc : (a b c : Bool) → ((a || b) || c) ≡ (a || (b || c))
-    or_assoc true b c = refl
-    or_assoc false b c = refl
 
 -- no unknown item among them, and none after
 pub none_push : (a b : Bool) → (not a && not b) ≡ not (a || b)
 none_push true b = refl
 none_push false b = refl
-
--- a class is negated if its flag says so
-pub negate_is : (held negated : Bool) → not (beq held negated) ≡ (if negated then not held else held)
-negate_is true true = refl
-negate_is true false = refl
-negate_is false true = refl
-negate_is false false = refl
-
--- and its items stay the same
-pub negated_as : (held either negated : Bool) → held ≡ either → not (beq held negated) ≡ (if negated then not either else either)
-negated_as held either negated is = negate_is held negated ∙ ap (λ (h : Bool). if negated then not h else h) is

@@ -1,5 +1,5 @@
 //! A set of bytes in four words, so that a class costs one look however many items it has.
-ghost use Rattle.std.specs.Prelude.{◌≡◌, ◌≢◌, ℕ, ◌<◌, ◌==◌, ◌||◌, false};
+ghost use Rattle.std.specs.Prelude.{◌≡◌, ◌≢◌, ℕ, ◌<◌, ◌==◌, ◌||◌, false, not};
 ghost use Rattle.wq_glob.specs.ByteSet.{has_byte};
 
 /// Which of the 256 bytes are in the set: byte b is bit b % 64 of word b / 64.
@@ -28,5 +28,21 @@ impl ByteSet {
         ensures { (b : ℕ) → b < 256 → has_byte self.new b ≡ (has_byte self.old b || b == byte) }
     {
         self.words[(byte / 64) as usize] |= 1 << (byte % 64);
+    }
+
+    /// The set of all other bytes.
+    pub(crate) fn complement(&self) -> ByteSet
+        ensures { (b : ℕ) → b < 256 → has_byte result b ≡ not (has_byte self.now b) }
+    {
+        let all = u64::MAX;
+        let words = self.words;
+        ByteSet {
+            words: [
+                words[0] ^ all,
+                words[1] ^ all,
+                words[2] ^ all,
+                words[3] ^ all,
+            ],
+        }
     }
 }

@@ -1,12 +1,12 @@
 //! Reads the classes of a pattern, as `[a-z]` or `[![:digit:]]`, into sets of bytes. It finds the
 //! end of a class, and the texts that are no class. `matching` tries a set on a text.
-ghost use Rattle.std.specs.Prelude.{◌≡◌, ◌<◌, ◌==◌, ℕ, ◌+◌, List, [], ◌∷◌, ◌++◌, ◌||◌, length};
+ghost use Rattle.std.specs.Prelude.{◌≡◌, ◌<◌, ◌==◌, ℕ, ◌+◌, List, [], ◌∷◌, ◌++◌, ◌||◌, length, true};
 ghost use Rattle.std.specs.Prelude.{drop, None, Some, MatchOption, option_map, not, position};
 ghost use Rattle.std.specs.Prelude.{IfSome, IsTrue, ◌≤◌, ◌-◌, ◌&&◌, nat_le, slice_index};
 ghost use Rattle.wq_base.specs.Byte.{is_colon};
-ghost use Rattle.wq_glob.specs.Byte.{is_close};
+ghost use Rattle.wq_glob.specs.Byte.{is_between, is_close};
 ghost use Rattle.wq_glob.specs.ByteSet.{has_byte};
-ghost use Rattle.wq_glob.specs.Class.{in_item, in_items, in_name, in_class, in_either_case};
+ghost use Rattle.wq_glob.specs.Class.{in_item, in_name, in_class, in_either_case};
 ghost use Rattle.wq_glob.specs.Member.{AreMembers, HasItems, Holds};
 ghost use Rattle.wq_glob.specs.Reading.{begins, is_behind_colon, letter, item_named, named_item};
 ghost use Rattle.wq_glob.specs.Reading.{range_end, plain_item, first_item, class_items};
@@ -65,17 +65,6 @@ fn in_name(name: ClassName, byte: u8) -> bool
         ClassName::Space => (byte >= 9 && byte <= 13) || byte == b' ',
         ClassName::Upper => byte.is_ascii_uppercase(),
         ClassName::Xdigit => byte.is_ascii_hexdigit(),
-    }
-}
-
-/// Whether an item holds the byte.
-fn in_item(item: Item, byte: u8) -> bool
-    ensures { result ≡ in_item byte item }
-{
-    match item {
-        Item::Range(first, last) => byte == first || (first <= byte && byte <= last),
-        Item::Named(name) => in_name(name, byte),
-        Item::Unknown => false,
     }
 }
 
@@ -189,15 +178,37 @@ fn first_item(text: &[u8], noescape: bool) -> Option<(Item, &[u8])>
     }
 }
 
-/// Adds the bytes that an item holds.
-fn insert_item(set: &mut ByteSet, item: Item)
-    ensures { (b : ℕ) → b < 256 → has_byte set.new b ≡ (has_byte set.old b || in_item b item) }
+/// Adds the first byte of a range and those from it to the last.
+fn insert_range(set: &mut ByteSet, first: u8, last: u8)
+    ensures { (b : ℕ) → b < 256
+        → has_byte set.new b ≡ (has_byte set.old b || (b == first || is_between first last b)) }
+{
+    set.insert(first);
+    for n in usize::from(first)..usize::from(last) + 1 {
+        set.insert(n as u8);
+    }
+}
+
+/// Adds the bytes of a named class.
+fn insert_name(set: &mut ByteSet, name: ClassName)
+    ensures { (b : ℕ) → b < 256 → has_byte set.new b ≡ (has_byte set.old b || in_name name b) }
 {
     for n in 0..256usize {
         let byte = n as u8;
-        if in_item(item, byte) {
+        if in_name(name, byte) {
             set.insert(byte);
         }
+    }
+}
+
+/// Adds the bytes that an item holds. An item of one byte takes one step.
+fn insert_item(set: &mut ByteSet, item: Item)
+    ensures { (b : ℕ) → b < 256 → has_byte set.new b ≡ (has_byte set.old b || in_item b item) }
+{
+    match item {
+        Item::Range(first, last) => insert_range(set, first, last),
+        Item::Named(name) => insert_name(set, name),
+        Item::Unknown => {}
     }
 }
 
@@ -242,33 +253,43 @@ pub(crate) fn read_items(text: &[u8], noescape: bool) -> Option<(Members, &[u8])
     Some((members, behind(rest)))
 }
 
-/// Whether the items of a class hold a byte or, without case, the same letter in its other form.
-fn is_held(set: &ByteSet, byte: u8, fold: bool) -> bool
-    ensures { (items : List Item) → Holds set.now items → result ≡ in_either_case fold items byte }
+/// Whether the items of a class hold a byte or the same letter in its other form.
+fn is_held(set: &ByteSet, byte: u8) -> bool
+    ensures { (items : List Item) → Holds set.now items → result ≡ in_either_case true items byte }
 {
-    set.has(byte) || (fold && (set.has(lower(byte)) || set.has(upper(byte))))
+    set.has(byte) || set.has(lower(byte)) || set.has(upper(byte))
 }
 
-/// Whether a class holds a byte: its case is left out first, and then the class is negated.
-#[tactic(auto, using(crate::proofs::SetLemmas::negated_as))]
-fn is_member(set: &ByteSet, byte: u8, negated: bool, fold: bool) -> bool
-    ensures { (items : List Item) → Holds set.now items
-        → result ≡ in_class fold record { negated = negated; items = items } byte }
-{
-    is_held(set, byte, fold) != negated
-}
-
-/// The bytes of a class whose items hold the set.
-pub(crate) fn class_set(set: &ByteSet, negated: bool, fold: bool) -> ByteSet
+/// The bytes of the items of a class, and the same letters in their other form.
+fn in_both_cases(set: &ByteSet) -> ByteSet
     ensures { (items : List Item) → Holds set.now items → (b : ℕ) → b < 256
-        → has_byte result b ≡ in_class fold record { negated = negated; items = items } b }
+        → has_byte result b ≡ in_either_case true items b }
 {
-    let mut held = ByteSet::empty();
-    for n in 0..256usize {
+    let mut held = *set;
+    // The letters are bytes from 65, `A`, to 122, `z`.
+    for n in 65..123usize {
         let byte = n as u8;
-        if is_member(set, byte, negated, fold) {
+        if is_held(set, byte) {
             held.insert(byte);
         }
     }
     held
+}
+
+/// The bytes of the items of a class, as a text is compared that leaves out case or does not.
+fn cased(set: &ByteSet, fold: bool) -> ByteSet
+    ensures { (items : List Item) → Holds set.now items → (b : ℕ) → b < 256
+        → has_byte result b ≡ in_either_case fold items b }
+{
+    if fold { in_both_cases(set) } else { *set }
+}
+
+/// The bytes of a class whose items hold the set: its case is left out first, and then the class is
+/// negated.
+pub(crate) fn class_set(set: &ByteSet, negated: bool, fold: bool) -> ByteSet
+    ensures { (items : List Item) → Holds set.now items → (b : ℕ) → b < 256
+        → has_byte result b ≡ in_class fold record { negated = negated; items = items } b }
+{
+    let held = cased(set, fold);
+    if negated { held.complement() } else { held }
 }

@@ -1,0 +1,7 @@
+use Rattle.std.proofs.Common.{◌≡◌, ℕ, ◌<◌, ◌&&◌, ◌||◌, nat_lt}
+use Rattle.wq_glob.specs.ByteSet.{has_byte}
+use Rattle.wq_glob.specs.Class.{in_name}
+use Rattle.wq_glob.proofs.class.insert_name.Given as goal
+
+abbrev pub invariant-loop-n : goal.invariant-loop-n
+invariant-loop-n l = (b : ℕ) → b < 256 → has_byte l.set b ≡ (has_byte l.fn.set b || (nat_lt b l.n && in_name l.name b))
