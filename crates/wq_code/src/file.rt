@@ -2,10 +2,11 @@
 ghost use Rattle.std.specs.Prelude.{◌≡◌, IsTrue, IfOk};
 ghost use Rattle.wq_code.specs.Fits.{raw_fits};
 ghost use Rattle.wq_code.specs.Reading.{Gives};
-ghost use Rattle.wq_code.specs.File.{head_at, rows_at, sets_count_at, counts_at, tables_at, raw_at, file_at};
+ghost use Rattle.wq_code.specs.File.{head_at, rows_at, counts_at, tables_at, raw_at, file_at};
 ghost use Rattle.wq_code.specs.First.{FirstRaw, first_file_at, migrate};
 ghost use Rattle.wq_code.specs.Spelling.{spelling, IsSpelling};
 ghost use Rattle.wq_code.specs.declared.raw.Raw.{Raw};
+ghost use Rattle.wq_code.specs.declared.version.Version.TheVariants.{First, Second};
 
 use crate::fault::FileFault;
 use crate::field::{byte_of, count_of, end_of, exact_of, many_of, put_long, put_many};
@@ -45,27 +46,49 @@ fn rows_of(version: Version, bytes: &[u8]) -> Result<(usize, &[u8]), FileFault>
     count_of(version, version.max_table_rows(), bytes)
 }
 
-/// The count of the sets, if there is one, and the rest.
-fn sets_count_of(version: Version, bytes: &[u8]) -> Result<(usize, &[u8]), FileFault>
-    ensures { Gives (λ x. (x.0, x.1.now)) result (sets_count_at version bytes.now) }
-{
-    match version {
-        Version::First => Ok((0, bytes)),
-        Version::Second => rows_of(Version::Second, bytes),
-    }
-}
-
 /// The counts of the tables' rows, and the rest.
-#[tactic(auto, unfolding(crate::specs::File::counts_at))]
 fn counts_of(version: Version, bytes: &[u8]) -> Result<(Counts, &[u8]), FileFault>
     ensures { Gives (λ x. (x.0, x.1.now)) result (counts_at version bytes.now) }
 {
-    let (nums, rest) = rows_of(version, bytes)?;
-    let (texts, rest) = rows_of(version, rest)?;
-    let (lists, rest) = rows_of(version, rest)?;
-    let (patterns, rest) = rows_of(version, rest)?;
-    let (sets, rest) = sets_count_of(version, rest)?;
-    let (code, rest) = rows_of(version, rest)?;
+    // Each version has a function of its own, which knows at each count how wide it is.
+    match version {
+        Version::First => first_counts_of(bytes),
+        Version::Second => second_counts_of(bytes),
+    }
+}
+
+/// The counts in the first version, which has no sets, and the rest.
+#[tactic(auto, unfolding(crate::specs::File::counts_at))]
+fn first_counts_of(bytes: &[u8]) -> Result<(Counts, &[u8]), FileFault>
+    ensures { Gives (λ x. (x.0, x.1.now)) result (counts_at First bytes.now) }
+{
+    let (nums, rest) = rows_of(Version::First, bytes)?;
+    let (texts, rest) = rows_of(Version::First, rest)?;
+    let (lists, rest) = rows_of(Version::First, rest)?;
+    let (patterns, rest) = rows_of(Version::First, rest)?;
+    let (code, rest) = rows_of(Version::First, rest)?;
+    let counts = Counts {
+        nums,
+        texts,
+        lists,
+        patterns,
+        sets: 0,
+        code,
+    };
+    Ok((counts, rest))
+}
+
+/// The counts in the second version, and the rest.
+#[tactic(auto, unfolding(crate::specs::File::counts_at))]
+fn second_counts_of(bytes: &[u8]) -> Result<(Counts, &[u8]), FileFault>
+    ensures { Gives (λ x. (x.0, x.1.now)) result (counts_at Second bytes.now) }
+{
+    let (nums, rest) = rows_of(Version::Second, bytes)?;
+    let (texts, rest) = rows_of(Version::Second, rest)?;
+    let (lists, rest) = rows_of(Version::Second, rest)?;
+    let (patterns, rest) = rows_of(Version::Second, rest)?;
+    let (sets, rest) = rows_of(Version::Second, rest)?;
+    let (code, rest) = rows_of(Version::Second, rest)?;
     let counts = Counts {
         nums,
         texts,

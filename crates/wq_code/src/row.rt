@@ -232,7 +232,11 @@ impl Field for Op {
         let op = op_of_byte(version, code).ok_or(FileFault::UnknownOperation)?;
         let (a, rest) = byte_of(rest)?;
         let op = take_a(op, a).ok_or(FileFault::BadOperand)?;
-        let (b, rest) = wide_of(version, rest)?;
+        // Each version has a call of its own, which knows how wide the number is.
+        let (b, rest) = match version {
+            Version::First => wide_of(Version::First, rest)?,
+            Version::Second => wide_of(Version::Second, rest)?,
+        };
         let op = take_b(op, b).ok_or(FileFault::BadOperand)?;
         Ok((op, rest))
     }

@@ -1,6 +1,7 @@
 pub mod Tests
 pub mod Fronts
 pub mod Shapes
+pub mod Starts
 pub mod Budgets
 pub mod Steps
 pub mod ShortPrograms
