@@ -21,6 +21,14 @@ width_of raw name_len = max name_len (longest_len raw.texts)
 abbrev pub most_pattern_cost : ℕ → PatternData → ℕ
 most_pattern_cost width p = (length (atoms_of p) + 1) * (width + 1)
 
+-- the most that a pattern can cost at each place of a text
+abbrev pub pattern_weight : PatternData → ℕ
+pattern_weight p = length (atoms_of p) + 1
+
+-- the most that the patterns of a set can cost together at each place of a text
+abbrev pub set_weight : List PatternData → ℕ
+set_weight patterns = sum_by pattern_weight patterns
+
 -- the most that an instruction can cost with texts of this width: 1. For `Match` it is the cost of
 -- its pattern more, for `AnyMatch` those of all patterns of its set, for `OneOf` the entries of its
 -- list

@@ -1,11 +1,14 @@
 //! The greatest cost of a program.
-ghost use Rattle.std.specs.Prelude.{◌≡◌, ◌≤◌, IsTrue, length, slice_get, sum_by};
+ghost use Rattle.std.specs.Prelude.{◌≡◌, ◌≤◌, IfOk, IsTrue, List, length, map, slice_get, sum_by};
 ghost use Rattle.std.specs.Option.{option_map_or};
 ghost use Rattle.wq_code.specs.Fits.{raw_fits};
 ghost use Rattle.wq_verify.specs.Limit.{max_file_name};
+ghost use Rattle.wq_glob.specs.Pattern.{PatternData};
 ghost use Rattle.wq_verify.specs.Budget.{most_cost, most_pattern_cost, longest_len, width_of, budget_of};
+ghost use Rattle.wq_verify.specs.Budget.{pattern_weight, set_weight};
 
 use crate::program::Program;
+use std::alloc::{AllocError, Global};
 use wq_base::Table;
 use wq_code::{Op, Raw};
 use wq_glob::Pattern;
@@ -33,13 +36,39 @@ fn width_of(raw: &Raw, name_len: u64) -> u64
     name_len.max(longest_len(raw.texts.as_slice()) as u64)
 }
 
-/// The most that a pattern can cost on texts of this width.
-fn pattern_cost(pattern: &Pattern, width: u64) -> u64
-    requires { width ≤ max_file_name }
-    ensures value { result ≡ most_pattern_cost width pattern.now }
-    ensures low { result ≤ 1048832 }
+/// What a pattern can cost at each place of a text: a cell for each of its atoms, and one.
+fn pattern_weight(pattern: &Pattern) -> u32
+    ensures value { result ≡ pattern_weight pattern.now }
+    ensures low { result ≤ 256 }
 {
-    (pattern.atoms() as u64 + 1) * (width + 1)
+    pattern.atoms() as u32 + 1
+}
+
+/// What the patterns of a set can cost together at each place of a text.
+fn set_weight(patterns: &[Pattern]) -> u32
+    requires { length patterns.now ≤ 65536 }
+    ensures { result ≡ set_weight patterns.now }
+{
+    let mut total = 0;
+    for pattern in patterns {
+        total += pattern_weight(pattern);
+    }
+    total
+}
+
+/// What each set of a program can cost at each place of a text. So the patterns of a set are counted
+/// once, however many instructions try it.
+pub(crate) fn set_weights(alloc: Global, raw: &Raw) -> Result<Vec<u32>, AllocError>
+    requires { IsTrue (raw_fits raw.now) }
+    ensures { IfOk result (λ weights. weights.items ≡ map set_weight raw.now.sets) }
+{
+    let mut left = raw.sets.as_slice();
+    let mut weights = Vec::with_capacity(alloc, left.len())?;
+    while let Some((patterns, others)) = left.split_first() {
+        weights.push(set_weight(patterns.as_slice()))?;
+        left = others;
+    }
+    Ok(weights)
 }
 
 /// The most that the pattern of `match` can cost on texts of this width.
@@ -50,35 +79,21 @@ fn match_cost(raw: &Raw, width: u64, place: u32) -> u64
     ensures low { result ≤ 1048832 }
 {
     match raw.patterns.as_slice().get(place as usize) {
-        Some(pattern) => pattern_cost(pattern, width),
+        Some(pattern) => u64::from(pattern_weight(pattern)) * (width + 1),
         None => 0,
     }
 }
 
-/// The most that the patterns can cost together on texts of this width.
-fn patterns_cost(patterns: &[Pattern], width: u64) -> u64
-    requires narrow { width ≤ max_file_name }
-    requires few { length patterns.now ≤ 65536 }
-    ensures value { result ≡ sum_by (most_pattern_cost width) patterns.now }
-    ensures low { result ≤ 68736253952 }
+/// The most that the set of `anymatch` can cost on texts of this width, by what the sets can cost at
+/// each place.
+fn set_cost(weights: &[u32], width: u64, place: u32) -> u64
+    requires { width ≤ max_file_name }
+    ensures value { (sets : List (List PatternData)) → weights.now ≡ map set_weight sets
+        → result ≡ option_map_or (sum_by (most_pattern_cost width)) (slice_get sets place) 0 }
+    ensures low { result ≤ 17596481007615 }
 {
-    let mut total = 0;
-    for pattern in patterns {
-        total += pattern_cost(pattern, width);
-    }
-    total
-}
-
-/// The most that the set of `anymatch` can cost on texts of this width.
-fn set_cost(raw: &Raw, width: u64, place: u32) -> u64
-    requires limits { IsTrue (raw_fits raw.now) }
-    requires narrow { width ≤ max_file_name }
-    ensures value { result ≡
-        option_map_or (sum_by (most_pattern_cost width)) (slice_get raw.now.sets place) 0 }
-    ensures low { result ≤ 68736253952 }
-{
-    match raw.sets.as_slice().get(place as usize) {
-        Some(patterns) => patterns_cost(patterns.as_slice(), width),
+    match weights.get(place as usize) {
+        Some(weight) => u64::from(*weight) * (width + 1),
         None => 0,
     }
 }
@@ -96,15 +111,16 @@ fn list_cost(raw: &Raw, place: u32) -> u64
 }
 
 /// The most that an instruction can cost with texts of this width.
-fn cost(raw: &Raw, width: u64, op: Op) -> u64
+fn cost(raw: &Raw, weights: &[u32], width: u64, op: Op) -> u64
     requires limits { IsTrue (raw_fits raw.now) }
+    requires weights { weights.now ≡ map set_weight raw.now.sets }
     requires narrow { width ≤ max_file_name }
     ensures value { result ≡ most_cost raw.now width op }
-    ensures low { result ≤ 68736253953 }
+    ensures low { result ≤ 17596481007616 }
 {
     match op {
         Op::Match(place) => 1 + match_cost(raw, width, place),
-        Op::AnyMatch(place) => 1 + set_cost(raw, width, place),
+        Op::AnyMatch(place) => 1 + set_cost(weights, width, place),
         Op::OneOf(_, place) => 1 + list_cost(raw, place),
         _ => 1,
     }
@@ -121,10 +137,11 @@ impl Program {
         ensures { result ≡ budget_of self.now name_len }
     {
         let raw = self.raw();
+        let weights = self.weights();
         let width = width_of(raw, name_len);
         let mut total = 0;
         for op in raw.code.as_slice() {
-            total += cost(raw, width, *op);
+            total += cost(raw, weights, width, *op);
         }
         total
     }

@@ -7,5 +7,5 @@ abbrev pub invariant-loop-op : goal.invariant-loop-op
 invariant-loop-op l =
     record {
       sum : l.total ≡ sum_by (most_cost l.raw l.width) (take l.op-index l.op-items);
-      low : l.total ≤ 68736253953 * l.op-index;
+      low : l.total ≤ 17596481007616 * l.op-index;
     }
