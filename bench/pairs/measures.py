@@ -127,6 +127,11 @@ class Run:
             ("heavy expression", {"expression": heavy, "fields": ["name"]}),
         ):
             self.each(lambda peer: self.median(name, peer, query, 1))
+        # A directory's own entries, with an eighth of the tree below it.
+        entries = {"path": [{"path": self.tree.directories[0], "depth": 0}], "fields": ["name"]}
+        time.sleep(1)  # the sessions of the clients before end, so that 32 have places
+        for clients in (1, 32):
+            self.each(lambda peer: self.median("path with depth 0", peer, entries, clients))
 
     def median(self, name: str, peer: Peer, query: Dict[str, object], clients: int) -> None:
         request = json.dumps(["query", self.root, {**query, "sync_timeout": 0}]).encode() + b"\n"

@@ -148,7 +148,7 @@ abbrev Distinct : List PathGen → Type 0
 Distinct [] = ⊤
 Distinct (k ∷ ks) = (In k ks → ⊥) × Distinct ks
 
--- each kept path stands once
+-- each kept path is there once
 kept_once : (last : PathGen) (ps : List PathGen) → Rising (last ∷ ps) → Distinct (last ∷ kept_after last ps)
 kept_once last [] rising = (λ is. is, tt)
 kept_once last (p ∷ ps) rising = at (holds last p) refl (kept_once last ps (rising_without last p ps rising)) (kept_once p ps rising.1)
@@ -180,7 +180,7 @@ sum_without cost k (l ∷ ls) (inr is) =
     let rest : sum_by cost (l ∷ without k ls is) ≡ cost l + sum_by cost (without k ls is) = sum_by-cons cost l (without k ls is) in
     omega (arith, all, rest, sum_without cost k ls is)
 
--- what stands once and is all in a list costs no more than the list
+-- what is there once, and all in a list, costs no more than the list
 sum_within : (cost : PathGen → ℕ) (ks ls : List PathGen) → Distinct ks → ((k : PathGen) → In k ks → In k ls) → sum_by cost ks ≤ sum_by cost ls
 sum_within cost [] ls distinct inside = omega arith
 sum_within cost (k ∷ ks) ls distinct inside =

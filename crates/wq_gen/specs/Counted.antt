@@ -1,6 +1,7 @@
 -- A view whose looks are counted, and how many looks the candidates of generators may take. No
 -- public document defines them.
-use Rattle.std.specs.Prelude.{◌≡◌, ◌+◌, ◌-◌, ◌*◌, ◌^◌, ℕ, min, List, length, count_by, sum_by, true, Option, Some, None}
+use Rattle.std.specs.Prelude.{◌≡◌, ◌+◌, ◌-◌, ◌*◌, ◌^◌, ℕ, min, List, length, count_by, sum_by}
+use Rattle.std.specs.Prelude.{true, Option, Some, None}
 use Rattle.wq_clock.specs.declared.bound.Bound.{Bound}
 use Rattle.wq_clock.specs.declared.bound.Bound.TheVariants.{Fresh, Tick, Second}
 use Rattle.wq_glob.specs.Pattern.{PatternData}

@@ -20,7 +20,8 @@ use wq_view::View;
 /// generator gives, or all records if there is no generator.
 ///
 /// The cost grows with the number of candidates, and with the number of files below the paths. A
-/// bound that is a second looks at each record, and so do patterns, whatever their number.
+/// bound that is a second looks at each record, and so do patterns, whatever their number. More than
+/// 16 suffixes do so too: the suffix of each record is found among them by a binary search.
 pub fn candidates(
     alloc: Global,
     view: &View,

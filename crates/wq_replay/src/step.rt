@@ -23,11 +23,10 @@ use crate::taking::MAX_SCRIPT_LINE;
 use crate::world::World;
 use std::alloc::{AllocError, Global};
 use std::io::Write;
-use std::sync::ArcSlice;
 use wq_base::Table;
 use wq_session::{Ask, Refusal};
 use wq_stream::{Event, MAX_LINE};
-use wq_view::{Pass, Seen};
+use wq_view::{Pass, Seen, SharedBytes};
 
 /// Plays a line of a script, and tells whether the server goes on.
 pub(crate) fn step<W: Write>(
@@ -121,7 +120,7 @@ fn seen(alloc: Global, row: RowLine<'_>) -> Result<Seen, AllocError>
     ensures { IfOk result (λ seen. seen ≡ seen_data row.entry) }
 {
     Ok(Seen {
-        name: ArcSlice::from_slice(alloc, row.name)?,
+        name: SharedBytes::from_slice(alloc, row.name)?,
         kind: row.kind,
         size: row.size,
         mtime_ms: row.mtime_ms,

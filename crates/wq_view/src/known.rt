@@ -1,15 +1,14 @@
 //! The names of a view's records. The rows of the next listing share them, so that a shared name need not be tested
 //! again.
-ghost use Rattle.std.specs.Prelude.{◌≡◌, false, IfOk, IfSome, IsTrue, MatchOption};
-ghost use Rattle.std.specs.Arc.{arc_slice_items};
+ghost use Rattle.std.specs.Prelude.{◌≡◌, IfOk, IfSome, IsTrue};
 ghost use Rattle.wq_view.specs.Name.{is_valid_name};
 
 use crate::file_record::Record;
-use crate::name::{Name, is_valid_name};
+use crate::name::Name;
 use crate::records::Records;
-use std::alloc::{AllocError, Global};
+use crate::shared::SharedBytes;
+use std::alloc::AllocError;
 use std::cmp::Ordering;
-use std::sync::ArcSlice;
 
 /// Records with rising names. The records below the last name that was asked for are passed.
 #[derive(Clone, Copy)]
@@ -34,21 +33,23 @@ impl<'a> Known<'a> {
         }
     }
 
-    /// The bytes of a name that a pass takes. They are shared with the record of that name, if it is here and not
-    /// passed. There are none if no pass takes the name. If names are asked for in rising order, each name that is
-    /// here is found, and all calls together go once over the names and the records.
-    pub fn shared(&mut self, alloc: Global, name: &[u8]) -> Result<Option<ArcSlice<u8>>, AllocError>
-        ensures { IfOk result (λ shared. MatchOption shared
-            (is_valid_name name.now ≡ false)
-            (λ bytes. (arc_slice_items bytes ≡ name.now) × IsTrue (is_valid_name name.now))) }
+    /// The bytes of a name that a pass takes, shared with the record of that name, if it is here and not passed. If
+    /// names are asked for in rising order, each name that is here is found, and all calls together go once over the
+    /// names and the records.
+    pub fn shared(&mut self, name: &[u8]) -> Result<Option<SharedBytes>, AllocError>
+        ensures { IfOk result (λ shared. IfSome shared (λ bytes.
+            (bytes ≡ name.now) × IsTrue (is_valid_name name.now))) }
     {
-        if let Some(known) = self.find(name) {
-            return Ok(Some(known.shared()?));
+        match self.find(name) {
+            Some(known) => Ok(Some(known.shared()?)),
+            None => Ok(None),
         }
-        if !is_valid_name(name) {
-            return Ok(None);
-        }
-        Ok(Some(ArcSlice::from_slice(alloc, name)?))
+    }
+
+    /// Whether the name of the first record that is not passed begins with these bytes.
+    pub fn begins_with(&self, bytes: &[u8]) -> bool {
+        self.next
+            .is_some_and(|record| record.name.as_bytes().starts_with(bytes))
     }
 
     /// The name of the record with these bytes, if it is not passed. The call passes the records below it.

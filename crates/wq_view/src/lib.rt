@@ -3,7 +3,7 @@
 //! contents, walks no directory and knows no clock. Its callers pass listings and their seconds.
 //!
 //! ```text
-//! let row = Seen { name: ArcSlice::from_slice(alloc, b"src/a.c")?, kind: Kind::File, size: 5, mtime_ms: 1000 };
+//! let row = Seen { name: SharedBytes::from_slice(alloc, b"src/a.c")?, kind: Kind::File, size: 5, mtime_ms: 1000 };
 //! let pass = Pass::new(vec![in alloc; row]?, 10)?;
 //! let mut view = View::new(alloc);
 //! view.absorb(&pass)?;    // true: the tick is 1 now
@@ -29,6 +29,7 @@ mod order;
 mod pair;
 mod reader;
 mod records;
+mod shared;
 mod suffix;
 mod view;
 
@@ -44,4 +45,5 @@ pub use listing::{Pass, PassFault, Seen};
 pub use name::{MAX_NAME, Name, is_valid_name};
 pub use reader::Reader;
 pub use records::Records;
+pub use shared::SharedBytes;
 pub use view::{View, ViewFault};

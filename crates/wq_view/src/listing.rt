@@ -9,8 +9,8 @@ ghost use Rattle.wq_view.specs.Listing.{name_cmp, names_of, listing_of, listing_
 use crate::kind::Kind;
 use crate::limit::MAX_LISTING_ROWS;
 use crate::name::is_valid_name;
+use crate::shared::SharedBytes;
 use std::marker::Model;
-use std::sync::ArcSlice;
 use thiserror::Error;
 use wq_base::MAX_SIGNED;
 
@@ -18,7 +18,7 @@ use wq_base::MAX_SIGNED;
 #[derive(Drop)]
 pub struct Seen {
     /// The path below the root. A pass and a view share these bytes.
-    pub name: ArcSlice<u8>,
+    pub name: SharedBytes,
     pub kind: Kind,
     /// In bytes.
     pub size: i64,
@@ -27,12 +27,11 @@ pub struct Seen {
 }
 
 impl Model for Seen {
-    ghost use Rattle.std.specs.Arc.{arc_slice_items};
     ghost use Rattle.wq_view.specs.Seen.{SeenData};
 
     ghost Value = { SeenData };
 
-    ghost view = { λ s. record { name = arc_slice_items s.name; kind = s.kind; size = s.size; mtime_ms = s.mtime_ms } };
+    ghost view = { λ s. record { name = s.name; kind = s.kind; size = s.size; mtime_ms = s.mtime_ms } };
 }
 
 /// The reason for which rows make no pass.
@@ -158,7 +157,7 @@ impl Seen {
     fn is_lawful(&self) -> bool
         ensures { result ≡ is_lawful_row self.now }
     {
-        is_valid_name(&self.name) && is_count(self.size) && is_time(self.mtime_ms)
+        is_valid_name(self.name.as_slice()) && is_count(self.size) && is_time(self.mtime_ms)
     }
 }
 
@@ -186,7 +185,7 @@ fn first_fault(rows: &mut [Seen], at: usize) -> PassFault
     ensures { row_fault [] rows.old ≡ Some result }
 {
     let row = &rows[at];
-    let has_bad_name = !is_valid_name(&row.name);
+    let has_bad_name = !is_valid_name(row.name.as_slice());
     if !sort_by_name(&mut rows[..at]) {
         PassFault::NameTwice
     } else if has_bad_name {
@@ -205,7 +204,7 @@ fn sort_by_name(rows: &mut [Seen]) -> bool
     if names_rise(rows) {
         return true;
     }
-    rows.sort_unstable_by(|a, b| a.name.cmp(&b.name));
+    rows.sort_unstable_by(|a, b| a.name.as_slice().cmp(b.name.as_slice()));
     names_rise(rows)
 }
 
@@ -213,7 +212,7 @@ fn sort_by_name(rows: &mut [Seen]) -> bool
 fn names_rise(rows: &[Seen]) -> bool
     ensures { result ≡ is_sorted name_cmp (map entry_of rows.now) }
 {
-    rows.is_sorted_by(|a, b| a.name.cmp(&b.name).is_lt())
+    rows.is_sorted_by(|a, b| a.name.as_slice().cmp(b.name.as_slice()).is_lt())
 }
 
 /// Whether a size or a second is from 0 to 2^62.

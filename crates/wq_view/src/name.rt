@@ -1,47 +1,45 @@
 //! The names of files: paths relative to a root. Listings and views share their bytes, so that none of them copies a
 //! text. The module finds the basename and the suffix of a name; other crates match names.
 ghost use Rattle.std.specs.Prelude.{◌≡◌, ◌==◌, true, false, IfOk, IsTrue, MatchOption};
-ghost use Rattle.std.specs.Arc.{arc_slice_items};
 ghost use Rattle.std.specs.List.{after_last, list_all, list_any, slice_split};
 ghost use Rattle.std.specs.Str.{is_utf8};
 ghost use Rattle.wq_base.specs.Byte.{is_slash};
 ghost use Rattle.wq_base.specs.Name.{suffix_of};
 ghost use Rattle.wq_view.specs.Name.{is_plain_part, is_valid_name};
 
+use crate::shared::SharedBytes;
 use memchr::{memrchr, memrchr2};
 use std::alloc::AllocError;
 use std::marker::Model;
-use std::sync::ArcSlice;
 
 /// The greatest number of bytes of a name.
 pub const MAX_NAME: usize = 4096;
 
-/// A valid name over shared bytes. A copy of it costs a pointer.
+/// A valid name over shared bytes. A copy of it takes 16 bytes.
 #[derive(Drop)]
 pub struct Name {
-    bytes: ArcSlice<u8>,
+    bytes: SharedBytes,
 }
 
 impl Model for Name {
     ghost use Rattle.std.specs.Prelude.{ℕ, List, IsTrue};
-    ghost use Rattle.std.specs.Arc.{arc_slice_items};
     ghost use Rattle.wq_view.specs.Name.{is_valid_name};
 
     ghost Value = { List ℕ };
 
-    ghost view = { λ n. arc_slice_items n.bytes };
+    ghost view = { λ n. n.bytes };
 
-    ghost invariant = { λ n. IsTrue (is_valid_name (arc_slice_items n.bytes)) };
+    ghost invariant = { λ n. IsTrue (is_valid_name n.bytes) };
 }
 
 impl Name {
     /// The name over these bytes, which it shares.
-    pub(crate) fn share(bytes: &ArcSlice<u8>) -> Result<Name, AllocError>
-        requires { IsTrue (is_valid_name (arc_slice_items bytes.now)) }
-        ensures { IfOk result (λ name. name ≡ arc_slice_items bytes.now) }
+    pub(crate) fn share(bytes: &SharedBytes) -> Result<Name, AllocError>
+        requires { IsTrue (is_valid_name bytes.now) }
+        ensures { IfOk result (λ name. name ≡ bytes.now) }
     {
         Ok(Name {
-            bytes: bytes.clone()?,
+            bytes: bytes.copy()?,
         })
     }
 
@@ -53,11 +51,11 @@ impl Name {
     }
 
     /// The bytes of the name, for another owner.
-    pub fn shared(&self) -> Result<ArcSlice<u8>, AllocError>
-        ensures value { IfOk result (λ bytes. arc_slice_items bytes ≡ self.now) }
-        ensures valid { IfOk result (λ bytes. IsTrue (is_valid_name (arc_slice_items bytes))) }
+    pub fn shared(&self) -> Result<SharedBytes, AllocError>
+        ensures value { IfOk result (λ bytes. bytes ≡ self.now) }
+        ensures valid { IfOk result (λ bytes. IsTrue (is_valid_name bytes)) }
     {
-        self.bytes.clone()
+        self.bytes.copy()
     }
 
     /// The name as text. A valid name is UTF-8.

@@ -101,7 +101,8 @@ impl<'a> Pairs<'a> {
                 self.rows = rows;
                 Some(Pair::Both(record, row))
             }
-            (Some((record, records)), Some((row, _))) if record.name_order(&row.name).is_lt() => {
+            (Some((record, records)), Some((row, _)))
+                if record.name_order(row.name.as_slice()).is_lt() => {
                 self.records = records;
                 Some(Pair::Old(record))
             }

@@ -5,3 +5,4 @@ mod Entries
 mod Walking
 mod Walked
 mod Drawn
+mod SameDirectory

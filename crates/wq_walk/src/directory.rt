@@ -1,12 +1,14 @@
 //! A directory that is being walked, and the next step in it. The steps go over whole names as they rise. Whole names
 //! rise as `a`, `a-b`, `a/x`, `a0`: between a directory and the names below it there may be names beside it. Another
 //! module reads the disk.
-ghost use Rattle.std.specs.Prelude.{◌≡◌, ◌++◌, ◌∷◌, [], IfNone, IfSome, IsTrue, OnOk};
+ghost use Rattle.std.specs.Prelude.{◌≡◌, ◌++◌, ◌∷◌, [], IfNone, IfOk, IfSome, IsTrue, OnOk};
 ghost use Rattle.wq_walk.specs.Directory.{IsNext, data_of, entry_at, left_of};
 ghost use Rattle.wq_walk.specs.Walk.{fresh};
 
 use crate::names::{Names, Place};
+use crate::new_names::NewNames;
 use std::alloc::{AllocError, Global};
+use wq_view::SharedBytes;
 
 /// A directory with its names.
 #[derive(Drop)]
@@ -17,6 +19,8 @@ pub(crate) struct Directory {
     names: Names,
     /// The directories that the walk looked at and did not enter yet. The last one is entered first.
     waiting: Vec<Place>,
+    /// The names from here on that no view has yet, if the walk made a block of them.
+    new_names: NewNames,
 }
 
 /// The next step in a directory.
@@ -39,6 +43,7 @@ impl Directory {
             path,
             names,
             waiting: Vec::new(alloc),
+            new_names: NewNames::none(),
         }
     }
 
@@ -47,6 +52,37 @@ impl Directory {
         ensures { result.now ≡ (data_of self.now).path }
     {
         &self.path
+    }
+
+    /// Its path after a root whose path has so many bytes: its name with a slash, or nothing at the top.
+    pub(crate) fn below(&self, root_len: usize) -> &[u8] {
+        self.path.get(root_len..).unwrap_or(b"")
+    }
+
+    /// The bytes of a name that no view has yet: the name of the entry that was taken last, below a root whose path has
+    /// so many bytes. If no view has a later name in this directory, they all share a block.
+    pub(crate) fn new_name(
+        &mut self,
+        alloc: Global,
+        root_len: usize,
+        name: &[u8],
+        are_later_new: bool,
+    ) -> Result<SharedBytes, AllocError>
+        ensures path { self.new.path ≡ self.old.path }
+        ensures names { self.new.names ≡ self.old.names }
+        ensures waiting { self.new.waiting ≡ self.old.waiting }
+        ensures name { IfOk result (λ bytes. bytes ≡ name.now) }
+    {
+        let mut taken = self.new_names.take(name)?;
+        if taken.is_none() && are_later_new && self.names.len() > 0 {
+            let block = self.names.block_from(alloc, self.below(root_len), name)?;
+            self.new_names = NewNames::of(block);
+            taken = self.new_names.take(name)?;
+        }
+        match taken {
+            Some(bytes) => Ok(bytes),
+            None => SharedBytes::from_slice(alloc, name),
+        }
     }
 
     /// The name at a place.

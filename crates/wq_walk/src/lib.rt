@@ -7,6 +7,7 @@ mod disk;
 mod guess;
 mod listing;
 mod names;
+mod new_names;
 mod part;
 mod path;
 mod piece;

@@ -4,11 +4,13 @@ ghost use Rattle.wq_walk.specs.Entries.{is_entry};
 ghost use Rattle.wq_walk.specs.Names.{AreOfEntries, name_at};
 ghost use Rattle.wq_walk.specs.Unseen.{HasMissed, IsCallFault};
 
+use crate::new_names::MOST_SHARED;
 use crate::unseen::walk_fault;
 use std::alloc::{AllocError, Global};
 use std::cmp::Ordering;
 use std::fs::Files;
 use std::io::{Error, ErrorKind, Read};
+use std::sync::ArcSlice;
 use wq_crawl::TreeFault;
 
 /// The number of bytes of names that one call asks for.
@@ -17,7 +19,7 @@ const BLOCK: usize = 32_768;
 /// The number of bytes of a head.
 const HEAD: usize = 16;
 
-/// Memory for a block of names. All directories of a walk use it in turn.
+/// Memory for names that the system gives. All directories of a walk use it in turn.
 #[derive(Drop)]
 pub(crate) struct Block {
     bytes: Vec<u8>,
@@ -86,6 +88,30 @@ impl Names {
             self.old.places.items ≡ self.new.places.items ++ (place ∷ [])) }
     {
         self.places.pop()
+    }
+
+    /// A block of this name, which was taken from the directory, and of the names that were not taken yet. Each of them
+    /// has the directory's name and a slash before it. The block ends before the name with which it would be too long.
+    pub(crate) fn block_from(
+        &self,
+        alloc: Global,
+        directory: &[u8],
+        name: &[u8],
+    ) -> Result<ArcSlice<u8>, AllocError> {
+        let mut block = Vec::from_slice(alloc, name)?;
+        for place in self.places.iter().rev() {
+            let entry = text_at(&self.bytes, *place);
+            let len = block
+                .len()
+                .saturating_add(directory.len())
+                .saturating_add(entry.len());
+            if len > MOST_SHARED {
+                break;
+            }
+            block.extend_from_slice(directory)?;
+            block.extend_from_slice(entry)?;
+        }
+        ArcSlice::from_vec(block)
     }
 
     /// The name at a place, even if it was taken.

@@ -35,6 +35,13 @@ impl TreePath {
         self.bytes.extend_from_slice(name)
     }
 
+    /// The number of bytes of the root's path, with its slash.
+    pub(crate) fn root_len(&self) -> usize
+        ensures { result ≡ self.now.root_len }
+    {
+        self.root_len
+    }
+
     /// The path as text, if it is in UTF-8.
     pub(crate) fn text(&self) -> Option<&str>
         ensures { MatchOption result

@@ -1,7 +1,6 @@
 //! The walk over a tree: from directory to directory, with a row for each file. The module of listings uses it.
 ghost use Rattle.std.specs.Prelude.{◌≡◌, ◌⊎◌, ◌++◌, ◌∷◌, [], ℕ, Bool, false, List, MatchOption};
 ghost use Rattle.std.specs.Prelude.{IfErr, IfOk, IsTrue, None, OnOk, Some};
-ghost use Rattle.std.specs.Arc.{arc_slice_items};
 ghost use Rattle.std.specs.Str.{IsUtf8, byte};
 ghost use Rattle.wq_crawl.specs.Tree.{is_of_device};
 ghost use Rattle.wq_view.specs.Name.{is_valid_name};
@@ -9,7 +8,7 @@ ghost use Rattle.wq_view.specs.Seen.{SeenData, is_lawful_row};
 ghost use Rattle.wq_walk.specs.Directory.{data_of, entry_at, left_of, walk_of};
 ghost use Rattle.wq_walk.specs.Told.{IsFailure, IsRead, IsRootFault};
 ghost use Rattle.wq_walk.specs.Walk.{Ends, IsDone, IsLooked, IsStep, IsWalk};
-ghost use Rattle.wq_walk.specs.Walk.{fresh, looked, row_of, rows_of_file};
+ghost use Rattle.wq_walk.specs.Walk.{fresh, looked, name_of_path, row_of, rows_of_file};
 
 use crate::directory::{Directory, Step};
 use crate::disk::Disk;
@@ -21,9 +20,8 @@ use crate::rows::Rows;
 use crate::stat::Stat;
 use std::alloc::{AllocError, Global};
 use std::mem;
-use std::sync::ArcSlice;
 use wq_crawl::TreeFault;
-use wq_view::{Known, Seen};
+use wq_view::{Known, Seen, SharedBytes, is_valid_name};
 
 /// A walk that has not ended yet.
 #[derive(Drop)]
@@ -157,7 +155,7 @@ impl Walk<'_, '_> {
         ensures fault { IfErr result (IsFailure (D.fails disk.now)) }
     {
         self.path.set(here.path(), here.name(name))?;
-        if self.list(disk)? {
+        if self.list(disk, here)? {
             here.enter_later(name)?;
         }
         Ok(())
@@ -165,10 +163,13 @@ impl Walk<'_, '_> {
 
     /// Looks at the file at the path, and adds its row if its name is in the part. Returns whether the walk enters the
     /// file. It does if the file is a directory below which names may be in the part.
-    fn list<D: Disk>(&mut self, disk: &D) -> Result<bool, TreeFault>
+    fn list<D: Disk>(&mut self, disk: &D, here: &mut Directory) -> Result<bool, TreeFault>
         ensures part { self.new.rows.part ≡ self.old.rows.part }
         ensures path { self.new.path ≡ self.old.path }
         ensures above { self.new.above ≡ self.old.above }
+        ensures directory { here.new.path ≡ here.old.path }
+        ensures names { here.new.names ≡ here.old.names }
+        ensures waiting { here.new.waiting ≡ here.old.waiting }
         ensures looked { IfOk result (λ enters. (rows : List SeenData)
             × IsLooked (D.says disk.now) self.old.path.root_len self.old.rows.part
             self.old.path.bytes.items rows enters
@@ -179,7 +180,7 @@ impl Walk<'_, '_> {
         if !reaches && !self.rows.part().has(self.path.name()) {
             return Ok(false);
         }
-        let Some(name) = self.known.shared(self.alloc, self.path.name())? else {
+        let Some(name) = name_at(self.alloc, &mut self.known, &self.path, here)? else {
             return Ok(false);
         };
         let Some(stat) = stat_at(disk, &self.path)? else {
@@ -190,16 +191,16 @@ impl Walk<'_, '_> {
     }
 
     /// Adds the row of the file of this name, if the name is in the part, and counts it.
-    fn add(&mut self, name: ArcSlice<u8>, stat: &Stat) -> Result<(), TreeFault>
-        requires { IsTrue (is_valid_name (arc_slice_items name)) }
+    fn add(&mut self, name: SharedBytes, stat: &Stat) -> Result<(), TreeFault>
+        requires { IsTrue (is_valid_name name) }
         ensures part { self.new.rows.part ≡ self.old.rows.part }
         ensures path { self.new.path ≡ self.old.path }
         ensures above { self.new.above ≡ self.old.above }
         ensures row { OnOk result (self.new.rows.rows.items ≡ self.old.rows.rows.items
-            ++ rows_of_file self.old.rows.part (arc_slice_items name) stat.now) }
+            ++ rows_of_file self.old.rows.part name stat.now) }
         ensures fault { IfErr result (λ fault. is_of_device fault ≡ false) }
     {
-        if self.rows.part().has(&name) {
+        if self.rows.part().has(name.as_slice()) {
             self.rows.add(row_of(name, stat))?;
             self.progress.count(&self.rows)?;
         }
@@ -230,6 +231,31 @@ impl Walk<'_, '_> {
         self.above.push(above).map_err(AllocError::from)?;
         Ok(())
     }
+}
+
+/// The bytes of the name of a path, if a pass takes it. The record of that name shares them, or other names in the
+/// directory in which the walk is do.
+fn name_at(
+    alloc: Global,
+    known: &mut Known<'_>,
+    path: &TreePath,
+    here: &mut Directory,
+) -> Result<Option<SharedBytes>, AllocError>
+    ensures path { here.new.path ≡ here.old.path }
+    ensures names { here.new.names ≡ here.old.names }
+    ensures waiting { here.new.waiting ≡ here.old.waiting }
+    ensures name { IfOk result (λ name. MatchOption name
+        (is_valid_name (name_of_path path.now.root_len path.now.bytes.items) ≡ false)
+        (λ bytes. (bytes ≡ name_of_path path.now.root_len path.now.bytes.items)
+        × IsTrue (is_valid_name bytes))) }
+{
+    if let Some(known) = known.shared(path.name())? {
+        return Ok(Some(known));
+    }
+    let are_later_new = !known.begins_with(here.below(path.root_len()));
+    let bytes = here.new_name(alloc, path.root_len(), path.name(), are_later_new)?;
+    // The block goes on after a name that no pass takes.
+    Ok(is_valid_name(path.name()).then_some(bytes))
 }
 
 /// The stat of the file of a path, if the disk can look at it.
@@ -266,10 +292,10 @@ fn names_at<D: Disk>(
 }
 
 /// The row of a file.
-fn row_of(name: ArcSlice<u8>, stat: &Stat) -> Seen
-    requires { IsTrue (is_valid_name (arc_slice_items name)) }
+fn row_of(name: SharedBytes, stat: &Stat) -> Seen
+    requires { IsTrue (is_valid_name name) }
     ensures lawful { IsTrue (is_lawful_row result) }
-    ensures row { result ≡ row_of (arc_slice_items name) stat.now }
+    ensures row { result ≡ row_of name stat.now }
 {
     Seen {
         name,
