@@ -25,6 +25,7 @@ def check_subscriptions(tally: built.Tally, room: Path) -> None:
             asker.ask("watch", str(root))
             for client, name in ((one, "one"), (two, "two")):
                 check_a_first_list(tally, client, root, name)
+            check_another_root(tally, asker, one, two, room / "other")
             check_a_file_that_is_written(tally, one, two, root)
             check_a_file_that_goes(tally, one, two, root)
             check_an_end(tally, asker, one, two, root)
@@ -51,6 +52,15 @@ def check_a_first_list(tally: built.Tally, client: Client, root: Path, name: str
     first = client.reply()
     same(tally, f"the first list of {name}", without_clock(first), list_of(root, name, files, True))
     same(tally, f"the clock of the first list of {name}", first.get("clock"), reply.get("clock"))
+
+
+def check_another_root(tally: built.Tally, asker: Client, one: Client, two: Client, other: Path) -> None:
+    """A root to which nobody subscribed is watched, and has a new file: nobody is told."""
+    other.mkdir()
+    asker.ask("watch", str(other))
+    (other / "file").touch()
+    for client, name in ((one, "one"), (two, "two")):
+        tally.check(f"{name} hears nothing of another root", is_quiet(client))
 
 
 def check_a_file_that_is_written(tally: built.Tally, one: Client, two: Client, root: Path) -> None:
@@ -88,6 +98,20 @@ def check_an_end(tally: built.Tally, asker: Client, one: Client, two: Client, ro
     (root / "third").touch()
     for client, name in ((one, "one"), (two, "two")):
         tally.check(f"{name} hears nothing of the root that is watched anew", is_quiet(client))
+
+
+def check_a_root_that_came_and_went(tally: built.Tally, room: Path) -> None:
+    """A root is watched, subscribed to and deleted before the next round of crawls. The subscriber still hears that it ended."""
+    root = room / "tree"
+    root.mkdir()
+    with Server(room, interval=1000) as server, server.client() as asker, server.client() as one:
+        same(tally, "a subscriber is there", one.ask("version"), VERSION)
+        asker.ask("watch", str(root))
+        one.ask("subscribe", str(root), "one", {"fields": ["name"]})
+        same(tally, "the first list", without_clock(one.reply()), list_of(root, "one", [], True))
+        asker.ask("watch-del", str(root))
+        canceled = {"canceled": True, "root": str(root), "subscription": "one", "unilateral": True, **VERSION}
+        same(tally, "the end of a root that came and went", one.reply(), canceled)
 
 
 def is_quiet(client: Client) -> bool:

@@ -7,6 +7,9 @@ import built
 from client import same
 from scene import QUIET, Scene, wait_until
 
+# How many commands may run at once, and how many triggers of one root cannot start.
+MOST_RUNS = 1024
+MISSING = 63
 
 # Files that may be executed or are not there, and why they cannot be.
 NO_PROGRAMS = (
@@ -42,6 +45,19 @@ def check_a_command_that_is_not_there(tally: built.Tally, room: Path) -> None:
         same(tally, "the starts beside it", scene.lines(), ["beside a", "beside b"])
         tally.check("no child is left", wait_until(lambda: not scene.children()))
         tally.check("no handle is left", wait_until(lambda: count_of_handles(scene) == handles))
+
+
+def check_many_commands_that_are_not_there(tally: built.Tally, room: Path) -> None:
+    """Starts fail in round after round, more of them than commands may run at once. Beside them another trigger still starts."""
+    with Scene(room) as scene:
+        scene.make("a")
+        scene.trigger("beside", scene.log("beside"), append_files=True)
+        for number in range(MISSING):
+            scene.register(f"missing{number}", ["no-such-command-at-all"])
+        for number in range(MOST_RUNS // MISSING + 2):
+            tally.check(f"a trigger starts after {number} rounds of failures", scene.has_lines(number + 1))
+            scene.make(f"file{number:02}")
+        tally.check("no start fails since too many run", b"too many" not in scene.server.errors())
 
 
 def count_of_handles(scene: Scene) -> int:

@@ -29,7 +29,7 @@ def check_a_command_that_never_reads(tally: built.Tally, room: Path) -> None:
         with scene.server.client() as other:
             other.ask("watch", str(small))
             begun, over = scene.out / "begun", scene.out / "over"
-            scene.trigger("t", f"touch {begun}; sleep 1; touch {over}", stdin="NAME_PER_LINE")
+            scene.trigger("t", f"touch {begun}; sleep 1; touch {over}; exit 3", stdin="NAME_PER_LINE")
             tally.check("it starts", wait_until(begun.exists))
             times = []
             while not over.exists() and len(times) < 10_000:

@@ -5,9 +5,9 @@ ghost use Rattle.wq_view.specs.Seen.{is_lawful_row};
 
 use itoa::Buffer;
 use std::alloc::{AllocError, Global};
-use std::sync::{ArcSlice, Wait};
+use std::sync::Wait;
 use wq_live::{Blank, Look, Named, Publisher, Seat, Told};
-use wq_view::{Kind, Pass, Seen};
+use wq_view::{Kind, Pass, Seen, SharedBytes};
 
 /// The sight of a root: its number, the tick of its view, and how many files the view has.
 pub(crate) type Sight = (u64, u64, usize);
@@ -23,7 +23,7 @@ pub(crate) fn named_row(alloc: Global, name: &[u8]) -> Result<Seen, AllocError>
     ensures { IfOk result (λ row. is_lawful_row row ≡ is_valid_name name.now) }
 {
     Ok(Seen {
-        name: ArcSlice::from_slice(alloc, name)?,
+        name: SharedBytes::from_slice(alloc, name)?,
         kind: Kind::File,
         size: 1,
         mtime_ms: 1,

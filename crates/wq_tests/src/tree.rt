@@ -1,14 +1,13 @@
 //! Small trees and the views of them, for the tests of other modules.
 
 use std::alloc::{AllocError, Global};
-use std::sync::ArcSlice;
 use std::test::Fail;
-use wq_view::{Kind, Pass, Seen, View};
+use wq_view::{Kind, Pass, Seen, SharedBytes, View};
 
 /// A file of one byte.
 pub(crate) fn file(alloc: Global, name: &[u8], mtime_ms: i64) -> Result<Seen, AllocError> {
     Ok(Seen {
-        name: ArcSlice::from_slice(alloc, name)?,
+        name: SharedBytes::from_slice(alloc, name)?,
         kind: Kind::File,
         size: 1,
         mtime_ms,

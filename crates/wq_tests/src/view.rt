@@ -6,12 +6,13 @@ use std::alloc::{AllocError, Global};
 use std::process::Abort;
 use std::sync::ArcSlice;
 use std::test::Fail;
-use wq_view::{Kind, MAX_LISTING_ROWS, Name, Pass, PassFault, Record, Seen, View};
+use wq_view::{Kind, MAX_LISTING_ROWS, Name, Pass, PassFault, Record, Seen, SharedBytes, View};
 
 /// A pass that sees one file of this name, which it shares.
 fn sharing_pass(alloc: Global, name: &ArcSlice<u8>, size: i64) -> Result<Pass, Fail> {
+    let shared = SharedBytes::part(name, 0, name.len())?.ok_or("no part")?;
     let row = Seen {
-        name: name.clone()?,
+        name: shared,
         kind: Kind::File,
         size,
         mtime_ms: 1,
@@ -145,11 +146,11 @@ fn takes_in_a_million_rows(rt: HostRuntime) -> Result<(), Fail> {
 
 /// One row more than the limit, each with this name and size.
 fn too_many_rows(alloc: Global, name: &[u8], size: i64) -> Result<Vec<Seen>, AllocError> {
-    let name = ArcSlice::from_slice(alloc, name)?;
+    let name = SharedBytes::from_slice(alloc, name)?;
     let mut rows = Vec::with_capacity(alloc, 1_000_001)?;
     for _ in 0..1_000_001 {
         rows.push(Seen {
-            name: name.clone()?,
+            name: name.copy()?,
             kind: Kind::Dir,
             size,
             mtime_ms: 0,
