@@ -19,7 +19,7 @@ pub(crate) struct Directory {
     names: Names,
     /// The directories that the walk looked at and did not enter yet. The last one is entered first.
     waiting: Vec<Place>,
-    /// The names from here on that no view has yet, if the walk made a block of them.
+    /// The block of the names from here on, if no view has one of them.
     new_names: NewNames,
 }
 
@@ -60,7 +60,8 @@ impl Directory {
     }
 
     /// The bytes of a name that no view has yet: the name of the entry that was taken last, below a root whose path has
-    /// so many bytes. If no view has a later name in this directory, they all share a block.
+    /// so many bytes. If no view has a later name in this directory, this name and those after it share a block, up to
+    /// 64 KiB.
     pub(crate) fn new_name(
         &mut self,
         alloc: Global,

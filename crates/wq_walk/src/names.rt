@@ -90,8 +90,9 @@ impl Names {
         self.places.pop()
     }
 
-    /// A block of this name, which was taken from the directory, and of the names that were not taken yet. Each of them
-    /// has the directory's name and a slash before it. The block ends before the name with which it would be too long.
+    /// A block of this name, which was taken from the directory, and of the names that were not taken yet. Before each
+    /// of them comes the directory's name with a slash, or nothing at the root. The block ends before the name with
+    /// which it would be too long.
     pub(crate) fn block_from(
         &self,
         alloc: Global,

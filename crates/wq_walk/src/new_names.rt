@@ -1,5 +1,5 @@
-//! The names in a directory that no view has yet: parts of one block, so that none is an allocation of its own. The
-//! module of directories makes the block.
+//! The names in a directory that no view has yet: parts of one block, so that none is an allocation of its own.
+//! `Names::block_from` makes the block.
 ghost use Rattle.std.specs.Prelude.{◌≡◌, IfOk, IfSome};
 
 use std::alloc::AllocError;

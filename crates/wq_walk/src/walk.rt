@@ -180,7 +180,7 @@ impl Walk<'_, '_> {
         if !reaches && !self.rows.part().has(self.path.name()) {
             return Ok(false);
         }
-        let Some(name) = name_at(self.alloc, &mut self.known, &self.path, here)? else {
+        let Some(name) = shared_name(self.alloc, &mut self.known, &self.path, here)? else {
             return Ok(false);
         };
         let Some(stat) = stat_at(disk, &self.path)? else {
@@ -233,9 +233,9 @@ impl Walk<'_, '_> {
     }
 }
 
-/// The bytes of the name of a path, if a pass takes it. The record of that name shares them, or other names in the
-/// directory in which the walk is do.
-fn name_at(
+/// The bytes of the name of a path, if a pass takes it. They are shared with the record of that name, or with other new
+/// names of the directory that is walked.
+fn shared_name(
     alloc: Global,
     known: &mut Known<'_>,
     path: &TreePath,
