@@ -31,6 +31,8 @@ class Client:
 
 
 def main() -> None:
+    if len(sys.argv) < 2 or "WQD_SOCK" not in os.environ:
+        sys.exit((__doc__ or "").strip())
     client = Client(os.environ["WQD_SOCK"])
     root = os.path.realpath(sys.argv[1])
     query = {"fields": ["name", "exists"]}

@@ -40,6 +40,11 @@ NOT_BUILT = ("--foreground", "--inetd")
 ENCODINGS = {"json": 0, "bser": 1, "bser-v1": 1, "bser-v2": 2}
 # These are answered without a server, if none may be started.
 LOCAL = ("version", "get-sockname")
+# The first argument of these is a root.
+OF_A_ROOT = (
+    "clock", "debug-get-subscriptions", "debug-recrawl", "find", "get-config", "query", "since", "subscribe", "trigger",
+    "trigger-del", "trigger-list", "unsubscribe", "watch", "watch-del", "watch-project",
+)
 
 
 class Unwritten(Exception):
@@ -119,7 +124,7 @@ def run(words: Words, home: str) -> None:
     if "--version" in options:
         print(VERSION)
         return
-    command = command_of(words)
+    command = with_absolute_root(command_of(words))
     printer = Printer(options.get("--output-encoding", "json"), "--no-pretty" not in options)
     sockname = os.path.abspath(options["--sockname"]) if "--sockname" in options else sockname_by_default()
     if "--no-spawn" not in options:
@@ -149,6 +154,19 @@ def command_of(words: Words) -> object:
     if not words.command:
         sys.exit(f"watchman: there is no command\n{USAGE}")
     return list(words.command)
+
+
+def with_absolute_root(command: object) -> object:
+    """The command with a root that does not depend on the directory in which the user is, as Watchman's own command sends it."""
+    if not isinstance(command, list) or len(command) < 2 or command[0] not in OF_A_ROOT:
+        return command
+    root = command[1]
+    if not isinstance(root, str) or not root or os.path.isabs(root):
+        return command
+    try:
+        return [command[0], os.path.realpath(root), *command[2:]]
+    except ValueError:
+        return command  # no path: the bridge says so
 
 
 def ask(command: object, sockname: str, printer: "Printer", stays: bool) -> None:

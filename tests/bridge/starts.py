@@ -5,17 +5,20 @@ import os
 import subprocess
 import sys
 from pathlib import Path
+from typing import Dict
 
 import built
 from bridged import COMMAND, PROGRAM, Bridge
 from client import PATIENCE, same
 
 
-def run(room: Path, *words: str, sockname: str = "sock", output: int = subprocess.PIPE) -> subprocess.CompletedProcess:
-    """Runs the command in a directory, with names that are relative to it."""
+def run(
+    room: Path, *words: str, sockname: str = "sock", output: int = subprocess.PIPE, given: bytes = b"",
+) -> subprocess.CompletedProcess:
+    """Runs the command in a directory, with names that are relative to it, and with bytes on its standard input."""
     environment = {**os.environ, "WATCHMAN_SOCK": sockname, "WQD": os.path.relpath(str(built.program_path()), str(room))}
     environment.pop("WQD_SOCK", None)
-    return subprocess.run([sys.executable, str(COMMAND), *words], env=environment, cwd=str(room), stdin=subprocess.DEVNULL,
+    return subprocess.run([sys.executable, str(COMMAND), *words], env=environment, cwd=str(room), input=given,
                           stdout=output, stderr=subprocess.PIPE, timeout=PATIENCE)
 
 
@@ -36,6 +39,31 @@ def check_starts(tally: built.Tally, room: Path) -> None:
              (1, b"watchman: standard output: No space left on device\n"))
     finally:
         same(tally, "it is ended by its relative name", run(room, "--no-spawn", "shutdown-server").returncode, 0)
+
+
+def check_roots_by_relative_names(tally: built.Tally, room: Path) -> None:
+    """A root counts from the directory of the command, as with Watchman's own, also if the command comes as JSON."""
+    room = room.resolve()
+    tree = room / "tree"
+    (tree / "below").mkdir(parents=True)
+    (tree / "file.c").touch()
+
+    def found(directory: Path, *words: str, given: bytes = b"") -> Dict[str, object]:
+        sockname = os.path.relpath(str(room / "sock"), str(directory))
+        reply: Dict[str, object] = json.loads(run(directory, *words, sockname=sockname, given=given).stdout)
+        return reply
+
+    try:
+        same(tally, "a directory by its name", found(room, "watch", "tree").get("watch"), str(tree))
+        same(tally, "the directory itself", found(tree, "watch-project", ".").get("watch"), str(tree))
+        files = found(tree / "below", "find", "..", "*.c").get("files")
+        same(tally, "the directory above", [file["name"] for file in files or []], ["file.c"])
+        line = json.dumps(["query", ".", {"suffix": "c", "fields": ["name"]}]).encode()
+        same(tally, "a root in JSON", found(tree, "-j", given=line).get("files"), ["file.c"])
+        same(tally, "no name at all", found(tree, "watch", "").get("error"), "unable to resolve root : path \"\" must be absolute")
+        same(tally, "a root that goes", found(tree, "watch-del", ".").get("watch-del"), True)
+    finally:
+        run(room, "--no-spawn", "shutdown-server")
 
 
 def check_names_by_default(tally: built.Tally, room: Path) -> None:
