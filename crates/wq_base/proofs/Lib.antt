@@ -3,3 +3,4 @@ pub mod Signed
 pub mod Fault
 pub mod Named
 pub mod Fronts
+pub mod TextOrder

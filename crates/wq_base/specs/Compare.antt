@@ -1,8 +1,10 @@
 -- Comparisons of numbers and texts. The source is Watchman's documentation of the terms `size`,
 -- `name` and `suffix`.
 use Rattle.std.specs.Prelude.{ℕ, ℤ, int_lt, int_le, Bool, not, ◌&&◌, ◌==◌, List, length, bytes_eq}
-use Rattle.std.specs.Ordering.{int_eq}
-use Rattle.std.specs.Str.{str_eq_ignore_ascii_case}
+use Rattle.std.specs.Cmp.Lexicographic.{slice_cmp}
+use Rattle.std.specs.Ordering.{int_eq, nat_cmp}
+use Rattle.std.specs.Str.{str_eq_ignore_ascii_case, str_to_ascii_lowercase}
+use Rattle.std.specs.declared.cmp.Ordering.{Ordering}
 use Rattle.wq_base.specs.declared.compare.Case.{Case}
 use Rattle.wq_base.specs.declared.compare.Case.TheVariants.{Exact, Folded}
 use Rattle.wq_base.specs.declared.compare.Relation.{Relation}
@@ -25,3 +27,8 @@ same_text Folded x y = str_eq_ignore_ascii_case x y
 -- whether a text is this suffix, if A to Z count as a to z; an empty text is no suffix
 abbrev pub is_suffix : List ℕ → List ℕ → Bool
 is_suffix text suffix = not (length text == 0) && same_text Folded text suffix
+
+-- the order of the bytes of two texts, if A to Z count as a to z
+abbrev pub folded_order : List ℕ → List ℕ → Ordering
+folded_order first second =
+    slice_cmp nat_cmp (str_to_ascii_lowercase first) (str_to_ascii_lowercase second)

@@ -2,6 +2,7 @@ pub mod Limit
 pub mod Byte
 pub mod Name
 pub mod Compare
+pub mod TextList
 pub mod Directory
 pub mod Decimal
 pub mod Fault

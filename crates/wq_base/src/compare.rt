@@ -1,7 +1,9 @@
 //! Comparisons of numbers and texts.
 ghost use Rattle.std.specs.Prelude.{◌≡◌};
 ghost use Rattle.std.specs.Str.{str_eq_ignore_ascii_case};
-ghost use Rattle.wq_base.specs.Compare.{compares, is_suffix, same_text};
+ghost use Rattle.wq_base.specs.Compare.{compares, folded_order, is_suffix, same_text};
+
+use std::cmp::Ordering;
 
 /// The relation of a first number to a second one.
 #[derive(Clone, Copy, Debug)]
@@ -77,4 +79,24 @@ fn is_same_folded(left: &[u8], right: &[u8]) -> bool
         }
     }
     true
+}
+
+/// The order of two texts, if A to Z count as a to z.
+pub fn folded_order(first: &[u8], second: &[u8]) -> Ordering
+    ensures { result ≡ folded_order first.now second.now }
+{
+    let mut rest_first = first;
+    let mut rest_second = second;
+    while let (Some((x, later_first)), Some((y, later_second))) = (
+        rest_first.split_first(),
+        rest_second.split_first(),
+    ) {
+        let order = x.to_ascii_lowercase().cmp(&y.to_ascii_lowercase());
+        if order.is_ne() {
+            return order;
+        }
+        rest_first = later_first;
+        rest_second = later_second;
+    }
+    rest_first.len().cmp(&rest_second.len())
 }

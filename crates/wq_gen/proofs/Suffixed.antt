@@ -1,6 +1,5 @@
 -- Suffixes that are found among many texts.
 use Rattle.std.proofs.Common.{◌≡◌, ◌≤◌, ◌<◌, ◌+◌, ◌-◌, ◌⊎◌, inl, inr, ℕ, zero, suc, Bool, true, false, not, cond, ◌&&◌, ◌||◌, ◌==◌, bytes_eq, List, [], ◌∷◌, ◌++◌, append-nil, map, length, filter, get_or, count_by, sum_by, Some, None, Result, Ok, Err, refl, sym, ap, ◌∙◌, arith, add-one}
-use Rattle.std.specs.Cmp.{IsTotalOrder}
 use Rattle.std.specs.Cmp.Lexicographic.{texts_ties}
 use Rattle.std.specs.List.{AllWithin, list_any, range_with_len}
 use Rattle.std.specs.List.Sorted.{IsBinarySearchResult, IsPermutation, IsSearchInRange, IsSortedBy}
@@ -10,25 +9,21 @@ use Rattle.std.specs.Prelude.{is_ok}
 use Rattle.std.specs.Str.{str_to_ascii_lowercase}
 use Rattle.std.specs.declared.cmp.Ordering.TheVariants.{Less, Greater}
 use Rattle.std.proofs.lemmas.Bool.{and_right, cases_lt, ne_eqb}
-use Rattle.std.proofs.lemmas.Cmp.{nat_list_cmp_total, on_total}
 use Rattle.std.proofs.lemmas.List.{get_or-map, length-map}
 use Rattle.std.proofs.lemmas.List.Folds.{list_any_at, list_any_none}
 use Rattle.std.proofs.lemmas.List.Sorted.{list_any-IsPermutation, searchable_from_sorted}
 use Rattle.std.proofs.lemmas.List.Sums.{sum_by-cons}
 use Rattle.std.proofs.lemmas.Option.{slice_get_past}
-use Rattle.wq_base.specs.Compare.{is_suffix}
+use Rattle.wq_base.specs.Compare.{folded_order, is_suffix}
+use Rattle.wq_base.proofs.TextOrder.{folded_total}
 use Rattle.wq_view.specs.RecordData.{RecordData}
 use Rattle.wq_view.specs.Position.{passes_at, positions_of}
 use Rattle.wq_view.specs.Suffix.{IsNext, has_suffix}
-use Rattle.wq_gen.specs.Among.{folded_order}
 use Rattle.wq_gen.specs.Candidate.{suffix_is_among}
 use Rattle.wq_gen.specs.Counted.{text_looks}
 use Rattle.wq_gen.proofs.Looks.{grows}
 use Rattle.wq_gen.proofs.Positions.{more, positions_alike}
 use Rattle.wq_gen.proofs.SinceTick.{count_positions}
-
-pub folded_total : IsTotalOrder folded_order
-folded_total = on_total str_to_ascii_lowercase nat_list_cmp_total
 
 -- a text is a suffix that is not empty exactly if the order does not tell them apart
 suffix_tied : (text : List ℕ) (b : ℕ) (suffix : List ℕ) → is_suffix text (b ∷ suffix) ≡ is_eq (folded_order text (b ∷ suffix))

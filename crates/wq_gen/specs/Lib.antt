@@ -3,4 +3,3 @@ pub mod Union
 pub mod Counted
 pub mod Depth
 pub mod Outer
-pub mod Among

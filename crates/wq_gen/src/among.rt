@@ -3,12 +3,10 @@ ghost use Rattle.std.specs.Prelude.{◌≡◌, map, IfOk};
 ghost use Rattle.std.specs.List.{list_any};
 ghost use Rattle.std.specs.List.Sorted.{IsPermutation, IsSortedBy};
 ghost use Rattle.std.specs.Ordering.{is_lt};
-ghost use Rattle.wq_base.specs.Compare.{is_suffix};
-ghost use Rattle.wq_gen.specs.Among.{folded_order};
+ghost use Rattle.wq_base.specs.Compare.{folded_order, is_suffix};
 
 use std::alloc::{AllocError, Global};
-use std::cmp::Ordering;
-use wq_base::Text;
+use wq_base::{Text, folded_order};
 
 /// The texts in order, if A to Z count as a to z.
 pub(crate) fn in_folded_order<'a>(
@@ -39,24 +37,4 @@ pub(crate) fn is_among(sorted: &[&Text], suffix: &[u8]) -> bool
     }
     let at = sorted.binary_search_by(|text| folded_order(text.as_bytes(), suffix));
     at.is_ok()
-}
-
-/// The order of two texts, if A to Z count as a to z.
-fn folded_order(first: &[u8], second: &[u8]) -> Ordering
-    ensures { result ≡ folded_order first.now second.now }
-{
-    let mut rest_first = first;
-    let mut rest_second = second;
-    while let (Some((x, later_first)), Some((y, later_second))) = (
-        rest_first.split_first(),
-        rest_second.split_first(),
-    ) {
-        let order = x.to_ascii_lowercase().cmp(&y.to_ascii_lowercase());
-        if order.is_ne() {
-            return order;
-        }
-        rest_first = later_first;
-        rest_second = later_second;
-    }
-    rest_first.len().cmp(&rest_second.len())
 }

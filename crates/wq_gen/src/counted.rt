@@ -8,7 +8,7 @@ ghost use Rattle.wq_view.specs.Order.{Known};
 ghost use Rattle.wq_view.specs.Position.{has_name, passes_at, positions_of};
 ghost use Rattle.wq_view.specs.Suffix.{IsNext, has_suffix, passing_before};
 ghost use Rattle.wq_view.specs.View.{newest_of};
-ghost use Rattle.wq_gen.specs.Among.{folded_order};
+ghost use Rattle.wq_base.specs.Compare.{folded_order};
 ghost use Rattle.wq_gen.specs.Candidate.{suffix_is_among};
 ghost use Rattle.wq_gen.specs.Counted.{IsFound, one_more};
 

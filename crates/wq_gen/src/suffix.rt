@@ -5,7 +5,7 @@ ghost use Rattle.std.specs.List.Sorted.{IsSortedBy};
 ghost use Rattle.std.specs.Ordering.{is_lt};
 ghost use Rattle.wq_view.specs.Position.{positions_of};
 ghost use Rattle.wq_view.specs.Suffix.{has_suffix};
-ghost use Rattle.wq_gen.specs.Among.{folded_order};
+ghost use Rattle.wq_base.specs.Compare.{folded_order};
 ghost use Rattle.wq_gen.specs.Candidate.{gives, suffix_is_among};
 ghost use Rattle.wq_gen.specs.Counted.{suffix_looks, text_looks};
 

@@ -4,8 +4,8 @@ use Rattle.std.specs.List.Sorted.{IsPermutation}
 use Rattle.std.specs.Ordering.{is_lt}
 use Rattle.std.proofs.lemmas.List.{take_all}
 use Rattle.std.proofs.lemmas.List.Sorted.{answers_always, ranks_by, IsPermutation-map}
-use Rattle.wq_gen.specs.Among.{folded_order}
-use Rattle.wq_gen.proofs.Suffixed.{folded_total}
+use Rattle.wq_base.specs.Compare.{folded_order}
+use Rattle.wq_base.proofs.TextOrder.{folded_total}
 use Rattle.wq_gen.proofs.among.in_folded_order.Goals as goal
 
 pub returns-clause-same : goal.returns-clause-same

@@ -2,7 +2,7 @@
 use Rattle.std.proofs.Common.{rules, map, length, sym, ◌∙◌}
 use Rattle.std.proofs.lemmas.Bool.{eq-eqb, eqb-true, false≢true}
 use Rattle.std.proofs.lemmas.Fn.{always_returns_same}
-use Rattle.wq_gen.specs.Among.{folded_order}
+use Rattle.wq_base.specs.Compare.{folded_order}
 use Rattle.wq_gen.proofs.Suffixed.{found_among, none_among}
 use Rattle.wq_gen.proofs.among.is_among.Goals as goal
 
