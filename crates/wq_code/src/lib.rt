@@ -34,4 +34,4 @@ pub use raw::Raw;
 pub use signature::CellNeed;
 pub use version::Version;
 pub use word::Word;
-pub use wq_base::{Case, Relation, Table};
+pub use wq_base::{Case, Relation, Table, TextList};

@@ -5,7 +5,7 @@ ghost use Rattle.wq_code.specs.Fits.{raw_fits};
 use crate::field::all_fit;
 use crate::limit::MAX_TABLE_ROWS;
 use crate::operation::Op;
-use wq_base::Table;
+use wq_base::{Table, TextList};
 use wq_glob::Pattern;
 
 /// A program as it was read or put together: nothing is known of it.
@@ -16,7 +16,7 @@ pub struct Raw {
     /// The constants of `text`, as bytes.
     pub texts: Table<Table<u8>>,
     /// The constants of `oneof`, each a list of texts.
-    pub lists: Table<Table<Table<u8>>>,
+    pub lists: Table<TextList>,
     /// The constants of `match`.
     pub patterns: Table<Pattern>,
     /// The constants of `anymatch`, each a list of patterns.

@@ -13,7 +13,7 @@ use crate::operation::Op;
 use crate::version::Version;
 use crate::word::{op_of_byte, take_a, take_b};
 use std::alloc::{AllocError, Global};
-use wq_base::Table;
+use wq_base::{Table, TextList};
 use wq_glob::{Flags, MAX_PATTERN, Pattern, PatternFault};
 
 impl Field for i64 {
@@ -80,7 +80,7 @@ impl Field for Table<u8> {
     }
 }
 
-impl Field for Table<Table<u8>> {
+impl Field for TextList {
     ghost use Rattle.wq_code.specs.Reading.{list_at};
     ghost use Rattle.wq_code.specs.Spelling.{entries};
     ghost use Rattle.wq_code.specs.Fits.{is_list};
@@ -92,22 +92,19 @@ impl Field for Table<Table<u8>> {
     ghost within = { is_list };
 
     #[tactic(auto, unfolding(crate::specs::Reading::list_at))]
-    fn read(
-        alloc: Global,
-        version: Version,
-        bytes: &[u8],
-    ) -> Result<(Table<Table<u8>>, &[u8]), FileFault> {
+    fn read(alloc: Global, version: Version, bytes: &[u8]) -> Result<(TextList, &[u8]), FileFault> {
         let (count, rest) = entries_of(version, bytes)?;
-        many_of(alloc, version, count, rest)
+        let (texts, rest) = many_of(alloc, version, count, rest)?;
+        Ok((TextList::new(alloc, texts)?, rest))
     }
 
     fn write(&self, out: &mut Vec<u8>) -> Result<(), AllocError> {
         put_long(out, self.len())?;
-        put_many(out, self.as_slice())
+        put_many(out, self.texts())
     }
 
     fn fits(&self) -> bool {
-        self.len() <= MAX_ENTRIES && all_fit(self.as_slice())
+        self.len() <= MAX_ENTRIES && all_fit(self.texts())
     }
 }
 

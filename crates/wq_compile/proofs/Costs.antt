@@ -1,5 +1,5 @@
 -- The program of an expression costs at most what its expression says.
-use Rattle.std.proofs.Common.{◌≡◌, ℕ, zero, suc, ◌+◌, ◌≤◌, pos, Bool, true, false, not, List, [], ◌∷◌, ◌++◌, length, Some, max, sum_by, refl, sym, ap, subst, ◌∙◌, arith}
+use Rattle.std.proofs.Common.{◌≡◌, ℕ, suc, ◌+◌, ◌≤◌, Bool, true, false, not, List, [], ◌∷◌, ◌++◌, length, Some, sum_by, refl, sym, ap, subst, ◌∙◌, arith}
 use Rattle.std.specs.Prelude.{slice_get, ◌==◌, if◌then◌else◌}
 use Rattle.std.specs.List.{list_all}
 use Rattle.std.specs.Option.{option_map_or}
@@ -9,7 +9,7 @@ use Rattle.wq_base.specs.declared.compare.Case.{Case}
 use Rattle.wq_clock.specs.declared.bound.Bound.TheVariants.{Fresh, Tick, Second}
 use Rattle.wq_code.specs.Fits.{is_short_text}
 use Rattle.wq_code.specs.declared.operation.Op.{Op}
-use Rattle.wq_code.specs.declared.operation.Op.TheVariants.{Drop, Not, Return}
+use Rattle.wq_code.specs.declared.operation.Op.TheVariants.{Not, Return}
 use Rattle.wq_code.specs.declared.raw.Raw.{Raw}
 use Rattle.wq_view.specs.Limit.{max_name}
 use Rattle.wq_verify.specs.Budget.{longest_len, width_of, most_pattern_cost, most_cost, budget_of}
@@ -25,13 +25,13 @@ use Rattle.wq_term.specs.NameFit.{scope_with}
 use Rattle.wq_term.specs.Expr.{ExprData, always, never, exists, empty, kind_is, name_is, matches}
 use Rattle.wq_term.specs.Expr.{suffix_is, size_is, since, below, negation, all_of, any_of}
 use Rattle.wq_term.specs.Expr.{ExprsData, no_terms, term}
-use Rattle.wq_compile.specs.Instruction.{Instruction, plain, number, text, one_of, fitting, put_all, blank}
+use Rattle.wq_compile.specs.Instruction.{Instruction, plain, number, text, one_of, fitting, blank}
 use Rattle.wq_compile.specs.Code.{jump_if, others, others_len, joined, filled, scope_op, since_code, below_code, code_of, parts_of, program_of}
 use Rattle.wq_compile.specs.Cost.{constants_cost, all_constants_cost, most_steps_of}
 use Rattle.wq_compile.specs.Large.{is_too_large}
 use Rattle.wq_compile.proofs.Puts.{IsOp, HasCode, length-put_all}
 use Rattle.wq_compile.proofs.Programs.{program-has}
-use Rattle.wq_compile.proofs.Sizes.{IsSmall, program-small}
+use Rattle.wq_compile.proofs.Sizes.{program-small}
 
 -- ---- the budget of code whose constants are known
 

@@ -6,7 +6,7 @@ ghost use Rattle.wq_compile.specs.Instruction.{blank, fitting, number, one_of, p
 
 use std::alloc::{AllocError, Global};
 use std::marker::Model;
-use wq_base::{Case, Table};
+use wq_base::{Case, Table, TextList};
 use wq_code::{Op, Raw};
 use wq_glob::Pattern;
 
@@ -85,11 +85,7 @@ impl Draft {
     }
 
     /// Puts `oneof`.
-    pub(crate) fn put_list(
-        &mut self,
-        case: Case,
-        entries: Table<Table<u8>>,
-    ) -> Result<(), AllocError>
+    pub(crate) fn put_list(&mut self, case: Case, entries: TextList) -> Result<(), AllocError>
         requires { HasRoom 0 self.old }
         ensures { OnOk result (self.new ≡ put (one_of case entries) self.old) }
     {

@@ -12,7 +12,7 @@ ghost use Rattle.wq_compile.specs.Instruction.{fitting, one_of, plain, put_all};
 use crate::code::put_jump;
 use crate::draft::Draft;
 use std::alloc::{AllocError, Global};
-use wq_base::{Case, Relation, Table};
+use wq_base::{Case, Relation, Table, TextList};
 use wq_code::Op;
 use wq_glob::Pattern;
 use wq_term::{Depth, Scope};
@@ -35,27 +35,27 @@ fn text_of(alloc: Global, text: &[u8]) -> Result<Table<u8>, AllocError>
 }
 
 /// The texts of a list as a constant.
-fn list_of(alloc: Global, texts: &[Vec<u8>]) -> Result<Table<Table<u8>>, AllocError>
-    ensures { IfOk result (λ table. table ≡ texts_in texts.now) }
+fn list_of(alloc: Global, texts: &[Vec<u8>]) -> Result<TextList, AllocError>
+    ensures { IfOk result (λ list. list ≡ texts_in texts.now) }
 {
-    let mut list = Table::new(alloc);
+    let mut table = Table::new(alloc);
     for text in texts {
-        list.push(text_of(alloc, text)?)?;
+        table.push(text_of(alloc, text)?)?;
     }
-    Ok(list)
+    TextList::new(alloc, table)
 }
 
 /// The same without those that are empty.
-fn filled_list_of(alloc: Global, texts: &[Vec<u8>]) -> Result<Table<Table<u8>>, AllocError>
-    ensures { IfOk result (λ table. table ≡ filled (texts_in texts.now)) }
+fn filled_list_of(alloc: Global, texts: &[Vec<u8>]) -> Result<TextList, AllocError>
+    ensures { IfOk result (λ list. list ≡ filled (texts_in texts.now)) }
 {
-    let mut list = Table::new(alloc);
+    let mut table = Table::new(alloc);
     for text in texts {
         if !text.is_empty() {
-            list.push(text_of(alloc, text)?)?;
+            table.push(text_of(alloc, text)?)?;
         }
     }
-    Ok(list)
+    TextList::new(alloc, table)
 }
 
 /// Puts `name` or `iname`.

@@ -6,4 +6,4 @@ use Rattle.wq_compile.proofs.code.name.filled_list_of.Given as goal
 
 abbrev pub invariant-loop-text : goal.invariant-loop-text
 invariant-loop-text l =
-    l.list ++ filled (texts_in (drop l.text-index l.texts)) ≡ filled (texts_in l.texts)
+    l.table ++ filled (texts_in (drop l.text-index l.texts)) ≡ filled (texts_in l.texts)
