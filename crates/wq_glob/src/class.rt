@@ -34,10 +34,10 @@ pub(crate) enum ClassName {
 /// An item between the brackets of a class.
 #[derive(Clone, Copy)]
 pub(crate) enum Item {
-    /// A byte, and all bytes from it to the second.
+    /// The first byte, and all bytes from it to the last; if the last is lower, the first alone.
     Range(u8, u8),
     Named(ClassName),
-    /// A name between `[:` and `:]` that no class has.
+    /// A name between `[:` and `:]` that is the name of no class.
     Unknown,
 }
 
@@ -284,8 +284,8 @@ fn cased(set: &ByteSet, fold: bool) -> ByteSet
     if fold { in_both_cases(set) } else { *set }
 }
 
-/// The bytes of a class whose items hold the set: its case is left out first, and then the class is
-/// negated.
+/// The bytes of a class whose items hold the set. Letters of both cases are added first, if case is
+/// left out; then the class is negated.
 pub(crate) fn class_set(set: &ByteSet, negated: bool, fold: bool) -> ByteSet
     ensures { (items : List Item) → Holds set.now items → (b : ℕ) → b < 256
         → has_byte result b ≡ in_class fold record { negated = negated; items = items } b }

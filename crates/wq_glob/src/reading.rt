@@ -20,7 +20,7 @@ use crate::rules::Rules;
 use crate::step::Step;
 use std::alloc::{AllocError, Global};
 
-/// What is read of an atom: its step, or the set of its class, which has no number yet.
+/// An atom as it is read: its step, or the set of its class, which has no number yet.
 pub(crate) enum Piece {
     Plain(Step),
     Held(ByteSet),

@@ -1,5 +1,5 @@
-//! What the steps of a pattern refer to: the flags that the pattern was read with, and the sets of
-//! its classes, which are kept once beside the steps.
+//! The rules that the steps of a pattern refer to: the flags that the pattern was read with, and the
+//! sets of its classes, which are kept once beside the steps.
 ghost use Rattle.std.specs.Prelude.{◌≡◌};
 ghost use Rattle.wq_glob.specs.ByteSet.{in_set};
 

@@ -21,8 +21,8 @@ use wq_verify::Program;
 /// How many programs are kept.
 pub const MAX_KEPT: usize = 256;
 
-/// How many bytes the compact text of an expression may have, so that its program is kept. A program takes some times as
-/// many bytes, and nobody says when a client will ask for it again.
+/// How many bytes the compact text of an expression may have, so that its program is kept. A program takes up to 18 times
+/// as many bytes, so 256 of them take at most some 70 megabytes.
 pub const MAX_KEPT_TEXT: usize = 16_384;
 
 /// Programs of expressions by the number of the root and the compact text of the expression, those

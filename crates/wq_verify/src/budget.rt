@@ -36,7 +36,7 @@ fn width_of(raw: &Raw, name_len: u64) -> u64
     name_len.max(longest_len(raw.texts.as_slice()) as u64)
 }
 
-/// What a pattern can cost at each place of a text: a cell for each of its atoms, and one.
+/// The most that a pattern can cost at each place of a text: a cell for each of its atoms, and one.
 fn pattern_weight(pattern: &Pattern) -> u32
     ensures value { result ≡ pattern_weight pattern.now }
     ensures low { result ≤ 256 }
@@ -44,7 +44,7 @@ fn pattern_weight(pattern: &Pattern) -> u32
     pattern.atoms() as u32 + 1
 }
 
-/// What the patterns of a set can cost together at each place of a text.
+/// The most that the patterns of a set can cost together at each place of a text.
 fn set_weight(patterns: &[Pattern]) -> u32
     requires { length patterns.now ≤ 65536 }
     ensures { result ≡ set_weight patterns.now }
@@ -56,8 +56,8 @@ fn set_weight(patterns: &[Pattern]) -> u32
     total
 }
 
-/// What each set of a program can cost at each place of a text. So the patterns of a set are counted
-/// once, however many instructions try it.
+/// The most that each set of a program can cost at each place of a text. So the patterns of a set are
+/// counted once, however many instructions try it.
 pub(crate) fn set_weights(alloc: Global, raw: &Raw) -> Result<Vec<u32>, AllocError>
     requires { IsTrue (raw_fits raw.now) }
     ensures { IfOk result (λ weights. weights.items ≡ map set_weight raw.now.sets) }
@@ -128,9 +128,9 @@ fn cost(raw: &Raw, weights: &[u32], width: u64, op: Op) -> u64
 
 impl Program {
     /// The most that the program can cost on a name of `name_len` bytes, at most 4,096. Each
-    /// instruction counts once, whether a run meets it or not, for 1. A pattern adds a cell for
-    /// each atom and one, at each byte of the widest text and one, and each pattern of a set does
-    /// so; a list adds its entries. It takes no memory.
+    /// instruction counts once, whether a run meets it or not, for 1. A pattern adds its atoms and
+    /// one, times the bytes of the widest text and one, and so does each pattern of a set. A list
+    /// adds its entries. It takes no memory.
     #[tactic(auto, unfolding(crate::specs::Budget::budget_of))]
     pub fn budget(&self, name_len: u64) -> u64
         requires { name_len ≤ max_file_name }

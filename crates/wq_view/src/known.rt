@@ -52,7 +52,7 @@ impl<'a> Known<'a> {
             .is_some_and(|record| record.name.as_bytes().starts_with(bytes))
     }
 
-    /// The name of the record with these bytes, if it is not passed. The call passes the records below it.
+    /// The name with these bytes, as its record has it, if the record is not passed. The call passes the records below it.
     #[tactic(auto, using(crate::proofs::NameOrder::same_bytes, crate::proofs::NameOrder::same_valid))]
     fn find(&mut self, name: &[u8]) -> Option<&'a Name>
         ensures { IfSome result (λ known. (known.now ≡ name.now) × IsTrue (is_valid_name name.now)) }

@@ -1,6 +1,6 @@
 //! Bytes that several owners share: a part of a block. The names in a directory have one block, so that none of them is
 //! an allocation of its own.
-ghost use Rattle.std.specs.Prelude.{◌≡◌, ◌≤◌, IfOk, IfSome, length, slice_range};
+ghost use Rattle.std.specs.Prelude.{◌≡◌, ◌≤◌, IfOk, IfSome, IsSome, length, slice_range};
 ghost use Rattle.std.specs.Arc.{arc_slice_items};
 
 use std::alloc::{AllocError, Global};
@@ -27,7 +27,7 @@ impl Model for SharedBytes {
 }
 
 impl SharedBytes {
-    /// These bytes, in a block of their own. The call refuses 4 GiB as it refuses what memory has no room for.
+    /// These bytes, in a block of their own. Bytes of 4 GiB or more are refused as if memory were short.
     pub fn from_slice(alloc: Global, bytes: &[u8]) -> Result<SharedBytes, AllocError>
         ensures { IfOk result (λ shared. shared ≡ bytes.now) }
     {
@@ -46,8 +46,10 @@ impl SharedBytes {
         start: usize,
         end: usize,
     ) -> Result<Option<SharedBytes>, AllocError>
-        ensures { IfOk result (λ part. IfSome part (λ shared.
+        ensures part { IfOk result (λ part. IfSome part (λ shared.
             shared ≡ slice_range (arc_slice_items block.now) start end)) }
+        ensures there { start ≤ end → end ≤ length (arc_slice_items block.now) → end ≤ 4294967295
+            → IfOk result (λ part. IsSome part) }
     {
         let (Ok(start), Ok(end)) = (u32::try_from(start), u32::try_from(end)) else {
             return Ok(None);
