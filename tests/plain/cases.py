@@ -17,6 +17,9 @@ from wqprogram.terms import COMBINATIONS, RELATIONS, SINCE_FIELDS, TERMS, TYPE_L
 ATOMS = ["literal", "one", "class", "star", "directories", "rest", "nothing"]
 BOUNDS = ["no since", "fresh clock id", "tick", "tick beyond the view", "second"]
 SCOPED_TERMS = ["name", "iname", "match", "imatch"]
+TERMS_OF_LISTS = ["name", "iname", "suffix"]
+# The server compares fewer texts of a list one by one, and searches among so many.
+MANY = 17
 SUBSCRIPTION_CASES = [
     "first list", "first list of a replacement", "later list", "end of a subscription", "first list without files",
     "subscription deleted", "no subscription deleted", "idle moment that tells nothing",
@@ -59,6 +62,7 @@ def expected_cases() -> List[str]:
     cases += ["patterns that take dots", "patterns that take no dots"]
     cases += [f"left out key {key}" for key in LEFT_OUT_KEYS]
     cases += [f"term {name} {answer}" for name in [*COMBINATIONS, *TERMS] for answer in answers_of(name)]
+    cases += [f"term {name} of many texts {answer}" for name in TERMS_OF_LISTS for answer in answers_of(name)]
     cases += [f"since {field} with a {kind}" for field in SINCE_FIELDS for kind in ("fresh", "tick", "second")
               if field != "mtime" or kind == "second"]
     cases += [f"type {letter}" for letter in TYPE_LETTERS]
@@ -259,8 +263,9 @@ def terms_in(value: Any) -> Iterator[List[Any]]:
 def count_term(term: List[Any], root: int, view: View, counts: Counter) -> None:
     head = term[0]
     test = read_term(term, clocks.at_root(root))
+    form = f"{head} of many texts" if has_many_texts(term) else head
     for answer in {test(record) for record in view.records}:
-        counts[f"term {head} {'matches' if answer else 'does not match'}"] += 1
+        counts[f"term {form} {'matches' if answer else 'does not match'}"] += 1
     if head == "type":
         counts[f"type {term[1]}"] += 1
     elif head == "size":
@@ -274,6 +279,10 @@ def count_term(term: List[Any], root: int, view: View, counts: Counter) -> None:
     elif head == "since":
         field = term[2] if len(term) == 3 else "oclock"
         counts[f"since {field} with a {clocks.bound_of(term[1], clocks.at_root(root)).kind}"] += 1
+
+
+def has_many_texts(term: List[Any]) -> bool:
+    return term[0] in TERMS_OF_LISTS and isinstance(term[1], list) and sum(map(bool, term[1])) >= MANY
 
 
 def scope_of(term: List[Any]) -> str:

@@ -2,10 +2,12 @@
 
 from typing import Callable, Dict, List, NamedTuple
 
+from cases import MANY
 from draws import Draws, array, json_object, json_text
 
 MAX = 2**62
 NOT_TERMS = ["7", "null", "{}", "[]", '[["name"]]', "[7]", "true", "1.5", '[null,"exists"]']
+SUFFIXES = ["c", "C", "txt", "TXT", "php", "", "ü", "Ü", ".c", "c.c"]
 UNKNOWN_TERMS = ['"frob"', '["frob",7,null]', '"True"', '""', '["pcre","x"]', '["ipcre","x"]', '"NAME"', '"exists "']
 WRONG_TEXTS = ["7", "null", "{}", "true", '[7]', '["a",null]', '[["a"]]']
 WRONG_NUMBERS = ["1.5", "0.0", "-0", "1e3", '"1"', "null", str(MAX + 1), str(-MAX - 1), str(2**64), "[1]"]
@@ -106,7 +108,8 @@ def name_term(draws: Draws, world: World, head: str) -> str:
         wrong = [[], [draws.pick(WRONG_TEXTS)] + chosen, [long_text(draws, 4096)]]
         return array(draws, [f'"{head}"'] + draws.pick(wrong))
     is_basename = chosen != ['"wholename"']
-    texts = [json_text(draws, file_text(draws, world, is_basename)) for _ in range(draws.between(0, 3))]
+    count = draws.between(MANY, 24) if draws.one_in(8) else draws.between(0, 3)
+    texts = [json_text(draws, file_text(draws, world, is_basename)) for _ in range(count)]
     named = texts[0] if len(texts) == 1 and draws.one_in(2) else array(draws, texts)
     return array(draws, [f'"{head}"', named] + chosen)
 
@@ -121,12 +124,13 @@ def suffix_term(draws: Draws, world: World, head: str) -> str:
     if draws.one_in(20):
         wrong = [[], [draws.pick(WRONG_TEXTS)], ['"c"', '"c"'], [long_text(draws, 4096)]]
         return array(draws, ['"suffix"'] + draws.pick(wrong))
+    if draws.one_in(8):
+        return array(draws, ['"suffix"', array(draws, [json_text(draws, draws.pick(SUFFIXES)) for _ in range(30)])])
     return array(draws, ['"suffix"', some_suffixes(draws)])
 
 
 def some_suffixes(draws: Draws) -> str:
-    suffixes = ["c", "C", "txt", "TXT", "php", "", "ü", "Ü", ".c", "c.c"]
-    texts = [json_text(draws, text) for text in draws.some(suffixes, 3)]
+    texts = [json_text(draws, text) for text in draws.some(SUFFIXES, 3)]
     return texts[0] if len(texts) == 1 and draws.one_in(2) else array(draws, texts)
 
 
