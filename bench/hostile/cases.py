@@ -12,7 +12,11 @@ NAMES = {"fields": ["name"]}
 ATOMS = 255
 # Nearly as many patterns as the program of one expression holds, and as many as a program of a client's own does.
 PATTERNS = 1_000
-MATCHES = 1_364
+# A file of version 1 has room for so many matches, and one of version 2 for more.
+MATCHES = 1_365
+MORE_MATCHES = 20_000
+# A pattern that is looked for at each place of a name.
+MARKS = "*" + "?" * (ATOMS - 1)
 PROGRAMS = 256
 CURSORS = 256
 TEXTS = 256
@@ -65,12 +69,19 @@ def stars(root: str, count: int) -> bytes:
     return query(root, expression=["anyof", *terms])
 
 
+def marks(root: str, count: int) -> bytes:
+    return query(root, expression=["anyof", *[["match", MARKS]] * count])
+
+
+def matching(name: str, pattern: str, count: int) -> str:
+    """A program that looks so many times whether a name fits a pattern."""
+    code = [Operation(BY_NAME[word], 0, 0) for word in [name, "match", "drop"] * (count - 1) + [name, "match", "ret"]]
+    return base64.b64encode(written(Program([], [], [], [(0, pattern.encode())], [], code))).decode()
+
+
 def dear_program() -> str:
-    """About the dearest program that the verifier accepts."""
-    code = [Operation(BY_NAME["basename"], 0, 0), Operation(BY_NAME["match"], 0, 0), Operation(BY_NAME["drop"], 0, 0)] * MATCHES
-    code += [Operation(BY_NAME["basename"], 0, 0), Operation(BY_NAME["match"], 0, 0), Operation(BY_NAME["ret"], 0, 0)]
-    program = Program([], [], [], [(0, b"?" * ATOMS)], [], code)
-    return base64.b64encode(written(program)).decode()
+    """The program of version 1 with the greatest budget, or about it. A star makes a pattern take longer."""
+    return matching("basename", "?" * ATOMS, MATCHES)
 
 
 def large_program() -> str:
@@ -121,10 +132,13 @@ def cases(root: str, roots: List[str], paths: int) -> Dict[str, Callable[[], Cas
         "a name list of 262,000 entries": lambda: Case([filled(f'["query","{root}",{{"expression":["name",[', '"a",', "]]}]")]),
         "1,000 patterns of 255 atoms": lambda: Case([patterns(root, PATTERNS)]),
         "1,000 patterns of 127 stars": lambda: Case([stars(root, PATTERNS)]),
+        "1,000 patterns of a star and 254 marks": lambda: Case([marks(root, PATTERNS)]),
         f"{paths:,} empty paths": lambda: Case([query(root, path=[""] * paths, expression="false")]),
         "262,000 suffixes": lambda: Case([filled(f'["query","{root}",{{"sync_timeout":0,"suffix":[', '"a",', "]}]")]),
-        "the dearest program": lambda: Case([query(root, program="p")], before=[line("program-add", "p", dear_program())]),
-        "256 of the dearest program": lambda: Case(added(dear_program())),
+        "a program of 1,365 patterns": lambda: Case([query(root, program="p")], before=[line("program-add", "p", dear_program())]),
+        "20,000 matches of a star and 254 marks": lambda: Case(
+            [query(root, program="p")], before=[line("program-add", "p", matching("wholename", MARKS, MORE_MATCHES))]),
+        "256 programs of 1,365 patterns": lambda: Case(added(dear_program())),
         "256 programs of a mebibyte": lambda: Case(added(large_program())),
         "256 queries of a mebibyte": lambda: Case(long_queries(root)),
         "256 expressions of a mebibyte": lambda: Case(long_expressions(root)),

@@ -19,6 +19,8 @@ WRITES_AT_ONCE, WRITE_PAUSE = 20, 0.01
 IDLE = 10.0
 TOLD = 6
 DEPTH = 24
+# So many names a build tool asks for in one term.
+LISTED = 1_000
 
 
 class Measure(NamedTuple):
@@ -120,11 +122,13 @@ class Run:
         none = ["anyof", ["dirname", self.tree.directories[1]], ["imatch", "main*"], ["name", ["Makefile", "f1.c"]]]
         digits = ["match", "**/*[0-9]_[0-9]*7?.?", "wholename"]
         heavy = ["allof", ["type", "f"], some, ["not", none], ["size", "gt", 32], digits]
+        listed = ["name", self.tree.files[::max(1, len(self.tree.files) // LISTED)][:LISTED], "wholename"]
         for name, query in (
             ("names", {"fields": ["name"]}),
             ("four fields", {"fields": ["name", "exists", "new", "size"]}),
             ("suffix", {"suffix": ["md"], "fields": ["name"]}),
             ("heavy expression", {"expression": heavy, "fields": ["name"]}),
+            (f"{LISTED:,} whole names", {"expression": listed, "fields": ["name"]}),
         ):
             self.each(lambda peer: self.median(name, peer, query, 1))
         # A directory's own entries, with an eighth of the tree below it.
