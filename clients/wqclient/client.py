@@ -1,8 +1,8 @@
 """A client of a server, which sends commands and is answered values."""
 
 import json
-from typing import Deque, Dict, Optional
 from collections import deque
+from typing import Deque, Dict, Optional
 
 from .lines import Lines
 
@@ -43,6 +43,10 @@ class Client(Lines):
     def next_list(self) -> Value:
         """The next list of a subscription."""
         return self.lists.popleft() if self.lists else self.value()
+
+    def take_lists(self) -> None:
+        """Keeps the lists whose lines have come. Nothing else comes by itself."""
+        self.lists.extend(json.loads(line) for line in self.lines_there())
 
     def ask(self, *command: object) -> Value:
         """The reply to a command, which may be an error."""
