@@ -21,6 +21,7 @@ MODULES: Dict[str, str] = {
 
 def main(words: List[str], directory: str) -> int:
     """Runs a command; `directory` is that of the command wq, without links."""
+    speak_utf8()
     if sys.stdout is None:
         say("there is no standard output")
         return FAILED
@@ -43,6 +44,12 @@ def main(words: List[str], directory: str) -> int:
     except OSError as error:
         say(f"{error.filename or 'output'}: {error.strerror or error}", "red")
         return FAILED
+
+
+def speak_utf8() -> None:
+    """Names of files are UTF-8 to the server, whatever the locale is. Python has one encoding for a whole run."""
+    if sys.getfilesystemencoding() != "utf-8":
+        os.execv(sys.executable, [sys.executable, "-X", "utf8", *sys.argv])
 
 
 def run(words: List[str], home: Home) -> int:

@@ -5,10 +5,11 @@ import sys
 import time
 from typing import Any, Dict, Iterator, List, Optional
 
+from wqclient.kept import BUDGETS, kept, run_of
+
 from .home import Home
-from .processes import Facts, facts_of, start_of
+from .processes import Facts, facts_of
 from .server import Server, reached
-from .state import kept
 from .terminal import painted, show
 from .trouble import FOUND
 from .values_shown import json_shown
@@ -16,7 +17,6 @@ from .values_shown import json_shown
 # How far back the last change is looked for, in seconds.
 AGES = (1, 10, 60, 600, 3_600, 21_600, 86_400, 604_800)
 MEBIBYTE = 1024 * 1024
-BUDGETS = "budgets"
 
 
 def status(options: argparse.Namespace, home: Home) -> int:
@@ -85,8 +85,7 @@ def changed_within(server: Server, root: str) -> Optional[int]:
 
 def budget_of(server: Server, name: str) -> Optional[int]:
     """What a run of a stored program can cost at most, if `wqasm add` stored it: the server gives no program back."""
-    found = kept(BUDGETS, server.sockname, str(server.peer.process), start_of(server.peer.process), name)
-    budget = (found or {}).get("budget")
+    budget = kept(BUDGETS, server.sockname, run_of(server.peer.process), name).get("budget")
     return budget if isinstance(budget, int) else None
 
 

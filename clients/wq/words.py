@@ -78,7 +78,7 @@ NUMBERS = [
     value("--share", metavar="P", help="how much of one processor rounds may take at most, in percent; 10 if left out"),
     value("--workers", metavar="N", help="how many threads a query may use"),
 ]
-WORDS = value("words", metavar="WORD", nargs="*", help=argparse.SUPPRESS)
+WORDS = value("words", metavar="WORD", nargs="*", default=[], help=argparse.SUPPRESS)
 DIRECTORY = value("directory", metavar="DIR", nargs="?", default=".", help="a directory of the root")
 
 
@@ -121,7 +121,7 @@ FORMS: Dict[str, Form] = {
                         *NARROWING, flag("--stdin", help="the names are lines on its standard input"),
                         value("directory", metavar="DIR", help=argparse.SUPPRESS),
                         value("name", metavar="NAME", help=argparse.SUPPRESS),
-                        value("globs", metavar="GLOB", nargs="*", help=argparse.SUPPRESS)]),
+                        value("globs", metavar="GLOB", nargs="*", default=[], help=argparse.SUPPRESS)]),
     "triggers": Form("[DIR]", "prints the triggers of a root", [JSON, DIRECTORY]),
     "untrigger": Form("DIR NAME", "takes a trigger out", [
         value("directory", metavar="DIR", help=argparse.SUPPRESS), value("name", metavar="NAME", help=argparse.SUPPRESS)]),
@@ -155,12 +155,24 @@ def read(command: str, words: List[str]) -> argparse.Namespace:
     if "--" in words:
         place = words.index("--")
         words, rest = words[:place], words[place + 1:]
+    words = with_joined_sizes(words)
     parser = parser_of(command)
     if command in NEEDS_DASHES:
         found = read_any_order(parser, command, words)
         found.command = rest
         return found
     return read_any_order(parser, command, words, rest)
+
+
+def with_joined_sizes(words: List[str]) -> List[str]:
+    """A size may begin with a dash, and argparse takes that for an option unless it is joined to its own."""
+    found: List[str] = []
+    for word in words:
+        if found and found[-1] == "--size" and word.startswith("-"):
+            found[-1] = f"--size={word}"
+        else:
+            found.append(word)
+    return found
 
 
 def read_any_order(parser: Parser, command: str, words: List[str], rest: Any = ()) -> argparse.Namespace:
