@@ -1,6 +1,7 @@
 """`wq status`: the server's process, its roots, triggers and programs."""
 
 import argparse
+import shlex
 import sys
 import time
 from typing import Any, Dict, Iterator, List, Optional
@@ -125,7 +126,7 @@ def root_lines(root: Dict[str, Any]) -> Iterator[str]:
     yield row("", f"{files} and {directories}, tick {root['tick']}, a crawl takes {root['crawl_seconds']:.3f} s, "
                   f"last change {changed}")
     for trigger in root["triggers"]:
-        yield row("", f"trigger {trigger['name']}: {' '.join(trigger['command'])}")
+        yield row("", f"trigger {trigger['name']}: {shlex.join(trigger['command'])}")
 
 
 def row(head: str, text: str, colour: Optional[str] = None) -> str:

@@ -114,7 +114,8 @@ def of_type(arguments: List[Any]) -> str:
     if len(arguments) != 1:
         return counted(arguments)
     letter = arguments[0]
-    hint = meant(letter[:1].lower(), TYPE_LETTERS) if isinstance(letter, str) and letter else ""
+    short = letter[:1].lower() if isinstance(letter, str) else ""
+    hint = f"; did you mean {quoted(short)}?" if short in TYPE_LETTERS else ""
     return f"{quoted(letter)} is none of these letters{hint}"
 
 
