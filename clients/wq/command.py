@@ -64,7 +64,8 @@ def run(words: List[str], home: Home) -> int:
         print(home.version().replace("wqd ", "wq ", 1) or "wq", flush=True)
         return FOUND
     if command not in FORMS:
-        raise WrongWords(f"there is no command {command}{meant(command, FORMS).replace(chr(34), '')}; `wq --help` says which there are")
+        hint = meant(command, FORMS).replace('"', "")
+        raise WrongWords(f"there is no command {command}{hint}; `wq --help` says which there are")
     return function_of(command)(read(command, words[1:]), home)
 
 

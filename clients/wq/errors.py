@@ -50,7 +50,8 @@ def long_line(command: Any, look: Look) -> Iterator[str]:
 
 
 def no_command(command: Any, look: Look) -> Iterator[str]:
-    yield f"a line is a list that begins with the name of a command, such as [\"watch-list\"], and this is {kind_of(command)}"
+    shape = "a line is a list that begins with the name of a command, such as [\"watch-list\"]"
+    yield f"{shape}, and this is {kind_of(command)}"
 
 
 def unknown_command(command: Any, look: Look) -> Iterator[str]:
@@ -65,8 +66,8 @@ def wrong_arguments(command: Any, look: Look) -> Iterator[str]:
     takes = " or ".join(str(count) for count in counts)
     if len(arguments) not in range(shape.fewest, len(shape.kinds) + 1):
         noun = "argument" if counts == [1] else "arguments"
-        yield f"\"{name}\" takes {takes} {noun} ({', '.join(shape.kinds) or 'none'}), and there are {len(arguments)}: " \
-              f"{shape.example}"
+        kinds = ", ".join(shape.kinds) or "none"
+        yield f"\"{name}\" takes {takes} {noun} ({kinds}), and there are {len(arguments)}: {shape.example}"
         return
     for number, (kind, value) in enumerate(zip(shape.kinds, arguments), 1):
         wanted = dict if kind == "object" else str
@@ -118,8 +119,9 @@ def not_watched(command: Any, look: Look) -> Iterator[str]:
 
 def no_program(command: Any, look: Look) -> Iterator[str]:
     name, names = object_of(command).get("program"), look("program-list").get("programs", [])
-    kept = f"; there are {', '.join(map(quoted, names))}" if names else "; none is stored, and `wqasm add NAME FILE` stores one"
-    yield f"no program is stored as {quoted(name)}{meant(name, names) or kept}"
+    none = "; none is stored, and `wqasm add NAME FILE` stores one"
+    others = f"; there are {', '.join(map(quoted, names))}" if names else none
+    yield f"no program is stored as {quoted(name)}{meant(name, names) or others}"
 
 
 def bad_name(command: Any, look: Look) -> Iterator[str]:

@@ -68,8 +68,8 @@ def why_all(name: str, before: Optional[str], now: str, place: Place) -> str:
     _, start, process, root, _ = before.split(":")
     _, other_start, other_process, other_root, _ = now.split(":")
     if (start, process) != (other_start, other_process):
-        return f"the server was restarted since: it is of {time_of(other_start)}, and {name} was last asked of the one " \
-               f"of {time_of(start)}"
+        last = f"{name} was last asked of the one of {time_of(start)}"
+        return f"the server was restarted since: it is of {time_of(other_start)}, and {last}"
     if root != other_root:
         return f"{place.root} was unwatched since, and is watched anew"
     return f"the server no longer knows {name}"

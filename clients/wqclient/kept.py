@@ -41,7 +41,8 @@ def keep(value: Dict[str, Any], kind: str, *parts: str) -> None:
 
 
 def run_of(process: int) -> str:
-    """What tells a process from another one that had its number: its number, and when it started, in ticks of the system."""
+    """What tells a process from another one that had its number: its number, and when it started, in ticks of the
+    system."""
     try:
         with open(f"/proc/{process}/stat", encoding="utf-8", errors="replace") as stream:
             return f"{process}:{stream.read().rsplit(')', 1)[1].split()[19]}"

@@ -17,12 +17,15 @@ def errors_of(root: str) -> List[Tuple[str, str, str]]:
     """Lines, the errors that they are answered, and the lines that name the culprit. `@` is the root."""
     query = '["query","@",{}]'.replace("{}", "{%s}")
     lines: List[Tuple[str, str, str]] = [
-        ("[", "E2: not JSON", "the line, column 2: Expecting value; a text has double quotes, and the shell takes them away: put "
+        ("[", "E2: not JSON",
+         "the line, column 2: Expecting value; a text has double quotes, and the shell takes them away: put "
                               "single quotes around the whole"),
         ('["watch" "x"]', "E2: not JSON", "the line, column 10: Expecting ',' delimiter"),
-        ('["watch","\\ud800"]', "E2: not JSON", "the line: half a surrogate pair is no letter, and bytes that are not UTF-8 are none "
+        ('["watch","\\ud800"]', "E2: not JSON",
+         "the line: half a surrogate pair is no letter, and bytes that are not UTF-8 are none "
                                                "either"),
-        ("7", "E3: not a command array", 'a line is a list that begins with the name of a command, such as ["watch-list"], and this '
+        ("7", "E3: not a command array",
+         'a line is a list that begins with the name of a command, such as ["watch-list"], and this '
                                          "is the number 7"),
         ('["qurey","@"]', "E4: unknown command", '"qurey" is no command; did you mean "query"?'),
         ('["query","@"]', "E5: wrong arguments", '"query" takes 2 arguments (root, object), and there are 1: '
@@ -31,14 +34,18 @@ def errors_of(root: str) -> List[Tuple[str, str, str]]:
                                                '["watch","/home/me/src"]'),
         ('["query","@",null]', "E5: wrong arguments", 'argument 2 of "query" is the object, an object, and not null: '
                                                       '["query","/home/me/src",{"suffix":"c"}]'),
-        ('["watch-list",{}]', "E5: wrong arguments", '"watch-list" takes 0 arguments (none), and there are 1: ["watch-list"]'),
-        ('["watch","src"]', "E10: root is not absolute", f'"src" does not begin with a slash; from here it would be "{root}/src"'),
+        ('["watch-list",{}]', "E5: wrong arguments",
+         '"watch-list" takes 0 arguments (none), and there are 1: ["watch-list"]'),
+        ('["watch","src"]', "E10: root is not absolute",
+         f'"src" does not begin with a slash; from here it would be "{root}/src"'),
         ('["watch",""]', "E10: root is not absolute", '"" does not begin with a slash'),
         ('["watch","/a\\u0000"]', "E10: root is not absolute", '"/a\\u0000" has a byte 0, which no path has'),
-        (f'["watch","/{"b" * 4096}"]', "E10: root is not absolute", "the path has 4,097 bytes, and at most 4,096 may be"),
+        (f'["watch","/{"b" * 4096}"]', "E10: root is not absolute",
+         "the path has 4,097 bytes, and at most 4,096 may be"),
         ('["watch","@/not"]', "E11: root cannot be read", f"{root}/not: No such file or directory"),
         ('["watch","@/Makefile"]', "E11: root cannot be read", f"{root}/Makefile: Not a directory"),
-        ('["clock","@x"]', "E14: root is not watched", f'"{root}x" is not watched; did you mean "{root}"?. ["watch","{root}x"] '
+        ('["clock","@x"]', "E14: root is not watched",
+         f'"{root}x" is not watched; did you mean "{root}"?. ["watch","{root}x"] '
                                                        "watches it"),
     ]
     lines += [(query % keys, error, culprit) for keys, error, culprit in OF_QUERIES]
@@ -83,7 +90,8 @@ OF_QUERIES = [
     ('"sync_timeout":"0"', "E37: wrong query value",
      '"sync_timeout" is a whole number of milliseconds without quotes, and not "0"'),
     ('"empty_on_fresh_instance":1', "E37: wrong query value", '"empty_on_fresh_instance" is true or false, and not 1'),
-    ('"glob_includedotfiles":"yes"', "E37: wrong query value", '"glob_includedotfiles" is true or false, and not "yes"'),
+    ('"glob_includedotfiles":"yes"', "E37: wrong query value",
+     '"glob_includedotfiles" is true or false, and not "yes"'),
     ('"program":7', "E37: wrong query value", '"program" is the name of a stored program, and not the number 7'),
 ]
 RELATION = '"size" takes a relation (eq ne gt ge lt le) and a whole number, such as ["size","gt",1048576]'
@@ -92,16 +100,20 @@ MATCH = '"match" takes a pattern, "basename" or "wholename", and flags, such as 
         '["match","*.c","basename",{"includedotfiles":true}]'
 OF_TERMS = [
     ('["allof",["sufix","c"]]', "E24: unknown term", 'at expression[1]: "sufix" is no term; did you mean "suffix"?'),
-    ('["not",["anyof","true",["True"]]]', "E24: unknown term", 'at expression[1][2]: "True" is no term; did you mean "true"?'),
-    ('["pcre","x"]', "E24: unknown term", 'at expression: the term "pcre" of Watchman is not built; take "match" with a glob'),
+    ('["not",["anyof","true",["True"]]]', "E24: unknown term",
+     'at expression[1][2]: "True" is no term; did you mean "true"?'),
+    ('["pcre","x"]', "E24: unknown term",
+     'at expression: the term "pcre" of Watchman is not built; take "match" with a glob'),
     ('"zzz"', "E24: unknown term", 'at expression: "zzz" is no term; wq explain --terms lists them'),
     ("7", "E25: wrong term arguments",
      'at expression: a term is a list that begins with its name, such as ["suffix","c"], and this is 7'),
     ('["allof",["type"]]', "E25: wrong term arguments", f"at expression[1]: {TYPE}; there are none"),
-    ('["type","F"]', "E25: wrong term arguments", f'at expression: {TYPE}; "F" is none of these letters; did you mean "f"?'),
+    ('["type","F"]', "E25: wrong term arguments",
+     f'at expression: {TYPE}; "F" is none of these letters; did you mean "f"?'),
     ('["size","gt","1M"]', "E25: wrong term arguments",
      f'at expression: {RELATION}; "1M" is a text, and a number has no quotes and no unit'),
-    ('["size","gte",1]', "E25: wrong term arguments", f'at expression: {RELATION}; "gte" is no relation; did you mean "gt"?'),
+    ('["size","gte",1]', "E25: wrong term arguments",
+     f'at expression: {RELATION}; "gte" is no relation; did you mean "gt"?'),
     ('["suffix","c","h"]', "E25: wrong term arguments",
      'at expression: "suffix" takes a text or a list of texts, such as ["suffix",["c","h"]]; several suffixes are one list: '
      '["c", "h"]'),
@@ -114,7 +126,8 @@ OF_TERMS = [
      'at expression: "dirname" takes a directory, and a depth if you like, such as ["dirname","src",["depth","eq",0]]; the depth '
      'is ["depth",RELATION,N], and this is 1'),
     ('["exists",1]', "E25: wrong term arguments", 'at expression: "exists" takes nothing; there is 1: [1]'),
-    ('"not"', "E25: wrong term arguments", 'at expression: "not" takes one term, such as ["not","exists"], and there are none'),
+    ('"not"', "E25: wrong term arguments",
+     'at expression: "not" takes one term, such as ["not","exists"], and there are none'),
     ('["since",1,"ctime"]', "E25: wrong term arguments",
      'at expression: "since" takes a clock spec, and "oclock", "cclock" or "mtime", such as ["since",1700000000,"mtime"]; "ctime" '
      'is no field of it; did you mean "mtime"?'),
@@ -143,27 +156,30 @@ OF_TRIGGERS = [
      '"command" is a list of texts, such as ["make","-s"], and not a text: "make"'),
     ('"name":"t","command":["cc"],"stdin":"lines"', "E43: bad trigger",
      '"stdin" is "/dev/null", "NAME_PER_LINE" or a list of fields, and not "lines"'),
-    ('"name":"t","command":["cc"],"stdin":["nam"]', "E43: bad trigger", 'at stdin[0]: "nam" is no field; did you mean "name"?'),
+    ('"name":"t","command":["cc"],"stdin":["nam"]', "E43: bad trigger",
+     'at stdin[0]: "nam" is no field; did you mean "name"?'),
     ('"name":"t","command":["cc"],"chdir":"src"', "E43: bad trigger",
      'the key "chdir" is not built; the command can do that: ["sh","-c","cd src && make > log"]'),
     ('"name":"t","command":["cc"],"expression":["sufix"]', "E24: unknown term",
      'at expression: "sufix" is no term; did you mean "suffix"?'),
 ]
+NOTHING = "can match nothing:"
+SLASH = "it has a slash, and the last part of a name has none; add \"wholename\""
+BELOW = "names begin below the root, without a slash"
 WARNINGS = [
     ('{"expresion":"true"}', 'nobody knows the key "expresion", and it was ignored; did you mean "expression"?'),
-    ('{"suffix":".c"}', 'at suffix: ".c" can match nothing: a suffix has no dot: "c"'),
-    ('{"expression":["suffix","tar.gz"]}', 'at expression: "tar.gz" can match nothing: the suffix is what follows the last dot; the '
-                                           'pattern "*.tar.gz" finds such names'),
-    ('{"expression":["not",["dirname","/src"]]}', 'at expression[1]: "/src" can match nothing: names begin below the root, without a '
-                                                  "slash"),
-    ('{"glob":["./*.c"]}', 'at glob[0]: "./*.c" can match nothing: no name begins with "./": "*.c"'),
-    ('{"expression":["match","src/*.c"]}', 'at expression: "src/*.c" can match nothing: it has a slash, and the last part of a name has '
-                                           'none; add "wholename"'),
-    ('{"expression":["match","[a"]}', 'at expression: "[a" can match nothing: a class in it has no end or an unknown name, or a '
-                                      "backslash ends it"),
-    ('{"path":["/src"]}', 'at path[0]: "/src" can match nothing: names begin below the root, without a slash'),
-    ('{"expression":["name","src/a.c"]}', 'at expression: "src/a.c" can match nothing: it has a slash, and the last part of a name has '
-                                          'none; add "wholename"'),
+    ('{"suffix":".c"}', f'at suffix: ".c" {NOTHING} a suffix has no dot: "c"'),
+    ('{"expression":["suffix","tar.gz"]}',
+     f'at expression: "tar.gz" {NOTHING} the suffix is what follows the last dot; the pattern "*.tar.gz" finds such names'),
+    ('{"expression":["not",["dirname","/src"]]}', f'at expression[1]: "/src" {NOTHING} {BELOW}'),
+    ('{"glob":["./*.c"]}', f'at glob[0]: "./*.c" {NOTHING} no name begins with "./": "*.c"'),
+    ('{"glob":["src/"]}', f'at glob[0]: "src/" {NOTHING} no name ends in a slash; "src/**" is what lies below it'),
+    ('{"expression":["match","src/*.c"]}', f'at expression: "src/*.c" {NOTHING} {SLASH}'),
+    ('{"expression":["match","[a"]}',
+     f'at expression: "[a" {NOTHING} a class in it has no end or an unknown name, or a backslash ends it'),
+    ('{"path":["/src"]}', f'at path[0]: "/src" {NOTHING} {BELOW}'),
+    ('{"path":[{"path":"./src","depth":0}]}', f'at path[0]: "./src" {NOTHING} no name begins with "./": "src"'),
+    ('{"expression":["name","src/a.c"]}', f'at expression: "src/a.c" {NOTHING} {SLASH}'),
 ]
 
 
@@ -230,12 +246,14 @@ def check_explain(tally: built.Tally, room: Path) -> None:
         explained = subprocess.run([tool, "explain", str(file)], stdout=subprocess.PIPE).stdout.decode().splitlines()
         same(tally, "its program", lines[9:], explained)
         for words, sentence in (
-            ("exists", "it exists, so was not deleted"), ('"true"', "whatever the file is"), ('["anyof"]', "never, since none of no terms "
-                                                                                                          "is so"),
+            ("exists", "it exists, so was not deleted"),
+            ('"true"', "whatever the file is"),
+            ('["anyof"]', "never, since none of no terms is so"),
             ('["imatch","*.C","wholename",{"includedotfiles":true}]',
              'its whole name fits the pattern "*.C", leading dots too, A to Z as a to z'),
-            ('["name","a"]', 'the last part of its name is "a"'), ('["type","d"]', "it is a directory"), ('["empty"]', "it exists, is a "
-                                                                                            "file or a directory, and has size 0"),
+            ('["name","a"]', 'the last part of its name is "a"'),
+            ('["type","d"]', "it is a directory"),
+            ('["empty"]', "it exists, is a file or a directory, and has size 0"),
         ):
             same(tally, f"explain {words}", scene.names("explain", words)[1], f"  {sentence}")
         same(tally, "explain -", scene.call(["explain", "-"], b'["type","f"]').output.splitlines()[1], b"  it is a regular file")

@@ -1,4 +1,5 @@
-"""A server and a tree that calls of wq ask about: each scene has a directory, a default socket and a home of its own."""
+"""A server and a tree that calls of wq ask about: each scene has a directory, a default socket and a home of its
+own."""
 
 import contextlib
 import os
@@ -57,8 +58,8 @@ class Scene:
     def call(self, words: List[object], enters: bytes = b"", **environment: str) -> built.Ended:
         """A call in the tree, with a standard input."""
         ended = subprocess.run(
-            [COMMAND, *(os.fspath(word) if isinstance(word, Path) else word for word in words)], input=enters, cwd=self.tree,
-            stdout=subprocess.PIPE, stderr=subprocess.PIPE, env={**self.environment, **environment}, timeout=PATIENCE,
+            [COMMAND, *words], input=enters, cwd=self.tree, stdout=subprocess.PIPE, stderr=subprocess.PIPE,
+            env={**self.environment, **environment}, timeout=PATIENCE,
         )
         return built.Ended(ended.stdout, ended.stderr, ended.returncode)
 
@@ -85,8 +86,9 @@ class Going:
     def __init__(self, scene: Scene, words: List[str], output: Optional[int] = None, **environment: str) -> None:
         self.output, self.errors = b"", b""
         self.process = subprocess.Popen(
-            [COMMAND, *words], cwd=scene.tree, stdin=subprocess.DEVNULL, stdout=subprocess.PIPE if output is None else output,
-            stderr=subprocess.PIPE, env={**scene.environment, **environment}, preexec_fn=hear_interrupts, start_new_session=True,
+            [COMMAND, *words], cwd=scene.tree, stdin=subprocess.DEVNULL, stderr=subprocess.PIPE,
+            stdout=subprocess.PIPE if output is None else output, env={**scene.environment, **environment},
+            preexec_fn=hear_interrupts, start_new_session=True,
         )
 
     def __enter__(self) -> "Going":
