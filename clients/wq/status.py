@@ -18,6 +18,8 @@ from .values_shown import json_shown
 # How far back the last change is looked for, in seconds.
 AGES = (1, 10, 60, 600, 3_600, 21_600, 86_400, 604_800)
 MEBIBYTE = 1024 * 1024
+# How the system names a program whose file is gone, as after an upgrade.
+REPLACED = " (deleted)"
 
 
 def status(options: argparse.Namespace, home: Home) -> int:
@@ -97,6 +99,8 @@ def lines_of(found: Dict[str, Any]) -> Iterator[str]:
     yield row("socket", found["socket"])
     if "program" in found:
         yield row("process", f"{found['process']}, {found['program']}")
+        if found["program"].endswith(REPLACED):
+            yield row("", "the program was replaced since it started; `wq restart` starts the new one", "yellow")
         started = time.strftime("%Y-%m-%d %H:%M:%S", time.localtime(found["started"]))
         yield row("since", f"{started}, {duration(time.time() - found['started'])}")
         yield row("memory", f"{found['memory'] / MEBIBYTE:.1f} MiB")

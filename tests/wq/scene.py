@@ -9,7 +9,7 @@ import signal
 import subprocess
 import time
 from pathlib import Path
-from typing import Callable, Dict, List, Optional
+from typing import Callable, Dict, List, NamedTuple, Optional
 
 import built
 from client import PATIENCE, Client, same
@@ -146,25 +146,42 @@ def hear_interrupts() -> None:
     signal.signal(signal.SIGINT, signal.SIG_DFL)
 
 
+class AtTerminal(NamedTuple):
+    """What a call wrote to a terminal, both of its streams, and the status with which it ended."""
+
+    text: str
+    status: int
+
+
 def at_terminal(scene: Scene, *words: str, **environment: str) -> str:
-    """What a call writes to a terminal, both of its streams."""
-    number, status = pty.fork()
+    return called_at_terminal(scene, list(words), environment).text
+
+
+def called_at_terminal(
+    scene: Scene, words: List[str], environment: Optional[Dict[str, str]] = None, keys: bytes = b"", after: str = "",
+) -> AtTerminal:
+    """A call at a terminal. Keys are pressed when it has written a text."""
+    number, terminal = pty.fork()
     if number == 0:
         os.chdir(scene.tree)
-        os.execve(COMMAND, [COMMAND, *words], {**scene.environment, **environment})
+        os.execve(COMMAND, [COMMAND, *words], {**scene.environment, **(environment or {})})
     found = b""
     end = time.monotonic() + PATIENCE
     while time.monotonic() < end:
         try:
-            piece = os.read(status, 65_536)
+            piece = os.read(terminal, 65_536)
         except OSError:
             break
         if not piece:
             break
         found += piece
-    os.close(status)
-    os.waitpid(number, 0)
-    return found.decode("utf-8", "backslashreplace").replace("\r\n", "\n")
+        if keys and after.encode() in found:
+            os.write(terminal, keys)
+            keys = b""
+    os.close(terminal)
+    status = os.waitpid(number, 0)[1]
+    code = os.WEXITSTATUS(status) if os.WIFEXITED(status) else -os.WTERMSIG(status)
+    return AtTerminal(found.decode("utf-8", "backslashreplace").replace("\r\n", "\n"), code)
 
 
 

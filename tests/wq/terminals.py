@@ -9,7 +9,7 @@ from pathlib import Path
 
 import built
 from client import same
-from scene import Scene, at_terminal, said, wrong
+from scene import Scene, at_terminal, called_at_terminal, said, wrong
 from wq.words import FORMS, USAGE, options_of
 
 SLOW = 2.3
@@ -43,8 +43,20 @@ def check_terminal(tally: built.Tally, room: Path) -> None:
         same(tally, "a run at a terminal", ran, "\x1b[H\x1b[2J\x1b[3Jdone\n\x1b[32mwq: echo ended with status 0\x1b[0m\n")
         same(tally, "a run that fails", at_terminal(scene, "run", "--once", "--", "false"),
              "\x1b[31mwq: false ended with status 1\x1b[0m\n")
+        check_keys(tally, scene)
         same(tally, "status at a terminal", "\x1b[36msocket    \x1b[0m" in at_terminal(scene, "status"), True)
         same(tally, "status --json at a terminal", json.loads(at_terminal(scene, "status", "--json"))["protocol"], "wq-1")
+
+
+def check_keys(tally: built.Tally, scene: Scene) -> None:
+    """Ctrl-C at a terminal ends a command and what it runs; a command that runs may read the terminal."""
+    script = "echo ready; sleep 1000"
+    for option in ("--once", "--restart"):
+        ended = called_at_terminal(scene, ["run", option, "--", "sh", "-c", script], keys=b"\x03", after="ready")
+        same(tally, f"Ctrl-C at run {option}", (ended.status, "Traceback" in ended.text), (130, False))
+    ended = called_at_terminal(scene, ["run", "--once", "--", "sh", "-c", "echo ready; read a; echo got $a"], keys=b"key\n",
+                               after="ready")
+    same(tally, "a command that reads the terminal", (ended.status, "got key\n" in ended.text), (0, True))
 
 
 def check_words(tally: built.Tally, room: Path) -> None:
