@@ -21,7 +21,7 @@ def culprits(error: str, command: Any, look: Look) -> List[str]:
     sentences = OF_ERRORS.get(int(found[1])) if found else None
     # A value of a kind that nobody foresaw makes no second error of the first.
     try:
-        return [] if sentences is None else list(sentences(command, look))[:3]
+        return [] if sentences is None else list(sentences(command, look))
     except (KeyError, IndexError, TypeError, AttributeError):
         return []
 
@@ -74,6 +74,7 @@ def wrong_arguments(command: Any, look: Look) -> Iterator[str]:
         if not isinstance(value, wanted):
             word = "an object" if kind == "object" else "a text"
             yield f"argument {number} of \"{name}\" is the {kind}, {word}, and not {kind_of(value)}: {shape.example}"
+            return
 
 
 # Roots.
@@ -106,7 +107,8 @@ def many_files(command: Any, look: Look) -> Iterator[str]:
 
 def many_roots(command: Any, look: Look) -> Iterator[str]:
     roots = look("watch-list").get("roots", [])
-    yield f"{len(roots)} roots are watched, and more may not be; `wq unwatch DIR` gives one back: {', '.join(roots)}"
+    yield f"{len(roots)} roots are watched, and more may not be; `wq unwatch DIR` gives the place of one back:"
+    yield from (f"  {root}" for root in roots)
 
 
 def not_watched(command: Any, look: Look) -> Iterator[str]:

@@ -142,9 +142,10 @@ def check_watches(tally: built.Tally, room: Path) -> None:
         for name in names:
             os.mkdir(name)
         same(tally, "sixteen roots", scene.names("watch", *names[:16]), names[:16])
-        words = f"16 roots are watched, and more may not be; `wq unwatch DIR` gives one back: {', '.join(names[:16])}"
-        wrong(tally, scene, ["watch", names[16]], "E13: too many roots", words, status=3)
-        wrong(tally, scene, ["find", names[16]], "E13: too many roots", words, status=3)
+        words = ["16 roots are watched, and more may not be; `wq unwatch DIR` gives the place of one back:"]
+        words += [f"  {name}" for name in names[:16]]
+        wrong(tally, scene, ["watch", names[16]], "E13: too many roots", *words, status=3)
+        wrong(tally, scene, ["find", names[16]], "E13: too many roots", *words, status=3)
         os.rmdir(names[3])
         same(tally, "unwatch of one that is gone", scene.names("unwatch", names[3]), [names[3]])
         same(tally, "a place that was given back", scene.names("watch", names[16]), [names[16]])
