@@ -78,7 +78,7 @@ def glob_term(glob: str, front: str, place: Place) -> Any:
 
 def warn(sentences: Any) -> None:
     for sentence in sentences:
-        say(sentence.replace("at the glob: ", "the glob "), "yellow")
+        say(sentence.replace("at the glob: ", "the glob ", 1), "yellow")
 
 
 def kinds_of(word: str) -> List[str]:

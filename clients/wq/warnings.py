@@ -1,5 +1,6 @@
 """What is no error and yet cannot be meant: keys that nobody knows, and patterns that can match nothing."""
 
+import re
 from typing import Any, Iterator, List
 
 from wqprogram.patterns import Flags, atoms_of
@@ -10,6 +11,8 @@ OF_NAMES = ("name", "iname")
 OF_PATTERNS = ("match", "imatch")
 OF_DIRECTORIES = ("dirname", "idirname")
 GROUPS = ("not", "allof", "anyof")
+# What a shell would make several words of.
+BRACES = re.compile(r"\{[^{}]*,[^{}]*\}")
 OF_QUERIES = QUERY_KEYS + LEFT_OUT_KEYS + IGNORED_KEYS
 KNOWN_KEYS = {"query": OF_QUERIES, "subscribe": OF_QUERIES, "trigger": TRIGGER_KEYS + LEFT_OUT_OF_TRIGGERS}
 
@@ -113,6 +116,8 @@ def of_glob(glob: Any, place: str, is_whole: bool, has_no_escape: bool) -> Itera
         yield nothing(place, glob, f"no name ends in a slash; {quoted(glob + '**')} is what lies below it")
     elif is_whole and "//" in glob:
         yield nothing(place, glob, "no name has two slashes side by side")
+    elif BRACES.search(glob):
+        yield f"at {place}: {quoted(glob)} takes its braces as they are; write a pattern for each"
 
 
 def nothing(place: str, text: str, why: str) -> str:

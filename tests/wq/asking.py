@@ -2,6 +2,7 @@
 
 import json
 import subprocess
+from contextlib import ExitStack
 from pathlib import Path
 from typing import List, Tuple
 
@@ -173,6 +174,7 @@ WARNINGS = [
      f'at expression: "tar.gz" {NOTHING} the suffix is what follows the last dot; the pattern "*.tar.gz" finds such names'),
     ('{"expression":["not",["dirname","/src"]]}', f'at expression[1]: "/src" {NOTHING} {BELOW}'),
     ('{"glob":["./*.c"]}', f'at glob[0]: "./*.c" {NOTHING} no name begins with "./": "*.c"'),
+    ('{"glob":["*.{c,h}"]}', 'at glob[0]: "*.{c,h}" takes its braces as they are; write a pattern for each'),
     ('{"glob":["src/"]}', f'at glob[0]: "src/" {NOTHING} no name ends in a slash; "src/**" is what lies below it'),
     ('{"expression":["match","src/*.c"]}', f'at expression: "src/*.c" {NOTHING} {SLASH}'),
     ('{"expression":["match","[a"]}',
@@ -226,9 +228,18 @@ def check_ask(tally: built.Tally, room: Path) -> None:
             ended = scene.call(["ask", "-"], text.encode() + b"\n")
             same(tally, "a long line", (ended.status, b"E1: line too long" in ended.output), (3, True))
             client.ask("version")
+        check_many_clients(tally, scene)
         wrong(tally, scene, ["ask"], "ask takes lines, such as '[\"watch-list\"]', or - for those of standard input")
         ended = scene.wq("ask", '["shutdown-server"]', '["version"]')
         same(tally, "the end of the server", (ended.status, ended.errors), (3, said("the server has ended")))
+
+
+def check_many_clients(tally: built.Tally, scene: Scene) -> None:
+    with ExitStack() as stack:
+        for _ in range(32):
+            stack.enter_context(scene.client()).ask("version")
+        wrong(tally, scene, ["roots"], "E17: too many sessions", "32 clients are connected; try again when one has gone",
+              status=3)
 
 
 def check_explain(tally: built.Tally, room: Path) -> None:
