@@ -25,8 +25,9 @@ def trigger(options: argparse.Namespace, home: Home) -> int:
     if PLACE in command or not command:
         raise WrongWords("the names of files come last in the command of a trigger, so {} may be its last word alone")
     with reached(home) as server:
-        place = place_of(options.directory, server.roots())
-        server.watch(place.root)
+        watched = server.roots()
+        place = place_of(options.directory, watched)
+        server.watch(place.root, watched)
         asked: Dict[str, Any] = {"name": options.name, "command": command}
         expression = expression_of(place, options.globs, options)
         if expression != "true":

@@ -4,7 +4,7 @@ programs that were handed to a server cost."""
 import hashlib
 import json
 import os
-from typing import Any, Dict, Optional
+from typing import Any, Dict
 
 CLOCKS, BUDGETS = "clocks", "budgets"
 

@@ -168,6 +168,8 @@ def called_at_terminal(
     found = b""
     end = time.monotonic() + PATIENCE
     while time.monotonic() < end:
+        if not select.select([terminal], [], [], 1)[0]:
+            continue
         try:
             piece = os.read(terminal, 65_536)
         except OSError:
