@@ -5,7 +5,6 @@ import time
 from typing import List, NamedTuple, Optional, Set
 
 TICKS = os.sysconf("SC_CLK_TCK")
-CONNECTED = "03"
 
 
 class Facts(NamedTuple):
@@ -52,13 +51,10 @@ def boot_time() -> float:
 
 
 def clients_of(process: int) -> Optional[int]:
-    """How many clients are connected, this one counted: the sockets of the process that are connected."""
+    """How many clients are connected, this one counted: each has a socket of the process, and one more is listened on."""
     try:
-        with open("/proc/net/unix", encoding="utf-8", errors="replace") as stream:
-            rows = [line.split() for line in stream.read().splitlines()[1:]]
-        connected = {row[6] for row in rows if row[5] == CONNECTED}
-        return len(sockets_of(process) & connected)
-    except (OSError, IndexError):
+        return max(0, len(sockets_of(process)) - 1)
+    except OSError:
         return None
 
 

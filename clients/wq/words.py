@@ -138,7 +138,7 @@ FORMS: Dict[str, Form] = {
 
 def parser_of(command: str) -> Parser:
     form = FORMS[command]
-    usage = f"wq {command} {form.usage}".rstrip() + (" [OPTION..]" if options_of(command) else "")
+    usage = f"wq {command}{' [OPTION..]' if options_of(command) else ''} {form.usage}".rstrip()
     parser = Parser(prog=f"wq {command}", usage=usage, description=form.about, allow_abbrev=False)
     for option in form.options:
         parser.add_argument(*option.names, **option.settings)
