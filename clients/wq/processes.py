@@ -4,6 +4,7 @@ import os
 import time
 from typing import List, NamedTuple, Optional, Set
 
+UNIT = "wqd.service"
 TICKS = os.sysconf("SC_CLK_TCK")
 
 
@@ -56,6 +57,19 @@ def clients_of(process: int) -> Optional[int]:
         return max(0, len(sockets_of(process)) - 1)
     except OSError:
         return None
+
+
+def is_of_unit(process: int) -> bool:
+    """Whether systemd started the process, by the unit that is installed."""
+    try:
+        return names_unit(text_of(process, "cgroup"))
+    except OSError:
+        return False
+
+
+def names_unit(groups: str) -> bool:
+    """Whether a line of control groups ends in the unit."""
+    return any(line.rsplit("/", 1)[-1] == UNIT for line in groups.splitlines())
 
 
 def sockets_of(process: int) -> Set[str]:

@@ -10,6 +10,7 @@ from pathlib import Path
 import built
 from client import PATIENCE, same
 from scene import COMMAND, Scene, said, wrong
+from wq.processes import is_of_unit, names_unit
 
 A_HOUR = 3_600
 
@@ -48,6 +49,18 @@ def words_of(process: int) -> list:
 
 def facts(scene: Scene) -> dict:
     return json.loads(scene.wq("status", "--json").output)
+
+
+def check_unit(tally: built.Tally, room: Path) -> None:
+    """A server that systemd started is known by its control group."""
+    for groups, expected in (
+        ("0::/user.slice/user-1000.slice/user@1000.service/app.slice/wqd.service\n", True),
+        ("1:name=systemd:/a/wqd.service\n0::/b\n", True),
+        ("0::/user.slice/user-1000.slice/user@1000.service/app.slice/vte.scope\n", False),
+        ("0::/\n", False), ("", False),
+    ):
+        same(tally, f"the unit in {groups!r}", names_unit(groups), expected)
+    same(tally, "the unit of this process", is_of_unit(os.getpid()), False)
 
 
 def check_starts_at_once(tally: built.Tally, scene: Scene) -> None:
