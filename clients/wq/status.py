@@ -33,8 +33,9 @@ def status(options: argparse.Namespace, home: Home) -> int:
 
 
 def facts(server: Server, home: Home) -> Dict[str, Any]:
-    process = facts_of(server.peer.process)
+    # A client is one of the server's only when it was answered.
     programs = server.ask("program-list")["programs"]
+    process = facts_of(server.peer.process)
     return {
         "socket": server.sockname,
         "version": home.version(),
