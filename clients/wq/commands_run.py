@@ -21,7 +21,7 @@ class Unrunnable(Exception):
 
 
 class Command:
-    """The words of a command. `{}` as a word of its own stands for the names; they can come on standard input too."""
+    """The words of a command. The names take the place of the word `{}`, or come on standard input."""
 
     def __init__(self, words: List[str], directory: str, on_input: bool, with_zeros: bool, is_alone: bool) -> None:
         self.words = words
@@ -73,7 +73,7 @@ class Command:
 
 
 def prepare(is_alone: bool, signals: Set[signal.Signals]) -> None:
-    """What a run does before it becomes the command."""
+    """Prepares the process of a run, before it becomes the command."""
     if is_alone:
         os.setpgid(0, 0)
     signal.pthread_sigmask(signal.SIG_SETMASK, signals)

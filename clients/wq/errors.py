@@ -1,4 +1,4 @@
-"""What is said after an error of the server: its words are fixed, so the line that names the culprit is found here."""
+"""The line after an error of the server: the words of the error are fixed, so this names the culprit."""
 
 import os
 import re

@@ -1,4 +1,4 @@
-"""What the system tells of the server's process."""
+"""The facts that the system has about the server's process."""
 
 import os
 import time

@@ -75,7 +75,7 @@ class Runner:
                 self.run.end_at_once(GRACE)
 
     def step(self) -> Optional[int]:
-        """What is to be done now, and a wait for what comes next; the status, if that was the last run."""
+        """Does what is due now, and waits for what comes next. Gives the status, if that was the last run."""
         now = time.monotonic()
         if self.run is not None and now >= self.killed_at:
             self.run.signal(signal.SIGKILL)

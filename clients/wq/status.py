@@ -88,7 +88,7 @@ def changed_within(server: Server, root: str) -> Optional[int]:
 
 
 def budget_of(server: Server, name: str) -> Optional[int]:
-    """What a run of a stored program can cost at most, if `wqasm add` stored it: the server gives no program back."""
+    """The most that a run of a stored program can cost, if `wqasm add` stored it: the server gives no program back."""
     budget = kept(BUDGETS, server.sockname, run_of(server.peer.process), name).get("budget")
     return budget if isinstance(budget, int) else None
 

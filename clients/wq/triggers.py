@@ -15,7 +15,7 @@ from .values_shown import json_shown
 
 
 def trigger(options: argparse.Namespace, home: Home) -> int:
-    """Registers a trigger. `{}` as the last word of its command stands for the names of the files."""
+    """Registers a trigger. The names of the files take the place of `{}`, the last word of its command."""
     for word in [options.directory, options.name, *options.globs, *options.command]:
         require_utf8(word, "a word of the command line")
     if not options.command:

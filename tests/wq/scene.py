@@ -147,7 +147,7 @@ def hear_interrupts() -> None:
 
 
 class AtTerminal(NamedTuple):
-    """What a call wrote to a terminal, both of its streams, and the status with which it ended."""
+    """The text that a call wrote to a terminal, on both of its streams, and the status with which it ended."""
 
     text: str
     status: int

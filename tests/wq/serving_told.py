@@ -75,7 +75,7 @@ def check_starts_at_once(tally: built.Tally, scene: Scene) -> None:
 
 
 def check_sockets(tally: built.Tally, scene: Scene) -> None:
-    """Where the socket is, and sockets that cannot be."""
+    """Places of the socket, and sockets that cannot be."""
     named = scene.room / "named"
     same(tally, "WQD_SOCK", scene.wq("start", WQD_SOCK=str(named)).errors, said(f"started a server at {named}"))
     same(tally, "its status", json.loads(scene.wq("status", "--json", WQD_SOCK=str(named)).output)["socket"], str(named))
