@@ -1,0 +1,68 @@
+"""The command wq: which of its commands is meant, and how it ends."""
+
+import os
+import signal
+import sys
+from importlib import import_module
+from typing import Callable, Dict, List
+
+from .home import Home
+from .terminal import say
+from .trouble import BROKEN_PIPE, FAILED, FOUND, INTERRUPTED, Trouble, WrongWords
+from .vocabulary import meant
+from .words import FORMS, USAGE, read
+
+# The module of each command that is not named after it.
+MODULES: Dict[str, str] = {
+    "watch": "watches", "unwatch": "watches", "roots": "watches", "trigger": "triggers", "untrigger": "triggers",
+    "start": "serving", "stop": "serving", "restart": "serving",
+}
+
+
+def main(words: List[str], directory: str) -> int:
+    """Runs a command; `directory` is that of the command wq, without links."""
+    if sys.stdout is None:
+        say("there is no standard output")
+        return FAILED
+    for number in (signal.SIGTERM, signal.SIGHUP):
+        signal.signal(number, lambda number, _: sys.exit(128 + number))
+    # Python has a job in the background ignore it, and what that starts too.
+    signal.signal(signal.SIGINT, signal.default_int_handler)
+    try:
+        return run(words, Home(directory))
+    except Trouble as trouble:
+        for line in trouble.lines:
+            say(line, "red")
+        return trouble.status
+    except KeyboardInterrupt:
+        return INTERRUPTED
+    except BrokenPipeError:
+        # The reader of the output has gone. Nothing is to be written at the end either.
+        os.dup2(os.open(os.devnull, os.O_WRONLY), sys.stdout.fileno())
+        return BROKEN_PIPE
+    except OSError as error:
+        say(f"{error.filename or 'output'}: {error.strerror or error}", "red")
+        return FAILED
+
+
+def run(words: List[str], home: Home) -> int:
+    if not words:
+        raise WrongWords("there is no command; `wq --help` says which there are")
+    command = words[0]
+    if command in ("--help", "-h", "help"):
+        sys.stdout.write(USAGE)
+        sys.stdout.flush()
+        return FOUND
+    if command == "--version":
+        print(home.version().replace("wqd ", "wq ", 1) or "wq", flush=True)
+        return FOUND
+    if command not in FORMS:
+        raise WrongWords(f"there is no command {command}{meant(command, FORMS).replace(chr(34), '')}; `wq --help` says which there are")
+    return function_of(command)(read(command, words[1:]), home)
+
+
+def function_of(command: str) -> Callable[..., int]:
+    """The function of a command. What the others need is not read."""
+    module = import_module(f".{MODULES.get(command, command)}", __package__)
+    found: Callable[..., int] = getattr(module, command)
+    return found

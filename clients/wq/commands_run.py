@@ -1,0 +1,123 @@
+"""A command that `wq run` starts: where the names of files go, and how a run ends."""
+
+import errno
+import os
+import signal
+import subprocess
+import tempfile
+from typing import IO, List, Optional, Tuple
+
+PLACE = "{}"
+# As shells end if a command is not there, or cannot be started.
+NOT_FOUND, CANNOT_START = 127, 126
+
+
+class Unrunnable(Exception):
+    """The command cannot be started, for this reason."""
+
+    def __init__(self, reason: str, status: int) -> None:
+        super().__init__(reason)
+        self.status = status
+
+
+class Command:
+    """The words of a command. `{}` as a word of its own stands for the names; they can come on standard input too."""
+
+    def __init__(self, words: List[str], directory: str, on_input: bool, with_zeros: bool, is_alone: bool) -> None:
+        self.words = words
+        self.directory = directory
+        self.on_input = on_input
+        self.ending = "\0" if with_zeros else "\n"
+        # Whether each run has a process group of its own, which a signal ends as a whole.
+        self.is_alone = is_alone
+        self.name = words[0]
+        self.takes_names = on_input or PLACE in words
+
+    def start(self, names: List[str]) -> "Run":
+        paths = [self.path_of(name) for name in names]
+        words = [word for given in self.words for word in (paths if given == PLACE else [given])]
+        stream = self.input_of(paths)
+        try:
+            return Run(subprocess.Popen(words, stdin=stream, preexec_fn=own_group if self.is_alone else None), self.is_alone)
+        except OSError as error:
+            raise Unrunnable(*self.reason_of(error, len(names))) from None
+        finally:
+            if stream is not None:
+                stream.close()
+
+    def reason_of(self, error: OSError, count: int) -> Tuple[str, int]:
+        if isinstance(error, FileNotFoundError):
+            return f"{self.name}: there is no such command", NOT_FOUND
+        if error.errno == errno.E2BIG:
+            return f"the names of {count:,} files are too long for a command; take them on standard input, by --stdin", CANNOT_START
+        return f"{self.name}: {error.strerror}", CANNOT_START
+
+    def path_of(self, name: str) -> str:
+        """The name as the command finds it, which runs in the current directory. A dash at its front would be an option."""
+        path = name if self.directory in (".", "") else os.path.join(self.directory, name)
+        return f"./{path}" if path.startswith("-") else path
+
+    def input_of(self, paths: List[str]) -> "Optional[IO[bytes]]":
+        """Standard input of a run, if it is not this command's own: its names, or nothing for a group of its own, which may not
+        read the terminal."""
+        if not self.on_input:
+            return open(os.devnull, "rb") if self.is_alone else None
+        stream = tempfile.TemporaryFile()
+        stream.write(b"".join(os.fsencode(path + self.ending) for path in paths))
+        stream.seek(0)
+        return stream
+
+
+def own_group() -> None:
+    os.setpgid(0, 0)
+
+
+class Run:
+    """A run of the command."""
+
+    def __init__(self, process: "subprocess.Popen[bytes]", is_alone: bool) -> None:
+        self.process = process
+        self.is_alone = is_alone
+        self.is_ending = False
+
+    def has_ended(self) -> bool:
+        return self.process.poll() is not None
+
+    def code(self) -> int:
+        assert self.process.returncode is not None
+        return self.process.returncode
+
+    def status(self) -> int:
+        """The status, as a shell says it: a signal counts from 128 on."""
+        return self.code() if self.code() >= 0 else 128 - self.code()
+
+    def signal(self, number: int) -> None:
+        """Sends a signal to the run, and to all that it started if it has a group."""
+        try:
+            if self.is_alone:
+                os.killpg(self.process.pid, number)
+            else:
+                self.process.send_signal(number)
+        except ProcessLookupError:
+            pass
+
+    def end_at_once(self, grace: float) -> None:
+        """Ends the run, since this command ends: a run that does not go by itself is killed."""
+        if self.has_ended():
+            return
+        self.signal(signal.SIGTERM)
+        try:
+            self.process.wait(grace)
+        except (subprocess.TimeoutExpired, KeyboardInterrupt):
+            self.signal(signal.SIGKILL)
+            self.process.wait()
+
+
+def status_words(code: Optional[int]) -> str:
+    """How a run ended, in words."""
+    if code is not None and code < 0:
+        try:
+            return f"was ended by {signal.Signals(-code).name}"
+        except ValueError:
+            return f"was ended by signal {-code}"
+    return f"ended with status {code}"

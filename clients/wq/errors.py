@@ -1,0 +1,175 @@
+"""What is said after an error of the server: its words are fixed, so the line that names the culprit is found here."""
+
+import os
+import re
+from typing import Any, Callable, Dict, Iterator, List, Optional
+
+from wqprogram.limits import MAX_LINE, MAX_ROOT
+
+from . import query_faults
+from .vocabulary import COMMANDS, kind_of, meant, quoted
+
+NUMBER = re.compile(r"E([0-9]+):")
+LONGEST_NAME = 255
+# Asks the server once more, for what it has: the reply, in which an error counts as nothing.
+Look = Callable[..., Dict[str, Any]]
+
+
+def culprits(error: str, command: Any, look: Look) -> List[str]:
+    """Sentences on what is wrong with a command, one or more if there is something to be said."""
+    found = NUMBER.match(error)
+    sentences = OF_ERRORS.get(int(found[1])) if found else None
+    # A value of a kind that nobody foresaw makes no second error of the first.
+    try:
+        return [] if sentences is None else list(sentences(command, look))[:3]
+    except (KeyError, IndexError, TypeError, AttributeError):
+        return []
+
+
+def object_of(command: List[Any]) -> Dict[str, Any]:
+    return command[-1] if isinstance(command[-1], dict) else {}
+
+
+def of_query(sentences: Callable[..., Iterator[str]]) -> Callable[[Any, Look], Iterator[str]]:
+    """The first fault of the command's object."""
+    def found(command: Any, look: Look) -> Iterator[str]:
+        yield from list(sentences(object_of(command)))[:1]
+    return found
+
+
+def of_subscription(sentences: Callable[..., Iterator[str]]) -> Callable[[Any, Look], Iterator[str]]:
+    def found(command: Any, look: Look) -> Iterator[str]:
+        yield from list(sentences(object_of(command), command[0] == "subscribe"))[:1]
+    return found
+
+
+# Lines and commands.
+
+def long_line(command: Any, look: Look) -> Iterator[str]:
+    yield f"a line may have {MAX_LINE:,} bytes; ask in several"
+
+
+def no_command(command: Any, look: Look) -> Iterator[str]:
+    yield f"a line is a list that begins with the name of a command, such as [\"watch-list\"], and this is {kind_of(command)}"
+
+
+def unknown_command(command: Any, look: Look) -> Iterator[str]:
+    name = command[0]
+    yield f"{quoted(name)} is no command{meant(name, COMMANDS) or '; there are ' + ', '.join(COMMANDS)}"
+
+
+def wrong_arguments(command: Any, look: Look) -> Iterator[str]:
+    name, arguments = command[0], command[1:]
+    shape = COMMANDS[name]
+    counts = sorted({shape.fewest, len(shape.kinds)})
+    takes = " or ".join(str(count) for count in counts)
+    if len(arguments) not in range(shape.fewest, len(shape.kinds) + 1):
+        noun = "argument" if counts == [1] else "arguments"
+        yield f"\"{name}\" takes {takes} {noun} ({', '.join(shape.kinds) or 'none'}), and there are {len(arguments)}: " \
+              f"{shape.example}"
+        return
+    for number, (kind, value) in enumerate(zip(shape.kinds, arguments), 1):
+        wanted = dict if kind == "object" else str
+        if not isinstance(value, wanted):
+            word = "an object" if kind == "object" else "a text"
+            yield f"argument {number} of \"{name}\" is the {kind}, {word}, and not {kind_of(value)}: {shape.example}"
+
+
+# Roots.
+
+def not_absolute(command: Any, look: Look) -> Iterator[str]:
+    root = command[1]
+    if "\0" in root:
+        yield f"{quoted(root)} has a byte 0, which no path has"
+    elif len(root.encode()) > MAX_ROOT:
+        yield f"the path has {len(root.encode()):,} bytes, and at most {MAX_ROOT:,} may be"
+    else:
+        hint = f"; from here it would be {quoted(os.path.abspath(root))}" if root else ""
+        yield f"{quoted(root)} does not begin with a slash{hint}"
+
+
+def unreadable(command: Any, look: Look) -> Iterator[str]:
+    """The reason from a look of its own: the server tells none."""
+    root = command[1]
+    try:
+        os.listdir(root)
+    except OSError as error:
+        yield f"{root}: {error.strerror}"
+    else:
+        yield f"{root} can be read now; perhaps it went during the walk, or no file handle was left (ulimit -n)"
+
+
+def many_files(command: Any, look: Look) -> Iterator[str]:
+    yield f"{command[1]} has over 1,000,000 files and directories; watch a directory below it"
+
+
+def many_roots(command: Any, look: Look) -> Iterator[str]:
+    roots = look("watch-list").get("roots", [])
+    yield f"{len(roots)} roots are watched, and more may not be; `wq unwatch DIR` gives one back: {', '.join(roots)}"
+
+
+def not_watched(command: Any, look: Look) -> Iterator[str]:
+    root, roots = command[1], look("watch-list").get("roots", [])
+    hint = meant(root, roots) or (f"; watched are {', '.join(roots)}" if roots else "; no root is")
+    yield f"{quoted(root)} is not watched{hint}. [\"watch\",{quoted(root)}] watches it"
+
+
+# Names and programs.
+
+def no_program(command: Any, look: Look) -> Iterator[str]:
+    name, names = object_of(command).get("program"), look("program-list").get("programs", [])
+    kept = f"; there are {', '.join(map(quoted, names))}" if names else "; none is stored, and `wqasm add NAME FILE` stores one"
+    yield f"no program is stored as {quoted(name)}{meant(name, names) or kept}"
+
+
+def bad_name(command: Any, look: Look) -> Iterator[str]:
+    name = object_of(command).get("name") if command[0] == "trigger" else command[1 if "program" in command[0] else 2]
+    length = len(name.encode())
+    yield "the name is empty, and has 1 to 255 bytes" if not length else \
+        f"the name has {length:,} bytes, and at most {LONGEST_NAME} may be: {quoted(name)}"
+
+
+def full_shelf(command: Any, look: Look) -> Iterator[str]:
+    if command[0] == "program-add":
+        yield "256 programs are stored; [\"program-del\",NAME] takes one out"
+    else:
+        yield "the root has 256 cursors; they go with its watch: `wq unwatch DIR`"
+
+
+def many_subscriptions(command: Any, look: Look) -> Iterator[str]:
+    yield "this connection has 64 subscriptions; [\"unsubscribe\",ROOT,NAME] ends one"
+
+
+def many_triggers(command: Any, look: Look) -> Iterator[str]:
+    yield "the root has 64 triggers; `wq untrigger DIR NAME` takes one out"
+
+
+def many_sessions(command: Any, look: Look) -> Iterator[str]:
+    yield "32 clients are connected; try again when one has gone"
+
+
+def base64_fault(command: Any, look: Look) -> Iterator[str]:
+    yield "the text of a program is base64 with = at its end; `wqasm add NAME FILE` writes it"
+
+
+def program_fault(command: Any, look: Look) -> Iterator[str]:
+    yield "`wqasm explain FILE` says what is wrong with a program file, and where"
+
+
+OF_ERRORS: Dict[int, Callable[[Any, Look], Iterator[str]]] = {
+    1: long_line, 3: no_command, 4: unknown_command, 5: wrong_arguments,
+    10: not_absolute, 11: unreadable, 12: many_files, 13: many_roots, 14: not_watched, 17: many_sessions,
+    20: of_query(query_faults.left_out_key), 21: of_query(query_faults.unknown_field),
+    22: of_subscription(query_faults.bad_generator), 23: of_subscription(query_faults.bad_clock),
+    24: of_query(query_faults.expression_fault), 25: of_query(query_faults.expression_fault),
+    26: of_query(query_faults.expression_fault), 27: of_query(query_faults.expression_fault),
+    28: of_query(query_faults.pattern_too_long), 29: of_query(query_faults.expression_and_program),
+    30: of_query(query_faults.program_too_large), 31: base64_fault, 32: program_fault, 33: program_fault,
+    34: no_program, 35: full_shelf, 36: bad_name, 37: of_query(query_faults.wrong_value),
+    41: many_subscriptions, 42: many_triggers, 43: of_query(query_faults.bad_trigger),
+}
+
+
+def number_of(error: str) -> Optional[int]:
+    found = NUMBER.match(error)
+    return int(found[1]) if found else None

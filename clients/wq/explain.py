@@ -1,0 +1,54 @@
+"""`wq explain`: what an expression means, and the program that the server makes of it."""
+
+import argparse
+import sys
+from typing import Any
+
+from wqprogram.compiler import LONGEST_CODE, LONGEST_LIST, TooLarge, compiled
+from wqprogram.explainer import explained
+from wqprogram.errors import PROGRAM_TOO_LARGE
+
+from .home import Home
+from .sentences import lines_of
+from .term_faults import TAKES, fault_in
+from .terminal import say, show, write
+from .trouble import FOUND, Trouble, WrongWords
+from .values import NotJson, read
+from .warnings import of_term
+
+GROUPS = {"not": "one term", "allof": "any number of terms", "anyof": "any number of terms"}
+
+
+def explain(options: argparse.Namespace, home: Home) -> int:
+    if options.terms:
+        show(f"{name:<9} {takes}" for name, takes in {**TAKES, **GROUPS}.items())
+        return FOUND
+    if options.expression is None:
+        raise WrongWords("explain takes an expression, such as '[\"suffix\",\"c\"]', or - for that of standard input")
+    text = sys.stdin.buffer.read().decode("utf-8", "surrogateescape") if options.expression == "-" else options.expression
+    value = value_of(text)
+    fault = fault_in(value)
+    if fault is not None:
+        raise Trouble(fault.error, fault.sentence)
+    for sentence in of_term(value, "expression"):
+        say(sentence, "yellow")
+    try:
+        program = compiled(value)
+    except TooLarge as large:
+        raise Trouble(PROGRAM_TOO_LARGE, f"the program would have {large.length + 1:,} instructions of {LONGEST_CODE:,}, or a "
+                                         f"list over {LONGEST_LIST:,} texts") from None
+    show(["A file matches if", *lines_of(value, "  "), "", "Its program, whose cost is for a name of 4,096 bytes:"])
+    write(explained(program).encode("utf-8"))
+    return FOUND
+
+
+def value_of(text: str) -> Any:
+    """The expression. A bare name of a term needs no quotes here."""
+    if text in TAKES:
+        return text
+    try:
+        return read(text, "the expression")
+    except NotJson:
+        if text.isalpha():
+            return text
+        raise

@@ -1,0 +1,86 @@
+"""`wq follow`: changes as they come."""
+
+import argparse
+import select
+import sys
+from typing import Any, Dict, List
+
+from wqclient.client import Client
+from wqclient.lines import Ended
+
+from .changes import FIELDS, counted, print_changes
+from .globs import expression_of
+from .home import Home
+from .roots import Place, directory_and_globs, place_of
+from .server import WENT, Server, Value, reached
+from .terminal import show
+from .trouble import Trouble
+from .values_shown import json_line
+
+SUBSCRIPTION = "wq"
+
+
+def follow(options: argparse.Namespace, home: Home) -> int:
+    directory, globs = directory_and_globs(options.words)
+    with reached(home) as server:
+        feed = Feed(server, directory, globs, options)
+        feed.subscribe(server.ask("query", feed.place.root, {"expression": "false"})["clock"])
+        while True:
+            for found in feed.lists(watches_output=True):
+                tell(found, feed.place, options)
+
+
+def tell(found: Value, place: Place, options: argparse.Namespace) -> None:
+    found["files"] = counted(found["files"], options)
+    if not found["files"]:
+        return
+    if options.json:
+        show([json_line(found)])
+    else:
+        print_changes(found["files"], place, "\0" if options.print0 else "\n")
+
+
+class Feed:
+    """A subscription to what matches below a directory, whose root is watched for it and stays so."""
+
+    def __init__(self, server: Server, directory: str, globs: List[str], options: argparse.Namespace) -> None:
+        self.server = server
+        self.place = place_of(directory, server.roots())
+        self.expression = expression_of(self.place, globs, options)
+        server.watch(self.place.root)
+
+    def subscribe(self, clock: str) -> None:
+        """From the files of this clock on. The first list may have changes already."""
+        query: Dict[str, Any] = {"expression": self.expression, "since": clock, "fields": FIELDS}
+        self.server.ask("subscribe", self.place.root, SUBSCRIPTION, query)
+
+    def lists(self, watches_output: bool = False) -> List[Value]:
+        """The next lists, of which one is waited for."""
+        client = self.server.client
+        if not client.lists:
+            if watches_output:
+                wait(client)
+            self.take()
+        found = [client.lists.popleft() for _ in range(len(client.lists))]
+        if any(value.get("canceled") for value in found):
+            raise Trouble(f"{self.place.root} is no longer watched, so nothing more is told of it")
+        return found
+
+    def take(self) -> None:
+        """Takes what the server sent, a whole line or a part of one."""
+        client = self.server.client
+        try:
+            client.receive()
+        except Ended:
+            raise Trouble(WENT) from None
+        client.take_lists()
+
+
+def wait(client: Client) -> None:
+    """Waits for the server. If the reader of standard output goes meanwhile, there is nobody to tell."""
+    poll = select.poll()
+    poll.register(client, select.POLLIN)
+    poll.register(sys.stdout, 0)  # its end is told whatever is asked for
+    events = dict(poll.poll())
+    if events.get(sys.stdout.fileno(), 0) & select.POLLERR:
+        raise BrokenPipeError

@@ -1,0 +1,156 @@
+"""The expression of what a command line asks for: the directory, globs, kinds, suffixes, sizes, times, and what is left out."""
+
+import argparse
+import re
+import time
+from typing import Any, List
+
+from .roots import Place
+from .term_faults import fault_in
+from .terminal import say
+from .trouble import Trouble, WrongWords
+from .values import read
+from .vocabulary import quoted
+from .warnings import of_glob, of_term
+
+# What a person seldom means; --all brings it back.
+LEFT_OUT = (".git", ".hg", "node_modules", "target")
+WITH_DOTS = {"includedotfiles": True}
+SPECIAL = "*?[\\"
+KINDS = "fdlbcpsD"
+SIZE = re.compile(r"([+-]?)([0-9]+)([bkKmMgGtT]?)(i?[bB])?")
+UNITS = {"": 0, "b": 0, "k": 1, "m": 2, "g": 3, "t": 4}
+AGE = re.compile(r"([0-9]+(?:\.[0-9]+)?)(s|m|min|h|d|w)")
+SECONDS = {"s": 1, "m": 60, "min": 60, "h": 3_600, "d": 86_400, "w": 604_800}
+
+
+def expression_of(place: Place, globs: List[str], options: argparse.Namespace) -> Any:
+    """The expression; `true` if all files are asked for. The one that the user wrote comes last."""
+    front = f"{escaped(place.below)}/" if place.below else ""
+    parts: List[Any] = [["dirname", place.below]] if place.below else []
+    if globs:
+        parts.append(any_of([glob_term(glob, front, place) for glob in globs]))
+    if options.type:
+        parts.append(any_of([["type", letter] for letter in kinds_of(options.type)]))
+    if options.ext:
+        parts.append(["suffix", [suffix_of(word) for word in options.ext]])
+    if getattr(options, "size", None):
+        parts.append(size_term(options.size))
+    if getattr(options, "newer", None):
+        parts.append(["since", int(time.time()) - age_of(options.newer), "mtime"])
+    left_out = left_out_terms(front, place, options)
+    if left_out:
+        parts.append(["not", any_of(left_out)])
+    if getattr(options, "expression", None) is not None:
+        parts.append(user_expression(options.expression))
+    if not parts:
+        return "true"
+    return parts[0] if len(parts) == 1 else ["allof", *parts]
+
+
+def any_of(terms: List[Any]) -> Any:
+    return terms[0] if len(terms) == 1 else ["anyof", *terms]
+
+
+def escaped(text: str) -> str:
+    """A pattern that fits this text alone."""
+    return "".join(f"\\{letter}" if letter in SPECIAL else letter for letter in text)
+
+
+def glob_term(glob: str, front: str, place: Place) -> Any:
+    """A glob without a slash is for the last part of a name, however deep. One with a slash is for the name below the
+    directory; a slash at its front says no more than that."""
+    if glob.startswith("./"):
+        say(f"no name begins with \"./\", so {quoted(glob)} is taken as {quoted(glob[1:])}, directly in the directory", "yellow")
+        glob = glob[1:]
+    directory = f"{place.root.rstrip('/')}/{place.below}".rstrip("/") + "/"
+    if glob.startswith(directory) and len(glob) > len(directory):
+        glob = "/" + glob[len(directory):]
+    if "/" not in glob:
+        warn(of_glob(glob, "the glob", False, False))
+        return ["match", glob, "basename", WITH_DOTS]
+    glob = glob[1:] if glob.startswith("/") else glob
+    warn(of_glob(glob, "the glob", True, False))
+    return ["match", front + glob, "wholename", WITH_DOTS]
+
+
+def warn(sentences: Any) -> None:
+    for sentence in sentences:
+        say(sentence.replace("at the glob: ", "the glob "), "yellow")
+
+
+def kinds_of(word: str) -> List[str]:
+    letters = [letter for letter in word.replace(",", "") if letter]
+    for letter in letters:
+        if letter not in KINDS:
+            raise WrongWords(f"-t takes letters of f (file), d (directory), l (link), b, c, p, s and D, and not {quoted(letter)}")
+    if not letters:
+        raise WrongWords("-t takes a letter: f (file), d (directory), l (link), b, c, p, s or D")
+    return letters
+
+
+def suffix_of(word: str) -> str:
+    if word.startswith("."):
+        say(f"a suffix has no dot at its front: {quoted(word)} is taken as {quoted(word[1:])}", "yellow")
+        word = word[1:]
+    if "." in word or "/" in word:
+        say(f"the suffix {quoted(word)} can match nothing: it is what follows the last dot; "
+            f"the glob {quoted('*.' + word)} finds such names", "yellow")
+    return word
+
+
+def size_term(word: str) -> List[Any]:
+    """`+1M` is at least so much, `-1M` at most, `1M` just that."""
+    found = SIZE.fullmatch(word)
+    if not found:
+        raise WrongWords(f"--size takes a number with a unit, such as +1M (at least), -10k (at most) or 0, and not {quoted(word)}")
+    sign, digits, unit, _ = found.groups()
+    number = int(digits) * 1024 ** UNITS[unit.lower()]
+    if number > 2**62:
+        raise WrongWords(f"--size takes a number up to 2^62 bytes, and not {quoted(word)}")
+    return ["size", {"+": "ge", "-": "le", "": "eq"}[sign], number]
+
+
+def age_of(word: str) -> int:
+    """An age in seconds."""
+    found = AGE.fullmatch(word)
+    if not found:
+        raise WrongWords(f"--newer takes an age, such as 30s, 10m, 2h, 3d or 1w, and not {quoted(word)}")
+    seconds = int(float(found[1]) * SECONDS[found[2]])
+    if seconds > time.time():
+        raise WrongWords(f"--newer takes an age of at most {int(time.time() / 86_400)} days, and not {quoted(word)}")
+    return seconds
+
+
+def left_out_terms(front: str, place: Place, options: argparse.Namespace) -> List[Any]:
+    """What is left out: directories that people seldom mean, and what --exclude says, with all that is below them."""
+    terms: List[Any] = []
+    if not options.all:
+        terms.append(["name", list(LEFT_OUT)])
+        # The directory itself may lie in one of them, and is asked for then.
+        before = front if set(place.below.split("/")) & set(LEFT_OUT) else ""
+        terms += [["match", f"{before}**/{name}/**", "wholename", WITH_DOTS] for name in LEFT_OUT]
+    for glob in options.exclude or []:
+        glob = glob.rstrip("/") or glob
+        if "/" in glob:
+            whole = front + (glob[2:] if glob.startswith("./") else glob[1:] if glob.startswith("/") else glob)
+            terms += [["match", whole, "wholename", WITH_DOTS], ["match", f"{whole}/**", "wholename", WITH_DOTS]]
+        else:
+            terms += [["match", glob, "basename", WITH_DOTS], ["match", f"{front}**/{glob}/**", "wholename", WITH_DOTS]]
+    return terms
+
+
+def is_left_out(name: str) -> bool:
+    """Whether a name is of what is left out, or below it."""
+    return any(part in LEFT_OUT for part in name.split("/"))
+
+
+def user_expression(text: str) -> Any:
+    """The expression that the user wrote. Its first fault is told as the server would, with the place in what was written."""
+    value = read(text, "--expression")
+    fault = fault_in(value)
+    if fault is not None:
+        raise Trouble(fault.error, fault.sentence)
+    for sentence in of_term(value, "expression"):
+        say(sentence, "yellow")
+    return value

@@ -1,0 +1,96 @@
+"""What the system tells of the server's process."""
+
+import os
+import time
+from typing import List, NamedTuple, Optional, Set
+
+TICKS = os.sysconf("SC_CLK_TCK")
+CONNECTED = "03"
+
+
+class Facts(NamedTuple):
+    """The facts about a process. Times are in seconds, memory in bytes."""
+
+    process: int
+    program: str
+    started: float
+    memory: int
+    processor_seconds: float
+    threads: int
+    clients: Optional[int]
+
+
+def facts_of(process: int) -> Optional[Facts]:
+    """The facts, if the process is there and belongs to this user."""
+    try:
+        fields = text_of(process, "stat").rsplit(")", 1)[1].split()
+        lines = dict(line.split(":", 1) for line in text_of(process, "status").splitlines() if ":" in line)
+        return Facts(
+            process=process, program=program_of(process), started=boot_time() + int(fields[19]) / TICKS,
+            memory=int(lines["VmRSS"].split()[0]) * 1024, processor_seconds=(int(fields[11]) + int(fields[12])) / TICKS,
+            threads=int(lines["Threads"]), clients=clients_of(process),
+        )
+    except (OSError, KeyError, ValueError, IndexError):
+        return None
+
+
+def text_of(process: int, name: str) -> str:
+    with open(f"/proc/{process}/{name}", encoding="utf-8", errors="replace") as stream:
+        return stream.read()
+
+
+def program_of(process: int) -> str:
+    try:
+        return os.readlink(f"/proc/{process}/exe")
+    except OSError:
+        return "?"
+
+
+def boot_time() -> float:
+    with open("/proc/uptime", encoding="ascii") as stream:
+        return time.time() - float(stream.read().split()[0])
+
+
+def start_of(process: int) -> str:
+    """What tells this process from another one that had its number: when it started, in ticks of the system."""
+    try:
+        return text_of(process, "stat").rsplit(")", 1)[1].split()[19]
+    except (OSError, IndexError):
+        return "?"
+
+
+def clients_of(process: int) -> Optional[int]:
+    """How many clients are connected, this one counted: the sockets of the process that are connected."""
+    try:
+        with open("/proc/net/unix", encoding="utf-8", errors="replace") as stream:
+            rows = [line.split() for line in stream.read().splitlines()[1:]]
+        connected = {row[6] for row in rows if row[5] == CONNECTED}
+        return len(sockets_of(process) & connected)
+    except (OSError, IndexError):
+        return None
+
+
+def sockets_of(process: int) -> Set[str]:
+    """The numbers of the sockets that the process has open, but for its three streams."""
+    found = set()
+    for name in os.listdir(f"/proc/{process}/fd"):
+        try:
+            target = os.readlink(f"/proc/{process}/fd/{name}")
+        except OSError:
+            continue
+        if target.startswith("socket:[") and int(name) > 2:
+            found.add(target[len("socket:["):-1])
+    return found
+
+
+def words_of(process: int) -> List[str]:
+    """The words of the command line of a process."""
+    try:
+        return [os.fsdecode(word) for word in open_bytes(f"/proc/{process}/cmdline").split(b"\0")[:-1]]
+    except OSError:
+        return []
+
+
+def open_bytes(path: str) -> bytes:
+    with open(path, "rb") as stream:
+        return stream.read()

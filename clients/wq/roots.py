@@ -1,0 +1,86 @@
+"""Which root is watched for a directory: that of its project, so that ten directories of one project are one root."""
+
+import os
+from typing import List, NamedTuple, Optional, Tuple
+
+from .trouble import WrongWords
+
+PROJECT_FILES = (".git", ".hg", ".watchmanconfig")
+SPECIAL = "*?["
+
+
+class Place(NamedTuple):
+    """A root, and a directory below it by its path from there; "" is the root itself."""
+
+    root: str
+    below: str
+
+    def shown(self, name: str) -> str:
+        """A name of the root, as it is from the directory on."""
+        return name[len(self.below) + 1:] if self.below else name
+
+
+def place_of(directory: str, watched: List[str]) -> Place:
+    """The place of a directory that is there. The root is the nearest directory at or above it with a file of a project; else
+    the nearest one that is watched already; else itself."""
+    path = real_path(directory)
+    above = [path]
+    while above[-1] != "/":
+        above.append(os.path.dirname(above[-1]))
+    root = next((one for one in above if is_project(one)), None) or next((one for one in above if one in watched), path)
+    return Place(root, os.path.relpath(path, root) if path != root else "")
+
+
+def is_project(path: str) -> bool:
+    return any(os.path.lexists(os.path.join(path, name)) for name in PROJECT_FILES)
+
+
+def real_path(directory: str) -> str:
+    """The path without links, of a directory that is there and whose path is UTF-8."""
+    try:
+        path = os.path.realpath(directory)
+        if not os.path.isdir(path):
+            os.listdir(path)
+    except (OSError, ValueError) as error:
+        raise WrongWords(f"{directory}: {getattr(error, 'strerror', None) or error}") from None
+    require_utf8(path, "the path")
+    return path
+
+
+def require_utf8(text: str, what: str) -> None:
+    """Words of a command line may have bytes that belong to no letter."""
+    try:
+        text.encode("utf-8")
+    except UnicodeEncodeError:
+        shown = os.fsencode(text).decode("utf-8", "backslashreplace")
+        raise WrongWords(f"{what} is not UTF-8, and the server sees no such names: {shown}") from None
+
+
+def root_to_unwatch(word: str, watched: List[str]) -> Optional[str]:
+    """The watched root that a word means: the path as it is, without its links, or that of its project."""
+    given = os.path.abspath(word)
+    for path in (given, os.path.realpath(given)):
+        if path in watched:
+            return path
+    if os.path.isdir(given):
+        root = place_of(given, watched).root
+        return root if root in watched else None
+    return None
+
+
+def directory_and_globs(words: List[str]) -> Tuple[str, List[str]]:
+    """The directory, if the first word is one, and the globs. Without a directory it is the current one."""
+    for word in words:
+        require_utf8(word, "a word of the command line")
+    if words and is_directory(words[0]):
+        return words[0], words[1:]
+    if words and os.path.isabs(words[0]) and not any(letter in words[0] for letter in SPECIAL):
+        real_path(words[0])
+    return ".", words
+
+
+def is_directory(word: str) -> bool:
+    try:
+        return os.path.isdir(word) and not (any(letter in word for letter in SPECIAL) and not os.path.lexists(word))
+    except ValueError:
+        return False

@@ -1,0 +1,154 @@
+"""`wq run`: a command that runs now and after each change, one run at a time."""
+
+import argparse
+import os
+import select
+import signal
+import sys
+import time
+from typing import Any, Dict, List, Optional
+
+from .changes import FIELDS, File, counted
+from .commands_run import Command, Run, Unrunnable, status_words
+from .follow import Feed
+from .home import Home
+from .roots import directory_and_globs
+from .server import reached
+from .terminal import is_terminal, say, write
+from .trouble import Trouble, WrongWords
+
+# A run that is to end gets SIGTERM, and SIGKILL after so many seconds.
+GRACE = 5.0
+CLEAR = b"\x1b[H\x1b[2J\x1b[3J"
+
+
+def run(options: argparse.Namespace, home: Home) -> int:
+    if not options.command:
+        raise WrongWords("run takes `--` and a command after it, such as: wq run '*.c' -- make")
+    if options.quiet < 0:
+        raise WrongWords("--quiet takes a number of milliseconds from 0 on")
+    directory, globs = directory_and_globs(options.words)
+    command = Command(options.command, directory, options.stdin, options.print0, options.restart)
+    with reached(home) as server:
+        feed = Feed(server, directory, globs, options)
+        query: Dict[str, Any] = {"expression": feed.expression, "fields": FIELDS}
+        if not command.takes_names:
+            query["expression"] = "false"
+        found = server.ask("query", feed.place.root, query)
+        feed.subscribe(found["clock"])
+        return Runner(feed, command, options, found["files"]).loop()
+
+
+class Runner:
+    """Starts runs, and waits for their ends and for changes."""
+
+    def __init__(self, feed: Feed, command: Command, options: argparse.Namespace, files: List[File]) -> None:
+        self.feed = feed
+        self.command = command
+        self.options = options
+        self.run: Optional[Run] = None
+        # The names that the next run is given, in the order in which they came.
+        self.names: Dict[str, None] = {}
+        # Whether a run is due, and since when nothing more changed.
+        self.is_due = not options.postpone
+        self.quiet_since = -float("inf")
+        # When a run that is to end is killed.
+        self.killed_at = float("inf")
+        # Ends of children come as bytes in this pipe.
+        self.ended, self.wakeup = os.pipe()
+        if not options.postpone:
+            self.add(files)
+
+    def loop(self) -> int:
+        os.set_blocking(self.wakeup, False)
+        os.set_blocking(self.ended, False)
+        signal.set_wakeup_fd(self.wakeup, warn_on_full_buffer=False)
+        signal.signal(signal.SIGCHLD, lambda *_: None)
+        try:
+            while True:
+                status = self.step()
+                if status is not None:
+                    return status
+        finally:
+            signal.set_wakeup_fd(-1)
+            if self.run is not None:
+                self.run.end_at_once(GRACE)
+
+    def step(self) -> Optional[int]:
+        """What is to be done now, and a wait for what comes next; the status, if that was the last run."""
+        now = time.monotonic()
+        if self.run is not None and now >= self.killed_at:
+            self.run.signal(signal.SIGKILL)
+            self.killed_at = float("inf")
+        if self.is_due and now >= self.quiet_since + self.options.quiet / 1000:
+            if self.run is None:
+                self.start()
+            elif self.options.restart and not self.run.is_ending:
+                self.run.signal(signal.SIGTERM)
+                self.run.is_ending = True
+                self.killed_at = now + GRACE
+        self.wait(self.seconds_left(time.monotonic()))
+        return self.take_end()
+
+    def seconds_left(self, now: float) -> Optional[float]:
+        """How long to wait at most: until it is quiet, or until a run is killed."""
+        moments = [self.killed_at] if self.run is not None else []
+        if self.is_due and (self.run is None or self.options.restart and not self.run.is_ending):
+            moments.append(self.quiet_since + self.options.quiet / 1000)
+        nearest = min(moments, default=float("inf"))
+        return None if nearest == float("inf") else max(0.0, nearest - now)
+
+    def wait(self, seconds: Optional[float]) -> None:
+        """Waits for lists and ends."""
+        client = self.feed.server.client
+        if not client.lists:
+            poll = select.poll()
+            poll.register(client, select.POLLIN)
+            poll.register(self.ended, select.POLLIN)
+            events = dict(poll.poll(None if seconds is None else seconds * 1000 + 1))
+            if self.ended in events:
+                os.read(self.ended, 4096)
+            if client.fileno() not in events:
+                return
+            self.feed.take()
+        if client.lists:
+            for found in self.feed.lists():
+                self.add(found["files"])
+
+    def add(self, files: List[File]) -> None:
+        """Files that changed. A directory counts if its kind is asked for alone."""
+        files = counted(files, self.options)
+        if not self.options.type:
+            files = [file for file in files if file["type"] != "d"]
+        if not files:
+            return
+        for file in files:
+            name = self.feed.place.shown(file["name"])
+            self.names.pop(name, None)
+            if file["exists"]:
+                self.names[name] = None
+        self.is_due = True
+        self.quiet_since = time.monotonic()
+
+    def start(self) -> None:
+        """Starts a run, unless its command takes names and there are none: what changed is gone."""
+        self.is_due = False
+        names, self.names = list(self.names), {}
+        if self.command.takes_names and not names:
+            return
+        if self.options.clear and is_terminal(sys.stdout):
+            write(CLEAR)
+        try:
+            self.run = self.command.start(names)
+        except Unrunnable as reason:
+            raise Trouble(str(reason), status=reason.status) from None
+        self.killed_at = float("inf")
+
+    def take_end(self) -> Optional[int]:
+        """Tells how the run ended, if it did; its status, if it was to be the only one."""
+        if self.run is None or not self.run.has_ended():
+            return None
+        ended, self.run = self.run, None
+        status = ended.status()
+        say(f"{self.command.name} {status_words(ended.code())}", "green" if status == 0 else "red")
+        return status if self.options.once and not (ended.is_ending and self.is_due) else None

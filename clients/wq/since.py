@@ -1,0 +1,75 @@
+"""`wq since`: what changed since it was last asked under a name, which is a named cursor of the server."""
+
+import argparse
+import time
+from typing import Any, Dict, Optional
+
+from .changes import FIELDS, counted, print_changes
+from .globs import expression_of
+from .home import Home
+from .roots import Place, directory_and_globs, place_of, require_utf8
+from .server import reached
+from .state import keep, kept
+from .terminal import say, show
+from .trouble import FOUND, NOTHING, WrongWords
+from .values_shown import json_line
+
+CLOCKS = "clocks"
+LONGEST_NAME = 255
+
+
+def since(options: argparse.Namespace, home: Home) -> int:
+    name, (directory, globs) = options.name, directory_and_globs(options.words)
+    require_name(name)
+    with reached(home) as server:
+        place = place_of(directory, server.roots())
+        server.watch(place.root)
+        before = clock_kept(server.sockname, place, name)
+        query: Dict[str, Any] = {"fields": FIELDS, "expression": expression_of(place, globs, options)}
+        bound = before if options.peek else f"n:{name}"
+        if bound is not None:
+            query["since"] = bound
+        found = server.ask("query", place.root, query)
+        if found["is_fresh_instance"]:
+            say(f"{why_all(name, before, found['clock'], place)}, so all files are listed", "yellow")
+        if not options.peek:
+            keep({"clock": found["clock"]}, CLOCKS, server.sockname, place.root, name)
+    found["files"] = counted(found["files"], options)
+    if options.json:
+        show([json_line(found)])
+    else:
+        print_changes(found["files"], place, "\0" if options.print0 else "\n")
+    return FOUND if found["files"] else NOTHING
+
+
+def require_name(name: str) -> None:
+    require_utf8(name, "the name")
+    if not 1 <= len(name.encode()) <= LONGEST_NAME:
+        raise WrongWords(f"the name has {len(name.encode()):,} bytes, and 1 to {LONGEST_NAME} may be")
+
+
+def clock_kept(sockname: str, place: Place, name: str) -> Optional[str]:
+    """The clock that the last call under this name wrote."""
+    clock = (kept(CLOCKS, sockname, place.root, name) or {}).get("clock")
+    return clock if isinstance(clock, str) and clock.count(":") == 4 else None
+
+
+def why_all(name: str, before: Optional[str], now: str, place: Place) -> str:
+    """Why the server knows nothing of a name: by the clock of the last call, and the one of this."""
+    if before is None:
+        return f"{name} is new to this server"
+    _, start, process, root, _ = before.split(":")
+    _, other_start, other_process, other_root, _ = now.split(":")
+    if (start, process) != (other_start, other_process):
+        return f"the server was restarted since: it is of {time_of(other_start)}, and {name} was last asked of the one " \
+               f"of {time_of(start)}"
+    if root != other_root:
+        return f"{place.root} was unwatched since, and is watched anew"
+    return f"the server no longer knows {name}"
+
+
+def time_of(second: str) -> str:
+    try:
+        return time.strftime("%Y-%m-%d %H:%M:%S", time.localtime(int(second)))
+    except (OverflowError, ValueError, OSError):
+        return f"second {second}"

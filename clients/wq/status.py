@@ -1,0 +1,148 @@
+"""`wq status`: the server's process, its roots, triggers and programs."""
+
+import argparse
+import sys
+import time
+from typing import Any, Dict, Iterator, List, Optional
+
+from .home import Home
+from .processes import Facts, facts_of, start_of
+from .server import Server, reached
+from .state import kept
+from .terminal import painted, show
+from .trouble import FOUND
+from .values_shown import json_shown
+
+# How far back the last change is looked for, in seconds.
+AGES = (1, 10, 60, 600, 3_600, 21_600, 86_400, 604_800)
+MEBIBYTE = 1024 * 1024
+BUDGETS = "budgets"
+
+
+def status(options: argparse.Namespace, home: Home) -> int:
+    with reached(home, starts=False) as server:
+        found = facts(server, home)
+        if options.json:
+            show([json_shown(found)])
+        else:
+            show(lines_of(found))
+    return FOUND
+
+
+def facts(server: Server, home: Home) -> Dict[str, Any]:
+    process = facts_of(server.peer.process)
+    programs = server.ask("program-list")["programs"]
+    return {
+        "socket": server.sockname,
+        "version": home.version(),
+        "protocol": server.ask("version")["version"],
+        "process": server.peer.process,
+        **(process_facts(process) if process else {}),
+        "roots": [root_facts(server, root) for root in server.roots()],
+        "programs": [{"name": name, "budget": budget_of(server, name)} for name in programs],
+    }
+
+
+def process_facts(found: Facts) -> Dict[str, Any]:
+    return {
+        "program": found.program,
+        "started": int(found.started),
+        "memory": found.memory,
+        "processor_seconds": found.processor_seconds,
+        "threads": found.threads,
+        # This command is one of them, and soon gone.
+        "clients": None if found.clients is None else max(0, found.clients - 1),
+    }
+
+
+def root_facts(server: Server, root: str) -> Dict[str, Any]:
+    """The facts about a root: how long a crawl takes is measured by one."""
+    began = time.monotonic()
+    reply = server.reply(["clock", root, {"sync_timeout": 1}])
+    took = time.monotonic() - began
+    if "error" in reply:
+        return {"root": root, "error": reply["error"]}
+    letters = server.look("query", root, {"fields": ["type"], "sync_timeout": 0}).get("files", [])
+    return {
+        "root": root,
+        "files": len(letters),
+        "directories": letters.count("d"),
+        "tick": int(reply["clock"].rsplit(":", 1)[1]),
+        "crawl_seconds": round(took, 4),
+        "changed_within": changed_within(server, root),
+        "triggers": server.look("trigger-list", root).get("triggers", []),
+    }
+
+
+def changed_within(server: Server, root: str) -> Optional[int]:
+    """Of some ages the least within which something changed, in seconds; nothing if the change is older."""
+    for age in AGES:
+        query = {"since": max(0, int(time.time()) - age), "fields": ["type"], "sync_timeout": 0}
+        if server.look("query", root, query).get("files"):
+            return age
+    return None
+
+
+def budget_of(server: Server, name: str) -> Optional[int]:
+    """What a run of a stored program can cost at most, if `wqasm add` stored it: the server gives no program back."""
+    found = kept(BUDGETS, server.sockname, str(server.peer.process), start_of(server.peer.process), name)
+    budget = (found or {}).get("budget")
+    return budget if isinstance(budget, int) else None
+
+
+# In words.
+
+def lines_of(found: Dict[str, Any]) -> Iterator[str]:
+    yield row("server", f"{found['version'] or 'wqd'}, protocol {found['protocol']}")
+    yield row("socket", found["socket"])
+    if "program" in found:
+        yield row("process", f"{found['process']}, {found['program']}")
+        started = time.strftime("%Y-%m-%d %H:%M:%S", time.localtime(found["started"]))
+        yield row("since", f"{started}, {duration(time.time() - found['started'])}")
+        yield row("memory", f"{found['memory'] / MEBIBYTE:.1f} MiB")
+        yield row("processor", f"{found['processor_seconds']:.2f} s, {counted(found['threads'], 'thread')}")
+        if found["clients"] is not None:
+            yield row("clients", f"{found['clients']} beside this one, of at most 32")
+    else:
+        yield row("process", f"{found['process']}, of which the system tells nothing")
+    for root in found["roots"]:
+        yield from root_lines(root)
+    if not found["roots"]:
+        yield row("roots", "none")
+    for program in found["programs"]:
+        budget = "budget unknown" if program["budget"] is None else f"budget {program['budget']:,} steps a file"
+        yield row("program", f"{program['name']}, {budget}")
+
+
+def root_lines(root: Dict[str, Any]) -> Iterator[str]:
+    if "error" in root:
+        yield row("root", f"{root['root']}: {root['error']}", "red")
+        return
+    files = counted(root["files"] - root["directories"], "file")
+    directories = f"{root['directories']:,} director{'y' if root['directories'] == 1 else 'ies'}"
+    age = root["changed_within"]
+    changed = f"within {duration(age)}" if age is not None else "over a week ago"
+    yield row("root", root["root"])
+    yield row("", f"{files} and {directories}, tick {root['tick']}, a crawl takes {root['crawl_seconds']:.3f} s, "
+                  f"last change {changed}")
+    for trigger in root["triggers"]:
+        yield row("", f"trigger {trigger['name']}: {' '.join(trigger['command'])}")
+
+
+def row(head: str, text: str, colour: Optional[str] = None) -> str:
+    return painted(f"{head:<10}", "cyan" if head else None, sys.stdout) + painted(text, colour, sys.stdout)
+
+
+def counted(count: int, noun: str) -> str:
+    return f"{count:,} {noun}{'' if count == 1 else 's'}"
+
+
+def duration(seconds: float) -> str:
+    """A time span in its two largest units."""
+    parts: List[str] = []
+    left = int(seconds)
+    for unit, length in (("day", 86_400), ("hour", 3_600), ("minute", 60), ("second", 1)):
+        count, left = divmod(left, length)
+        if count:
+            parts.append(counted(count, unit))
+    return " ".join(parts[:2]) or "0 seconds"

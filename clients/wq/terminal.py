@@ -1,0 +1,75 @@
+"""What is written, and how: names, colours at a terminal, and the time that a first crawl takes."""
+
+import os
+import re
+import sys
+import time
+from typing import IO, Iterable, Optional
+
+COLOURS = {"red": "31", "green": "32", "yellow": "33", "blue": "34", "cyan": "36", "grey": "90"}
+OF_KINDS = {"d": "blue", "l": "cyan"}
+OF_MARKS = {"+": "green", "-": "red", "~": "yellow"}
+# What could move the cursor of a terminal.
+CONTROL = re.compile(r"[\x00-\x1f\x7f-\x9f]")
+
+
+def say(text: str, colour: Optional[str] = None) -> None:
+    """A line on standard error."""
+    if sys.stderr is None:
+        return
+    line = f"wq: {text}"
+    sys.stderr.buffer.write(painted(line, colour, sys.stderr).encode("utf-8", "surrogateescape") + b"\n")
+    sys.stderr.buffer.flush()
+
+
+def is_terminal(stream: Optional[IO[str]]) -> bool:
+    return stream is not None and stream.isatty()
+
+
+def has_colours(stream: Optional[IO[str]]) -> bool:
+    return is_terminal(stream) and not os.environ.get("NO_COLOR") and os.environ.get("TERM") != "dumb"
+
+
+def painted(text: str, colour: Optional[str], stream: Optional[IO[str]]) -> str:
+    return f"\x1b[{COLOURS[colour]}m{text}\x1b[0m" if colour and has_colours(stream) else text
+
+
+def write(data: bytes) -> None:
+    sys.stdout.buffer.write(data)
+    sys.stdout.buffer.flush()
+
+
+def show(lines: Iterable[str], ending: str = "\n") -> None:
+    """Writes lines to standard output, in UTF-8 whatever the locale is."""
+    write("".join(line + ending for line in lines).encode("utf-8", "surrogateescape"))
+
+
+def name_shown(name: str, colour: Optional[str], ending: str = "\n") -> str:
+    """A name as it is in the tree. At a terminal it has its colour, and control characters are shown as escapes."""
+    if ending != "\n" or not is_terminal(sys.stdout):
+        return name
+    return painted(CONTROL.sub(lambda found: f"\\x{ord(found[0]):02x}", name), colour, sys.stdout)
+
+
+class Progress:
+    """Tells on standard error how long a first crawl goes on, once it takes over a second."""
+
+    def __init__(self, subject: str) -> None:
+        self.subject = subject
+        self.began = time.monotonic()
+        self.has_told = False
+
+    def tell(self) -> None:
+        seconds = time.monotonic() - self.began
+        if is_terminal(sys.stderr):
+            print(f"\rwq: {self.subject}, {seconds:.0f} s so far ", end="", file=sys.stderr, flush=True)
+        elif not self.has_told:
+            say(self.subject)
+        self.has_told = True
+
+    def end(self) -> None:
+        if not self.has_told:
+            return
+        if is_terminal(sys.stderr):
+            print("\r\x1b[K", end="", file=sys.stderr, flush=True)
+        say(f"that took {time.monotonic() - self.began:.1f} s")

@@ -1,0 +1,23 @@
+"""How a command ends, and what it says if it cannot do what it was asked."""
+
+# The exit statuses.
+FOUND, NOTHING, WRONG_WORDS, FAILED = 0, 1, 2, 3
+INTERRUPTED = 130
+# As a shell says that SIGPIPE ended a command.
+BROKEN_PIPE = 141
+
+
+class Trouble(Exception):
+    """What is wrong, in lines for a person, and the exit status."""
+
+    def __init__(self, *lines: str, status: int = FAILED) -> None:
+        super().__init__("\n".join(lines))
+        self.lines = lines
+        self.status = status
+
+
+class WrongWords(Trouble):
+    """The words of the command line are wrong."""
+
+    def __init__(self, *lines: str) -> None:
+        super().__init__(*lines, status=WRONG_WORDS)

@@ -1,0 +1,51 @@
+"""`wq watch`, `wq unwatch` and `wq roots`: which directories the server watches."""
+
+import argparse
+
+from .home import Home
+from .roots import place_of, require_utf8, root_to_unwatch
+from .server import reached
+from .terminal import name_shown, say, show
+from .trouble import FOUND, NOTHING
+from .values_shown import json_shown
+
+
+def watch(options: argparse.Namespace, home: Home) -> int:
+    """Watches the projects of directories, and prints their roots."""
+    for word in options.words:
+        require_utf8(word, "a word of the command line")
+    with reached(home) as server:
+        for word in options.words or ["."]:
+            root = place_of(word, server.roots()).root
+            server.watch(root)
+            show([name_shown(root, None)])
+    return FOUND
+
+
+def unwatch(options: argparse.Namespace, home: Home) -> int:
+    """Gives places of roots back, also of a directory that is gone."""
+    status = FOUND
+    for word in options.words:
+        require_utf8(word, "a word of the command line")
+    with reached(home, starts=False) as server:
+        for word in options.words or ["."]:
+            watched = server.roots()
+            root = root_to_unwatch(word, watched)
+            if root is None:
+                say(f"{word} is not watched{'; watched are ' + ', '.join(watched) if watched else '; no root is'}")
+                status = NOTHING
+                continue
+            server.ask("watch-del", root)
+            show([name_shown(root, None)])
+    return status
+
+
+def roots(options: argparse.Namespace, home: Home) -> int:
+    with reached(home, starts=False) as server:
+        found = server.ask("watch-list")
+    ending = "\0" if options.print0 else "\n"
+    if options.json:
+        show([json_shown(found)])
+    else:
+        show((name_shown(root, None, ending) for root in found["roots"]), ending)
+    return FOUND if found["roots"] else NOTHING

@@ -1,0 +1,159 @@
+"""The words of each command, which argparse reads, and the pages of help."""
+
+import argparse
+from typing import Any, Dict, List, NamedTuple, NoReturn, Tuple
+
+from .trouble import WrongWords
+
+USAGE = """\
+usage: wq COMMAND [WORD..]      wq COMMAND --help      wq --version
+
+  find [DIR] [GLOB..]                  names that match, one a line
+  since NAME [DIR] [GLOB..]            what changed since it was last asked under this name: + created, - deleted, ~ changed
+  follow [DIR] [GLOB..]                changes as they come, until it is interrupted
+  run [DIR] [GLOB..] -- COMMAND..      runs a command now and after each change
+  status                               the server, its roots, triggers and programs
+  watch DIR..   unwatch DIR..   roots  which directories are watched
+  trigger DIR NAME [GLOB..] -- COMMAND..   has the server run a command after changes
+  triggers DIR   untrigger DIR NAME
+  ask LINE..                           lines of the protocol as they are; - reads them from standard input
+  start   stop   restart               the server, which also starts when a command needs it
+  explain EXPRESSION                   what an expression means, its program and what that costs
+
+DIR is the current directory if it is left out. The root that is watched is the nearest directory at or above it with .git,
+.hg or .watchmanconfig, else DIR. A GLOB without a slash is for the last part of a name, as '*.c', and one with a slash for
+the whole name below DIR, as 'src/**/*.c'. .git, .hg, node_modules and target are left out unless you say --all.
+
+The status is 0, or 1 if nothing is found, 2 for wrong words, 3 for an error, 130 if you stop it.
+"""
+NEEDS_DASHES = ("run", "trigger")
+
+
+class Parser(argparse.ArgumentParser):
+    """Refuses wrong words in one line."""
+
+    def error(self, message: str) -> NoReturn:
+        raise WrongWords(f"{message}; `{self.prog} --help` says which words there are")
+
+
+class Option(NamedTuple):
+    """An option as argparse takes it."""
+
+    names: Tuple[str, ...]
+    settings: Dict[str, Any]
+
+
+def flag(*names: str, help: str, **settings: Any) -> Option:
+    return Option(names, {"action": "store_true", "help": help, **settings})
+
+
+def value(*names: str, help: str, metavar: str, **settings: Any) -> Option:
+    return Option(names, {"help": help, "metavar": metavar, **settings})
+
+
+ALL = flag("--all", help="leave nothing out, neither .git, .hg, node_modules and target nor directories that changed")
+NARROWING = [
+    value("-t", metavar="KINDS", dest="type", help="kinds of files: f file, d directory, l link, as -t f,d"),
+    value("-e", metavar="EXT", dest="ext", action="append", help="a suffix, as -e c; -e h beside it for either"),
+    value("--exclude", metavar="GLOB", action="append", help="leave out what fits, and all below it"),
+    ALL,
+]
+ZEROS = flag("-0", dest="print0", help="a byte 0 after each name in place of a newline")
+JSON = flag("--json", help="the reply of the server")
+NUMBERS = [
+    value("--interval", metavar="MS", help="the pause between two rounds of crawls in milliseconds"),
+    value("--share", metavar="P", help="how much of one processor rounds may take at most, in percent; 10 if left out"),
+    value("--workers", metavar="N", help="how many threads a query may use"),
+]
+WORDS = value("words", metavar="WORD", nargs="*", help=argparse.SUPPRESS)
+DIRECTORY = value("directory", metavar="DIR", nargs="?", default=".", help="a directory of the root")
+
+
+class Form(NamedTuple):
+    """The words of a command: a line of usage, what it does, and its options."""
+
+    usage: str
+    about: str
+    options: List[Option]
+
+
+FORMS: Dict[str, Form] = {
+    "find": Form("[DIR] [GLOB..]", "prints the names that match, one a line", [
+        *NARROWING, value("--size", metavar="SIZE", help="+1M at least, -10k at most, 0 exactly"),
+        value("--newer", metavar="AGE", help="modified within this time, as 30s, 10m, 2h, 3d, 1w"),
+        value("--expression", metavar="JSON", help="an expression of the protocol, beside the other words"),
+        value("--program", metavar="NAME", help="a stored program, in place of the other words"),
+        flag("-l", dest="long", help="the kind, size, time and name of each"), ZEROS, JSON,
+        flag("--count", help="how many there are"),
+        Option(("--no-sync",), {"dest": "sync", "action": "store_false", "help": "as the last crawl saw it, without another"}),
+        flag("--keep", help="goes on to watch a root that was not watched before"), WORDS]),
+    "since": Form("NAME [DIR] [GLOB..]", "prints what changed since it was last asked under this name", [
+        *NARROWING, ZEROS, JSON, flag("--peek", help="by the clock that the last call wrote; the name does not move"),
+        value("name", metavar="NAME", help=argparse.SUPPRESS), WORDS]),
+    "follow": Form("[DIR] [GLOB..]", "prints changes as they come, until it is interrupted", [*NARROWING, ZEROS, JSON, WORDS]),
+    "run": Form("[DIR] [GLOB..] -- COMMAND..", "runs a command now and after each change; {} stands for the names", [
+        *NARROWING, value("--quiet", metavar="MS", type=int, default=100, help="a burst ends when it is so long quiet; 100"),
+        flag("--restart", help="a change ends the running one by SIGTERM, and after 5 seconds by SIGKILL"),
+        flag("--once", help="ends after one run, with its status"),
+        flag("--postpone", help="waits for the first change"),
+        flag("--clear", help="clears the terminal before each run"),
+        flag("--stdin", help="the names are lines on its standard input"),
+        flag("-0", dest="print0", help="with --stdin a byte 0 after each name"), WORDS]),
+    "status": Form("", "prints what the server does and costs", [JSON]),
+    "watch": Form("[DIR..]", "watches the projects of directories, and prints their roots", [WORDS]),
+    "unwatch": Form("[DIR..]", "gives places of roots back, also of directories that are gone", [WORDS]),
+    "roots": Form("", "prints the roots that are watched", [ZEROS, JSON]),
+    "trigger": Form("DIR NAME [GLOB..] -- COMMAND..", "has the server run a command in the root after changes; {} as its last "
+                    "word stands for the names", [
+                        *NARROWING, flag("--stdin", help="the names are lines on its standard input"),
+                        value("directory", metavar="DIR", help=argparse.SUPPRESS),
+                        value("name", metavar="NAME", help=argparse.SUPPRESS),
+                        value("globs", metavar="GLOB", nargs="*", help=argparse.SUPPRESS)]),
+    "triggers": Form("[DIR]", "prints the triggers of a root", [JSON, DIRECTORY]),
+    "untrigger": Form("DIR NAME", "takes a trigger out", [
+        value("directory", metavar="DIR", help=argparse.SUPPRESS), value("name", metavar="NAME", help=argparse.SUPPRESS)]),
+    "ask": Form("LINE..", "sends lines of the protocol, and prints the replies", [WORDS]),
+    "start": Form("", "starts a server, unless one listens", NUMBERS),
+    "stop": Form("", "ends the server", []),
+    "restart": Form("", "ends the server and starts one with the same words", NUMBERS),
+    "explain": Form("EXPRESSION", "says what an expression means, its program and what that costs", [
+        flag("--terms", help="lists the terms and what they take"),
+        value("expression", metavar="EXPRESSION", nargs="?", help=argparse.SUPPRESS)]),
+}
+
+
+def parser_of(command: str) -> Parser:
+    form = FORMS[command]
+    usage = f"wq {command} {form.usage}".rstrip() + (" [OPTION..]" if options_of(command) else "")
+    parser = Parser(prog=f"wq {command}", usage=usage, description=form.about, allow_abbrev=False)
+    for option in form.options:
+        parser.add_argument(*option.names, **option.settings)
+    return parser
+
+
+def options_of(command: str) -> List[str]:
+    """The names of the options of a command."""
+    return [name for option in FORMS[command].options for name in option.names if name.startswith("-")]
+
+
+def read(command: str, words: List[str]) -> argparse.Namespace:
+    """The words of a command. Those after two dashes are the command that it runs, and else no options."""
+    rest: List[str] = []
+    if "--" in words:
+        place = words.index("--")
+        words, rest = words[:place], words[place + 1:]
+    parser = parser_of(command)
+    if command in NEEDS_DASHES:
+        found = read_any_order(parser, command, words)
+        found.command = rest
+        return found
+    return read_any_order(parser, command, words, rest)
+
+
+def read_any_order(parser: Parser, command: str, words: List[str], rest: Any = ()) -> argparse.Namespace:
+    """Options may be before, between and after the other words."""
+    found, left = parser.parse_known_intermixed_args([*words, *(["--", *rest] if rest else [])])
+    if left:
+        parser.error(f"there is no word {left[0]}")
+    return found
+
