@@ -3,7 +3,7 @@
 
 usage() {
     cat << 'END'
-usage: wqd serve --sockname PATH --start N --pid N [--interval MS] [--share P] [--workers N]
+usage: wqd serve [--sockname PATH] [--interval MS] [--share P] [--workers N] [--start N] [--pid N]
        wqd replay < SCRIPT
        wqd check FILE
        wqd --help | --version
@@ -12,17 +12,16 @@ usage: wqd serve --sockname PATH --start N --pid N [--interval MS] [--share P] [
   replay   reads a script, and writes what each client in it is sent
   check    says whether a program file may run, and what it can cost
 
-  --sockname PATH   the path of the socket: at most 107 bytes, and that of its directory at most 99
-  --start N         the second of the start and
-  --pid N           the number of the process: they name this run in clock ids. Each is 0 to 2^62
+  --sockname PATH   the path of the socket: at most 107 bytes, and that of its directory at most 99. If left out, it is
+                    $WQD_SOCK, else $XDG_RUNTIME_DIR/wqd.sock, else wqd.sock in a directory of your own below $TMPDIR or /tmp
   --interval MS     the pause between two rounds of crawls in milliseconds, 10 to 3600000. It is 1000 if left out
   --share P         how much of one processor rounds may take at most, in percent: 1 to 100. There is no limit if it is
                     left out. A query that synchronises never waits for the pause that this makes
   --workers N       how many threads a query may use, 1 to 16. It is 1 if left out
+  --start N         the second of the start and
+  --pid N           the number of the process: they name this run in clock ids. Each is 0 to 2^62, and filled in if left out
 
-To start a server:
-
-  sh -c 'exec wqd serve --sockname "${XDG_RUNTIME_DIR:-$HOME}/wqd.sock" --start "$(date +%s)" --pid $$'
+wq is the command that asks the server, and starts one if none runs.
 END
 }
 
@@ -66,9 +65,6 @@ serve_fault() {
         seen="$seen$name "
         value_fault || return
     done
-    for name in --sockname --start --pid; do
-        case "$seen" in *"$name "*) ;; *) say "serve needs $name"; return ;; esac
-    done
 }
 
 # Says whether the value of a word is wrong, and fails then.
@@ -88,6 +84,47 @@ is_number() {
         '' | *[!0-9]* | 0?* | ????????????????????* | [5-9]??????????????????) return 1 ;;
     esac
     [ "$value" -ge "$1" ] && [ "$value" -le "$2" ]
+}
+
+# The path of the socket, if no word says it: the same as the clients take (clients/wqclient/sockets.py). A directory of the
+# user's own is made if there is no other.
+default_sockname() {
+    if [ -n "${WQD_SOCK-}" ]; then
+        absolute "$WQD_SOCK"
+    elif is_own "${XDG_RUNTIME_DIR-}" && [ -w "$XDG_RUNTIME_DIR" ] && [ -x "$XDG_RUNTIME_DIR" ]; then
+        say "$(absolute "$XDG_RUNTIME_DIR")/wqd.sock"
+    else
+        room=$(absolute "${TMPDIR:-/tmp}")/wqd-$(id -u)
+        mkdir -m 700 "$room" 2> /dev/null
+        if is_own "$room" && [ -n "$(find "$room" -prune -type d ! -perm /077)" ]; then
+            say "$room/wqd.sock"
+        else
+            say "wqd: $room is no directory of yours alone" >&2
+            return 1
+        fi
+    fi
+}
+
+absolute() {
+    case "$1" in
+        /*) say "${1%/}" ;;
+        *) say "$PWD/${1%/}" ;;
+    esac
+}
+
+# Whether a path names a directory of this user.
+is_own() {
+    [ -n "$1" ] && [ -d "$1" ] && [ -O "$1" ]
+}
+
+# Whether one of the words, after the first, says this option.
+has_option() {
+    wanted=$1
+    shift
+    for word in "$@"; do
+        case "$word" in "$wanted" | "$wanted"=*) return ;; esac
+    done
+    return 1
 }
 
 # The path after --sockname. Words after which there is a fault have none.
@@ -138,7 +175,8 @@ except OSError:
     sys.exit(1)' "$1" 2> /dev/null
 }
 
-# Runs the program in place of this shell, so that it keeps the number of the process. If it will refuse its words or its
+# Runs the program in place of this shell, so that it keeps the number of the process. What `serve` needs and was not told is
+# filled in first. If the program will refuse its words or its
 # socket, it runs below the shell, which then says the reason.
 # Memory that the program frees goes back to the system or is used again, whichever thread freed it, unless the
 # environment says otherwise.
@@ -149,6 +187,12 @@ run() {
     fault=$(word_fault "$@")
     if [ -z "$fault" ] && [ "$1" = serve ]; then
         refused=1
+        if ! has_option --sockname "$@"; then
+            sockname=$(default_sockname) || exit 1
+            set -- "$@" --sockname "$sockname"
+        fi
+        has_option --start "$@" || set -- "$@" --start "$(date +%s)"
+        has_option --pid "$@" || set -- "$@" --pid $$
         fault=$(socket_fault "$(sockname_of "$@")")
     fi
     if [ -z "$fault" ]; then exec "$program" "$@"; fi

@@ -8,7 +8,10 @@ import zipfile
 from pathlib import Path
 from typing import List, NamedTuple
 
+import completion
 import manual
+
+from wq import words as wq_words
 
 TOP = Path(__file__).resolve().parent.parent
 COMMAND = str(TOP / "wqd")
@@ -27,8 +30,15 @@ TAIL = """
 answer_help "$@"
 run "$@"
 """
-# The module of the archive that Python runs.
+# The modules of the archives that Python runs.
 WQASM_MAIN = "import sys\n\nfrom wqprogram.command import main\n\nsys.exit(main(sys.argv[1:]))\n"
+WQ_MAIN = """import os
+import sys
+
+from wq.command import main
+
+sys.exit(main(sys.argv[1:], os.path.dirname(os.path.realpath(sys.argv[0]))))
+"""
 # The modules that the command watchman and its bridge are made of.
 BRIDGE_PACKAGES = ["bridge", "wqclient"]
 # The manual pages of section 7: their pages in docs/, and what they are.
@@ -59,7 +69,7 @@ def built_program() -> bytes:
     """The program that the variable WQD names, or else the proved one, which is built if it is not built yet."""
     named = os.environ.get("WQD")
     if not named and subprocess.run([COMMAND, "--is-built"]).returncode != 0:
-        if subprocess.run([COMMAND, "replay"], stdin=subprocess.DEVNULL).returncode != 0:
+        if subprocess.run([COMMAND, "--build"]).returncode != 0:
             sys.exit(1)
     return Path(named or TOP / "crates" / "wqd" / "out" / "wqd").read_bytes()
 
@@ -68,13 +78,18 @@ def files(prefix: str) -> List[File]:
     """The files for a prefix."""
     return [
         File("bin/wqd", 0o755, (HEAD.format(version=version()) + text("contrib/command.sh") + TAIL).encode()),
+        File("bin/wq", 0o755, archive(["wq", "wqprogram", "wqclient"], WQ_MAIN)),
         File("bin/wqasm", 0o755, archive(["wqprogram", "wqclient"], WQASM_MAIN)),
         File("lib/wqd/wqd", 0o755, built_program()),
         File("lib/wqd/git-fsmonitor-hook", 0o755, text("contrib/git-fsmonitor-hook").encode()),
         File("share/man/man1/wqd.1", 0o644, server_manual().encode()),
+        File("share/man/man1/wq.1", 0o644, wq_manual().encode()),
         File("share/man/man1/wqasm.1", 0o644, wqasm_manual().encode()),
         *(File(f"share/man/man7/{name}.7", 0o644, reference_manual(name).encode()) for name in REFERENCE),
         File("share/systemd/user/wqd.service", 0o644, unit(prefix).encode()),
+        File("share/bash-completion/completions/wq", 0o644, completion.bash().encode()),
+        File("share/zsh/site-functions/_wq", 0o644, completion.zsh().encode()),
+        File("share/fish/vendor_completions.d/wq.fish", 0o644, completion.fish().encode()),
         File("share/bash-completion/completions/wqd", 0o644, text("contrib/wqd.bash").encode()),
         File("share/bash-completion/completions/wqasm", 0o644, text("contrib/wqasm.bash").encode()),
         File("share/doc/wqd/CHANGELOG.md", 0o644, text("CHANGELOG.md").encode()),
@@ -108,8 +123,26 @@ def archive(packages: List[str], main: str) -> bytes:
 
 
 def server_manual() -> str:
+    """The page of the server. How it is installed is no part of it."""
     summary = "a file watch server that speaks Watchman's JSON commands"
-    return manual.page(text("docs/SERVER.md"), "wqd", 1, summary, version(), said("--help"))
+    return manual.page(without(text("docs/SERVER.md"), "Installing it"), "wqd", 1, summary, version(), usage())
+
+
+def usage() -> str:
+    """The words of the installed command, as it says them itself."""
+    script = ["sh", "-c", '. "$1"; usage', "sh", str(TOP / "contrib" / "command.sh")]
+    return subprocess.run(script, stdout=subprocess.PIPE, check=True).stdout.decode()
+
+
+def without(page: str, heading: str) -> str:
+    """A page without one of its sections."""
+    begin = page.index(f"\n## {heading}\n")
+    return page[:begin] + page[page.index("\n## ", begin + 1):]
+
+
+def wq_manual() -> str:
+    summary = "asks wqd which files match and which changed, and runs commands on changes"
+    return manual.page(text("docs/WQ.md"), "wq", 1, summary, version(), wq_words.USAGE)
 
 
 def wqasm_manual() -> str:

@@ -14,6 +14,7 @@ LINK = re.compile(r"\[([^\]]*)\]\(([^)]*)\)")
 INLINE = re.compile(r"`([^`]+)`|\*\*(.+?)\*\*|\*([^* ][^*]*)\*|" + LINK.pattern)
 # The pages of docs/ that are pages of man.
 PAGES = {
+    "WQ.md": "wq(1)",
     "SERVER.md": "wqd(1)",
     "WQASM.md": "wqasm(1)",
     "PROTOCOL.md": "wqd-protocol(7)",

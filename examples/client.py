@@ -1,6 +1,7 @@
 #!/usr/bin/env python3
 """Prints the files below a directory, and after each Return that you press those that changed since. With a program file it
-prints only those for which the program says yes. The variable WQD_SOCK names the socket of the server.
+prints only those for which the program says yes. The variable WQD_SOCK names the socket of the server; without it, it is the
+one at which `wqd serve` and `wq start` listen.
 
     examples/client.py DIRECTORY [PROGRAM]
 """
@@ -30,10 +31,25 @@ class Client:
         return reply
 
 
+def default_sockname() -> str:
+    """In the directory of the session, or else in one of the user's own, which nobody else may have made."""
+    if os.environ.get("WQD_SOCK"):
+        return os.environ["WQD_SOCK"]
+    room = os.environ.get("XDG_RUNTIME_DIR", "")
+    if not (os.path.isdir(room) and os.stat(room).st_uid == os.getuid() and os.access(room, os.W_OK | os.X_OK)):
+        room = os.path.join(os.environ.get("TMPDIR") or "/tmp", f"wqd-{os.getuid()}")
+        if os.path.lexists(room) and (os.lstat(room).st_uid != os.getuid() or os.lstat(room).st_mode & 0o077):
+            sys.exit(f"{room} is no directory of yours alone")
+    return os.path.join(room, "wqd.sock")
+
+
 def main() -> None:
-    if len(sys.argv) < 2 or "WQD_SOCK" not in os.environ:
+    if len(sys.argv) < 2:
         sys.exit((__doc__ or "").strip())
-    client = Client(os.environ["WQD_SOCK"])
+    try:
+        client = Client(default_sockname())
+    except OSError as error:
+        sys.exit(f"{default_sockname()}: {error.strerror}; `wq start` starts a server")
     root = os.path.realpath(sys.argv[1])
     query = {"fields": ["name", "exists"]}
     if len(sys.argv) > 2:

@@ -24,7 +24,7 @@ def program_path() -> Path:
     """The program that the variable WQD names, or else the one that this repository builds."""
     path = Path(os.environ.get("WQD", DEFAULT_PROGRAM)).resolve()
     if not os.access(path, os.X_OK):
-        sys.exit(f"there is no program at {path}: build it with ./wqd, or name one by the variable WQD")
+        sys.exit(f"there is no program at {path}: build it with ./wqd --build, or name one by the variable WQD")
     return path
 
 

@@ -45,12 +45,12 @@ class Home:
             with alone(sockname):
                 if is_listened_on(sockname):
                     return False
+                words = words or serve_words(sockname)
                 if self.is_built():
-                    command = [self.wqd(), *serve_words(sockname)] if words is None else [self.wqd(), *words]
-                    begin(command, sockname, f"{sockname}.log", environment())
+                    begin([self.wqd(), *words], sockname, f"{sockname}.log", environment())
                     unproved.forget(sockname)
                 else:
-                    unproved.start(self.directory, sockname)
+                    unproved.start(self.directory, sockname, words)
         except Unstarted as reason:
             raise Trouble(f"the server did not start: {reason}") from None
         say(f"started a server at {sockname}")

@@ -9,11 +9,9 @@ from wqclient.lines import Ended
 from wqclient.sockets import default_sockname
 
 from . import unproved
-from .errors import culprits
 from .home import Home
 from .terminal import Progress, say
 from .trouble import NOTHING, Trouble
-from .warnings import warnings_of
 
 Value = Dict[str, Any]
 A_SECOND = 1.0
@@ -86,10 +84,9 @@ class Server:
 
     def ask(self, *command: Any, crawls: str = "") -> Value:
         """The reply to a command. An error is raised, with the line that names the culprit."""
-        for sentence in warnings_of(list(command)):
-            say(sentence, "yellow")
         found = self.reply(list(command), crawls)
         if "error" in found:
+            from .errors import culprits  # what is seldom needed is read only then
             raise Trouble(found["error"], *culprits(found["error"], list(command), self.look))
         return found
 

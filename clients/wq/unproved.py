@@ -10,7 +10,7 @@ from typing import List, Set
 
 from wqclient.client import Client
 from wqclient.sockets import is_listened_on, opened
-from wqclient.starting import PAUSE, Unstarted, said, serve_words
+from wqclient.starting import PAUSE, Unstarted, said
 
 from .terminal import say
 
@@ -41,17 +41,18 @@ def forget(sockname: str) -> None:
         os.unlink(note_of(sockname))
 
 
-def start(top: str, sockname: str) -> None:
-    """Compiles and starts a server, which listens when this ends. Whatever ends this before ends the server too."""
+def start(top: str, sockname: str, words: List[str]) -> None:
+    """Compiles a server and starts it with these words. It listens when this ends. Whatever ends this before ends
+    the server too."""
     if shutil.which("rt") is None:
         raise Unstarted("nothing is built, and the Rattle kit is missing: its command rt is not on the PATH")
     say(COMPILES)
     log = f"{sockname}.log"
-    words = ["rt", "try", "--seconds", str(STAY), "--", *serve_words(sockname)]
+    command = ["rt", "try", "--seconds", str(STAY), "--", *words]
     # A signal that comes while it begins is held back until the server can be ended for that.
     before = signal.pthread_sigmask(signal.SIG_BLOCK, SIGNALS)
     try:
-        server = begin(words, top, log, before)
+        server = begin(command, top, log, before)
     except BaseException:
         signal.pthread_sigmask(signal.SIG_SETMASK, before)
         raise
@@ -69,12 +70,12 @@ def start(top: str, sockname: str) -> None:
         raise
 
 
-def begin(words: List[str], top: str, log: str, signals: Set[signal.Signals]) -> "subprocess.Popen[bytes]":
+def begin(command: List[str], top: str, log: str, signals: Set[signal.Signals]) -> "subprocess.Popen[bytes]":
     """Begins a server in a session of its own, so that it outlives this call. It blocks these signals alone."""
     with open(log, "wb", opener=opened) as output:
         output.truncate()
         return subprocess.Popen(
-            words, cwd=os.path.join(top, "crates", "wqd"), start_new_session=True, stdin=subprocess.DEVNULL, stdout=output,
+            command, cwd=os.path.join(top, "crates", "wqd"), start_new_session=True, stdin=subprocess.DEVNULL, stdout=output,
             stderr=output, preexec_fn=lambda: signal.pthread_sigmask(signal.SIG_SETMASK, signals),
         )
 

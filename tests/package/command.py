@@ -4,11 +4,12 @@ import os
 import shutil
 import subprocess
 import sys
+import time
 from pathlib import Path
-from typing import List, Tuple
+from typing import Dict, List, Tuple
 
 import built
-from client import PATIENCE, PLAIN, Server, same
+from client import PATIENCE, PLAIN, Client, Server, same
 from installed import call
 
 GOOD = {"sockname": "/nothing/here", "start": "0", "pid": str(2**62), "interval": "10", "share": "1", "workers": "16"}
@@ -21,7 +22,6 @@ WRONG: List[Tuple[List[str], str]] = [
     (["replay", "now"], "replay takes no further words, and its script on standard input"),
     (["check"], "check takes one file"),
     (["check", "a", "b"], "check takes one file"),
-    (["serve"], "serve needs --sockname"),
     (["serve", "fr\\nob"], "serve takes no word fr\\nob"),
     (["serve", "--frob", "1"], "serve takes no word --frob"),
     (["serve", "--sockname"], "--sockname needs a value"),
@@ -57,8 +57,6 @@ def check_wrong_words(tally: built.Tally, room: Path) -> None:
     cases = list(WRONG)
     for name, value in WRONG_NUMBERS:
         cases.append((serve(**{name: value}), f"--{name} takes a number from {NUMBERS[name]}"))
-    for name in ("sockname", "start", "pid"):
-        cases.append(([word for word in serve() if word not in (f"--{name}", GOOD[name])], f"serve needs --{name}"))
     cases.append((serve() + ["--pid", "1"], "--pid is given twice"))
     for words, reason in cases:
         refused = f"wqd: wrong command line\nwqd: {reason}\n".encode()
@@ -118,8 +116,58 @@ def check_stale(tally: built.Tally, room: Path, words: List[str], sockname: str)
         process.stderr.close()
 
 
+def check_serve_without_words(tally: built.Tally, room: Path) -> None:
+    """The socket, the second and the process are filled in, unless they are said."""
+    runtime = room / "runtime"
+    runtime.mkdir(mode=0o700)
+    own = room / f"wqd-{os.getuid()}"
+    base = {name: value for name, value in os.environ.items() if name not in ("XDG_RUNTIME_DIR", "WQD_SOCK")}
+    base.update(WQD=str(built.program_path()), TMPDIR=str(room))
+    for name, words, values, sockname, numbers in (
+        ("nothing said", [], {"XDG_RUNTIME_DIR": str(runtime)}, runtime / "wqd.sock", {}),
+        ("WQD_SOCK", [], {"WQD_SOCK": str(room / "named")}, room / "named", {}),
+        ("no directory of the session", [], {"XDG_RUNTIME_DIR": str(room / "nothing")}, own / "wqd.sock", {}),
+        ("no variable", ["--interval", "50"], {}, own / "wqd.sock", {}),
+        ("words said", ["--sockname", str(room / "said"), "--start=7", "--pid", "9"], {}, room / "said", {1: "7", 2: "9"}),
+        ("one number said", ["--pid=9"], {"WQD_SOCK": str(room / "named")}, room / "named", {2: "9"}),
+    ):
+        found = served(words, {**base, **values}, sockname, room)
+        same(tally, f"serve with {name}", {place: found[place] for place in numbers}, numbers)
+        same(tally, f"the numbers of serve with {name}", (found[1], found[2]) if not numbers else None,
+             (found["start"], found["pid"]) if not numbers else None)
+    same(tally, "the mode of the user's own directory", own.stat().st_mode & 0o777, 0o700)
+    own.chmod(0o755)
+    command = [str(built.TOP / "wqd"), "serve"]
+    ended = subprocess.run(command, stderr=subprocess.PIPE, env=base, timeout=PATIENCE)
+    refused = f"wqd: {own} is no directory of yours alone\n".encode()
+    same(tally, "a directory that others enter", (ended.returncode, ended.stderr), (1, refused))
+
+
+def served(words: List[str], environment: Dict[str, str], sockname: Path, room: Path) -> dict:
+    """The parts of a clock of a server that is started with these words, and which numbers would be filled in."""
+    began = int(time.time())
+    process = subprocess.Popen([str(built.TOP / "wqd"), "serve", *words], stderr=subprocess.PIPE, env=environment)
+    try:
+        line = process.stderr.readline()
+        if line != f"listening on {sockname}\n".encode():
+            raise ValueError(f"the server says {line!r}")
+        root = room / "root"
+        root.mkdir(exist_ok=True)
+        with Client(str(sockname)) as client:
+            client.ask("watch", str(root))
+            parts: dict = dict(enumerate(client.ask("clock", str(root))["clock"].split(":")))
+            client.ask("shutdown-server")
+        process.wait(PATIENCE)
+    finally:
+        process.kill()
+        process.wait()
+        process.stderr.close()
+    start = next((str(second) for second in range(began, began + int(PATIENCE)) if str(second) == parts[1]), "none of now")
+    return {**parts, "start": start, "pid": str(process.pid)}
+
+
 def check_unbuilt_command(tally: built.Tally, room: Path) -> None:
-    """If nothing is built, wrong words are refused before anything is proved, and help and version need no program."""
+    """If nothing is built, that is said. Wrong words are refused before that, and help and version need no program."""
     bare(room)
     environment = {name: value for name, value in os.environ.items() if name != "WQD"}
     environment["PATH"] = str(tools(room))
@@ -130,8 +178,11 @@ def check_unbuilt_command(tally: built.Tally, room: Path) -> None:
 
     refused = b"wqd: wrong command line\nwqd: check takes one file\n"
     same(tally, "wrong words", ended("check"), built.Ended(b"", refused, 2))
+    unbuilt = b"wqd: not built: ./wqd --build proves and builds it (about 40 minutes on four processors), ./wq answers now\n"
+    for words in ((), ("serve",), ("replay",), ("check", "file")):
+        same(tally, f"nothing is built for {words}", ended(*words), built.Ended(b"", unbuilt, 1))
     missing = b"wqd: the Rattle kit is missing: its command rt is not on the PATH\n"
-    same(tally, "no kit", ended("replay"), built.Ended(b"", missing, 1))
+    same(tally, "no kit", ended("--build"), built.Ended(b"", missing, 1))
     prefix = room / "prefix"
     same(tally, "no kit to install", ended(str(prefix), name="install"), built.Ended(b"", missing, 1))
     same(tally, "what that leaves", prefix.exists(), False)
@@ -142,9 +193,11 @@ def check_unbuilt_command(tally: built.Tally, room: Path) -> None:
 
 def bare(room: Path) -> None:
     """A copy of the scripts at the top, beside one crate of one file, in which nothing is built."""
-    for name in ("ask", "install", "wqd", "CHANGELOG.md", "crates.txt"):
+    for name in ("install", "wq", "wqd", "CHANGELOG.md", "crates.txt"):
         shutil.copy(built.TOP / name, room / name)
     shutil.copytree(built.TOP / "contrib", room / "contrib")
+    for package in ("wq", "wqclient", "wqprogram"):
+        shutil.copytree(built.TOP / "clients" / package, room / "clients" / package)
     for part in ("src", "specs", "proofs"):
         (room / "crates" / "wqd" / part).mkdir(parents=True)
     (room / "crates" / "wqd" / "src" / "main.rt").write_text("fn main() {}\n")
@@ -154,6 +207,6 @@ def tools(room: Path) -> Path:
     """A directory with the commands that the scripts need, and no other."""
     directory = room / "bin"
     directory.mkdir()
-    for name in "sh dirname sed head tail find cat awk wc date mktemp rm touch env python3 cp mkdir mv grep sleep".split():
+    for name in "sh dirname sed head tail find cat awk wc date mktemp rm touch env python3 cp mkdir mv grep sleep id".split():
         (directory / name).symlink_to(shutil.which(name))
     return directory

@@ -3,10 +3,12 @@
 import shutil
 import subprocess
 from pathlib import Path
-from typing import List
+from typing import List, Optional
 
 import built
+import completion
 from client import same
+from wq.words import FORMS, options_of
 
 SCRIPT = '. "$1"; shift; COMP_WORDS=("$@"); COMP_CWORD=$(($# - 1)); "_$1"; printf "%s\\n" "${COMPREPLY[@]}"'
 
@@ -36,9 +38,38 @@ def check_completion(tally: built.Tally, room: Path) -> None:
         (["explain", "-"], [""]),
     ):
         same(tally, f"the completion of wqasm {words}", completed("wqasm", words), expected)
+    check_wq(tally, room)
 
 
-def completed(command: str, words: List[str]) -> List[str]:
-    script = str(built.TOP / "contrib" / f"{command}.bash")
-    ended = subprocess.run(["bash", "-c", SCRIPT, "bash", script, command, *words], stdout=subprocess.PIPE)
+def check_wq(tally: built.Tally, room: Path) -> None:
+    for words, expected in (
+        (["st"], ["status", "start", "stop"]),
+        (["find", "--ex"], ["--exclude", "--expression"]),
+        (["run", "--o"], ["--once"]),
+        (["since", "a", "-t", ""], ["f", "d", "l"]),
+        (["find", str(room) + "/a"], [str(room / "a file")]),
+        (["stop", "-"], ["--help"]),
+    ):
+        (room / "wq.bash").write_text(completion.bash())
+        same(tally, f"the completion of wq {words}", completed("wq", words, room / "wq.bash"), expected)
+    for shell, check in (("zsh", ["zsh", "-n"]), ("fish", ["fish", "--no-execute"])):
+        script = completion.SHELLS[shell]()
+        missing = [f"{command} {name}" for command in FORMS for name in options_of(command) if not names(shell, script, command, name)]
+        same(tally, f"words that {shell} does not complete", missing, [])
+        if shutil.which(shell) is not None:
+            (room / "script").write_text(script)
+            same(tally, f"how {shell} reads it", subprocess.run([*check, str(room / "script")]).returncode, 0)
+
+
+def names(shell: str, script: str, command: str, option: str) -> bool:
+    """Whether a script for a shell names this option of a command of wq."""
+    if shell == "zsh":
+        return any(f"*{option}[" in line for line in script.splitlines() if line.strip().startswith(f"{command}) "))
+    word = f" -l {option[2:]} " if option.startswith("--") else f" -s {option[1:]} "
+    return any(f"from {command}'" in line and word in line for line in script.splitlines())
+
+
+def completed(command: str, words: List[str], path: Optional[Path] = None) -> List[str]:
+    script = path or built.TOP / "contrib" / f"{command}.bash"
+    ended = subprocess.run(["bash", "-c", SCRIPT, "bash", str(script), command, *words], stdout=subprocess.PIPE)
     return ended.stdout.decode().splitlines()

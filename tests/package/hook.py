@@ -18,6 +18,7 @@ class Repository:
         self.path = room / "repository"
         self.environment: Dict[str, str] = {
             "PATH": os.environ["PATH"], "HOME": str(room), "GIT_CONFIG_NOSYSTEM": "1", "LC_ALL": "C",
+            "XDG_RUNTIME_DIR": str(room / "runtime"), "TMPDIR": str(room),
         }
         if sockname is not None:
             self.environment["WQD_SOCK"] = sockname
@@ -102,10 +103,19 @@ def check_hook_that_fails(tally: built.Tally, room: Path) -> None:
     """A hook that cannot ask says so in one line, and git looks at all files."""
     repository = Repository(room, None)
     repository.write("a", "a")
-    unset = b"wqd: git looks at all files, since the variable WQD_SOCK does not name the socket of a server\n"
+    own = room / f"wqd-{os.getuid()}"
+    answer = "wqd: git looks at all files, since {} does not answer: No such file or directory\n"
+    unset = answer.format(own / "wqd.sock").encode()
     same(tally, "without WQD_SOCK", repository.hook("2", ""), built.Ended(b"", unset, 1))
     ended = repository.git("status", "--porcelain")
     same(tally, "git without WQD_SOCK", (ended.output, ended.errors, ended.status), (b"?? a\n", unset, 0))
+    (room / "runtime").mkdir(mode=0o700)
+    with_session = answer.format(room / "runtime" / "wqd.sock").encode()
+    same(tally, "in a session", repository.hook("2", ""), built.Ended(b"", with_session, 1))
+    (room / "runtime").rmdir()
+    own.mkdir(mode=0o755)
+    others = f"wqd: git looks at all files, since {own} is no directory of yours alone\n".encode()
+    same(tally, "a directory that others enter", repository.hook("2", ""), built.Ended(b"", others, 1))
     repository.environment["WQD_SOCK"] = str(room / "socket")
     nobody = f"wqd: git looks at all files, since {room}/socket does not answer: No such file or directory\n".encode()
     same(tally, "without a server", repository.hook("2", ""), built.Ended(b"", nobody, 1))

@@ -15,21 +15,26 @@ import built
 from client import MALLOC, PATIENCE, VERSION, Client, same
 
 FILES = {
+    "bin/wq": 0o755,
     "bin/wqasm": 0o755,
     "bin/wqd": 0o755,
     "lib/wqd/files": 0o644,
     "lib/wqd/git-fsmonitor-hook": 0o755,
     "lib/wqd/wqd": 0o755,
+    "share/bash-completion/completions/wq": 0o644,
     "share/bash-completion/completions/wqasm": 0o644,
     "share/bash-completion/completions/wqd": 0o644,
     "share/doc/wqd/CHANGELOG.md": 0o644,
     "share/doc/wqd/copyright": 0o644,
+    "share/fish/vendor_completions.d/wq.fish": 0o644,
+    "share/man/man1/wq.1": 0o644,
     "share/man/man1/wqasm.1": 0o644,
     "share/man/man1/wqd.1": 0o644,
     "share/man/man7/wqd-programs.7": 0o644,
     "share/man/man7/wqd-protocol.7": 0o644,
     "share/man/man7/wqd-scripts.7": 0o644,
     "share/systemd/user/wqd.service": 0o644,
+    "share/zsh/site-functions/_wq": 0o644,
 }
 LIST = "lib/wqd/files"
 UNIT = "share/systemd/user/wqd.service"
@@ -50,6 +55,7 @@ def check_install(tally: built.Tally, room: Path) -> None:
         same(tally, f"how many files are there{turn}", len(listing(prefix)) - len(before), len(added_by(prefix, before)))
     check_server(tally, "installed", room, (prefix / UNIT).read_text())
     check_tool(tally, prefix)
+    check_wq(tally, prefix, room)
     removed = call(room, "install", "--remove", str(prefix))
     same(tally, "how ./install --remove ends", (removed.status, removed.errors), (0, b""))
     same(tally, "what ./install --remove leaves", listing(prefix), before)
@@ -69,6 +75,32 @@ def check_tool(tally: built.Tally, prefix: Path) -> None:
     found = built.Ended(ended.stdout, ended.stderr, ended.returncode)
     expected = (built.TOP / "examples" / "large.program").read_bytes()
     same(tally, "the installed tool", found, built.Ended(expected, b"", 0))
+
+
+def check_wq(tally: built.Tally, prefix: Path, room: Path) -> None:
+    """The installed wq starts the installed server, asks it from any directory, and ends it."""
+    runtime = room / "wq runtime"
+    runtime.mkdir(mode=0o700)
+    names = ("PATH", "LANG", "PYENV_VERSION")
+    environment = {name: os.environ[name] for name in names if name in os.environ}
+    environment.update(HOME=str(room), XDG_RUNTIME_DIR=str(runtime))
+
+    def wq(*words: str) -> built.Ended:
+        command = [str(prefix / "bin" / "wq"), *words]
+        ended = subprocess.run(command, cwd="/", stdout=subprocess.PIPE, stderr=subprocess.PIPE, env=environment, timeout=PATIENCE)
+        return built.Ended(ended.stdout, ended.stderr, ended.returncode)
+
+    started = f"wq: started a server at {runtime}/wqd.sock\n".encode()
+    same(tally, "the installed wq", wq("find", str(room / "root")), built.Ended(b"a.c\n", started, 0))
+    facts = json.loads(wq("status", "--json").output)
+    program = str((prefix / "lib" / "wqd" / "wqd").resolve())
+    found = (facts["program"], facts["version"], facts["roots"])
+    same(tally, "its status", found, (program, f"wqd {version_of(room)}", []))
+    same(tally, "its version", wq("--version").output, f"wq {version_of(room)}\n".encode())
+    ended = f"wq: the server at {runtime}/wqd.sock has ended\n".encode()
+    same(tally, "its end", wq("stop"), built.Ended(b"", ended, 0))
+    nobody = f"wq: no server listens on {runtime}/wqd.sock; `wq start` starts one\n".encode()
+    same(tally, "another end", wq("stop"), built.Ended(b"", nobody, 1))
 
 
 def check_default_prefix(tally: built.Tally, room: Path) -> None:
@@ -124,7 +156,7 @@ def check_package(tally: built.Tally, room: Path) -> None:
     expected = {path: mode for path, mode in FILES.items() if path != LIST}
     same(tally, "the files of the package", modes(directory / "usr", expected), expected)
     unit = (directory / "usr" / UNIT).read_text()
-    same(tally, "the unit of the package", 'exec "/usr/bin/wqd" serve' in unit, True)
+    same(tally, "the unit of the package", 'ExecStart="/usr/bin/wqd" serve' in unit, True)
     check_server(tally, "of the package", room, unit.replace("/usr/bin/wqd", f"{directory}/usr/bin/wqd"))
     remove()
     same(tally, "what a removed package leaves", (directory / "usr").exists(), False)

@@ -58,7 +58,8 @@ def check_table_of_files(tally: built.Tally, room: Path) -> None:
 def check_manual(tally: built.Tally, room: Path) -> None:
     """The pages of man: only known macros, all of ASCII, each heading, and each block of code as it is in the page."""
     for name, text, made in (
-        ("SERVER.md", files.text("docs/SERVER.md"), files.server_manual()),
+        ("WQ.md", files.text("docs/WQ.md"), files.wq_manual()),
+        ("SERVER.md", files.without(files.text("docs/SERVER.md"), "Installing it"), files.server_manual()),
         ("WQASM.md", files.text("docs/WQASM.md"), files.wqasm_manual()),
         *((page, files.text(f"docs/{page}"), files.reference_manual(name)) for name, (page, _) in files.REFERENCE.items()),
     ):

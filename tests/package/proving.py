@@ -1,4 +1,4 @@
-"""./wqd if nothing is built: it proves a copy of the program's crates alone, tells how far that is, and runs the program. A
+"""`./wqd --build`: it proves a copy of the program's crates alone, tells how far that is, and leaves the program. A
 stand-in for the kit's `rt` says what the real one says, and leaves the built program as that does."""
 
 import os
@@ -52,7 +52,7 @@ wq_base: itoa
 wqd: wq_base clap
 Handles allowed: none.
 """
-BEGINS = "wqd: the program is proved and built first; with four processors that takes about an hour\n"
+BEGINS = "wqd: the program is proved and built; that takes about 40 minutes on four processors\n"
 STEPS = r"wqd: wq_base is proved, 1 of 2 \(\d+ s so far.*\)\nwqd: wqd is proved, 2 of 2 \(\d+ s so far\)\n"
 
 
@@ -70,29 +70,31 @@ def check_proving(tally: built.Tally, room: Path) -> None:
     (kit / "rt").write_text(KIT)
     (kit / "rt").chmod(0o755)
 
-    def replay(fault: str) -> built.Ended:
+    def run(fault: str, *words: str) -> built.Ended:
         values = {
             "PATH": str(kit), "TMPDIR": str(room / "temporary"), "SEEN": str(room / "seen"), "FAULT": fault,
             "PROGRAM": str(built.program_path()),
         }
         environment = {name: value for name, value in os.environ.items() if name != "WQD"}
         done = subprocess.run(
-            [str(room / "wqd"), "replay"], stdin=subprocess.DEVNULL, stdout=subprocess.PIPE, stderr=subprocess.PIPE,
+            [str(room / "wqd"), *words], stdin=subprocess.DEVNULL, stdout=subprocess.PIPE, stderr=subprocess.PIPE,
             env={**environment, **values},
         )
         return built.Ended(done.stdout, done.stderr, done.returncode)
 
-    refused = replay("fn wqd::main: no proof")
+    refused = run("fn wqd::main: no proof", "--build")
     same(tally, "a crate that is not proved", (refused.status, refused.output), (1, b""))
     ends = r"rt: wq_base is kept: .*\nrt: wqd proved\nfn wqd::main: no proof\nwqd: the program could not be built\n"
     said(tally, "what is said of it", refused.errors, STEPS + ends)
     same(tally, "what that leaves", (room / "crates" / "wqd" / "out" / "wqd").exists(), False)
-    proved = replay("")
+    proved = run("", "--build")
     same(tally, "a program that is proved first", (proved.status, proved.output), (0, b""))
     said(tally, "what is said on the way", proved.errors, STEPS + r"wqd: built in \d+ s\n")
     same(tally, "the copy that is proved", (room / "seen").read_text(), SEEN)
     same(tally, "the copies are gone", list((room / "temporary").iterdir()), [])
-    same(tally, "the next run", replay("not asked"), built.Ended(b"", b"", 0))
+    same(tally, "a run of it", run("not asked", "replay"), built.Ended(b"", b"", 0))
+    again = built.Ended(b"", b"wqd: it is built already\n", 0)
+    same(tally, "the next build", run("not asked", "--build"), again)
 
 
 def said(tally: built.Tally, name: str, errors: bytes, pattern: str) -> None:

@@ -1,4 +1,4 @@
-"""./ask if nothing is built: a server that the kit compiles without proof. A script takes the place of the kit, and starts
+"""./wq if nothing is built: a server that the kit compiles without proof. A script takes the place of the kit, and starts
 the program as `rt try` does."""
 
 import os
@@ -10,7 +10,7 @@ from pathlib import Path
 from typing import Dict, List
 
 import built
-from client import PATIENCE, VERSION, Client, same
+from client import PATIENCE, Client, same
 from command import bare
 
 KIT = """#!/bin/sh
@@ -23,13 +23,12 @@ while [ -n "$WAITS" ] && [ ! -e "$ROOM/go" ]; do sleep 0.05; done
 [ -z "$FAILS" ] || { echo "error: it does not compile" >&2; exit 1; }
 exec "$PROGRAM" "$@"
 """
-STARTS = b"ask: nothing is built yet; a server is compiled without proof in one to three minutes, and stays for ten\n"
-NOT_PROVED = b"ask: this program is compiled from the same sources and not proved yet; ./wqd proves it\n"
-WAITS = b"ask: waiting for another ask of this repository\n"
+COMPILES = b"wq: nothing is built yet; a server is compiled without proof in one to three minutes, and stays for a day\n"
+NOT_PROVED = b"wq: not proved, and some 40 times slower a file, since it checks each access; ./wqd --build proves and builds it\n"
 
 
 class Asking:
-    """Calls of ./ask in a copy of the scripts in which nothing is built. At the end its server is ended."""
+    """Calls of ./wq in a copy of the scripts in which nothing is built. At the end its server is ended."""
 
     def __init__(self, room: Path) -> None:
         self.top = room / "top"
@@ -38,6 +37,7 @@ class Asking:
         self.calls = room / "calls"
         self.runtime = room / "run"
         self.runtime.mkdir(mode=0o700)
+        self.sockname = self.runtime / "wqd.sock"
         self.root = room / "root"
         self.root.mkdir()
         (self.root / "a.c").touch()
@@ -47,45 +47,36 @@ class Asking:
         (kit / "rt").chmod(0o755)
         self.environment: Dict[str, str] = {
             **os.environ, "PATH": f"{kit}:{os.environ['PATH']}", "XDG_RUNTIME_DIR": str(self.runtime), "ROOM": str(room),
-            "PROGRAM": str(built.program_path()),
+            "PROGRAM": str(built.program_path()), "XDG_STATE_HOME": str(room / "state"),
         }
-        self.environment.pop("WQD", None)
+        for name in ("WQD", "WQD_SOCK"):
+            self.environment.pop(name, None)
 
     def __enter__(self) -> "Asking":
         return self
 
     def __exit__(self, *_: object) -> None:
-        for name in self.runtime.glob("*/*.socket"):
-            try:
-                with Client(str(name)) as client:
-                    client.ask("shutdown-server")
-            except OSError:
-                pass
+        try:
+            with Client(str(self.sockname)) as client:
+                client.ask("shutdown-server")
+        except OSError:
+            pass
 
-    def start(self, *lines: str, **environment: str) -> subprocess.Popen:
+    def start(self, *words: str, **environment: str) -> subprocess.Popen:
         """A call, whose two streams are one, so that their order shows."""
-        command = [str(self.top / "ask"), str(self.root), *lines]
+        command = [str(self.top / "wq"), *words]
         environment = {**self.environment, **environment}
         return subprocess.Popen(
             command, stdout=subprocess.PIPE, stderr=subprocess.STDOUT, env=environment, preexec_fn=hear_interrupts)
 
-    def ask(self, *lines: str, **environment: str) -> built.Ended:
-        return ended(self.start(*lines, **environment))
+    def find(self, **environment: str) -> built.Ended:
+        return ended(self.start("find", str(self.root), **environment))
 
     def compilations(self) -> int:
         return len(self.calls.read_text().splitlines()) if self.calls.exists() else 0
 
-    def room(self) -> Path:
-        return next(self.runtime.iterdir())
-
-    def note(self) -> List[str]:
-        return (self.room() / "note").read_text().splitlines()
-
-    def client(self) -> Client:
-        return Client(self.note()[2])
-
-    def watched(self) -> bytes:
-        return f'{{"version":"wq-1","watch":"{self.root}","watcher":"poll"}}\n'.encode()
+    def started(self) -> bytes:
+        return f"wq: started a server at {self.sockname}\n".encode()
 
 
 def hear_interrupts() -> None:
@@ -99,65 +90,56 @@ def ended(process: subprocess.Popen) -> built.Ended:
 
 
 def check_unproved(tally: built.Tally, room: Path) -> None:
-    """The first call compiles, and says so before its reply; the next one finds the server, if it is of the same sources and
-    has time left."""
+    """The first call compiles, and says so before it answers; the next one finds the server, and says that it is not proved."""
     with Asking(room) as asking:
-        first = asking.ask('["version"]')
-        replies = asking.watched() + b'{"version":"wq-1"}\n'
-        same(tally, "a first call", first, built.Ended(STARTS + NOT_PROVED + replies, b"", 0))
+        first = built.Ended(COMPILES + asking.started() + NOT_PROVED + b"a.c\n", b"", 0)
+        second = built.Ended(NOT_PROVED + b"a.c\n", b"", 0)
+        same(tally, "a first call", asking.find(), first)
         words = asking.calls.read_text().split()
-        same(tally, "how the kit is called", words[:4] + words[4:5], ["try", "--seconds", "600", "--", "serve"])
-        same(tally, "the directory of the socket", asking.room().stat().st_mode & 0o777, 0o700)
-        second = built.Ended(NOT_PROVED + replies, b"", 0)
-        same(tally, "a second call", (asking.ask('["version"]'), asking.compilations()), (second, 1))
-        with asking.client() as client:
-            same(tally, "no root is left", client.ask("watch-list"), {"roots": [], **VERSION})
-        (asking.top / "crates" / "wqd" / "src" / "main.rt").write_text("fn main() { }\n")
-        same(tally, "sources that changed", (asking.ask('["version"]'), asking.compilations()), (first, 2))
-        sources, end, sockname = asking.note()
-        same(tally, "when it ends", 500 < int(end) - time.time() <= 600, True)
-        note = asking.room() / "note"
-        note.write_text(f"{sources}\n{int(time.time()) + 30}\n{sockname}\n")
-        same(tally, "a server with little time left", (asking.ask('["version"]'), asking.compilations()), (first, 3))
-        with asking.client() as client:
-            client.ask("shutdown-server")
-        same(tally, "a server that is gone", (asking.ask('["version"]'), asking.compilations()), (first, 4))
-        shut = asking.ask('["shutdown-server"]', '["version"]')
-        same(tally, "the end of the server", (shut.status, b"ask: a line was not answered\n" in shut.output), (1, True))
-        same(tally, "a call after the end", (asking.ask('["version"]'), asking.compilations()), (first, 5))
+        same(tally, "how the kit is called", words[:2] + words[3:5], ["try", "--seconds", "--", "serve"])
+        same(tally, "how long it stays", int(words[2]) >= 600, True)
+        same(tally, "a second call", (asking.find(), asking.compilations()), (second, 1))
+        same(tally, "no root is left", ended(asking.start("roots")), built.Ended(NOT_PROVED, b"", 1))
+        gone = NOT_PROVED + f"wq: the server at {asking.sockname} has ended\n".encode()
+        same(tally, "the end of the server", ended(asking.start("stop")), built.Ended(gone, b"", 0))
+        same(tally, "a call after the end", (asking.find(), asking.compilations()), (first, 2))
+        proved = subprocess.run([str(asking.top / "wqd"), "serve"], stderr=subprocess.PIPE, env=asking.environment)
+        same(tally, "wqd beside it", (proved.returncode, b"not built" in proved.stderr), (1, True))
 
 
 def check_turns(tally: built.Tally, room: Path) -> None:
     """Of calls at once one compiles, and the others wait for it."""
     with Asking(room) as asking:
-        calls = [asking.start('["version"]', COMPILES="1") for _ in range(3)]
+        calls = [asking.start("find", str(asking.root), "--keep", COMPILES="1") for _ in range(3)]
         done: List[bytes] = sorted((ended(call).output for call in calls), key=len)
-        replies = NOT_PROVED + asking.watched() + b'{"version":"wq-1"}\n'
-        same(tally, "calls at once", (done, asking.compilations()), ([WAITS + replies] * 2 + [STARTS + replies], 1))
+        reply = NOT_PROVED + b"a.c\n"
+        expected = [reply] * 2 + [COMPILES + asking.started() + reply]
+        same(tally, "calls at once", (done, asking.compilations()), (expected, 1))
 
 
 def check_compilation(tally: built.Tally, room: Path) -> None:
     """A compilation that fails, that is interrupted, and for which there is no kit; a directory that others may enter."""
     with Asking(room) as asking:
-        failed = STARTS + b"error: it does not compile\nask: the program could not be compiled\n"
-        same(tally, "a compilation that fails", asking.ask(FAILS="1"), built.Ended(failed, b"", 1))
-        for number in (signal.SIGTERM, signal.SIGINT):
+        words = b"wq: the server did not start: the program could not be compiled: error: it does not compile\n"
+        same(tally, "a compilation that fails", asking.find(FAILS="1"), built.Ended(COMPILES + words, b"", 3))
+        for number, status in ((signal.SIGTERM, 143), (signal.SIGINT, 130)):
             before = asking.compilations()
-            call = asking.start(WAITS="1")
+            call = asking.start("find", WAITS="1")
             wait_until(lambda: asking.compilations() > before)
             call.send_signal(number)
-            status = ended(call).status
-            same(tally, f"{number.name} to a call that compiles", status in (128 + number, -number, 130), True)
+            same(tally, f"{number.name} to a call that compiles", ended(call).status, status)
             (room / "go").touch()
             time.sleep(0.6)
-            same(tally, "its server", list(asking.room().glob("*.socket")), [])
+            same(tally, "its server", asking.sockname.exists(), False)
             (room / "go").unlink()
-        missing = asking.ask(PATH=f"{Path(os.path.realpath('/bin/sh')).parent}:{python_directory()}")
-        words = b"ask: the Rattle kit is missing: its command rt is not on the PATH\n"
-        same(tally, "no kit", missing, built.Ended(words, b"", 1))
-        asking.room().chmod(0o755)
-        words = f"ask: {asking.room()} is no directory of yours alone\n".encode()
-        same(tally, "a directory of others", asking.ask(), built.Ended(words, b"", 1))
+        missing = asking.find(PATH=f"{Path(os.path.realpath('/bin/sh')).parent}:{python_directory()}")
+        words = b"wq: the server did not start: nothing is built, and the Rattle kit is missing: its command rt is not on the PATH\n"
+        same(tally, "no kit", missing, built.Ended(words, b"", 3))
+        own = room / f"wqd-{os.getuid()}"
+        own.mkdir(mode=0o755)
+        words = f"wq: {own}: it is no directory of yours alone\n".encode()
+        refused = asking.find(XDG_RUNTIME_DIR="", TMPDIR=str(room))
+        same(tally, "a directory of others", refused, built.Ended(words, b"", 3))
 
 
 def python_directory() -> str:
@@ -171,13 +153,14 @@ def wait_until(is_so) -> None:
 
 
 def check_built_meanwhile(tally: built.Tally, room: Path) -> None:
-    """Once there is a built program, that one is asked, though the other server is still there."""
+    """A server of a built program is not said to be without proof. One that is there goes on until it is ended."""
     with Asking(room) as asking:
-        asking.ask()
+        asking.find()
         program = asking.top / "crates" / "wqd" / "out" / "wqd"
         program.parent.mkdir()
         program.write_text(f'#!/bin/sh\nexec "{built.program_path()}" "$@"\n')
         program.chmod(0o755)
-        done = asking.ask('["version"]')
-        same(tally, "a built program", (NOT_PROVED in done.output, b"listening on" in done.output), (False, True))
-        same(tally, "how it is asked", (done.status, asking.compilations()), (0, 1))
+        same(tally, "the server of before", asking.find(), built.Ended(NOT_PROVED + b"a.c\n", b"", 0))
+        ended(asking.start("stop"))
+        same(tally, "a built program", asking.find(), built.Ended(asking.started() + b"a.c\n", b"", 0))
+        same(tally, "how it is started", asking.compilations(), 1)
