@@ -2,7 +2,7 @@
 
 import time
 from pathlib import Path
-from typing import Callable, List, Set
+from typing import Callable, List, Set, Tuple
 
 import built
 from client import A_HOUR, PATIENCE, VERSION, Client, Server
@@ -19,6 +19,9 @@ TURNS = 4
 MOST_OF_A_WALK = 120
 NO_PLACE = b"cannot listen\n"
 ADDED = "V1FQRgEAAAAAAAAAAAACAQEAACMAAAA="
+# Three calls give so many names, of which the last one gives none, and two give those of the root.
+MANY = 2_000
+CALLS_OF_MANY = 5
 
 
 def make_tree(root: Path) -> None:
@@ -95,6 +98,37 @@ def follow(client: Client, root: Path, known: Set[str], truth: Set[str]) -> bool
     for file in reply["files"]:
         known.add(file["name"]) if file["exists"] else known.discard(file["name"])
     return known <= truth
+
+
+def check_a_directory_that_is_read_in_part(tally: built.Tally, room: Path) -> None:
+    """A call that gives names of a large directory fails after others gave some. The directory is listed without its names."""
+    if not has_strace(tally):
+        return
+    failures = 0
+    for number in range(1, MOST_OF_A_WALK):
+        found, failed = names_below(room, Fault("getdents64", "EIO", str(number)))
+        tally.check(f"all names of a directory or none, getdents64 {number} fails", found == (0 if failed else MANY), [f"{found}"])
+        if not failed:
+            break
+        failures += 1
+    tally.check("several calls gave the names of a directory", failures >= CALLS_OF_MANY, [f"{failures}"])
+
+
+def names_below(room: Path, fault: Fault) -> Tuple[int, bool]:
+    """How many names of a large directory a walk lists, and whether a call failed in it. The root is empty when it is watched."""
+    root, log = room / f"many-{fault.when}", room / "log"
+    root.mkdir()
+    with Server(room, interval=A_HOUR, through=[*SERVED, "-o", str(log), *fault.words()]) as server, server.client() as first:
+        watch(first, root)
+        before = count(log)
+        (root / "d").mkdir()
+        for file in range(MANY):
+            (root / "d" / f"{file:04}").touch()
+        with server.client() as other:
+            reply = other.ask("query", str(root), {"fields": ["name"]})
+            failed = count(log) > before
+        server.shut_down(first)
+    return sum(name.startswith("d/") for name in reply.get("files", [])), failed
 
 
 def check_streams_that_fail(tally: built.Tally, room: Path) -> None:

@@ -16,6 +16,7 @@ use Rattle.wq_live.specs.declared.event.RootEvent.{RootEvent}
 use Rattle.wq_replay.specs.Gets.{at_root, ending, fault_for, looked, refused_fault}
 use Rattle.wq_replay.specs.Playing.{Does, Runs, sent_to}
 use Rattle.wq_replay.specs.World.{HappeningData, Watches, WorldData, asked, at_events, crawl as crawls_root, watching, refusing, unrefused}
+use Rattle.wq_serve.specs.Basis.{Basis}
 use Rattle.wq_serve.specs.Desk.{AnswersAt, StandData}
 use Rattle.wq_serve.specs.Ready.{KnownData, Looks, LooksAfter, ReadyData}
 use Rattle.wq_serve.specs.Run.{ShowsAt}
@@ -51,16 +52,16 @@ none_by_number None is = refl
 none_by_number (Some root) is = absurd cc
 
 -- a look finds the root that the table has, or it was refused though the root is shown
-pub root_at : {X Y : Type 0} → HasOneView → (run : Run) (root : List ℕ) (seen : List RootEvent) (table : TableData) (at : Option AtData) → IsTableOf seen table
-    → (X × ShowsAt run root seen at) ⊎ (Y × (at ≡ None))
-    → (at ≡ option_map (at_root (run_data run)) (root_by_text root table)) ⊎ ((number : ℕ) × (number_of root seen ≡ Some number) × (at ≡ None))
-root_at one_view run root seen table at is (inl (begins, shows)) = inl (looks_find_roots one_view run root seen table at is shows)
-root_at one_view run root seen table at is (inr (same, unseen)) = by (number_of root seen) refl
+pub root_at : {X P Y Q : Type 0} → HasOneView → (run : Run) (root : List ℕ) (seen : List RootEvent) (table : TableData) (at : Option AtData) → IsTableOf seen table
+    → (X × ShowsAt run root seen at × P) ⊎ (Y × (at ≡ None) × Q)
+    → (at ≡ option_map (at_root (run_data run)) (root_by_text root table)) ⊎ ((number : ℕ) × (number_of root seen ≡ Some number) × (at ≡ None) × Y × Q)
+root_at one_view run root seen table at is (inl (begins, shows, published)) = inl (looks_find_roots one_view run root seen table at is shows)
+root_at {X} {P} {Y} {Q} one_view run root seen table at is (inr (same, unseen, refused)) = by (number_of root seen) refl
   where
     by : (number : Option ℕ) → number_of root seen ≡ number
-        → (at ≡ option_map (at_root (run_data run)) (root_by_text root table)) ⊎ ((number : ℕ) × (number_of root seen ≡ Some number) × (at ≡ None))
+        → (at ≡ option_map (at_root (run_data run)) (root_by_text root table)) ⊎ ((number : ℕ) × (number_of root seen ≡ Some number) × (at ≡ None) × Y × Q)
     by None gone = inl (unseen ∙ sym (ap (option_map (at_root (run_data run))) (none_by_number (root_by_text root table) (number_by seen table is root ∙ gone))))
-    by (Some number) there = inr (number, there, unseen)
+    by (Some number) there = inr (number, there, unseen, same, refused)
 
 -- the fault of a crawl counts if its root is shown
 crawl_fault : (root : List ℕ) (fault : CrawlFault) (table : TableData) (number : ℕ) → number_by_text root table ≡ Some number
@@ -103,17 +104,17 @@ ran_out : (out : OutData) → MayRefuse OutOfMemory out → out ≡ runs_out Non
 ran_out out (inl is) = is
 ran_out out (inr (stays, is)) = is
 
-module _ (one_view : HasOneView) (run : Run) (client : ℤ) (before after : PlaceData) (world : WorldData) (ask : Ask) (out : OutData)
-    (shows : ShowsWorld run client true before world) (current : IsCurrent after.known) where
+module _ (one_view : HasOneView) (basis : Basis) (client : ℤ) (before after : PlaceData) (world : WorldData) (ask : Ask) (out : OutData)
+    (shows : ShowsWorld basis.run client true before world) (current : IsCurrent after.known) where
   -- the look for an ask with this need was refused
   abbrev pub IsBlind : NeedData → Type 0
   IsBlind need = (root : List ℕ) × (number : ℕ) × (root_needed need ≡ Some root) × (number_of root (after.known).seen ≡ Some number)
-      × IsUnwatched ask before out after
+      × IsUnwatched ask before out after × basis.refused (after.known).seen
 
   -- an ask with this need is a run
   abbrev pub IsAskRun : NeedData → Type 0
   IsAskRun need = (first : List HappeningData) × (next : WorldData) × HappensFirst need first
-      × Runs world (first ++ asked client ask ∷ []) (sent_to client out) next × ShowsWorld run client out.goes_on after next
+      × Runs world (first ++ asked client ask ∷ []) (sent_to client out) next × ShowsWorld basis.run client out.goes_on after next
 
   -- the list that is published after the event is the session's last
   pub now_seen : (left : CrawlerData) → (after.known).roots ≡ Some left → (after.known).seen ≡ left.events
@@ -163,15 +164,15 @@ module _ (one_view : HasOneView) (run : Run) (client : ℤ) (before after : Plac
 
   -- an answer after a look, in the world or in one with more events
   module _ (between : WorldData) (same_shelf : between.shelf ≡ world.shelf) (same_follows : between.follows ≡ world.follows)
-      (of_run : between.run ≡ run_data run) (none_refused : between.refused ≡ None)
+      (of_run : between.run ≡ run_data basis.run) (none_refused : between.refused ≡ None)
       (seen : between.events ≡ (after.known).seen) where
-    pub looks_well : {X Y : Type 0} (need : NeedData) (root : List ℕ) (at : Option AtData) → need_of ask ≡ need → root_needed need ≡ Some root
+    pub looks_well : {X P : Type 0} {heard : List RootEvent} (need : NeedData) (root : List ℕ) (at : Option AtData) → need_of ask ≡ need → root_needed need ≡ Some root
         → ((table : TableData) → looked need between.run table ≡ option_map (at_root between.run) (root_by_text root table))
         → ((table : TableData) → ending need table ≡ None)
-        → (X × ShowsAt run root (after.known).seen at) ⊎ (Y × (at ≡ None))
-        → AnswersAt (stand_at before) ask at out (stand_at after) → IsBlind need ⊎ AsksWell run client between ask out after
-    looks_well need root at needs named looks ends sees answers =
-        by (root_at one_view run root (after.known).seen table at current.4 sees)
+        → (X × ShowsAt basis.run root (after.known).seen at × P) ⊎ (((after.known).seen ≡ heard) × (at ≡ None) × basis.refused heard)
+        → AnswersAt (stand_at before) ask at out (stand_at after) → IsBlind need ⊎ AsksWell basis.run client between ask out after
+    looks_well {X} {P} {heard} need root at needs named looks ends sees answers =
+        by (root_at one_view basis.run root (after.known).seen table at current.4 sees)
       where
         table : TableData
         table = current.1
@@ -185,62 +186,62 @@ module _ (one_view : HasOneView) (run : Run) (client : ℤ) (before after : Plac
         endless : ending (need_of ask) table ≡ None
         endless = ap (λ n. ending n table) needs ∙ ends table
 
-        blind : (number : ℕ) → number_of root (after.known).seen ≡ Some number → IsUnwatched ask before out after ⊎ RanOut
-            → IsBlind need ⊎ AsksWell run client between ask out after
-        blind number there (inl unwatched) = inl (root, number, named, there, unwatched)
-        blind number there (inr (takes, short, shown, kept)) =
-            inr (asked_well run client between after ask out table is of_run current between.shelf faultless endless
+        blind : (number : ℕ) → number_of root (after.known).seen ≡ Some number → basis.refused (after.known).seen → IsUnwatched ask before out after ⊎ RanOut
+            → IsBlind need ⊎ AsksWell basis.run client between ask out after
+        blind number there refused (inl unwatched) = inl (root, number, named, there, unwatched, refused)
+        blind number there refused (inr (takes, short, shown, kept)) =
+            inr (asked_well basis.run client between after ask out table is of_run current between.shelf faultless endless
             (inr (inl (takes, short, refl, kept ∙ sym (ap (λ f. f client) same_follows))))
             (shown ∙ ap Some (sym same_shelf)) seen)
 
-        by : (at ≡ option_map (at_root (run_data run)) (root_by_text root table)) ⊎ ((number : ℕ) × (number_of root (after.known).seen ≡ Some number) × (at ≡ None))
-            → IsBlind need ⊎ AsksWell run client between ask out after
-        by (inr (number, there, unseen)) =
-            blind number there (unwatched_or_short (subst (λ a. AnswersAt (stand_at before) ask a out (stand_at after)) unseen answers))
+        by : (at ≡ option_map (at_root (run_data basis.run)) (root_by_text root table)) ⊎ ((number : ℕ) × (number_of root (after.known).seen ≡ Some number) × (at ≡ None) × ((after.known).seen ≡ heard) × basis.refused heard)
+            → IsBlind need ⊎ AsksWell basis.run client between ask out after
+        by (inr (number, there, unseen, same, refused)) =
+            blind number there (subst (λ e. basis.refused e) (sym same) refused) (unwatched_or_short (subst (λ a. AnswersAt (stand_at before) ask a out (stand_at after)) unseen answers))
         by (inl same) =
             let it = world_answers at answers in
             let said : at ≡ looked (need_of ask) between.run table =
             same ∙ ap (λ r. option_map (at_root r) (root_by_text root table)) (sym of_run) ∙ sym (looks table) ∙ ap (λ n. looked n between.run table) (sym needs) in
-            inr (asked_well run client between after ask out table is of_run current it.0 faultless endless
+            inr (asked_well basis.run client between after ask out table is of_run current it.0 faultless endless
             (answers_at ask out at (looked (need_of ask) between.run table) world.shelf between.shelf it.0 (world.follows client) (between.follows client) after.follows
             said same_shelf (ap (λ f. f client) same_follows) it.1)
             it.2 seen)
 
   -- the session looked at a root after the roots told something of it
   pub looked_after : (root : List ℕ) (told : Result (Option (List RootEvent)) CrawlFault) (list : Option (List RootEvent)) (heard : KnownData) (ready : ReadyData)
-      → told ≡ Ok list → LooksAfter run root told heard ready after.known → Replies ready ask (stand_at before) out (stand_at after)
-      → (at : Option AtData) × Looks run root heard at after.known × AnswersAt (stand_at before) ask at out (stand_at after)
+      → told ≡ Ok list → LooksAfter basis root told heard ready after.known → Replies ready ask (stand_at before) out (stand_at after)
+      → (at : Option AtData) × Looks basis root heard at after.known × AnswersAt (stand_at before) ask at out (stand_at after)
   looked_after root told list heard ready is looks replies =
-      let it = subst (λ t. LooksAfter run root t heard ready after.known) is looks in
+      let it = subst (λ t. LooksAfter basis root t heard ready after.known) is looks in
       (it.0, it.1, subst (λ (r : ReadyData). Replies r ask (stand_at before) out (stand_at after)) it.2 replies)
 
   -- or they refused
   pub refused_after : (root : List ℕ) (told : Result (Option (List RootEvent)) CrawlFault) (fault : CrawlFault) (heard : KnownData) (ready : ReadyData)
-      → told ≡ Err fault → LooksAfter run root told heard ready after.known → Replies ready ask (stand_at before) out (stand_at after)
+      → told ≡ Err fault → LooksAfter basis root told heard ready after.known → Replies ready ask (stand_at before) out (stand_at after)
       → (after.known ≡ heard) × MayRefuse (crawl_refusal fault) out × (stand_at after ≡ stand_at before)
   refused_after root told fault heard ready is looks replies =
-      let it = subst (λ t. LooksAfter run root t heard ready after.known) is looks in
+      let it = subst (λ t. LooksAfter basis root t heard ready after.known) is looks in
       let by = subst (λ (r : ReadyData). Replies r ask (stand_at before) out (stand_at after)) it.0 replies in
       (it.1, by.0, by.1)
 
   -- the ask alone
-  pub alone_asked : (need : NeedData) → HappensFirst need [] → IsBlind need ⊎ AsksWell run client world ask out after → IsBlind need ⊎ IsAskRun need
+  pub alone_asked : (need : NeedData) → HappensFirst need [] → IsBlind need ⊎ AsksWell basis.run client world ask out after → IsBlind need ⊎ IsAskRun need
   alone_asked need happens (inl blind) = inl blind
   alone_asked need happens (inr (next, runs, shown)) = inr ([], next, happens, runs, shown)
 
   -- the ask after another happening
   pub then_asked : (need : NeedData) (first : HappeningData) (between : WorldData) → HappensFirst need (first ∷ []) → Does world first [] between
-      → IsBlind need ⊎ AsksWell run client between ask out after → IsBlind need ⊎ IsAskRun need
+      → IsBlind need ⊎ AsksWell basis.run client between ask out after → IsBlind need ⊎ IsAskRun need
   then_asked need first between happens does (inl blind) = inl blind
   then_asked need first between happens does (inr well) =
-      let it = after_first run client world between first ask out after does well in
+      let it = after_first basis.run client world between first ask out after does well in
       inr (first ∷ [], it.0, happens, it.1, it.2)
 
   -- a session that knows nothing new looks in the world as it is
-  pub looks_here : {X Y : Type 0} (need : NeedData) (root : List ℕ) (at : Option AtData) → need_of ask ≡ need → root_needed need ≡ Some root
+  pub looks_here : {X P : Type 0} {heard : List RootEvent} (need : NeedData) (root : List ℕ) (at : Option AtData) → need_of ask ≡ need → root_needed need ≡ Some root
       → ((table : TableData) → looked need world.run table ≡ option_map (at_root world.run) (root_by_text root table))
       → ((table : TableData) → ending need table ≡ None) → HappensFirst need []
-      → (X × ShowsAt run root (after.known).seen at) ⊎ (Y × (at ≡ None))
+      → (X × ShowsAt basis.run root (after.known).seen at × P) ⊎ (((after.known).seen ≡ heard) × (at ≡ None) × basis.refused heard)
       → AnswersAt (stand_at before) ask at out (stand_at after) → (after.known).roots ≡ Some (shows.current).0 → IsBlind need ⊎ IsAskRun need
   looks_here need root at needs named looks ends happens sees answers there =
       alone_asked need happens
@@ -250,9 +251,9 @@ module _ (one_view : HasOneView) (run : Run) (client : ℤ) (before after : Plac
   refused_here : (need : NeedData) (root : List ℕ) (fault : CrawlFault) (heard : KnownData) (left : CrawlerData) → need_of ask ≡ need
       → ((table : TableData) → IsTableOf world.events table → fault_for need table (Some (record { root = root; fault = fault })) ≡ Some fault)
       → after.known ≡ heard → heard.roots ≡ Some left → left.events ≡ ((shows.current).0).events → MayRefuse (crawl_refusal fault) out
-      → stand_at after ≡ stand_at before → AsksWell run client (refusing root fault world) ask out after
+      → stand_at after ≡ stand_at before → AsksWell basis.run client (refusing root fault world) ask out after
   refused_here need root fault heard left needs faulty known there same may stands =
-      refused_well run client (refusing root fault world) after ask out table_before of_before shows.of_run current fault
+      refused_well basis.run client (refusing root fault world) after ask out table_before of_before shows.of_run current fault
       (ap (λ n. fault_for n table_before (Some (record { root = root; fault = fault }))) needs ∙ faulty table_before of_before) may
       (ap (λ (s : StandData). s.shelf) stands ∙ shows.shelf)
       (shows.follows ∙ sym (ap (λ (s : StandData). s.follows) stands))
@@ -265,11 +266,11 @@ module _ (one_view : HasOneView) (run : Run) (client : ℤ) (before after : Plac
 
   -- an ask that needs a crawl
   module _ (root : List ℕ) (ready : ReadyData) (told : Result (Option (List RootEvent)) CrawlFault) (heard : KnownData) (left : CrawlerData)
-      (there : heard.roots ≡ Some left) (looks : LooksAfter run root told heard ready after.known)
+      (there : heard.roots ≡ Some left) (looks : LooksAfter basis root told heard ready after.known)
       (replies : Replies ready ask (stand_at before) out (stand_at after)) where
     crawl_refused : (number : ℕ) (fault : CrawlFault) → need_of ask ≡ crawl root → number_of root ((shows.current).0).events ≡ Some number
         → left.events ≡ ((shows.current).0).events → told ≡ Err fault
-        → AsksWell run client (refusing root fault world) ask out after
+        → AsksWell basis.run client (refusing root fault world) ask out after
     crawl_refused number fault needs numbered same is =
         let it = refused_after root told fault heard ready is looks replies in
         refused_here (crawl root) root fault heard left needs
@@ -278,7 +279,7 @@ module _ (one_view : HasOneView) (run : Run) (client : ℤ) (before after : Plac
 
     crawl_failed : (number : ℕ) (fault : CrawlFault) (crawler : CrawlerData) → need_of ask ≡ crawl root → number_of root ((shows.current).0).events ≡ Some number
         → IsNoPassOver root crawler fault left ⊎ ((pass : PassData) × IsPassOver root crawler pass left × IsNotTakenIn ((shows.current).0).events number pass fault)
-        → AsksWell run client (refusing root fault world) ask out after → IsBlind (crawl root) ⊎ IsAskRun (crawl root)
+        → AsksWell basis.run client (refusing root fault world) ask out after → IsBlind (crawl root) ⊎ IsAskRun (crawl root)
     crawl_failed number fault crawler needs numbered (inl unlisted) well =
         then_asked (crawl root) (crawls_root root (Err fault)) (refusing root fault world) (inr (Err fault, refl)) (refl, refl) (inr well)
     crawl_failed number fault crawler needs numbered (inr (pass, over, inr memory)) well =
@@ -326,7 +327,7 @@ module _ (one_view : HasOneView) (run : Run) (client : ℤ) (before after : Plac
     watch_short fault needs memory same is =
         let it = refused_after root told fault heard ready is looks replies in
         alone_asked (watch root) (inl refl)
-        (inr (asked_well run client world after ask out table_before of_before shows.of_run current world.shelf
+        (inr (asked_well basis.run client world after ask out table_before of_before shows.of_run current world.shelf
         (ap (fault_for (need_of ask) table_before) shows.refused ∙ no_fault (need_of ask) table_before)
         (ap (λ n. ending n table_before) needs)
         (inr (inl (

@@ -8,9 +8,11 @@ use Rattle.wq_crawl.specs.Crawl.{CrawlerData}
 use Rattle.wq_crawl.specs.declared.fault.CrawlFault.{CrawlFault}
 use Rattle.wq_live.specs.Event.{number_of}
 use Rattle.wq_live.specs.Table.{IsTableOf, TableData}
+use Rattle.wq_live.specs.declared.event.RootEvent.{RootEvent}
 use Rattle.wq_replay.specs.Gets.{kept}
 use Rattle.wq_replay.specs.Playing.{Runs, sent_to}
 use Rattle.wq_replay.specs.World.{WorldData, HappeningData, SentData, crawl, watching, asked, idle}
+use Rattle.wq_serve.specs.Basis.{Basis}
 use Rattle.wq_serve.specs.Ready.{KnownData}
 use Rattle.wq_serve.specs.Serving.{GoesOn, PlaceData, Serves, lines_for, written_for}
 use Rattle.wq_session.specs.Answer.{answer, giving}
@@ -57,22 +59,27 @@ HappensFirst (watch_of root) first = (first ≡ [])
     ⊎ ((seen : Result PassData CrawlFault) × (first ≡ watching root seen ∷ []))
 HappensFirst _ first = first ≡ []
 
+-- a look was refused
+abbrev pub WasRefused : Basis → Type 0
+WasRefused basis = (seen : List RootEvent) × basis.refused seen
+
 -- the happenings in a world for an event of a client. For an idle moment it is that moment, or
 -- there is none if its look was refused. For any other event it is an ask, after the happenings
 -- that the ask needs
-abbrev pub HappensFor : ℤ → Event → List HappeningData → Type 0
-HappensFor client (Idle root) happenings =
-    (happenings ≡ []) ⊎ (happenings ≡ idle client root ∷ [])
-HappensFor client event happenings = (ask : Ask) × (first : List HappeningData)
+abbrev pub HappensFor : Basis → ℤ → Event → List HappeningData → Type 0
+HappensFor basis client (Idle root) happenings =
+    ((happenings ≡ []) × WasRefused basis) ⊎ (happenings ≡ idle client root ∷ [])
+HappensFor basis client event happenings = (ask : Ask) × (first : List HappeningData)
     × Asks event ask × HappensFirst (need_of ask) first
     × (happenings ≡ first ++ asked client ask ∷ [])
 
 -- the happenings for events of a client, one after the other
-abbrev pub HappensInTurn : ℤ → List Event → List HappeningData → Type 0
-HappensInTurn client [] happenings = happenings ≡ []
-HappensInTurn client (event ∷ later) happenings =
-    (first : List HappeningData) × (rest : List HappeningData) × HappensFor client event first
-    × (happenings ≡ first ++ rest) × HappensInTurn client later rest
+abbrev pub HappensInTurn : Basis → ℤ → List Event → List HappeningData → Type 0
+HappensInTurn basis client [] happenings = happenings ≡ []
+HappensInTurn basis client (event ∷ later) happenings =
+    (first : List HappeningData) × (rest : List HappeningData)
+    × HappensFor basis client event first × (happenings ≡ first ++ rest)
+    × HappensInTurn basis client later rest
 
 -- the root that is needed, if one is
 abbrev pub root_needed : NeedData → Option (List ℕ)
@@ -91,76 +98,79 @@ IsUnwatched ask before out after = (shelf : ShelfNow) × (left : ShelfNow)
 
 -- the look for an event was refused: the event is an ask that has the answer of a root that is not
 -- watched, though the root that it needs is
-abbrev pub WasBlind : PlaceData → Event → OutData → PlaceData → Type 0
-WasBlind before event out after = (ask : Ask) × (root : List ℕ) × (number : ℕ)
+abbrev pub WasBlind : Basis → PlaceData → Event → OutData → PlaceData → Type 0
+WasBlind basis before event out after = (ask : Ask) × (root : List ℕ) × (number : ℕ)
     × Asks event ask × (root_needed (need_of ask) ≡ Some root)
     × (number_of root (after.known).seen ≡ Some number) × IsUnwatched ask before out after
+    × basis.refused (after.known).seen
 
 -- an event that a session took is a run of the world. The happenings for the event send the output
 -- of the session, and lead to the world that the ends show then
-abbrev pub IsRunFor : Run → ℤ → WorldData → Event → OutData → PlaceData → Type 0
-IsRunFor run client world event out after = (happenings : List HappeningData) × (next : WorldData)
-    × HappensFor client event happenings × Runs world happenings (sent_to client out) next
-    × ShowsWorld run client out.goes_on after next
+abbrev pub IsRunFor : Basis → ℤ → WorldData → Event → OutData → PlaceData → Type 0
+IsRunFor basis client world event out after = (happenings : List HappeningData)
+    × (next : WorldData) × HappensFor basis client event happenings
+    × Runs world happenings (sent_to client out) next
+    × ShowsWorld basis.run client out.goes_on after next
 
 -- an event of a session that is served alone is a run of the world, unless its look was refused.
 -- There are two premises. The ends show a world before the event: those do that show a crawler and
 -- a shelf. The session's last list after the event is the one that is published, with its table. A
 -- look finds it if nobody else publishes, and each lawful list has a table, but no clause says so
-abbrev pub EventsAreRuns : Type 0
-EventsAreRuns = (run : Run) (client : ℤ) (before after : PlaceData) (event : Event) (out : OutData)
-    (world : WorldData) → ShowsWorld run client true before world
-    → Serves run before event out after → IsCurrent after.known
-    → WasBlind before event out after ⊎ IsRunFor run client world event out after
+abbrev pub EventsAreRuns : Basis → Type 0
+EventsAreRuns basis = (client : ℤ) (before after : PlaceData) (event : Event) (out : OutData)
+    (world : WorldData) → ShowsWorld basis.run client true before world
+    → Serves basis before event out after → IsCurrent after.known
+    → WasBlind basis before event out after ⊎ IsRunFor basis client world event out after
 
 -- a session takes events alone, one after the other, and goes on after each. After each, its last
 -- list is the one that is published
-abbrev pub GoesOnAlone : Run → PlaceData → List Event → List ℕ → PlaceData → Type 0
-GoesOnAlone run before [] written after = (written ≡ []) × (after ≡ before)
-GoesOnAlone run before (event ∷ later) written after =
-    (out : OutData) × (next : PlaceData) × (rest : List ℕ) × Serves run before event out next
+abbrev pub GoesOnAlone : Basis → PlaceData → List Event → List ℕ → PlaceData → Type 0
+GoesOnAlone basis before [] written after = (written ≡ []) × (after ≡ before)
+GoesOnAlone basis before (event ∷ later) written after =
+    (out : OutData) × (next : PlaceData) × (rest : List ℕ) × Serves basis before event out next
     × (out.goes_on ≡ true) × (written ≡ written_for out ++ rest) × IsCurrent next.known
-    × GoesOnAlone run next later rest after
+    × GoesOnAlone basis next later rest after
 
 -- one of the looks of a session that went on alone was refused
-abbrev pub WasBlindOnce : (run : Run) (before : PlaceData) (events : List Event) (written : List ℕ)
-    (after : PlaceData) → GoesOnAlone run before events written after → Type 0
-WasBlindOnce run before [] written after alone = ⊥
-WasBlindOnce run before (event ∷ later) written after
+abbrev pub WasBlindOnce : (basis : Basis) (before : PlaceData) (events : List Event)
+    (written : List ℕ) (after : PlaceData) → GoesOnAlone basis before events written after → Type 0
+WasBlindOnce basis before [] written after alone = ⊥
+WasBlindOnce basis before (event ∷ later) written after
     (out, next, rest, serves, goes_on, is, current, alone) =
-    WasBlind before event out next ⊎ WasBlindOnce run next later rest after alone
+    WasBlind basis before event out next ⊎ WasBlindOnce basis next later rest after alone
 
 -- the bytes of these lines: the text of each, and a newline
 abbrev pub written_of : List SentData → List ℕ
 written_of sent = lines_for (map (λ line. line.text) sent)
 
 -- events that a session took are one run of the world, which sends the lines that it wrote
-abbrev pub IsRunOf : Run → ℤ → WorldData → List Event → List ℕ → Bool → PlaceData → Type 0
-IsRunOf run client world events written goes_on after =
+abbrev pub IsRunOf : Basis → ℤ → WorldData → List Event → List ℕ → Bool → PlaceData → Type 0
+IsRunOf basis client world events written goes_on after =
     (happenings : List HappeningData) × (sent : List SentData) × (next : WorldData)
-    × HappensInTurn client events happenings × Runs world happenings sent next
-    × (written ≡ written_of sent) × ShowsWorld run client goes_on after next
+    × HappensInTurn basis client events happenings × Runs world happenings sent next
+    × (written ≡ written_of sent) × ShowsWorld basis.run client goes_on after next
 
 -- a session that goes on alone is a run of the world from the list and the shelf that its ends
 -- show, unless one of its looks was refused. The premises are those of each of its events
-abbrev pub GoingOnIsARun : Type 0
-GoingOnIsARun = (run : Run) (client : ℤ) (before after : PlaceData) (events : List Event)
-    (written : List ℕ) (world : WorldData) → ShowsWorld run client true before world
-    → (alone : GoesOnAlone run before events written after)
-    → WasBlindOnce run before events written after alone
-    ⊎ IsRunOf run client world events written true after
+abbrev pub GoingOnIsARun : Basis → Type 0
+GoingOnIsARun basis = (client : ℤ) (before after : PlaceData) (events : List Event)
+    (written : List ℕ) (world : WorldData) → ShowsWorld basis.run client true before world
+    → (alone : GoesOnAlone basis before events written after)
+    → WasBlindOnce basis before events written after alone
+    ⊎ IsRunOf basis client world events written true after
 
 -- the same with the last event of a session, after which it may end
-abbrev pub ServedAloneIsARun : Type 0
-ServedAloneIsARun = (run : Run) (client : ℤ) (before between after : PlaceData)
+abbrev pub ServedAloneIsARun : Basis → Type 0
+ServedAloneIsARun basis = (client : ℤ) (before between after : PlaceData)
     (events : List Event) (lines : List ℕ) (last : Event) (out : OutData) (world : WorldData)
-    → ShowsWorld run client true before world
-    → (alone : GoesOnAlone run before events lines between)
-    → Serves run between last out after → IsCurrent after.known
-    → WasBlindOnce run before events lines between alone ⊎ WasBlind between last out after
-    ⊎ IsRunOf run client world (events ++ last ∷ []) (lines ++ written_for out) out.goes_on after
+    → ShowsWorld basis.run client true before world
+    → (alone : GoesOnAlone basis before events lines between)
+    → Serves basis between last out after → IsCurrent after.known
+    → WasBlindOnce basis before events lines between alone
+    ⊎ WasBlind basis between last out after
+    ⊎ IsRunOf basis client world (events ++ last ∷ []) (lines ++ written_for out) out.goes_on after
 
 -- a session that goes on alone goes on as each session does
-abbrev pub AloneGoesOn : Type 0
-AloneGoesOn = (run : Run) (before after : PlaceData) (events : List Event) (written : List ℕ)
-    → GoesOnAlone run before events written after → GoesOn run before events written after
+abbrev pub AloneGoesOn : Basis → Type 0
+AloneGoesOn basis = (before after : PlaceData) (events : List Event) (written : List ℕ)
+    → GoesOnAlone basis before events written after → GoesOn basis before events written after

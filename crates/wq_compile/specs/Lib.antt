@@ -4,3 +4,4 @@ pub mod Code
 pub mod Large
 pub mod Meaning
 pub mod Cost
+pub mod Law

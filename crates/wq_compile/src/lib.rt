@@ -9,8 +9,10 @@ mod code;
 mod draft;
 mod fault;
 mod large;
+mod law;
 mod program;
 
 pub use fault::CompileFault;
 pub use large::is_too_large;
+pub use law::expressions_compile;
 pub use program::compile;

@@ -33,6 +33,7 @@ use wq_verify::{Program, ProgramFault, verify};
 pub fn compile(alloc: Global, expr: &Expr) -> Result<Program, CompileFault>
     requires { IsTrue (expr_fits (term_of expr.now)) }
 
+    ensures code { IfOk result (λ program. program ≡ program_of (term_of expr.now)) }
     ensures meaning { IfOk result (λ program. AnswersMeaning program (term_of expr.now)) }
     ensures length { IfOk result (λ program.
         length program.code ≡ code_len (term_of expr.now) + 1) }

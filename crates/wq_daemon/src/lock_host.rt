@@ -222,7 +222,7 @@ fn look_at_numbers<N: Named>(seat: Seat<N>) -> (Seat<N>, Option<RootNumbers>) {
             let numbers = numbers_in(look.table());
             (look.leave(), numbers)
         }
-        Err(seat) => (seat, None),
+        Err(blind) => (blind.seat(), None),
     }
 }
 

@@ -110,7 +110,7 @@ where
                     look.leave()
                 }
             },
-            Err(seat) => seat,
+            Err(blind) => blind.seat(),
         }
     }
 

@@ -48,9 +48,9 @@ impl Blank {
         let (seen, mut pen, _second) = Seen::open(Start::alone(), 0, 0);
         let head = Word::tracked(0, &mut pen);
         let table = Arc::new(alloc, RootTable::new(alloc))?;
-        let first = Shown::new(table, Log::new(seen));
+        let first = Shown::first(table, Log::new(seen));
         let second = first.again()?;
-        let next = first.again()?;
+        let next = first.next()?;
         let writer = Writer::new(alloc, first, second, seats)?;
         let (writer, shown) = show(rt, writer, next);
         if let Err(error) = shown {
@@ -67,7 +67,8 @@ impl Blank {
     /// The publisher, which makes the seats. It waits by this handle.
     pub fn open<N: Named, R: Wait + Drop>(self, rt: R) -> Publisher<N, R>
         requires { self.book ≡ N.book }
-        ensures { result ≡ self.log }
+        ensures list { result ≡ self.log }
+        ensures published { N.published N.book result }
     {
         let Blank {
             writer,

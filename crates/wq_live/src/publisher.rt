@@ -14,7 +14,7 @@ use crate::log::Head;
 use crate::named::Named;
 use crate::publishing::{ShownWriter, show};
 use crate::seat::{Look, Seat, Told};
-use crate::shown::Shown;
+use crate::shown::Next;
 use crate::table::{RootTable, StartFault};
 use core::{mem, slice};
 use std::alloc::{AllocError, Global};
@@ -48,7 +48,8 @@ impl<N: Named, R: Wait + Drop> Model for Publisher<N, R> {
 
     ghost invariant = { λ p. (known p.writer.desk.place ≡ Some p.writer.desk.shown.value)
         × (p.writer.desk.shown.value.book ≡ N.book) × (p.head ≡ head_of N.book)
-        × (drop p.writer.behind p.writer.log.items ≡ []) };
+        × (drop p.writer.behind p.writer.log.items ≡ [])
+        × N.published N.book p.writer.desk.shown.value.log };
 }
 
 // The end waits for looks that have not ended.
@@ -73,8 +74,10 @@ impl<N: Named, R: Wait + Drop> Publisher<N, R> {
         requires named { writer.desk.shown.value.book ≡ N.book }
         requires head { head ≡ head_of N.book }
         requires ready { drop writer.behind writer.log.items ≡ [] }
-        ensures { result ≡ writer.desk.shown.value.log }
+        ensures list { result ≡ writer.desk.shown.value.log }
+        ensures published { N.published N.book result }
     {
+        N::publishes(writer.published().published());
         Publisher {
             writer,
             head,
@@ -99,7 +102,8 @@ impl<N: Named, R: Wait + Drop> Publisher<N, R> {
 
     /// The table that is published.
     pub fn table(&self) -> &RootTable
-        ensures { IsTableOf self.now result.now }
+        ensures table { IsTableOf self.now result.now }
+        ensures published { N.published N.book self.now }
     {
         self.writer.published().table()
     }
@@ -137,6 +141,7 @@ impl<N: Named, R: Wait + Drop> Publisher<N, R> {
         ensures number { IfOk result (λ it. it.0 ≡ length (started self.old) + 1) }
         ensures added { IfOk result (λ it. self.new ≡ self.old ++ start_events it.0 text.now pass) }
         ensures told { IfOk result (λ it. it.1 ≡ self.new) }
+        ensures published { N.published N.book self.new }
         ensures full { (result ≡ Err StartFault.TooManyRoots)
             ↔ ((length (shown self.old) ≡ max_roots) ⊎ (length (started self.old) ≡ max_number)) }
         ensures err { IfErr result (λ _. self.new ≡ self.old) }
@@ -151,7 +156,8 @@ impl<N: Named, R: Wait + Drop> Publisher<N, R> {
 
     /// The list that is published now.
     pub fn told(&self) -> Result<Told<N>, AllocError>
-        ensures { IfOk result (λ told. told ≡ self.now) }
+        ensures told { IfOk result (λ told. told ≡ self.now) }
+        ensures published { N.published N.book self.now }
     {
         Ok(Told::new(self.writer.published().again()?))
     }
@@ -163,6 +169,7 @@ impl<N: Named, R: Wait + Drop> Publisher<N, R> {
     /// error changes nothing. The call waits for looks that still read the value before the last one.
     pub fn publish(&mut self, number: u64, pass: Pass) -> Result<Told<N>, ViewFault>
         ensures told { IfOk result (λ told. told ≡ self.new) }
+        ensures published { N.published N.book self.new }
         ensures added { IfOk result (λ _. (IsNoNews self.old number pass × (self.new ≡ self.old))
             ⊎ (IsNews self.old number pass × (length (passes_over number self.old) < max_tick)
             × (self.new ≡ self.old ++ Passed number pass ∷ []))) }
@@ -182,6 +189,7 @@ impl<N: Named, R: Wait + Drop> Publisher<N, R> {
     /// An error changes nothing. The call waits for looks that still read the value before the last one.
     pub fn end(&mut self, number: u64) -> Result<Told<N>, AllocError>
         ensures told { IfOk result (λ told. told ≡ self.new) }
+        ensures published { N.published N.book self.new }
         ensures added { IfOk result (λ _. ((is_shown self.old number ≡ false) × (self.new ≡ self.old))
             ⊎ ((is_shown self.old number ≡ true) × (self.new ≡ self.old ++ Ended number ∷ []))) }
         ensures err { IfErr result (λ _. self.new ≡ self.old) }
@@ -201,7 +209,7 @@ impl<N: Named, R: Wait + Drop> Publisher<N, R> {
         if !self.keeps_older {
             return;
         }
-        let Ok(again) = self.writer.published().again() else {
+        let Ok(again) = self.writer.published().next() else {
             return;
         };
         if self.show(again).is_ok() {
@@ -212,9 +220,10 @@ impl<N: Named, R: Wait + Drop> Publisher<N, R> {
     /// Adds events, and shows the table after them.
     fn add(&mut self, table: RootTable, events: &[RootEvent]) -> Result<Told<N>, AllocError>
         requires { IsTableOf (self.old ++ events.now) table }
-        ensures { MatchResult result
+        ensures added { MatchResult result
             (λ told. (self.new ≡ self.old ++ events.now) × (told ≡ self.new))
             (λ _. self.new ≡ self.old) }
+        ensures published { N.published N.book self.new }
     {
         let table = Arc::new(self.alloc, table)?;
         let told = table.clone()?;
@@ -222,21 +231,23 @@ impl<N: Named, R: Wait + Drop> Publisher<N, R> {
         if !log.add_all(&self.head, events) {
             return Err(AllocError);
         }
-        let told = Shown::new(told, log.again());
-        self.show(Shown::new(table, log))?;
+        self.show(Next::new(table, log))?;
         self.keeps_older = true;
-        Ok(Told::new(told))
+        Ok(Told::new(self.writer.published().with_table(told)))
     }
 
     /// Shows the next value, whose list continues the one that is shown. The call is refused if there is no memory to
     /// line the value up.
-    fn show(&mut self, next: Shown) -> Result<(), AllocError>
+    fn show(&mut self, next: Next) -> Result<(), AllocError>
         requires { BeginsLog (record { book = N.book; log = self.old }) next }
-        ensures { MatchResult result (λ _. self.new ≡ next.log) (λ _. self.new ≡ self.old) }
+        ensures shown { MatchResult result (λ _. self.new ≡ next.log) (λ _. self.new ≡ self.old) }
+        ensures published { N.published N.book self.new }
     {
-        mem::replace_with(&mut self.writer, (&self.rt, next), |writer, (rt, next)| {
+        let done = mem::replace_with(&mut self.writer, (&self.rt, next), |writer, (rt, next)| {
             show(rt, writer, next)
-        })
+        });
+        N::publishes(self.writer.published().published());
+        done
     }
 }
 

@@ -5,13 +5,13 @@ ghost use Rattle.wq_live.specs.Log.{BeginsLog};
 
 use crate::kept::{Kept, Knowing};
 use crate::log::Log;
-use crate::shown::Shown;
+use crate::shown::{Next, Shown};
 use left_right::writer::Writer;
 use std::alloc::AllocError;
 use std::sync::Wait;
 
 /// The writer of the shared value.
-pub(crate) type ShownWriter = Writer<Shown, Shown, Option<Log>, Kept>;
+pub(crate) type ShownWriter = Writer<Shown, Next, Option<Log>, Kept>;
 
 /// Shows the next value, whose list continues the one that is shown. The call waits for looks that still read the value
 /// before the last one.
@@ -20,7 +20,7 @@ pub(crate) type ShownWriter = Writer<Shown, Shown, Option<Log>, Kept>;
 pub(crate) fn show<R: Wait>(
     rt: &R,
     mut writer: ShownWriter,
-    next: Shown,
+    next: Next,
 ) -> (ShownWriter, Result<(), AllocError>)
     requires ready { drop writer.behind writer.log.items ≡ [] }
     requires goes_on { BeginsLog writer.desk.shown.value next }

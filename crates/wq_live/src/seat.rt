@@ -1,5 +1,5 @@
 //! Seats, which look at the published table. A look waits for nobody and takes no memory.
-ghost use Rattle.std.specs.Prelude.{◌≡◌, ◌≤◌, IfOk, IfSome, MatchResult, Some, is_some, length, nat_lt, option_map};
+ghost use Rattle.std.specs.Prelude.{◌≡◌, ◌≤◌, IfErr, IfOk, IfSome, MatchResult, Some, is_some, length, nat_lt, option_map};
 ghost use mathlib.Core.List.{IsPrefix};
 ghost use Rattle.left_right.specs.Sides.{view};
 ghost use Rattle.wq_base.specs.Limit.{max_number};
@@ -8,12 +8,11 @@ ghost use Rattle.wq_live.specs.Event.{IsLawfulList, is_shown, passes_over, shown
 ghost use Rattle.wq_live.specs.Log.{AgreeAs, BeginsLog, IsAhead, begun_with};
 ghost use Rattle.wq_live.specs.Table.{IsTableOf};
 
-use crate::kept::{Kept, Knowing};
 use crate::log::Log;
 use crate::named::Named;
+use crate::refusing::{SeatReader, SeatReading, enter};
 use crate::shown::Shown;
 use crate::table::RootTable;
-use left_right::reader::{Reader, Reading};
 use std::alloc::AllocError;
 use std::marker::{Model, PhantomData};
 use std::sync::Arc;
@@ -38,18 +37,27 @@ impl<N: Named> Model for Told<N> {
 
     ghost view = { λ t. t.shown.log };
 
-    ghost invariant = { λ t. t.shown.book ≡ N.book };
+    ghost invariant = { λ t. (t.shown.book ≡ N.book) × N.published N.book t.shown.log };
 }
 
 impl<N: Named> Told<N> {
     pub(crate) fn new(shown: Shown) -> Told<N>
         requires { shown.book ≡ N.book }
-        ensures { result ≡ shown.log }
+        ensures list { result ≡ shown.log }
+        ensures published { N.published N.book result }
     {
+        N::publishes(shown.published());
         Told {
             shown,
             of: PhantomData,
         }
+    }
+
+    /// The list was published.
+    pub fn published(&self)
+        ensures { N.published N.book self.now }
+    {
+        let _ = &self.shown;
     }
 }
 
@@ -57,7 +65,7 @@ impl<N: Named> Told<N> {
 /// list that it saw if that is longer. The seat keeps no table that a look would not show.
 #[derive(Drop)]
 pub struct Seat<N: Named> {
-    reader: Reader<Shown, Option<Log>, Kept>,
+    reader: SeatReader,
     saw: Log,
     told: Option<Shown>,
     of: PhantomData<N>,
@@ -83,7 +91,7 @@ impl<N: Named> Model for Seat<N> {
 
 impl<N: Named> Seat<N> {
     /// The seat of a reader that knows this list.
-    pub(crate) fn new(reader: Reader<Shown, Option<Log>, Kept>, saw: Log) -> Seat<N>
+    pub(crate) fn new(reader: SeatReader, saw: Log) -> Seat<N>
         requires known { view reader.place ≡ Some saw }
         requires named { saw.book ≡ N.book }
         ensures { result ≡ saw.log }
@@ -123,30 +131,80 @@ impl<N: Named> Seat<N> {
     ///
     /// The call is refused if the publisher is gone. A refused look changes nothing. The call neither waits nor takes
     /// memory.
-    pub fn look(self) -> Result<Look<N>, Seat<N>>
-        ensures { MatchResult result (λ look. IsPrefix self look) (λ seat. seat ≡ self) }
+    pub fn look(self) -> Result<Look<N>, Blind<N>>
+        ensures begins { MatchResult result (λ look. IsPrefix self look) (λ blind. blind ≡ self) }
+        ensures published { IfOk result (λ look. N.published N.book look) }
+        ensures refused { IfErr result (λ blind. N.refused N.book blind) }
     {
+        let known = self.known();
         let Seat {
             reader,
             saw,
             told,
             of,
         } = self;
-        match reader.enter_as::<Knowing>() {
+        match enter(reader, known) {
             Ok(reading) => {
                 let told = match told {
                     Some(told) => ahead(reading.get().log(), told),
                     None => None,
                 };
+                claim::<N>(reading.get(), &told);
                 Ok(Look { reading, told, of })
             }
-            Err(reader) => Err(Seat {
-                reader,
-                saw,
-                told,
-                of,
-            }),
+            Err((reader, refused)) => {
+                N::refuses(&refused);
+                Err(Blind {
+                    seat: Seat {
+                        reader,
+                        saw,
+                        told,
+                        of,
+                    },
+                })
+            }
         }
+    }
+
+    /// The list with which the next look begins.
+    fn known(&self) -> Log
+        ensures { result ≡ record { book = N.book; log = self.now } }
+    {
+        match &self.told {
+            Some(told) => told.log().again(),
+            None => self.saw.again(),
+        }
+    }
+}
+
+/// A seat whose look was refused. Only [`Seat::look`] makes one. Contracts see the seat's list.
+#[derive(Drop)]
+pub struct Blind<N: Named> {
+    seat: Seat<N>,
+}
+
+impl<N: Named> Model for Blind<N> {
+    ghost use Rattle.std.specs.Prelude.{List};
+    ghost use Rattle.wq_live.specs.declared.event.RootEvent.{RootEvent};
+
+    ghost Value = { List RootEvent };
+
+    ghost use Rattle.wq_live.specs.Log.{events_code};
+
+    ghost coded = { events_code };
+
+    ghost view = { λ b. b.seat };
+
+    ghost invariant = { λ b. N.refused N.book b.seat };
+}
+
+impl<N: Named> Blind<N> {
+    /// The seat, as it was before the look.
+    pub fn seat(self) -> Seat<N>
+        ensures seat { result ≡ self }
+        ensures refused { N.refused N.book self }
+    {
+        self.seat
     }
 }
 
@@ -154,7 +212,7 @@ impl<N: Named> Seat<N> {
 ///
 /// The type is not `Drop`: a caller ends a look by `leave`.
 pub struct Look<N: Named> {
-    reading: Reading<Shown, Option<Log>, Kept>,
+    reading: SeatReading,
     /// The list that the seat learned, if it is longer than the published one.
     told: Option<Shown>,
     of: PhantomData<N>,
@@ -175,13 +233,15 @@ impl<N: Named> Model for Look<N> {
     ghost view = { λ l. begun_with l.reading.part.value l.told };
 
     ghost invariant = { λ l. (known l.reading.place ≡ Some l.reading.part.value)
-        × (l.reading.part.value.book ≡ N.book) × IsAhead l.reading.part.value l.told };
+        × (l.reading.part.value.book ≡ N.book) × IsAhead l.reading.part.value l.told
+        × N.published N.book (begun_with l.reading.part.value l.told) };
 }
 
 impl<N: Named> Look<N> {
-    /// The table of the look's list.
+    /// The table of the look's list, which was published.
     pub fn table(&self) -> &RootTable
-        ensures { IsTableOf self.now result.now }
+        ensures table { IsTableOf self.now result.now }
+        ensures published { N.published N.book self.now }
     {
         match &self.told {
             Some(told) => told.table(),
@@ -271,6 +331,19 @@ impl<N: Named> Look<N> {
             told,
             of,
         }
+    }
+}
+
+/// Says that the list of a look was published: the list that was learned, if there is one, and else the one that is
+/// shown.
+fn claim<N: Named>(shown: &Shown, told: &Option<Shown>)
+    requires named { shown.now.book ≡ N.book }
+    requires ahead { IsAhead shown.now told.now }
+    ensures { N.published N.book (begun_with shown.now told.now) }
+{
+    match told {
+        Some(told) => N::publishes(told.published()),
+        None => N::publishes(shown.published()),
     }
 }
 

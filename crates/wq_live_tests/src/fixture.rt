@@ -90,6 +90,6 @@ pub(crate) fn look_at<N: Named>(seat: Seat<N>, text: &str) -> (Seat<N>, Option<S
             let sight = sight_of(&look, text);
             (look.leave(), sight)
         }
-        Err(seat) => (seat, None),
+        Err(blind) => (blind.seat(), None),
     }
 }

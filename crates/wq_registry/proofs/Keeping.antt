@@ -1,6 +1,6 @@
 -- Programs that are kept stand for the texts of their keys.
 use Rattle.std.proofs.Common.{◌≡◌, ℕ, Bool, true, false, List, Some, Ok, Contains, refl, sym, subst, ◌∙◌}
-use Rattle.std.proofs.Common.{nat_eq, ◌&&◌, ◌⊎◌, inl, inr, Option, Result, Err, OnOk, OnErr, IfOk, IfSome, IsTrue, IsErrOf, ◌↔◌, true≢false}
+use Rattle.std.proofs.Common.{◌≤◌, nat_eq, ◌&&◌, ◌⊎◌, inl, inr, Option, Result, Err, OnOk, OnErr, IfOk, IfSome, IsTrue, IsErrOf, ◌↔◌, true≢false}
 use Rattle.std.specs.Result.{result_ok}
 use Rattle.std.proofs.lemmas.Bool.{and_parts, eqb-true}
 use Rattle.std.specs.Str.{bytes_eq}
@@ -17,7 +17,10 @@ use Rattle.wq_code.specs.declared.raw.Raw.{Raw}
 use Rattle.wq_term.specs.Expr.{ExprData}
 use Rattle.wq_term.specs.Limit.{max_depth}
 use Rattle.wq_term.specs.Reading.{reads_as}
+use Rattle.wq_compile.specs.Cost.{most_steps_of}
 use Rattle.wq_compile.specs.Large.{is_too_large}
+use Rattle.wq_verify.specs.Budget.{budget_of}
+use Rattle.wq_view.specs.Limit.{max_name}
 use Rattle.wq_compile.specs.Meaning.{AnswersMeaning}
 use Rattle.wq_registry.specs.declared.key.Key.{Key}
 use Rattle.wq_registry.specs.CacheKey.{CacheKeyData, Says}
@@ -25,25 +28,25 @@ use Rattle.wq_registry.specs.Kept.{CacheData, StandsFor, KeepsMeanings, instance
 
 module _ (instance : InstanceData) (text : List ℕ) (raw : Raw) (d : Data) (t : ExprData) (says : read text ≡ Some d) (reads : reads_as instance max_depth d ≡ Ok t) where
   -- a program that answers the value of the text stands for the text
-  pub stands : AnswersMeaning raw t → is_too_large t ≡ false → StandsFor instance text raw
+  pub stands : AnswersMeaning raw t → is_too_large t ≡ false → budget_of raw max_name ≤ most_steps_of t → StandsFor instance text raw
   unfolding StandsFor
-  stands means small d' t' says' reads' =
+  stands means small cost d' t' says' reads' =
       let same : d ≡ d' = cc in
       let same_term : t ≡ t' = cc in
-      (subst (AnswersMeaning raw) same_term means, subst (λ t. is_too_large t ≡ false) same_term small)
+      (subst (AnswersMeaning raw) same_term means, subst (λ t. is_too_large t ≡ false) same_term small, subst (λ t. budget_of raw max_name ≤ most_steps_of t) same_term cost)
 
   -- and one that stands for the text answers so
-  pub stood : StandsFor instance text raw → AnswersMeaning raw t × (is_too_large t ≡ false)
+  pub stood : StandsFor instance text raw → AnswersMeaning raw t × (is_too_large t ≡ false) × (budget_of raw max_name ≤ most_steps_of t)
   unfolding StandsFor
   stood stands = stands d t says reads
 
 module _ (key : CacheKeyData) (t : ExprData) (raw : Raw) (says : Says key t) where
   -- a program that answers the text of a key stands for it
-  pub stands_for : AnswersMeaning raw t → is_too_large t ≡ false → StandsFor key.instance key.text raw
+  pub stands_for : AnswersMeaning raw t → is_too_large t ≡ false → budget_of raw max_name ≤ most_steps_of t → StandsFor key.instance key.text raw
   stands_for = stands key.instance key.text raw says.0 t says.1 says.2
 
   -- and one that stands for it answers so
-  pub stood_for : StandsFor key.instance key.text raw → AnswersMeaning raw t × (is_too_large t ≡ false)
+  pub stood_for : StandsFor key.instance key.text raw → AnswersMeaning raw t × (is_too_large t ≡ false) × (budget_of raw max_name ≤ most_steps_of t)
   stood_for = stood key.instance key.text raw says.0 t says.1 says.2
 
 -- two keys are one if they are equal

@@ -6,3 +6,4 @@ pub mod Changes
 pub mod Uses
 pub mod Histories
 pub mod Watches
+pub mod Added

@@ -1,7 +1,8 @@
 -- Lists of accepted calls, and their result. No public document defines it.
-use Rattle.std.specs.Prelude.{ℕ, ◌≡◌, Bool, false, List, [], ◌∷◌, is_some, not, nat_eq, flat_map}
-use Rattle.std.specs.Prelude.{◌&&◌, ◌||◌, if◌then◌else◌}
+use Rattle.std.specs.Prelude.{ℕ, ◌≡◌, ◌⊎◌, Bool, false, List, [], ◌∷◌, Some, is_some, not, nat_eq}
+use Rattle.std.specs.Prelude.{◌&&◌, ◌||◌, if◌then◌else◌, flat_map}
 use Rattle.wq_code.specs.declared.raw.Raw.{Raw}
+use Rattle.wq_registry.specs.ByName.{under}
 use Rattle.wq_registry.specs.Change.{Change, putting, removing, made}
 use Rattle.wq_registry.specs.Root.{numbered}
 use Rattle.wq_registry.specs.Shelf.{ShelfData, blank, with_program, without_program}
@@ -44,6 +45,16 @@ module _ {T : Type 0} where
   program_changes (removes_program name ∷ cs) = removing name ∷ program_changes cs
   program_changes (_ ∷ cs) = program_changes cs
 
+  -- a call adds this program
+  abbrev pub Adds : Raw → Call T → Type 0
+  Adds raw (adds_program name program) = program ≡ raw
+  Adds raw _ = ⊥
+
+  -- one of these calls adds this program
+  abbrev pub AddsOne : Raw → List (Call T) → Type 0
+  AddsOne raw [] = ⊥
+  AddsOne raw (c ∷ cs) = Adds raw c ⊎ AddsOne raw cs
+
   -- whether a root is on the shelf
   abbrev pub is_on : ℕ → ShelfData T → Bool
   is_on root s = is_some (numbered root s.roots)
@@ -82,6 +93,11 @@ module _ {T : Type 0} where
 abbrev pub ProgramsAreMade : Type 0 → Type 0
 ProgramsAreMade T = (calls : List (Call T)) (sockname : List ℕ)
     → (after_all calls (blank sockname)).programs ≡ made (program_changes calls) []
+
+-- each program under a name was added by one of the calls
+abbrev pub ProgramsWereAdded : Type 0 → Type 0
+ProgramsWereAdded T = (calls : List (Call T)) (sockname name : List ℕ) (raw : Raw)
+    → under name (after_all calls (blank sockname)).programs ≡ Some raw → AddsOne raw calls
 
 -- the cursors of a root are the result of the uses of its cursors since it was last added
 abbrev pub CursorsAreMade : Type 0 → Type 0

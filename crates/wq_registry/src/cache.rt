@@ -1,9 +1,13 @@
 //! The programs of expressions that were compiled before.
-ghost use Rattle.std.specs.Prelude.{◌≡◌, ◌↔◌, false, IfOk, IfSome, IsErrOf, IsTrue};
+ghost use Rattle.std.specs.Prelude.{◌≡◌, ◌≤◌, ◌↔◌, false, IfOk, IfSome, IsErrOf, IsTrue};
+ghost use Rattle.wq_compile.specs.Code.{program_of};
+ghost use Rattle.wq_compile.specs.Cost.{most_steps_of};
 ghost use Rattle.wq_compile.specs.Large.{is_too_large};
 ghost use Rattle.wq_compile.specs.Meaning.{AnswersMeaning};
 ghost use Rattle.wq_term.specs.Expr.{term_of};
 ghost use Rattle.wq_term.specs.Fits.{expr_fits};
+ghost use Rattle.wq_verify.specs.Budget.{budget_of};
+ghost use Rattle.wq_view.specs.Limit.{max_name};
 ghost use Rattle.wq_registry.specs.CacheKey.{Says};
 ghost use Rattle.wq_registry.specs.Kept.{StandsFor, instance_at};
 
@@ -119,12 +123,13 @@ impl Model for Compiled {
 }
 
 impl Compiled {
-    /// The entry of a program that a cache may keep: it answers the meaning of this expression, and
-    /// this key finds it. There is no entry if the program cannot be shared.
+    /// The entry of a program that a cache may keep: it answers the meaning of this expression, costs
+    /// no more than the expression's measure, and this key finds it. There is no entry if the program cannot be shared.
     pub fn new(key: CacheKey, expr: &Expr, program: &Arc<Program>) -> Option<Compiled>
         requires says { Says key (term_of expr.now) }
         requires meaning { AnswersMeaning program.now.value (term_of expr.now) }
         requires small { is_too_large (term_of expr.now) ≡ false }
+        requires cost { budget_of program.now.value max_name ≤ most_steps_of (term_of expr.now) }
         ensures { IfSome result (λ compiled.
             compiled ≡ record { key = key; program = program.now.value }) }
     {
@@ -142,7 +147,10 @@ impl Compiled {
 pub fn compile_shared(alloc: Global, expr: &Expr) -> Result<Arc<Program>, CompileFault>
     requires { IsTrue (expr_fits (term_of expr.now)) }
 
+    ensures code { IfOk result (λ program. program.value ≡ program_of (term_of expr.now)) }
     ensures meaning { IfOk result (λ program. AnswersMeaning program.value (term_of expr.now)) }
+    ensures cost { IfOk result (λ program.
+        budget_of program.value max_name ≤ most_steps_of (term_of expr.now)) }
     ensures large { IsErrOf result CompileFault.TooLarge
         ↔ IsTrue (is_too_large (term_of expr.now)) }
 {

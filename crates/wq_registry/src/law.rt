@@ -2,7 +2,8 @@
 //! nothing.
 ghost use Rattle.wq_registry.specs.Change.{LastChangeCounts, NamesStandInOrder, PlacesAreNames};
 ghost use Rattle.wq_registry.specs.Use.{TheGreatestTickCounts};
-ghost use Rattle.wq_registry.specs.History.{CursorsAreMade, ProgramsAreMade, TriggersAreMade};
+ghost use Rattle.wq_registry.specs.History.{CursorsAreMade, ProgramsAreMade, ProgramsWereAdded};
+ghost use Rattle.wq_registry.specs.History.{TriggersAreMade};
 
 /// The thing under a name is the one that its last change put there; none, if the last change took
 /// it out.
@@ -35,6 +36,12 @@ pub fn the_greatest_tick_counts()
 #[tactic(auto, using(crate::proofs::Histories::programs_are_made))]
 pub fn programs_are_made<T>()
     ensures { ProgramsAreMade T }
+{}
+
+/// Each program under a name was added by one of the calls.
+#[tactic(auto, using(crate::proofs::Added::programs_were_added))]
+pub fn programs_were_added<T>()
+    ensures { ProgramsWereAdded T }
 {}
 
 /// The cursors of a root are the result of the uses of them since it was last added.

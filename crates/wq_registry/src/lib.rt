@@ -20,7 +20,7 @@ pub use fault::ShelfFault;
 pub use key::CacheKey;
 pub use law::{
     cursors_are_made, last_change_counts, names_stand_in_order, places_are_names,
-    programs_are_made, the_greatest_tick_counts, triggers_are_made,
+    programs_are_made, programs_were_added, the_greatest_tick_counts, triggers_are_made,
 };
 pub use root::{MAX_CURSORS, MAX_TRIGGERS, Root};
 pub use shelf::{MAX_PROGRAMS, Shelf};

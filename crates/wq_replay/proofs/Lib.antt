@@ -11,6 +11,7 @@ mod Ending
 mod Sendings
 mod Scripts
 mod Shelves
+mod Valid
 mod Launches
 mod StartLines
 mod WorldRounds

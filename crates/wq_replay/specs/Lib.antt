@@ -20,3 +20,4 @@ pub mod Sending
 pub mod Step
 pub mod Overlap
 pub mod Taken
+pub mod Valid

@@ -4,8 +4,9 @@ ghost use Rattle.wq_replay.specs.Accepted.{ShelvesAreCalls};
 ghost use Rattle.wq_replay.specs.Overlap.{RunsDoNotOverlap};
 ghost use Rattle.wq_replay.specs.Replay.{ScriptsAreRuns};
 ghost use Rattle.wq_replay.specs.Playing.{RunsGoOn};
+ghost use Rattle.wq_replay.specs.Valid.{ProgramsAreValid};
 
-use wq_session::{answers_are_calls, rounds_are_calls};
+use wq_session::{added_are_asked, answers_are_calls, asks_hand_in_valid, rounds_are_calls};
 
 /// Two runs, one after the other, are one run.
 pub fn runs_go_on()
@@ -24,6 +25,15 @@ pub fn shelves_are_calls()
 {
     answers_are_calls();
     rounds_are_calls();
+}
+
+/// Each program under a name on the shelf of a world may run, if the asks there are those of events.
+pub fn programs_are_valid()
+    ensures { ProgramsAreValid }
+{
+    shelves_are_calls();
+    added_are_asked();
+    asks_hand_in_valid();
 }
 
 /// Between a start of a trigger and the end of that run, which the launcher reports, no round starts the trigger. A

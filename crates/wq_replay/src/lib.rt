@@ -28,7 +28,9 @@ mod world;
 
 pub use fault::ReplayFault;
 pub use happening::Happening;
-pub use law::{runs_do_not_overlap, runs_go_on, scripts_are_runs, shelves_are_calls};
+pub use law::{
+    programs_are_valid, runs_do_not_overlap, runs_go_on, scripts_are_runs, shelves_are_calls,
+};
 pub use player::{MAX_SCRIPT, replay};
 pub use sent::{Sent, Told};
 pub use taking::MAX_SCRIPT_LINE;

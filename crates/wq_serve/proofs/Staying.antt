@@ -1,6 +1,6 @@
 -- What was accepted of a session's events is the shelf at its end.
 use Rattle.std.proofs.Common.{◌≡◌, ℕ, List, [], ◌∷◌, ◌++◌, Option, Some, Ok, Err, inl, inr, append_assoc, append-nil, refl, sym, ap, subst, ◌∙◌}
-use Rattle.wq_clock.specs.declared.run.Run.{Run}
+use Rattle.wq_serve.specs.Basis.{Basis}
 use Rattle.wq_registry.specs.History.{after_all}
 use Rattle.wq_session.specs.Accepted.{Accepts, AnswersAreCalls, CallNow}
 use Rattle.wq_session.specs.At.{AtData, ShelfNow}
@@ -36,29 +36,29 @@ module _ (answers_are_calls : AnswersAreCalls) where
       ([], inl refl, ap (λ s. s.shelf) stays ∙ shows)
 
   -- the calls of an event
-  of_event : (run : Run) (before after : PlaceData) (event : Event) (out : OutData) (shelf : ShelfNow) → Serves run before event out after
+  of_event : (basis : Basis) (before after : PlaceData) (event : Event) (out : OutData) (shelf : ShelfNow) → Serves basis before event out after
       → before.shelf ≡ Some shelf
       → (calls : List CallNow) × AreOfEvent event shelf calls × (after.shelf ≡ Some (after_all calls shelf))
-  of_event run before after (Idle root) out shelf (hands, idled) shows = ([], inl refl, idled.1 ∙ shows)
-  of_event run before after (Line line) out shelf (hands, (ask, asks, (ready, readies, replies))) shows =
+  of_event basis before after (Idle root) out shelf (hands, idled) shows = ([], inl refl, idled.1 ∙ shows)
+  of_event basis before after (Line line) out shelf (hands, (ask, asks, (ready, readies, replies))) shows =
       replied (Line line) ask ready shelf (record { shelf = before.shelf; follows = before.follows }) (record { shelf = after.shelf; follows = after.follows }) out asks shows replies
-  of_event run before after Long out shelf (hands, (ask, asks, (ready, readies, replies))) shows =
+  of_event basis before after Long out shelf (hands, (ask, asks, (ready, readies, replies))) shows =
       replied Long ask ready shelf (record { shelf = before.shelf; follows = before.follows }) (record { shelf = after.shelf; follows = after.follows }) out asks shows replies
-  of_event run before after Binary out shelf (hands, (ask, asks, (ready, readies, replies))) shows =
+  of_event basis before after Binary out shelf (hands, (ask, asks, (ready, readies, replies))) shows =
       replied Binary ask ready shelf (record { shelf = before.shelf; follows = before.follows }) (record { shelf = after.shelf; follows = after.follows }) out asks shows replies
-  of_event run before after End out shelf (hands, (ask, asks, (ready, readies, replies))) shows =
+  of_event basis before after End out shelf (hands, (ask, asks, (ready, readies, replies))) shows =
       replied End ask ready shelf (record { shelf = before.shelf; follows = before.follows }) (record { shelf = after.shelf; follows = after.follows }) out asks shows replies
-  of_event run before after Fault out shelf (hands, (ask, asks, (ready, readies, replies))) shows =
+  of_event basis before after Fault out shelf (hands, (ask, asks, (ready, readies, replies))) shows =
       replied Fault ask ready shelf (record { shelf = before.shelf; follows = before.follows }) (record { shelf = after.shelf; follows = after.follows }) out asks shows replies
 
   -- events after which the session goes on
-  of_events : (run : Run) (before after : PlaceData) (events : List Event) (lines : List ℕ) (shelf : ShelfNow)
-      → GoesOn run before events lines after → before.shelf ≡ Some shelf
+  of_events : (basis : Basis) (before after : PlaceData) (events : List Event) (lines : List ℕ) (shelf : ShelfNow)
+      → GoesOn basis before events lines after → before.shelf ≡ Some shelf
       → (calls : List CallNow) × AreOfEvents events shelf calls × (after.shelf ≡ Some (after_all calls shelf))
-  of_events run before after [] lines shelf (none, same) shows = ([], refl, ap (λ p. p.shelf) same ∙ shows)
-  of_events run before after (event ∷ later) lines shelf (out, next, rest, serves, goes, written, on) shows =
-      let one = of_event run before next event out shelf serves shows in
-      let more = of_events run next after later rest (after_all one.0 shelf) on one.2 in
+  of_events basis before after [] lines shelf (none, same) shows = ([], refl, ap (λ p. p.shelf) same ∙ shows)
+  of_events basis before after (event ∷ later) lines shelf (out, next, rest, serves, goes, written, on) shows =
+      let one = of_event basis before next event out shelf serves shows in
+      let more = of_events basis next after later rest (after_all one.0 shelf) on one.2 in
       (one.0 ++ more.0, (one.0, more.0, refl, one.1, more.1), more.2 ∙ ap Some (sym (after_both one.0 more.0 shelf)))
 
   -- and one event more
@@ -76,13 +76,13 @@ module _ (answers_are_calls : AnswersAreCalls) where
   )
 
   -- the law
-  pub accepted_stays : AcceptedStays
-  accepted_stays run before after old new how shelf (inl by) shows =
-      let early = of_events run before by.between by.events by.lines shelf by.goes_on shows in
-      let last = of_event run by.between after by.last by.out (after_all early.0 shelf) by.serves early.2 in (
+  pub accepted_stays : (basis : Basis) → AcceptedStays basis
+  accepted_stays basis before after old new how shelf (inl by) shows =
+      let early = of_events basis before by.between by.events by.lines shelf by.goes_on shows in
+      let last = of_event basis by.between after by.last by.out (after_all early.0 shelf) by.serves early.2 in (
         early.0 ++ last.0,
         then_last by.events by.last shelf early.0 last.0 early.1 last.1,
         last.2 ∙ ap Some (sym (after_both early.0 last.0 shelf)),
       )
-  accepted_stays run before after old new how shelf (inr full) shows =
-      of_events run before after full.events full.lines shelf full.goes_on shows
+  accepted_stays basis before after old new how shelf (inr full) shows =
+      of_events basis before after full.events full.lines shelf full.goes_on shows

@@ -12,6 +12,7 @@ use Rattle.wq_session.specs.At.{AtData, ShelfNow}
 use Rattle.wq_session.specs.Followed.{follows_of}
 use Rattle.wq_session.specs.declared.ask.Ask.{Ask}
 use Rattle.wq_crawl.specs.declared.fault.CrawlFault.{CrawlFault}
+use Rattle.wq_serve.specs.Basis.{Basis}
 use Rattle.wq_serve.specs.Desk.{AnswersAt, StandData}
 use Rattle.wq_serve.specs.Ready.{KnownData, Learns, ended}
 use Rattle.wq_crawl.specs.Crawl.{CrawlerData}
@@ -44,30 +45,32 @@ ShowsNeeded run (watch root) events at = ShowsAt run root events at
 ShowsNeeded run (unwatch root) events at = ShowsAt run root events at
 
 -- the session looks at the root that an ask needs, or the look is refused
-abbrev pub SeesNeeded : Run → NeedData → List RootEvent → Option AtData → List RootEvent → Type 0
-SeesNeeded run need before at after =
-    (IsPrefix before after × ShowsNeeded run need after at) ⊎ ((after ≡ before) × (at ≡ None))
+abbrev pub SeesNeeded : Basis → NeedData → List RootEvent → Option AtData → List RootEvent → Type 0
+SeesNeeded basis need before at after =
+    (IsPrefix before after × ShowsNeeded basis.run need after at × basis.published after)
+    ⊎ ((after ≡ before) × (at ≡ None) × basis.refused before)
 
 -- the session looks at the root, and answers the ask at it
-abbrev pub SeesFirst : Run → Ask → List RootEvent → StandData → OutData → List RootEvent
+abbrev pub SeesFirst : Basis → Ask → List RootEvent → StandData → OutData → List RootEvent
     → StandData → Type 0
-SeesFirst run ask before stand out after left =
-    (at : Option AtData) × SeesNeeded run (need_of ask) before at after × AnswersAt stand ask at out left
+SeesFirst basis ask before stand out after left =
+    (at : Option AtData) × SeesNeeded basis (need_of ask) before at after
+    × AnswersAt stand ask at out left
 
 -- the roots told this; then the session looks at the root, and answers the ask
-abbrev pub AnswersAfter : Run → Ask → Result (Option (List RootEvent)) CrawlFault → List RootEvent
+abbrev pub AnswersAfter : Basis → Ask → Result (Option (List RootEvent)) CrawlFault → List RootEvent
     → StandData → OutData → List RootEvent → StandData → Type 0
-AnswersAfter run ask (Ok told) before stand out after left =
+AnswersAfter basis ask (Ok told) before stand out after left =
     (heard : List RootEvent) × Learns before (Ok told) heard
-    × SeesFirst run ask heard stand out after left
-AnswersAfter run ask (Err fault) before stand out after left =
+    × SeesFirst basis ask heard stand out after left
+AnswersAfter basis ask (Err fault) before stand out after left =
     MayRefuse (crawl_refusal fault) out × (after ≡ before) × (left ≡ stand)
 
 -- the session looks for the number of the root that an ask needs
-abbrev pub SeesNumber : Run → NeedData → List RootEvent → Option InstanceData → List RootEvent
+abbrev pub SeesNumber : Basis → NeedData → List RootEvent → Option InstanceData → List RootEvent
     → Type 0
-SeesNumber run need before instance after =
-    (at : Option AtData) × SeesNeeded run need before at after
+SeesNumber basis need before instance after =
+    (at : Option AtData) × SeesNeeded basis need before at after
     × (instance ≡ option_map (λ at. at.instance) at)
 
 -- the end of a root of this number was told, or refused; then the session answers the ask

@@ -2,6 +2,7 @@ pub mod Inbox
 pub mod Reached
 pub mod Desk
 pub mod Run
+pub mod Basis
 pub mod Ready
 pub mod Idling
 pub mod Serving

@@ -11,7 +11,7 @@ use Rattle.wq_crawl.specs.declared.fault.CrawlFault.{CrawlFault}
 use Rattle.wq_crawl.specs.Crawl.{CrawlerData, tells}
 use Rattle.wq_crawl.specs.Roots.{RootRequestData, RootsGive, passing, showing, ending}
 use Rattle.wq_serve.specs.Run.{ShowsAt}
-use Rattle.wq_clock.specs.declared.run.Run.{Run}
+use Rattle.wq_serve.specs.Basis.{Basis}
 
 -- a session's knowledge of the roots: the crawler that they go by, if it is shown, and the list of
 -- events that its next look begins with
@@ -38,26 +38,28 @@ abbrev pub Hears : KnownData → RootRequestData → Result (Option (List RootEv
 Hears before request told after =
     RootsGive before.roots request told after.roots × Learns before.seen told after.seen
 
--- the session looks at a root, in a list that begins with all that it knew; or the look is refused,
--- and there is no root to look at
-abbrev pub Looks : Run → List ℕ → KnownData → Option AtData → KnownData → Type 0
-Looks run root before at after =
+-- the session looks at a root, in a list that was published, and that begins with all that it knew;
+-- or the look was refused, and there is no root to look at
+abbrev pub Looks : Basis → List ℕ → KnownData → Option AtData → KnownData → Type 0
+Looks basis root before at after =
     (after.roots ≡ before.roots)
-    × ((IsPrefix before.seen after.seen × ShowsAt run root after.seen at)
-    ⊎ ((after.seen ≡ before.seen) × (at ≡ None)))
+    × ((IsPrefix before.seen after.seen × ShowsAt basis.run root after.seen at
+    × basis.published after.seen)
+    ⊎ ((after.seen ≡ before.seen) × (at ≡ None) × basis.refused before.seen))
 
 -- the roots told this of a root: the session looks at it, unless they refused
-abbrev pub LooksAfter : Run → List ℕ → Result (Option (List RootEvent)) CrawlFault → KnownData
+abbrev pub LooksAfter : Basis → List ℕ → Result (Option (List RootEvent)) CrawlFault → KnownData
     → ReadyData → KnownData → Type 0
-LooksAfter run root (Ok told) before ready after =
-    (at : Option AtData) × Looks run root before at after × (ready ≡ Ok at)
-LooksAfter run root (Err fault) before ready after = (ready ≡ Err fault) × (after ≡ before)
+LooksAfter basis root (Ok told) before ready after =
+    (at : Option AtData) × Looks basis root before at after × (ready ≡ Ok at)
+LooksAfter basis root (Err fault) before ready after = (ready ≡ Err fault) × (after ≡ before)
 
 -- the session first asks the roots for a root, and then looks at it
-abbrev pub HearsFirst : Run → List ℕ → RootRequestData → KnownData → ReadyData → KnownData → Type 0
-HearsFirst run root request before ready after =
+abbrev pub HearsFirst : Basis → List ℕ → RootRequestData → KnownData → ReadyData → KnownData
+    → Type 0
+HearsFirst basis root request before ready after =
     (told : Result (Option (List RootEvent)) CrawlFault) × (heard : KnownData)
-    × Hears before request told heard × LooksAfter run root told heard ready after
+    × Hears before request told heard × LooksAfter basis root told heard ready after
 
 -- a root that has ended, as it is looked at: its number
 abbrev pub ended : InstanceData → AtData
@@ -76,13 +78,14 @@ Unwatches (Some at) before ready after =
     × Hears before (ending (at.instance).root) (tells told) after × (ready ≡ ended_by at told)
 
 -- the session does what an ask needs
-abbrev pub Readies : Run → NeedData → KnownData → ReadyData → KnownData → Type 0
-Readies run none before ready after = (ready ≡ Ok None) × (after ≡ before)
-Readies run (look root) before ready after =
-    (at : Option AtData) × Looks run root before at after × (ready ≡ Ok at)
-Readies run (crawl root) before ready after = HearsFirst run root (passing root) before ready after
-Readies run (watch root) before ready after =
-    HearsFirst run root (showing root) before ready after
-Readies run (unwatch root) before ready after =
-    (at : Option AtData) × (seen : KnownData) × Looks run root before at seen
+abbrev pub Readies : Basis → NeedData → KnownData → ReadyData → KnownData → Type 0
+Readies basis none before ready after = (ready ≡ Ok None) × (after ≡ before)
+Readies basis (look root) before ready after =
+    (at : Option AtData) × Looks basis root before at after × (ready ≡ Ok at)
+Readies basis (crawl root) before ready after =
+    HearsFirst basis root (passing root) before ready after
+Readies basis (watch root) before ready after =
+    HearsFirst basis root (showing root) before ready after
+Readies basis (unwatch root) before ready after =
+    (at : Option AtData) × (seen : KnownData) × Looks basis root before at seen
     × Unwatches at seen ready after

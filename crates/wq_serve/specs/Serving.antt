@@ -24,7 +24,7 @@ use Rattle.wq_serve.specs.Inbox.{Hands}
 use Rattle.wq_serve.specs.Limit.{max_events}
 use Rattle.wq_serve.specs.Ready.{KnownData, ReadyData, Readies}
 use Rattle.wq_crawl.specs.Crawl.{CrawlerData}
-use Rattle.wq_clock.specs.declared.run.Run.{Run}
+use Rattle.wq_serve.specs.Basis.{Basis}
 
 -- the state of the ends of a session: the events that are left, the knowledge of the roots, and the
 -- shelf; and the subscriptions of the session
@@ -45,23 +45,24 @@ Replies (Ok at) ask stand out after = AnswersAt stand ask at out after
 Replies (Err fault) ask stand out after = MayRefuse (crawl_refusal fault) out × (after ≡ stand)
 
 -- an ask is answered after its needs are met
-abbrev pub IsAnswered : Run → Ask → KnownData → StandData → OutData → KnownData → StandData → Type 0
-IsAnswered run ask before stand out after left =
-    (ready : ReadyData) × Readies run (need_of ask) before ready after
+abbrev pub IsAnswered : Basis → Ask → KnownData → StandData → OutData → KnownData → StandData
+    → Type 0
+IsAnswered basis ask before stand out after left =
+    (ready : ReadyData) × Readies basis (need_of ask) before ready after
     × Replies ready ask stand out left
 
 -- the result of an event: at an idle moment the session tells the subscriptions of a root; any
 -- other event asks something, and the session answers it
-abbrev pub Does : Run → Event → KnownData → StandData → OutData → KnownData → StandData → Type 0
-Does run (Idle root) before stand out after left = IsIdled run root before stand out after left
-Does run event before stand out after left =
-    (ask : Ask) × Asks event ask × IsAnswered run ask before stand out after left
+abbrev pub Does : Basis → Event → KnownData → StandData → OutData → KnownData → StandData → Type 0
+Does basis (Idle root) before stand out after left = IsIdled basis root before stand out after left
+Does basis event before stand out after left =
+    (ask : Ask) × Asks event ask × IsAnswered basis ask before stand out after left
 
 -- the session takes an event: this is the output for it, and the ends are then in this state
-abbrev pub Serves : Run → PlaceData → Event → OutData → PlaceData → Type 0
-Serves run before event out after =
+abbrev pub Serves : Basis → PlaceData → Event → OutData → PlaceData → Type 0
+Serves basis before event out after =
     Hands before.left event after.left
-    × Does run event before.known (stand_at before) out after.known (stand_at after)
+    × Does basis event before.known (stand_at before) out after.known (stand_at after)
 
 -- the line of a reply, if there is one: its text and a newline
 abbrev pub line_for : Option (List ℕ) → List ℕ
@@ -78,12 +79,12 @@ abbrev pub written_for : OutData → List ℕ
 written_for out = line_for out.reply ++ lines_for out.lists
 
 -- the session takes these events one after the other, and goes on after each; it writes this
-abbrev pub GoesOn : Run → PlaceData → List Event → List ℕ → PlaceData → Type 0
-GoesOn run before [] written after = (written ≡ []) × (after ≡ before)
-GoesOn run before (event ∷ later) written after =
-    (out : OutData) × (next : PlaceData) × (rest : List ℕ) × Serves run before event out next
+abbrev pub GoesOn : Basis → PlaceData → List Event → List ℕ → PlaceData → Type 0
+GoesOn basis before [] written after = (written ≡ []) × (after ≡ before)
+GoesOn basis before (event ∷ later) written after =
+    (out : OutData) × (next : PlaceData) × (rest : List ℕ) × Serves basis before event out next
     × (out.goes_on ≡ true) × (written ≡ written_for out ++ rest)
-    × GoesOn run next later rest after
+    × GoesOn basis next later rest after
 
 -- the ends, from their parts
 abbrev pub place : Option (List Event) → Option CrawlerData → List RootEvent → Option ShelfNow
@@ -111,33 +112,33 @@ Wrote true before after lines last =
 
 -- a session ends with an event after which it does not go on, or whose lines it cannot write whole;
 -- it goes on after each event before that
-pub record EndsBy (run : Run) (before : PlaceData) (old new : Option (List ℕ)) (after : PlaceData)
-    (how : EndData) : Type 0 where
+pub record EndsBy (basis : Basis) (before : PlaceData) (old new : Option (List ℕ))
+    (after : PlaceData) (how : EndData) : Type 0 where
   pub events : List Event
   pub lines : List ℕ
   pub between : PlaceData
   pub last : Event
   pub out : OutData
-  pub goes_on : GoesOn run before events lines between
+  pub goes_on : GoesOn basis before events lines between
   pub count : length events < max_events
-  pub serves : Serves run between last out after
+  pub serves : Serves basis between last out after
   pub ends : how.fault ≡ false → out.goes_on ≡ false
   pub shuts : how.shut ≡ out.shuts
   pub wrote : Wrote how.fault old new lines (written_for out)
 
 -- a session ends because it took the most events that a session may take
-pub record EndsFull (run : Run) (before : PlaceData) (old new : Option (List ℕ)) (after : PlaceData)
-    (how : EndData) : Type 0 where
+pub record EndsFull (basis : Basis) (before : PlaceData) (old new : Option (List ℕ))
+    (after : PlaceData) (how : EndData) : Type 0 where
   pub events : List Event
   pub lines : List ℕ
-  pub goes_on : GoesOn run before events lines after
+  pub goes_on : GoesOn basis before events lines after
   pub count : length events ≡ max_events
   pub wrote : Appends old new lines
   pub shuts : how.shut ≡ false
   pub fault : how.fault ≡ false
 
 -- a session from its first event to its end
-abbrev pub IsServed : Run → PlaceData → Option (List ℕ) → Option (List ℕ) → PlaceData → EndData
+abbrev pub IsServed : Basis → PlaceData → Option (List ℕ) → Option (List ℕ) → PlaceData → EndData
     → Type 0
-IsServed run before old new after how =
-    EndsBy run before old new after how ⊎ EndsFull run before old new after how
+IsServed basis before old new after how =
+    EndsBy basis before old new after how ⊎ EndsFull basis before old new after how

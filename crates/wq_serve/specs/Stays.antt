@@ -3,7 +3,6 @@
 -- It is this server's own.
 use Rattle.std.specs.Prelude.{◌≡◌, ◌⊎◌, ℕ, List, [], ◌∷◌, ◌++◌, Option, Some}
 use mathlib.Core.Logic.{inl, inr}
-use Rattle.wq_clock.specs.declared.run.Run.{Run}
 use Rattle.wq_follow.specs.Subscription.{SubscriptionData}
 use Rattle.wq_registry.specs.History.{after_all}
 use Rattle.wq_session.specs.Accepted.{Accepts, CallNow}
@@ -12,6 +11,7 @@ use Rattle.wq_session.specs.Out.{OutData}
 use Rattle.wq_session.specs.Reading.{Asks}
 use Rattle.wq_session.specs.declared.ask.Ask.{Ask}
 use Rattle.wq_stream.specs.declared.event.Event.{Event}
+use Rattle.wq_serve.specs.Basis.{Basis}
 use Rattle.wq_serve.specs.Serving.{EndData, IsServed, PlaceData}
 
 -- calls that an event makes at a shelf: none, or those that were accepted of its ask
@@ -29,18 +29,18 @@ AreOfEvents (event ∷ later) shelf calls =
     × AreOfEvent event shelf first × AreOfEvents later (after_all first shelf) rest
 
 -- the events that a session took, the last one too
-abbrev pub events_of : (run : Run) (before : PlaceData) (old new : Option (List ℕ))
-    (after : PlaceData) (how : EndData) → IsServed run before old new after how → List Event
-events_of run before old new after how (inl by) = by.events ++ by.last ∷ []
-events_of run before old new after how (inr full) = full.events
+abbrev pub events_of : (basis : Basis) (before : PlaceData) (old new : Option (List ℕ))
+    (after : PlaceData) (how : EndData) → IsServed basis before old new after how → List Event
+events_of basis before old new after how (inl by) = by.events ++ by.last ∷ []
+events_of basis before old new after how (inr full) = full.events
 
 -- What was accepted before the end of a session stays, on a shelf that is shown: the shelf is then
 -- the result of the calls that were accepted of all events. That holds of the last event too, even
 -- if its lines could not be written whole
-abbrev pub AcceptedStays : Type 0
-AcceptedStays = (run : Run) (before after : PlaceData) (old new : Option (List ℕ)) (how : EndData)
-    (shelf : ShelfNow) (served : IsServed run before old new after how)
+abbrev pub AcceptedStays : Basis → Type 0
+AcceptedStays basis = (before after : PlaceData) (old new : Option (List ℕ)) (how : EndData)
+    (shelf : ShelfNow) (served : IsServed basis before old new after how)
     → before.shelf ≡ Some shelf
     → (calls : List CallNow)
-    × AreOfEvents (events_of run before old new after how served) shelf calls
+    × AreOfEvents (events_of basis before old new after how served) shelf calls
     × (after.shelf ≡ Some (after_all calls shelf))

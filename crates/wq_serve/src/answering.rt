@@ -4,6 +4,7 @@ ghost use Rattle.wq_clock.specs.Instance.{instance_data};
 ghost use Rattle.wq_serve.specs.Answering.{AnswersAfter, AnswersEnd, IfUnwatches, SeesFirst};
 ghost use Rattle.wq_serve.specs.Answering.{known, shared_data, stand_of};
 ghost use Rattle.wq_serve.specs.Desk.{AnswersAt, HoldsShelf};
+ghost use Rattle.wq_serve.specs.Basis.{basis_of};
 ghost use Rattle.wq_serve.specs.Ready.{Learns};
 ghost use Rattle.wq_crawl.specs.Roots.{RootsGive, showing};
 ghost use Rattle.wq_serve.specs.Serving.{IsAnswered};
@@ -36,9 +37,10 @@ pub(crate) fn answer<T: Threads + Sync, N: Named, R: Roots<N>, D: Desk>(
     roots: &mut R,
     desk: &mut D,
 ) -> (Seat<N>, Out)
-    ensures gets { IsAnswered client.old.run ask (known (R.crawler roots.old) seat)
-        (stand_of (D.shelf desk.old) client.old) result.1 (known (R.crawler roots.new) result.0)
-        (stand_of (D.shelf desk.new) client.new) }
+    ensures gets { IsAnswered
+        (basis_of client.old.run (N.published N.book) (N.refused N.book)) ask
+        (known (R.crawler roots.old) seat) (stand_of (D.shelf desk.old) client.old) result.1
+        (known (R.crawler roots.new) result.0) (stand_of (D.shelf desk.new) client.new) }
     ensures run { client.new.run ≡ client.old.run }
 {
     match ask.need() {
@@ -129,8 +131,10 @@ fn look_and_hold<T: Threads + Sync, N: Named, D: Desk>(
     seat: Seat<N>,
     desk: &mut D,
 ) -> (Seat<N>, Out)
-    ensures answers { SeesFirst client.old.run ask seat (stand_of (D.shelf desk.old) client.old)
-        result.1 result.0 (stand_of (D.shelf desk.new) client.new) }
+    ensures answers { SeesFirst
+        (basis_of client.old.run (N.published N.book) (N.refused N.book)) ask seat
+        (stand_of (D.shelf desk.old) client.old) result.1 result.0
+        (stand_of (D.shelf desk.new) client.new) }
     ensures run { client.new.run ≡ client.old.run }
 {
     match seat.look() {
@@ -142,7 +146,7 @@ fn look_and_hold<T: Threads + Sync, N: Named, D: Desk>(
                 (look.leave(), out)
             }
         },
-        Err(seat) => (seat, hold(crew, client, ask, None, desk)),
+        Err(blind) => (blind.seat(), hold(crew, client, ask, None, desk)),
     }
 }
 
@@ -173,7 +177,8 @@ fn learn_and_hold<T: Threads + Sync, N: Named, D: Desk>(
     told: Result<Option<Told<N>>, CrawlFault>,
     desk: &mut D,
 ) -> (Seat<N>, Out)
-    ensures answers { AnswersAfter client.old.run ask told seat
+    ensures answers { AnswersAfter
+        (basis_of client.old.run (N.published N.book) (N.refused N.book)) ask told seat
         (stand_of (D.shelf desk.old) client.old) result.1 result.0
         (stand_of (D.shelf desk.new) client.new) }
     ensures run { client.new.run ≡ client.old.run }
@@ -194,7 +199,8 @@ fn unwatch_and_hold<T: Threads + Sync, N: Named, R: Roots<N>, D: Desk>(
     roots: &mut R,
     desk: &mut D,
 ) -> (Seat<N>, Out)
-    ensures gets { IfUnwatches (need_of ask) (IsAnswered client.old.run ask
+    ensures gets { IfUnwatches (need_of ask) (IsAnswered
+        (basis_of client.old.run (N.published N.book) (N.refused N.book)) ask
         (known (R.crawler roots.old) seat) (stand_of (D.shelf desk.old) client.old) result.1
         (known (R.crawler roots.new) result.0) (stand_of (D.shelf desk.new) client.new)) }
     ensures run { client.new.run ≡ client.old.run }
@@ -245,7 +251,7 @@ fn learn_and_leave<N: Named>(seat: Seat<N>, told: Told<N>) -> Seat<N>
 {
     match seat.learn(told).look() {
         Ok(look) => look.leave(),
-        Err(seat) => seat,
+        Err(blind) => blind.seat(),
     }
 }
 

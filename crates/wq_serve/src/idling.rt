@@ -1,6 +1,7 @@
 //! An idle moment of a root: the session looks at it, and tells the client its changes.
 ghost use Rattle.std.specs.Prelude.{◌≡◌, option_map};
 ghost use Rattle.wq_serve.specs.Answering.{shared_data};
+ghost use Rattle.wq_serve.specs.Basis.{basis_of};
 ghost use Rattle.wq_serve.specs.Idling.{SeesMoment};
 ghost use Rattle.wq_session.specs.Followed.{follows_of};
 ghost use Rattle.wq_session.specs.Moment.{Idles};
@@ -14,8 +15,9 @@ use wq_session::Out;
 ///
 /// The look ends before lists are made, as before a reply is. If it is refused, the moment is skipped.
 pub(crate) fn idle<N: Named>(client: &mut Client, root: u64, seat: Seat<N>) -> (Seat<N>, Out)
-    ensures idles { SeesMoment client.old.run root seat (follows_of client.old.session) result.1
-        result.0 (follows_of client.new.session) }
+    ensures idles { SeesMoment
+        (basis_of client.old.run (N.published N.book) (N.refused N.book)) root seat
+        (follows_of client.old.session) result.1 result.0 (follows_of client.new.session) }
     ensures run { client.new.run ≡ client.old.run }
 {
     match seat.look() {
@@ -27,7 +29,7 @@ pub(crate) fn idle<N: Named>(client: &mut Client, root: u64, seat: Seat<N>) -> (
                 (look.leave(), out)
             }
         },
-        Err(seat) => (seat, Out::silence(true)),
+        Err(blind) => (blind.seat(), Out::silence(true)),
     }
 }
 

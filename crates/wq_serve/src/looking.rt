@@ -1,6 +1,7 @@
 //! The root that a session looks at for an ask, and for an idle moment.
 ghost use Rattle.std.specs.Prelude.{◌≡◌, IfOk, Option, Some, option_map};
 ghost use Rattle.wq_serve.specs.Answering.{SeesNumber, ShowsNeeded, shared_data};
+ghost use Rattle.wq_serve.specs.Basis.{basis_of};
 ghost use Rattle.wq_serve.specs.Run.{ShowsAt, ShowsNumber};
 ghost use Rattle.wq_clock.specs.Instance.{instance_data};
 ghost use Rattle.wq_session.specs.Need.{need_of};
@@ -125,14 +126,15 @@ pub(crate) fn number_for<N: Named>(
     ask: &Ask,
     seat: Seat<N>,
 ) -> (Seat<N>, Option<Instance>)
-    ensures { SeesNumber run (need_of ask.now) seat (option_map instance_data result.1) result.0 }
+    ensures { SeesNumber (basis_of run (N.published N.book) (N.refused N.book)) (need_of ask.now)
+        seat (option_map instance_data result.1) result.0 }
 {
     match seat.look() {
         Ok(look) => {
             let instance = number_in(run, ask, &look);
             (look.leave(), instance)
         }
-        Err(seat) => (seat, None),
+        Err(blind) => (blind.seat(), None),
     }
 }
 

@@ -1,6 +1,7 @@
 //! A session from its first event to its end.
 ghost use Rattle.std.specs.Prelude.{◌≡◌, [], List};
 ghost use Rattle.wq_follow.specs.Subscription.{SubscriptionData};
+ghost use Rattle.wq_serve.specs.Basis.{basis_of};
 ghost use Rattle.wq_serve.specs.Serving.{IsServed, Serves, place};
 ghost use Rattle.wq_session.specs.Followed.{follows_of};
 ghost use Rattle.wq_stream.specs.declared.event.Event.{Event};
@@ -61,7 +62,8 @@ pub fn serve<T: Threads + Sync, N: Named, I: Inbox, W: Write, R: Roots<N>, D: De
     roots: &mut R,
     desk: &mut D,
 ) -> Ended<N>
-    ensures { (follows : List SubscriptionData) × IsServed run
+    ensures { (follows : List SubscriptionData) × IsServed
+        (basis_of run (N.published N.book) (N.refused N.book))
         (place (I.left inbox.old) (R.crawler roots.old) seat (D.shelf desk.old) [])
         (W.contents writer.old) (W.contents writer.new)
         (place (I.left inbox.new) (R.crawler roots.new) result.seat (D.shelf desk.new) follows)
@@ -113,7 +115,8 @@ fn take_event<T: Threads + Sync, N: Named, I: Inbox, R: Roots<N>, D: Desk>(
     roots: &mut R,
     desk: &mut D,
 ) -> (Seat<N>, Out)
-    ensures serves { (event : Event) × Serves client.old.run
+    ensures serves { (event : Event) × Serves
+        (basis_of client.old.run (N.published N.book) (N.refused N.book))
         (place (I.left inbox.old) (R.crawler roots.old) seat (D.shelf desk.old)
         (follows_of client.old.session)) event result.1
         (place (I.left inbox.new) (R.crawler roots.new) result.0 (D.shelf desk.new)

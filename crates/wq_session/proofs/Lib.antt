@@ -9,6 +9,8 @@ mod Triggers
 pub mod Ending
 mod Again
 mod Accepting
+pub mod Adding
+mod HandingIn
 mod Newlines
 pub mod Finishing
 mod Programs

@@ -13,7 +13,7 @@ use Rattle.wq_query.specs.Reading.{asks as queries}
 use Rattle.wq_query.specs.declared.fault.QueryFault.{QueryFault}
 use Rattle.wq_registry.specs.History.{Call, adds_program, removes_program, adds_root, removes_root}
 use Rattle.wq_registry.specs.History.{uses_cursor, unsets_cursor, adds_trigger, removes_trigger}
-use Rattle.wq_registry.specs.History.{after_all}
+use Rattle.wq_registry.specs.History.{AddsOne, after_all}
 use Rattle.wq_view.specs.View.{ViewData}
 use Rattle.wq_session.specs.Answer.{AnswersAsk, finished}
 use Rattle.wq_session.specs.At.{AtData, ShelfNow}
@@ -110,3 +110,10 @@ AnswersAreCalls = (ask : Ask) (at : Option AtData) (shelf : ShelfNow)
     (left : List SubscriptionData) → AnswersAsk ask at shelf follows out after left
     → (calls : List CallNow) × Accepts ask at shelf follows out calls
     × (after ≡ after_all calls shelf)
+
+-- a program that accepted calls add is the one that the ask hands in
+abbrev pub AddedAreAsked : Type 0
+AddedAreAsked = (ask : Ask) (at : Option AtData) (shelf : ShelfNow)
+    (follows : List SubscriptionData) (out : OutData) (calls : List CallNow) (raw : Raw)
+    → Accepts ask at shelf follows out calls → AddsOne raw calls
+    → (name : List ℕ) × (ask ≡ AddProgram name raw)

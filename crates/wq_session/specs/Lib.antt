@@ -31,4 +31,5 @@ pub mod Round
 pub mod Taking
 pub mod Law
 pub mod Accepted
+pub mod HandedIn
 pub mod Prepared

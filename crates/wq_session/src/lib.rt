@@ -35,7 +35,8 @@ pub use at::At;
 pub use cursor::Cursor;
 pub use followed::MAX_SUBSCRIPTIONS;
 pub use law::{
-    answers_are_calls, failed_starts_are_counted, rounds_are_calls, watching_again_changes_nothing,
+    added_are_asked, answers_are_calls, asks_hand_in_valid, failed_starts_are_counted,
+    rounds_are_calls, watching_again_changes_nothing,
 };
 pub use line::Line;
 pub use need::Need;

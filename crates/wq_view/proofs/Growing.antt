@@ -1,19 +1,15 @@
--- The order of last change if records of tick 0 come between the others.
-use Rattle.std.proofs.Common.{◌≡◌, ◌≢◌, ℕ, zero, suc, ◌<◌, ◌≤◌, Bool, true, false, cond, not, ◌==◌, if◌then◌else◌, List, [], ◌∷◌, ◌++◌, map, length, get_or, ◌⊎◌, inl, inr, refl, sym, ap, ◌∙◌, append_assoc, arith}
+-- The positions of a tick if records of tick 0 come between the others.
+use Rattle.std.proofs.Common.{◌≡◌, ◌≢◌, ℕ, suc, ◌<◌, ◌≤◌, Bool, true, false, cond, not, ◌==◌, if◌then◌else◌, List, [], ◌∷◌, map, length, get_or, ◌⊎◌, inl, inr, refl, sym, ap, ◌∙◌, arith}
 use Rattle.std.proofs.lemmas.Bool.{cases_eq}
-use Rattle.std.proofs.lemmas.List.{length-map, map-append, get_or-map}
+use Rattle.std.proofs.lemmas.List.{length-map, get_or-map}
 use Rattle.std.specs.List.{filter, AllByRecursion}
 use Rattle.std.proofs.lemmas.List.Elements.{recursion_from_All}
-use Rattle.wq_view.specs.Order.{positions, newest_first}
+use Rattle.wq_view.specs.Order.{positions}
 use Rattle.wq_view.proofs.Newest.{eq_same, eq_apart, positions_within}
 
 -- whether a pass has seen the record of this tick
 abbrev pub is_known : ℕ → Bool
 is_known n = not (n == 0)
-
--- an order of the known records as positions among all records, with the records of tick 0 after it
-abbrev pub grown : List ℕ → List ℕ → List ℕ
-grown ticks order = map (λ p. get_or (positions is_known ticks) p 0) order ++ positions (λ n. n == 0) ticks
 
 pub length-kept : (test : ℕ → Bool) (xs : List ℕ) → length (positions test xs) ≡ length (filter test xs)
 length-kept test [] = refl
@@ -39,7 +35,7 @@ module _ (n : ℕ) (h : 1 ≤ n) where
   found xs = map (λ p. get_or (positions is_known xs) p 0) (positions is_n (filter is_known xs))
 
   -- the positions of one tick, through the places of the known
-  grown_bucket : (xs : List ℕ) → positions is_n xs ≡ found xs
+  pub grown_bucket : (xs : List ℕ) → positions is_n xs ≡ found xs
   grown_bucket [] = refl
   grown_bucket (x ∷ xs) = at (cases_eq x 0) (grown_bucket xs)
     where
@@ -64,27 +60,3 @@ module _ (n : ℕ) (h : 1 ≤ n) where
             | true ↦ ap (λ l. 0 ∷ l) (sym rest)
             | false ↦ sym rest
           ])
-
--- no known record has tick 0
-none_zero : (xs : List ℕ) → positions (λ k. k == 0) (filter is_known xs) ≡ []
-none_zero [] = refl
-none_zero (x ∷ xs) = at (cases_eq x 0) (none_zero xs)
-  where
-    at : (x ≡ 0) ⊎ (x ≢ 0) → positions (λ k. k == 0) (filter is_known xs) ≡ [] → positions (λ k. k == 0) (filter is_known (x ∷ xs)) ≡ []
-    at (inl e) later =
-        let unknown : is_known x ≡ false = ap (λ k. not (k == 0)) e ∙ ap not (eq_same 0) in
-        rw unknown later
-    at (inr e) later =
-        let no : (x == 0) ≡ false = eq_apart x 0 e in
-        rw (no, no) (ap (map suc) later)
-
--- the order with the new records after it is that of all records
-pub grown_order : (t : ℕ) (xs : List ℕ) → newest_first t xs ≡ grown xs (newest_first t (filter is_known xs))
-grown_order zero xs = ap (λ l. map (λ p. get_or (positions is_known xs) p 0) l ++ positions (λ n. n == 0) xs) (sym (none_zero xs))
-grown_order (suc t) xs =
-    let place : ℕ → ℕ = λ p. get_or (positions is_known xs) p 0 in
-    let front = positions (λ k. k == suc t) (filter is_known xs) in
-    ap (λ l. l ++ newest_first t xs) (grown_bucket (suc t) (omega arith) xs)
-    ∙ ap (λ l. map place front ++ l) (grown_order t xs)
-    ∙ sym (append_assoc (map place front) (map place (newest_first t (filter is_known xs))) (positions (λ n. n == 0) xs))
-    ∙ ap (λ l. l ++ positions (λ n. n == 0) xs) (sym (map-append place front (newest_first t (filter is_known xs))))

@@ -17,7 +17,10 @@ mod Positions
 mod NamesBelow
 mod Newest
 mod Growing
+mod Outside
 mod NewestLaw
+mod LaterOrder
+mod LaterRising
 mod PassOrder
 mod MoveSteps
 mod Marks

@@ -1,5 +1,5 @@
 -- The moves of records that a pass leaves as they are, and of the pairs of several chunks.
-use Rattle.std.proofs.Common.{◌≡◌, ◌<◌, ℕ, ℤ, pos, zero, suc, ◌+◌, true, List, [], ◌∷◌, ◌++◌, length, take, get_or, refl, sym, ap, ◌∙◌, append_assoc, append-nil, add-one, arith, length-append}
+use Rattle.std.proofs.Common.{◌≡◌, ◌<◌, ℕ, ℤ, pos, zero, suc, ◌+◌, true, List, [], ◌∷◌, ◌++◌, length, take, get_or, refl, sym, ap, ◌∙◌, append_assoc, append-nil, arith, length-append}
 use mathlib.Core.Bool.{false≢true}
 use Rattle.std.specs.List.{list_all, range_with_len}
 use Rattle.std.proofs.lemmas.List.{length-map, take_more}
@@ -31,41 +31,23 @@ range_both a (suc n) k b is =
     let count : suc (n + k) ≡ suc n + k = omega arith in
     ap (λ l. a ∷ l) (range_both (a + 1) n k b (omega (arith, is))) ∙ ap (range_with_len a) count
 
--- one record more stays as it is
-pub same_one : (n : ℕ) (m next : MovesData) → next ≡ with_same n m → with_known true next ≡ with_same (n + 1) m
-same_one n m next is = ap (with_known true) is ∙ at
-  where
-    places : (m.places ++ range_with_len m.next n) ++ ((m.next + n) ∷ []) ≡ m.places ++ range_with_len m.next (n + 1)
-    places =
-        append_assoc m.places (range_with_len m.next n) ((m.next + n) ∷ [])
-        ∙ ap (λ l. m.places ++ l) (sym (range_next m.next n (m.next + n) refl) ∙ ap (range_with_len m.next) (sym (add-one n)))
-
-    next_is : (m.next + n) + 1 ≡ m.next + (n + 1)
-    next_is = omega arith
-
-    at : with_known true (with_same n m) ≡ with_same (n + 1) m
-    at = λ i. record { next = next_is i; changed = m.changed; places = places i }
-
 -- no record more
 pub same_none : (m : MovesData) → m ≡ with_same 0 m
-same_none m = λ i. record { next = none i; changed = m.changed; places = sym (append-nil m.places) i }
+same_none m = λ i. record { next = none i; changed = m.changed; came = m.came }
   where
     none : m.next ≡ m.next + 0
     none = omega arith
 
 same_first : (n : ℕ) (m : MovesData) → with_same n (with_known true m) ≡ with_same (suc n) m
-same_first n m = λ i. record { next = next_is i; changed = m.changed; places = append_assoc m.places (m.next ∷ []) (range_with_len (m.next + 1) n) i }
+same_first n m = λ i. record { next = next_is i; changed = m.changed; came = m.came }
   where
     next_is : (m.next + 1) + n ≡ m.next + suc n
     next_is = omega arith
 
 -- two runs stay as they are
 pub same_then : (n k : ℕ) (m : MovesData) → with_same k (with_same n m) ≡ with_same (n + k) m
-same_then n k m = λ i. record { next = next_is i; changed = m.changed; places = places i }
+same_then n k m = λ i. record { next = next_is i; changed = m.changed; came = m.came }
   where
-    places : (m.places ++ range_with_len m.next n) ++ range_with_len (m.next + n) k ≡ m.places ++ range_with_len m.next (n + k)
-    places = append_assoc m.places (range_with_len m.next n) (range_with_len (m.next + n) k) ∙ ap (λ l. m.places ++ l) (range_both m.next n k (m.next + n) refl)
-
     next_is : (m.next + n) + k ≡ m.next + (n + k)
     next_is = omega arith
 

@@ -1,9 +1,9 @@
 -- The order of last change before and after a pass.
-use Rattle.std.proofs.Common.{◌≡◌, ◌≢◌, ℕ, zero, suc, ◌+◌, ◌<◌, ◌≤◌, Bool, true, false, cond, not, ◌==◌, if◌then◌else◌, get_or, List, [], ◌∷◌, ◌++◌, map, length, ◌⊎◌, inl, inr, refl, sym, ap, ◌∙◌, arith, length-append}
+use Rattle.std.proofs.Common.{◌≡◌, ◌≢◌, ℕ, zero, suc, ◌+◌, ◌<◌, ◌≤◌, Bool, true, false, cond, not, ◌==◌, if◌then◌else◌, get_or, List, [], ◌∷◌, map, length, ◌⊎◌, inl, inr, refl, sym, ap, ◌∙◌, arith, length-append}
 use Rattle.std.proofs.lemmas.Bool.{cases_eq}
 use Rattle.std.specs.List.{filter, All, AllZip, AllByRecursion}
 use Rattle.std.proofs.lemmas.List.{length-map}
-use Rattle.std.proofs.lemmas.List.Elements.{All-cons, All-append, All-map, filter-append}
+use Rattle.std.proofs.lemmas.List.Elements.{All-cons, All-append, All-map}
 use Rattle.wq_view.specs.Order.{positions, newest_first}
 
 -- whether the record at a position, by its tick, did not change at this tick
@@ -37,7 +37,7 @@ Moves t before after = (before ≤ t) × ((after ≡ suc t) ⊎ (after ≡ befor
 
 module _ (t : ℕ) where
   -- the positions of one tick after the pass are those of before that did not change
-  same_bucket : (n : ℕ) → n ≤ t → (before after : List ℕ) → AllZip (Moves t) before after → positions (λ k. k == n) after ≡ filter (is_left (suc t) after) (positions (λ k. k == n) before)
+  pub same_bucket : (n : ℕ) → n ≤ t → (before after : List ℕ) → AllZip (Moves t) before after → positions (λ k. k == n) after ≡ filter (is_left (suc t) after) (positions (λ k. k == n) before)
   same_bucket n h [] [] all = refl
   same_bucket n h [] (a ∷ after) all = absurd all
   same_bucket n h (b ∷ before) [] all = absurd all
@@ -61,17 +61,6 @@ module _ (t : ℕ) where
             | true ↦ ap (λ l. 0 ∷ l) later ∙ sym (ap (λ c. cond c (0 ∷ filter (is_left (suc t) (a ∷ after)) (map suc (positions (λ k. k == n) before))) (filter (is_left (suc t) (a ∷ after)) (map suc (positions (λ k. k == n) before)))) stays)
             | false ↦ later
           ]
-
-  pub same_order : (n : ℕ) → n ≤ t → (before after : List ℕ) → AllZip (Moves t) before after → newest_first n after ≡ filter (is_left (suc t) after) (newest_first n before)
-  same_order zero h before after all = same_bucket 0 h before after all
-  same_order (suc n) h before after all =
-      ap (λ l. l ++ newest_first n after) (same_bucket (suc n) h before after all)
-      ∙ ap (λ l. filter (is_left (suc t) after) (positions (λ k. k == suc n) before) ++ l) (same_order n (omega (arith, h)) before after all)
-      ∙ sym (filter-append (is_left (suc t) after) (positions (λ k. k == suc n) before) (newest_first n before))
-
--- the order after a pass, from the order before it
-pub order_moves : (t : ℕ) (before after : List ℕ) → AllZip (Moves t) before after → newest_first (suc t) after ≡ positions (λ k. k == suc t) after ++ filter (is_left (suc t) after) (newest_first t before)
-order_moves t before after all = ap (λ l. positions (λ k. k == suc t) after ++ l) (same_order t t (omega arith) before after all)
 
 -- each position comes once: the order is as long as the list, and within it
 length_above : (t x : ℕ) (xs : List ℕ) → t < x → length (newest_first t (x ∷ xs)) ≡ length (newest_first t xs)

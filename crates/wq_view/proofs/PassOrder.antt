@@ -1,22 +1,25 @@
 -- The order of last change after a pass, from the moves of the records.
-use Rattle.std.proofs.Common.{◌≡◌, ℕ, ℤ, zero, suc, ◌+◌, ◌<◌, ◌≤◌, Bool, true, false, cond, not, ◌&&◌, ◌==◌, if◌then◌else◌, slice_get, Option, Some, None, IfSome, List, [], ◌∷◌, ◌++◌, map, length, get_or, ◌⊎◌, inl, inr, refl, sym, ap, subst, ◌∙◌, append_assoc, append-nil, arith}
+use Rattle.std.proofs.Common.{◌≡◌, ℕ, ℤ, zero, suc, ◌+◌, ◌-◌, ◌<◌, ◌≤◌, Bool, true, false, cond, not, ◌&&◌, ◌==◌, if◌then◌else◌, slice_get, Option, Some, None, IfSome, List, [], ◌∷◌, ◌++◌, map, length, get_or, ◌⊎◌, inl, inr, refl, sym, ap, subst, ◌∙◌, append_assoc, append-nil, arith}
 use mathlib.Core.Bool.{false≢true, true≢false}
 use Rattle.std.specs.declared.cmp.Ordering.{Ordering}
 use Rattle.std.specs.declared.cmp.Ordering.TheVariants.{Less, Equal, Greater}
 use Rattle.std.specs.FinMap.Entries.{by_order}
 use Rattle.std.specs.List.{filter, All, AllZip, AllByRecursion}
-use Rattle.std.proofs.lemmas.List.{length-map, get_or-map}
-use Rattle.std.proofs.lemmas.List.Elements.{recursion_from_All, filter-append}
+use Rattle.std.proofs.lemmas.List.{length-map}
+use Rattle.std.proofs.lemmas.List.Elements.{recursion_from_All}
 use Rattle.std.proofs.lemmas.Option.{slice_get_within, get_or_from_slice_get}
 use Rattle.wq_view.specs.Limit.{max_records}
 use Rattle.wq_view.specs.Seen.{SeenData, stat_of, same_stat}
 use Rattle.wq_view.specs.Listing.{name_cmp}
 use Rattle.wq_view.specs.RecordData.{RecordData, last_stat, after_change, after_creation, after_deletion}
 use Rattle.wq_view.specs.Merge.{PairData, record_alone, record_and_row, row_alone, pairs_from, pairs_of, is_unchanged, pair_after, records_after}
-use Rattle.wq_view.specs.Order.{positions, newest_first, ticks_of, Known, IsOrderOf}
-use Rattle.wq_view.specs.Moves.{MovesData, no_place, no_moves, with_known, with_pair, with_pairs, has_place, order_moved}
-use Rattle.wq_view.proofs.Newest.{eq_same, eq_apart, is_left, filter_suc, Moves, newest_within, positions_within, order_moves}
-use Rattle.wq_view.proofs.Growing.{is_known, grown, grown_order, length-kept}
+use Rattle.wq_view.specs.Order.{OrderParts, Rises, positions, newer, nth_outside, ticks_of, Known, IsOrderOf}
+use Rattle.wq_view.specs.Moves.{IsAfter, IsMoved, MovesData, is_among, moved_of, no_moves, with_known, with_pair, with_pairs}
+use Rattle.wq_view.proofs.Newest.{eq_same, eq_apart, is_left, Moves, positions_within}
+use Rattle.wq_view.proofs.Growing.{is_known, length-kept}
+use Rattle.wq_view.proofs.LaterOrder.{grown_newer, left_newer, newer_within, none_later}
+use Rattle.wq_view.proofs.LaterRising.{sorted_later}
+use Rattle.wq_view.proofs.Outside.{among_bucket, nth_other, positions_rise}
 use Rattle.wq_view.proofs.Runs.{absent_stays, same_stays}
 
 -- the tick of a pair's record before a pass; 0 if the name is new
@@ -54,11 +57,11 @@ abbrev changed_from : ℕ → List PairData → List ℕ
 changed_from n [] = []
 changed_from n (p ∷ ps) = if is_unchanged p then changed_from (n + 1) ps else n ∷ changed_from (n + 1) ps
 
-abbrev places_from : ℕ → List PairData → List ℕ
-places_from n [] = []
-places_from n (record_alone r ∷ ps) = cond (is_unchanged (record_alone r)) n no_place ∷ places_from (n + 1) ps
-places_from n (record_and_row r row ∷ ps) = cond (is_unchanged (record_and_row r row)) n no_place ∷ places_from (n + 1) ps
-places_from n (row_alone row ∷ ps) = places_from (n + 1) ps
+abbrev came_from : ℕ → List PairData → List ℕ
+came_from n [] = []
+came_from n (record_alone r ∷ ps) = came_from (n + 1) ps
+came_from n (record_and_row r row ∷ ps) = came_from (n + 1) ps
+came_from n (row_alone row ∷ ps) = n ∷ came_from (n + 1) ps
 
 known_changed : (b : Bool) (ps : List PairData) (m : MovesData) → (with_known b m).changed ++ changed_from (with_known b m).next ps ≡ m.changed ++ (if b then changed_from (m.next + 1) ps else m.next ∷ changed_from (m.next + 1) ps)
 known_changed true ps m = refl
@@ -73,18 +76,31 @@ changed_is : (ps : List PairData) (m : MovesData) → (with_pairs ps m).changed 
 changed_is [] m = sym (append-nil m.changed)
 changed_is (p ∷ ps) m = changed_is ps (with_pair p m) ∙ one_changed p ps m
 
-known_placed : (b : Bool) (ps : List PairData) (m : MovesData) → (with_known b m).places ++ places_from (with_known b m).next ps ≡ m.places ++ (cond b m.next no_place ∷ places_from (m.next + 1) ps)
-known_placed true ps m = append_assoc m.places (m.next ∷ []) (places_from (m.next + 1) ps)
-known_placed false ps m = append_assoc m.places (no_place ∷ []) (places_from (m.next + 1) ps)
+known_came : (b : Bool) (ps : List PairData) (m : MovesData) → (with_known b m).came ++ came_from (with_known b m).next ps ≡ m.came ++ came_from (m.next + 1) ps
+known_came true ps m = refl
+known_came false ps m = refl
 
-one_placed : (p : PairData) (ps : List PairData) (m : MovesData) → (with_pair p m).places ++ places_from (with_pair p m).next ps ≡ m.places ++ places_from m.next (p ∷ ps)
-one_placed (record_alone r) ps m = known_placed (is_unchanged (record_alone r)) ps m
-one_placed (record_and_row r row) ps m = known_placed (is_unchanged (record_and_row r row)) ps m
-one_placed (row_alone row) ps m = refl
+one_came : (p : PairData) (ps : List PairData) (m : MovesData) → (with_pair p m).came ++ came_from (with_pair p m).next ps ≡ m.came ++ came_from m.next (p ∷ ps)
+one_came (record_alone r) ps m = known_came (is_unchanged (record_alone r)) ps m
+one_came (record_and_row r row) ps m = known_came (is_unchanged (record_and_row r row)) ps m
+one_came (row_alone row) ps m = append_assoc m.came (m.next ∷ []) (came_from (m.next + 1) ps)
 
-places_is : (ps : List PairData) (m : MovesData) → (with_pairs ps m).places ≡ m.places ++ places_from m.next ps
-places_is [] m = sym (append-nil m.places)
-places_is (p ∷ ps) m = places_is ps (with_pair p m) ∙ one_placed p ps m
+came_is : (ps : List PairData) (m : MovesData) → (with_pairs ps m).came ≡ m.came ++ came_from m.next ps
+came_is [] m = sym (append-nil m.came)
+came_is (p ∷ ps) m = came_is ps (with_pair p m) ∙ one_came p ps m
+
+known_next : (b : Bool) (m : MovesData) → (with_known b m).next ≡ m.next + 1
+known_next true m = refl
+known_next false m = refl
+
+one_next : (p : PairData) (m : MovesData) → (with_pair p m).next ≡ m.next + 1
+one_next (record_alone r) m = known_next (is_unchanged (record_alone r)) m
+one_next (record_and_row r row) m = known_next (is_unchanged (record_and_row r row)) m
+one_next (row_alone row) m = refl
+
+next_is : (ps : List PairData) (m : MovesData) → (with_pairs ps m).next ≡ m.next + length ps
+next_is [] m = omega arith
+next_is (p ∷ ps) m = omega (arith, next_is ps (with_pair p m), one_next p m)
 
 shifted : (n : ℕ) (qs : List ℕ) → map (λ q. (n + 1) + q) qs ≡ map (λ q. n + q) (map suc qs)
 shifted n [] = refl
@@ -100,6 +116,28 @@ from_zero (q ∷ qs) =
 
 nothing_more : (n : ℕ) → n ≡ n + 0
 nothing_more n = omega arith
+
+-- a record that was known did not come
+known_there : (n tick : ℕ) (ps : List PairData) → 1 ≤ tick → came_from (n + 1) ps ≡ map (λ q. (n + 1) + q) (positions (λ k. k == 0) (map tick_before ps)) → came_from (n + 1) ps ≡ map (λ q. n + q) (positions (λ k. k == 0) (tick ∷ map tick_before ps))
+known_there n tick ps h rest =
+    let no : (tick == 0) ≡ false = eq_apart tick 0 (λ e. omega (arith, e, h)) in
+    rw no (rest ∙ shifted n (positions (λ k. k == 0) (map tick_before ps)))
+
+-- a new one did
+new_there : (n : ℕ) (ps : List PairData) (b : Bool) → b ≡ true → came_from (n + 1) ps ≡ map (λ q. (n + 1) + q) (positions (λ k. k == 0) (map tick_before ps)) → n ∷ came_from (n + 1) ps ≡ map (λ q. n + q) (if b then 0 ∷ map suc (positions (λ k. k == 0) (map tick_before ps)) else map suc (positions (λ k. k == 0) (map tick_before ps)))
+new_there n ps true e rest =
+    let later = positions (λ k. k == 0) (map tick_before ps) in
+    ap (λ l. n ∷ l) (rest ∙ shifted n later) ∙ ap (λ k. k ∷ map (λ q. n + q) (map suc later)) (nothing_more n)
+new_there n ps false e rest = absurd (false≢true e)
+
+-- two tests that answer alike keep the same numbers
+filter_alike : (p q : ℕ → Bool) → ((n : ℕ) → p n ≡ q n) → (ns : List ℕ) → filter p ns ≡ filter q ns
+filter_alike p q same [] = refl
+filter_alike p q same (n ∷ ns) = rw (same n) (ap (λ l. cond (q n) (n ∷ l) l) (filter_alike p q same ns))
+
+map_within : (f g : ℕ → ℕ) (bound : ℕ) → ((n : ℕ) → n < bound → f n ≡ g n) → (ns : List ℕ) → AllByRecursion (λ n. n < bound) ns → map f ns ≡ map g ns
+map_within f g bound same [] all = refl
+map_within f g bound same (n ∷ ns) all = ap (λ k. k ∷ map f ns) (same n all.0) ∙ ap (λ l. g n ∷ l) (map_within f g bound same ns all.1)
 
 module _ (t : ℕ) (second : ℤ) where
   abbrev tick_after : PairData → ℕ
@@ -184,87 +222,12 @@ module _ (t : ℕ) (second : ℤ) where
       at true later rest = rest
       at false later rest = ap (λ l. n ∷ l) rest ∙ ap (λ k. k ∷ map (λ q. n + q) (map suc later)) (nothing_more n)
 
-  -- the places of the known records: their positions, if they did not change
-  abbrev Places : ℕ → List ℕ → List ℕ → List ℕ → Type 0
-  Places n after known places =
-      (p : ℕ) → p < length known → get_or places p 0 ≡ cond (is_left (suc t) after (get_or known p 0)) (n + get_or known p 0) no_place
-
-  place_later : (n a p : ℕ) (after known places : List ℕ) → Places (n + 1) after known places → p < length known → get_or places p 0 ≡ cond (is_left (suc t) (a ∷ after) (get_or (map suc known) p 0)) (n + get_or (map suc known) p 0) no_place
-  place_later n a p after known places rest h =
-      let q = get_or known p 0 in
-      let same : (n + 1) + q ≡ n + suc q = omega arith in
-      rest p h
-      ∙ ap (λ k. cond (is_left (suc t) after q) k no_place) same
-      ∙ ap (λ k. cond (is_left (suc t) (a ∷ after) k) (n + k) no_place) (sym (get_or-map suc known p 0 0 h))
-
-  place_new : (n a : ℕ) (after known places : List ℕ) → Places (n + 1) after known places → Places n (a ∷ after) (map suc known) places
-  place_new n a after known places rest p h = place_later n a p after known places rest (omega (arith, h, length-map known suc))
-
-  place_known : (n a : ℕ) (u : Bool) (after known places : List ℕ) → (a == suc t) ≡ not u → Places (n + 1) after known places → Places n (a ∷ after) (0 ∷ map suc known) (cond u n no_place ∷ places)
-  place_known n a u after known places e rest zero h = at u ∙ ap (λ b. cond (not b) (n + 0) no_place) (sym e)
-    where
-      at : (b : Bool) → cond b n no_place ≡ cond (not (not b)) (n + 0) no_place
-      at true = nothing_more n
-      at false = refl
-  place_known n a u after known places e rest (suc p) h = place_later n a p after known places rest (omega (arith, h, length-map known suc))
-
-  known_first : (n : ℕ) (ns : List ℕ) → 1 ≤ n → 0 ∷ map suc (positions is_known ns) ≡ positions is_known (n ∷ ns)
-  known_first n ns h =
-      let known : is_known n ≡ true = ap not (eq_apart n 0 (λ e. omega (arith, e, h))) in
-      rw known refl
-
-  places_there : (n : ℕ) (ps : List PairData) → AllByRecursion IsKnownPair ps → Places n (map tick_after ps) (positions is_known (map tick_before ps)) (places_from n ps)
-  places_there n [] all = λ p h. absurd (omega (arith, h))
-  places_there n (record_alone r ∷ ps) all =
-      subst (λ l. Places n (map tick_after (record_alone r ∷ ps)) l (places_from n (record_alone r ∷ ps))) (known_first r.otick (map tick_before ps) all.0.0)
-      (place_known n (tick_after (record_alone r)) (is_unchanged (record_alone r)) (map tick_after ps) (positions is_known (map tick_before ps)) (places_from (n + 1) ps) (moved_is (record_alone r) all.0) (places_there (n + 1) ps all.1))
-  places_there n (record_and_row r row ∷ ps) all =
-      subst (λ l. Places n (map tick_after (record_and_row r row ∷ ps)) l (places_from n (record_and_row r row ∷ ps))) (known_first r.otick (map tick_before ps) all.0.0)
-      (place_known n (tick_after (record_and_row r row)) (is_unchanged (record_and_row r row)) (map tick_after ps) (positions is_known (map tick_before ps)) (places_from (n + 1) ps) (moved_is (record_and_row r row) all.0) (places_there (n + 1) ps all.1))
-  places_there n (row_alone row ∷ ps) all =
-      place_new n (tick_after (row_alone row)) (map tick_after ps) (positions is_known (map tick_before ps)) (places_from (n + 1) ps) (places_there (n + 1) ps all.1)
-
-  -- there are as many places as records from before the pass
-  count_places : (n : ℕ) (ps : List PairData) → AllByRecursion IsKnownPair ps → length (places_from n ps) ≡ length (filter is_known (map tick_before ps))
-  count_places n [] all = refl
-  count_places n (record_alone r ∷ ps) all = ap suc (count_places (n + 1) ps all.1) ∙ sym (ap length (known_kept r.otick (map tick_before ps) all.0.0))
-  count_places n (record_and_row r row ∷ ps) all = ap suc (count_places (n + 1) ps all.1) ∙ sym (ap length (known_kept r.otick (map tick_before ps) all.0.0))
-  count_places n (row_alone row ∷ ps) all = count_places (n + 1) ps all.1
-
-  -- one place is kept if the record did not change
-  place_kept : (q place : ℕ) (b : Bool) (rest : List ℕ) → place ≡ cond b (0 + q) no_place → q < max_records → filter has_place (place ∷ rest) ≡ cond b (q ∷ filter has_place rest) (filter has_place rest)
-  place_kept q place true rest is h =
-      let same : place ≡ q = omega (arith, is) in
-      let kept : has_place place ≡ true = ap not (eq_apart place no_place (λ e. omega (arith, e, same, h))) in
-      rw kept (ap (λ k. k ∷ filter has_place rest) same)
-  place_kept q place false rest is h =
-      let gone : has_place place ≡ false = ap has_place is ∙ ap not (eq_same no_place) in
-      rw gone refl
-
-  -- the places of an order are those of its positions that did not change
-  places_kept : (after known places order : List ℕ) → Places 0 after known places → All (λ q. q < max_records) known → AllByRecursion (λ p. p < length known) order → filter has_place (map (λ p. get_or places p 0) order) ≡ filter (is_left (suc t) after) (map (λ p. get_or known p 0) order)
-  places_kept after known places [] there few all = refl
-  places_kept after known places (p ∷ order) there few all =
-      let q = get_or known p 0 in
-      place_kept q (get_or places p 0) (is_left (suc t) after q) (map (λ p. get_or places p 0) order) (there p all.0) (few p 0 all.0)
-      ∙ ap (λ l. cond (is_left (suc t) after q) (q ∷ l) l) (places_kept after known places order there few all.1)
-
-  -- all new records changed
-  fresh_later : (a : ℕ) (after fresh : List ℕ) → filter (is_left (suc t) after) fresh ≡ [] → filter (is_left (suc t) (a ∷ after)) (map suc fresh) ≡ []
-  fresh_later a after fresh none = filter_suc (is_left (suc t) (a ∷ after)) (is_left (suc t) after) (λ _. refl) fresh ∙ ap (map suc) none
-
-  fresh_known : (a n : ℕ) (after before : List ℕ) → 1 ≤ n → filter (is_left (suc t) after) (positions (λ n. n == 0) before) ≡ [] → filter (is_left (suc t) (a ∷ after)) (positions (λ n. n == 0) (n ∷ before)) ≡ []
-  fresh_known a n after before h none =
-      let no : (n == 0) ≡ false = eq_apart n 0 (λ e. omega (arith, e, h)) in
-      rw no (fresh_later a after (positions (λ n. n == 0) before) none)
-
-  new_moved : (ps : List PairData) → AllByRecursion IsKnownPair ps → filter (is_left (suc t) (map tick_after ps)) (positions (λ n. n == 0) (map tick_before ps)) ≡ []
-  new_moved [] all = refl
-  new_moved (record_alone r ∷ ps) all = fresh_known (tick_after (record_alone r)) r.otick (map tick_after ps) (map tick_before ps) all.0.0 (new_moved ps all.1)
-  new_moved (record_and_row r row ∷ ps) all = fresh_known (tick_after (record_and_row r row)) r.otick (map tick_after ps) (map tick_before ps) all.0.0 (new_moved ps all.1)
-  new_moved (row_alone row ∷ ps) all =
-      let gone : is_left (suc t) (suc t ∷ map tick_after ps) 0 ≡ false = ap not (eq_same (suc t)) in
-      rw gone (fresh_later (suc t) (map tick_after ps) (positions (λ n. n == 0) (map tick_before ps)) (new_moved ps all.1))
+  -- the positions of the records that came
+  came_there : (n : ℕ) (ps : List PairData) → AllByRecursion IsKnownPair ps → came_from n ps ≡ map (λ q. n + q) (positions (λ k. k == 0) (map tick_before ps))
+  came_there n [] all = refl
+  came_there n (record_alone r ∷ ps) all = known_there n r.otick ps all.0.0 (came_there (n + 1) ps all.1)
+  came_there n (record_and_row r row ∷ ps) all = known_there n r.otick ps all.0.0 (came_there (n + 1) ps all.1)
+  came_there n (row_alone row ∷ ps) all = new_there n ps (0 == 0) (eq_same 0) (came_there (n + 1) ps all.1)
 
   ticks_after : (ps : List PairData) → ticks_of (map (pair_after (suc t) second) ps) ≡ map tick_after ps
   ticks_after [] = refl
@@ -299,56 +262,108 @@ module _ (t : ℕ) (second : ℤ) where
     abbrev after : List ℕ
     after = map tick_after pairs
 
-    abbrev order : List ℕ
-    order = newest_first t (ticks_of rs)
+    abbrev moves_made : MovesData
+    moves_made = with_pairs pairs no_moves
+
+    abbrev old : ℕ → List ℕ
+    old more = newer more 1 (ticks_of rs)
 
     count_known : length (positions is_known before) ≡ length rs
     count_known = length-kept is_known before ∙ ap length (ticks_kept t rs rows known) ∙ length-map rs (λ (r : RecordData). r.otick)
 
-    -- there are as many places as records
-    pub count_after : length (with_pairs pairs no_moves).places ≡ length rs
-    count_after = ap length (places_is pairs no_moves) ∙ count_places 0 pairs all ∙ ap length (ticks_kept t rs rows known) ∙ length-map rs (λ (r : RecordData). r.otick)
+    pub changed_are : moves_made.changed ≡ positions (λ k. k == suc t) after
+    changed_are = changed_is pairs no_moves ∙ changed_there 0 pairs all ∙ from_zero (positions (λ k. k == suc t) after)
 
-    within : AllByRecursion (λ p. p < length (positions is_known before)) order
-    within = recursion_from_All (λ p. p < length (positions is_known before)) order (λ k d h. omega (arith, newest_within t (ticks_of rs) k d h, count_known, length-map rs (λ (r : RecordData). r.otick)))
+    pub came_are : moves_made.came ≡ positions (λ k. k == 0) before
+    came_are = came_is pairs no_moves ∙ came_there 0 pairs all ∙ from_zero (positions (λ k. k == 0) before)
 
-    few_known : length pairs ≤ max_records → All (λ q. q < max_records) (positions is_known before)
-    few_known few = λ k d h. omega (arith, positions_within is_known before k d h, length-map pairs tick_before, few)
+    -- the place of a known record
+    place_is : (p : ℕ) → p < length rs → nth_outside moves_made.came p ≡ get_or (positions is_known before) p 0
+    place_is p h = ap (λ came. nth_outside came p) came_are ∙ nth_other (λ k. k == 0) before p (omega (arith, h, count_known))
 
-    order_left : filter (is_left (suc t) after) (newest_first t before) ≡ filter (is_left (suc t) after) (map (λ p. get_or (positions is_known before) p 0) order)
-    order_left =
-        let places = map (λ p. get_or (positions is_known before) p 0) order in
-        ap (filter (is_left (suc t) after)) (grown_order t before ∙ ap (λ l. grown before (newest_first t l)) (ticks_kept t rs rows known))
-        ∙ filter-append (is_left (suc t) after) places (positions (λ n. n == 0) before)
-        ∙ ap (λ l. filter (is_left (suc t) after) places ++ l) (new_moved pairs all)
-        ∙ append-nil (filter (is_left (suc t) after) places)
+    -- it is within the records after the pass
+    pub place_within : (p : ℕ) → p < length rs → nth_outside moves_made.came p < length pairs
+    place_within p h = omega (arith, place_is p h, positions_within is_known before p 0 (omega (arith, h, count_known)), length-map pairs tick_before)
 
-    order_is : length pairs ≤ max_records → order_moved (with_pairs pairs no_moves) order ≡ newest_first (suc t) (ticks_of (records_after (suc t) second rs rows))
-    order_is few =
-        ap (λ l. l ++ filter has_place (map (λ p. get_or (with_pairs pairs no_moves).places p 0) order)) (changed_is pairs no_moves ∙ changed_there 0 pairs all ∙ from_zero (positions (λ k. k == suc t) after))
-        ∙ ap (λ places. positions (λ k. k == suc t) after ++ filter has_place (map (λ p. get_or places p 0) order)) (places_is pairs no_moves)
-        ∙ ap (λ l. positions (λ k. k == suc t) after ++ l) (places_kept after (positions is_known before) (places_from 0 pairs) order (places_there 0 pairs all) (few_known few) within ∙ sym order_left)
-        ∙ sym (order_moves t before after (moves_all pairs all))
-        ∙ ap (newest_first (suc t)) (sym (ticks_after pairs))
+    old_within : (more : ℕ) → AllByRecursion (λ p. p < length rs) (old more)
+    old_within more = recursion_from_All (λ p. p < length rs) (old more) (λ k d h. omega (arith, newer_within more 1 (ticks_of rs) k d h, length-map rs (λ (r : RecordData). r.otick)))
+
+    -- what a later pass than the first saw change before this one, and this one did not
+    moved_is_left : (more : ℕ) → more + 1 ≤ t → moved_of moves_made (old more) ≡ newer more 1 after
+    moved_is_left more h =
+        let place : ℕ → ℕ = λ p. get_or (positions is_known before) p 0 in
+        ap (filter (λ p. not (is_among moves_made.changed p))) (map_within (nth_outside moves_made.came) place (length rs) place_is (old more) (old_within more))
+        ∙ filter_alike (λ p. not (is_among moves_made.changed p)) (is_left (suc t) after) (λ p. ap not (ap (λ l. is_among l p) changed_are ∙ among_bucket (suc t) after p (omega arith))) (map place (old more))
+        ∙ ap (filter (is_left (suc t) after)) (sym (grown_newer more 1 before ∙ ap (λ l. map place (newer more 1 l)) (ticks_kept t rs rows known)))
+        ∙ sym (left_newer t more 1 h before after (moves_all pairs all))
+
+    -- the list of the order after the pass
+    pub later_is : (more : ℕ) → t ≡ more + 1 → moves_made.changed ++ moved_of moves_made (old more) ≡ newer t 1 (ticks_of (records_after (suc t) second rs rows))
+    later_is more e =
+        let next : suc (more + 1) ≡ suc t = omega (arith, e) in
+        let same : suc more ≡ t = omega (arith, e) in
+        ap (λ l. l ++ moved_of moves_made (old more)) changed_are
+        ∙ ap (λ l. positions (λ k. k == suc t) after ++ l) (moved_is_left more (omega (arith, e)))
+        ∙ ap (λ n. positions (λ k. k == n) after ++ newer more 1 after) (sym next)
+        ∙ ap (λ n. newer n 1 after) same
+        ∙ ap (newer t 1) (sym (ticks_after pairs))
+
+    pub known_are : Known (suc t) (records_after (suc t) second rs rows)
+    known_are = known_after pairs all
+
+    pub count_is : moves_made.next ≡ length (records_after (suc t) second rs rows)
+    count_is = omega (arith, next_is pairs no_moves, length-map pairs (pair_after (suc t) second))
+
+    -- what changed and what came rises
+    pub changed_rises : Rises moves_made.changed
+    changed_rises = subst Rises (sym changed_are) (positions_rise (λ k. k == suc t) after)
+
+    pub came_rises : Rises moves_made.came
+    came_rises = subst Rises (sym came_are) (positions_rise (λ k. k == 0) before)
+
+-- the order after the first pass
+first_order : (second : ℤ) (rs : List RecordData) (rows : List SeenData) (next : OrderParts) → Known 0 rs → next ≡ record { later = []; rising = []; count = (with_pairs (pairs_of rs rows) no_moves).next } → IsOrderOf 1 (records_after 1 second rs rows) next
+first_order second rs rows next known e =
+    let after = known_are 0 second rs rows known in
+    record {
+      known = after;
+      later = ap (λ (o : OrderParts). o.later) e;
+      rising = ap (λ (o : OrderParts). o.rising) e ∙ sym (none_later (ticks_of (records_after 1 second rs rows)) after);
+      count = ap (λ (o : OrderParts). o.count) e ∙ count_is 0 second rs rows known;
+    }
+
+-- the order after a later pass
+later_order : (t : ℕ) (second : ℤ) (rs : List RecordData) (rows : List SeenData) (order next : OrderParts) → IsOrderOf (suc t) rs order → IsMoved (with_pairs (pairs_of rs rows) no_moves) order next → IsOrderOf (suc (suc t)) (records_after (suc (suc t)) second rs rows) next
+later_order t second rs rows order next is moved =
+    let ticks = ticks_of (records_after (suc (suc t)) second rs rows) in
+    let after = known_are (suc t) second rs rows is.known in
+    let before : suc t - 1 ≡ t = omega arith in
+    let now : suc (suc t) - 1 ≡ suc t = omega arith in
+    let later = moved.later ∙ ap (λ l. (with_pairs (pairs_of rs rows) no_moves).changed ++ moved_of (with_pairs (pairs_of rs rows) no_moves) l) (is.later ∙ ap (λ n. newer n 1 (ticks_of rs)) before) ∙ later_is (suc t) second rs rows is.known t (omega arith) in
+    record {
+      known = after;
+      later = later ∙ ap (λ n. newer n 1 ticks) (sym now);
+      rising = sorted_later (suc t) ticks next.later next.rising later after moved.same moved.sorted;
+      count = moved.count ∙ count_is (suc t) second rs rows is.known;
+    }
+
+by_tick : (t : ℕ) (first : Bool) → first ≡ (t == 0) → (second : ℤ) (rs : List RecordData) (rows : List SeenData) (order next : OrderParts) → IsOrderOf t rs order → IsAfter first (with_pairs (pairs_of rs rows) no_moves) order next → IsOrderOf (suc t) (records_after (suc t) second rs rows) next
+by_tick zero true e second rs rows order next is moved = first_order second rs rows next is.known moved
+by_tick zero false e second rs rows order next is moved = absurd (false≢true (e ∙ eq_same 0))
+by_tick (suc t) true e second rs rows order next is moved = absurd (true≢false (e ∙ eq_apart (suc t) 0 (λ e. omega (arith, e))))
+by_tick (suc t) false e second rs rows order next is moved = later_order t second rs rows order next is moved
 
 -- the order after a pass
-pub order_after_pass : (t tick : ℕ) (second : ℤ) (rs : List RecordData) (rows : List SeenData) (order : List ℕ) → tick ≡ t + 1 → IsOrderOf t rs order → length (records_after tick second rs rows) ≤ max_records → IsOrderOf tick (records_after tick second rs rows) (order_moved (with_pairs (pairs_of rs rows) no_moves) order)
-order_after_pass t tick second rs rows order e is few =
+pub order_after_pass : (t tick : ℕ) (first : Bool) (second : ℤ) (rs : List RecordData) (rows : List SeenData) (order next : OrderParts) → tick ≡ t + 1 → first ≡ (t == 0) → IsOrderOf t rs order → IsAfter first (with_pairs (pairs_of rs rows) no_moves) order next → IsOrderOf tick (records_after tick second rs rows) next
+order_after_pass t tick first second rs rows order next e is_first is moved =
     let same : suc t ≡ tick = omega (arith, e) in
-    subst (λ n. length (records_after n second rs rows) ≤ max_records → IsOrderOf n (records_after n second rs rows) (order_moved (with_pairs (pairs_of rs rows) no_moves) order)) same (λ few. record {
-      known = known_after t second (pairs_of rs rows) (pairs_known t second rs rows is.known);
-      sorted =
-          ap (order_moved (with_pairs (pairs_of rs rows) no_moves)) is.sorted
-          ∙ order_is t second rs rows is.known (omega (arith, few, length-map (pairs_of rs rows) (pair_after (suc t) second)));
-    }) few
+    subst (λ n. IsOrderOf n (records_after n second rs rows) next) same (by_tick t first is_first second rs rows order next is moved)
 
--- the positions of an order are within the records
-pub order_within : (t : ℕ) (rs : List RecordData) (order : List ℕ) → IsOrderOf t rs order → All (λ p. p < length rs) order
-order_within t rs order is = subst (λ l. All (λ p. p < length rs) l) (sym is.sorted) (λ k d h. omega (arith, newest_within t (ticks_of rs) k d h, length-map rs (λ (r : RecordData). r.otick)))
-
--- each record has a place
-pub places_within : (t : ℕ) (second : ℤ) (rs : List RecordData) (rows : List SeenData) (order : List ℕ) → IsOrderOf t rs order → All (λ p. p < length (with_pairs (pairs_of rs rows) no_moves).places) order
-places_within t second rs rows order is = λ k d h. omega (arith, order_within t rs order is k d h, count_after t second rs rows is.known)
+-- each record before a pass has a place after it
+pub places_within : (t : ℕ) (second : ℤ) (rs : List RecordData) (rows : List SeenData) (order : OrderParts) → IsOrderOf t rs order → (with_pairs (pairs_of rs rows) no_moves).next ≤ max_records → All (λ p. nth_outside (with_pairs (pairs_of rs rows) no_moves).came p < max_records) order.later
+places_within t second rs rows order is few = subst (All (λ p. nth_outside (with_pairs (pairs_of rs rows) no_moves).came p < max_records)) (sym is.later) (λ k d h.
+    let within = newer_within (t - 1) 1 (ticks_of rs) k d h in
+    omega (arith, place_within t second rs rows is.known (get_or (newer (t - 1) 1 (ticks_of rs)) k d) (omega (arith, within, length-map rs (λ (r : RecordData). r.otick))), few, next_is (pairs_of rs rows) no_moves))
 
 -- what is read of positions is within their bound
 pub there_within : (n : ℕ) (xs : List ℕ) (k : ℕ) (result : Option ℕ) → result ≡ slice_get xs k → All (λ p. p < n) xs → IfSome result (λ i. i < n)

@@ -1,17 +1,18 @@
 -- A run of records in a pass: the rows after it, and the records that the pass makes of it.
-use Rattle.std.proofs.Common.{◌≡◌, ℕ, ℤ, Bool, true, false, not, ◌&&◌, if◌then◌else◌, IsTrue, List, [], ◌∷◌, ◌++◌, map, Some, None, refl, sym, ap, ◌∙◌, append_assoc}
+use Rattle.std.proofs.Common.{◌≡◌, ℕ, ℤ, Bool, true, false, not, ◌&&◌, if◌then◌else◌, IsTrue, List, [], ◌∷◌, ◌++◌, map, Option, Some, None, length, refl, sym, ap, ◌∙◌, append_assoc}
 use mathlib.Core.Bool.{false≢true}
 use Rattle.std.specs.declared.cmp.Ordering.{Ordering}
 use Rattle.std.specs.declared.cmp.Ordering.TheVariants.{Less, Equal, Greater}
 use Rattle.std.specs.FinMap.Entries.{by_order}
 use Rattle.std.specs.List.{list_all}
-use Rattle.std.proofs.lemmas.List.{append-nil}
-use Rattle.wq_view.specs.Seen.{SeenData, is_lawful_row, stat_of, same_stat}
+use Rattle.std.proofs.lemmas.List.{append-nil, length-map}
+use Rattle.wq_view.specs.Seen.{SeenData, Stat, is_lawful_row, stat_of, same_stat}
 use Rattle.wq_view.specs.Listing.{name_cmp}
-use Rattle.wq_view.specs.RecordData.{RecordData, last_stat, record_after}
-use Rattle.wq_view.specs.Merge.{PairData, record_alone, record_and_row, row_alone, pairs_from, pairs_of, is_unchanged, shows, pair_after, records_after}
+use Rattle.wq_view.specs.RecordData.{RecordData, last_stat, record_after, after_change, after_creation, after_deletion}
+use Rattle.wq_view.specs.Merge.{PairData, record_alone, record_and_row, row_alone, pairs_from, pairs_of, has_record, is_unchanged, shows, pair_after, records_after}
 use Rattle.wq_view.specs.Pair.{has_lawful_row}
-use Rattle.wq_view.specs.Run.{run_pairs, rows_after, rows_behind, is_same_run, run_after}
+use Rattle.wq_view.specs.Run.{run_pairs, rows_after, rows_behind, is_same_run, keeps_names, run_after}
+use Rattle.wq_view.specs.Suffix.{record_mark, marks_of}
 use Rattle.wq_view.proofs.NameOrder.{both_true}
 
 -- pairs with later pairs in two parts
@@ -116,6 +117,46 @@ module _ (tick : ℕ) (second : ℤ) where
   same_after [] rows e = refl
   same_after (r ∷ rs) rows e = same_from r (run_pairs rs) rs (λ rows h. same_after rs rows h) rows e
 
+  -- a pass changes no name, so no mark
+  mark_stays : (r : RecordData) (seen : Option Stat) → record_mark (record_after r seen tick second) ≡ record_mark r
+  mark_stays r None = at r.exists
+    where
+      at : (b : Bool) → record_mark (if b then after_deletion r tick second else r) ≡ record_mark r
+      at true = refl
+      at false = refl
+  mark_stays r (Some s) = at r.exists (same_stat (last_stat r) s)
+    where
+      at : (a b : Bool) → record_mark (if a then (if b then r else after_change r s tick second) else after_creation r s tick second) ≡ record_mark r
+      at true true = refl
+      at true false = refl
+      at false b = refl
+
+  marks_from : (r : RecordData) (later : List SeenData → List PairData) (marks : List ℕ) → ((rows : List SeenData) → list_all has_record (later rows) ≡ true → marks_of (map (pair_after tick second) (later rows)) ≡ marks) → (rows : List SeenData) → list_all has_record (pairs_from r later rows) ≡ true → marks_of (map (pair_after tick second) (pairs_from r later rows)) ≡ record_mark r ∷ marks
+  marks_from r later marks same [] e =
+      ap (λ m. m ∷ marks_of (map (pair_after tick second) (later []))) (mark_stays r None) ∙ ap (λ l. record_mark r ∷ l) (same [] e)
+  marks_from r later marks same (row ∷ rows) e = by (name_cmp r.name row.name) e
+    where
+      by : (o : Ordering) → list_all has_record (by_order o (record_alone r ∷ later (row ∷ rows)) (record_and_row r row ∷ later rows) (row_alone row ∷ pairs_from r later rows)) ≡ true → marks_of (map (pair_after tick second) (by_order o (record_alone r ∷ later (row ∷ rows)) (record_and_row r row ∷ later rows) (row_alone row ∷ pairs_from r later rows))) ≡ record_mark r ∷ marks
+      by Less h = ap (λ m. m ∷ marks_of (map (pair_after tick second) (later (row ∷ rows)))) (mark_stays r None) ∙ ap (λ l. record_mark r ∷ l) (same (row ∷ rows) h)
+      by Equal h = ap (λ m. m ∷ marks_of (map (pair_after tick second) (later rows))) (mark_stays r (Some (stat_of row))) ∙ ap (λ l. record_mark r ∷ l) (same rows h)
+      by Greater h = absurd (false≢true h)
+
+  -- a run into which a pass brings no name has the same marks after it
+  pub marks_kept : (rs : List RecordData) (rows : List SeenData) → keeps_names rs rows ≡ true → marks_of (run_after tick second rs rows) ≡ marks_of rs
+  marks_kept [] rows e = refl
+  marks_kept (r ∷ rs) rows e = marks_from r (run_pairs rs) (marks_of rs) (λ rows h. marks_kept rs rows h) rows e
+
+  -- and as many records
+  pub count_kept : (rs : List RecordData) (rows : List SeenData) → keeps_names rs rows ≡ true → length (run_after tick second rs rows) ≡ length rs
+  count_kept rs rows e =
+      sym (length-map (run_after tick second rs rows) record_mark) ∙ ap length (marks_kept rs rows e) ∙ length-map rs record_mark
+
+  -- a chunk of what a pass makes of a run, if no name comes and no pair is left
+  pub all_kept : (rs made : List RecordData) (rows : List SeenData) (left : List PairData) → keeps_names rs rows ≡ true → left ≡ [] → made ++ map (pair_after tick second) left ≡ run_after tick second rs rows → (marks_of rs ≡ marks_of made) × (length made ≡ length rs)
+  all_kept rs made rows left e none known =
+      let is : made ≡ run_after tick second rs rows = sym (append-nil made) ∙ sym (ap (λ l. made ++ map (pair_after tick second) l) none) ∙ known in
+      (sym (marks_kept rs rows e) ∙ sym (ap marks_of is), ap length is ∙ count_kept rs rows e)
+
   -- what is done and left, after the first pair that is left is done
   pub after_taken : (done : List RecordData) (r : RecordData) (p : PairData) (left next : List PairData) (all : List RecordData) → left ≡ p ∷ next → r ≡ pair_after tick second p → done ++ map (pair_after tick second) left ≡ all → (done ++ r ∷ []) ++ map (pair_after tick second) next ≡ all
   after_taken done r p left next all left_is r_is known =
@@ -155,6 +196,14 @@ lawful_after r later lawful (row ∷ rows) e =
 pub lawful_behind : (rs : List RecordData) (rows : List SeenData) → list_all is_lawful_row rows ≡ true → list_all is_lawful_row (rows_behind rs rows) ≡ true
 lawful_behind [] rows e = e
 lawful_behind (r ∷ rs) rows e = lawful_after r (rows_behind rs) (λ rows h. lawful_behind rs rows h) rows e
+
+-- what was seen so far and what is left decide, after the first pair that is left is seen
+pub seen_one : (test : PairData → Bool) (before here all : Bool) (p : PairData) (left next : List PairData) → left ≡ p ∷ next → here ≡ (before && test p) → (before && list_all test left) ≡ all → (here && list_all test next) ≡ all
+seen_one test before here all p left next left_is here_is known = ap (λ b. b && list_all test next) here_is ∙ at before (test p) (list_all test next) ∙ sym (ap (λ l. before && list_all test l) left_is) ∙ known
+  where
+    at : (a b c : Bool) → ((a && b) && c) ≡ (a && (b && c))
+    at true b c = refl
+    at false b c = refl
 
 -- if the rows of all pairs are lawful, the row of the first and the rows of the others are
 pub lawful_taken : (p : PairData) (left next : List PairData) → left ≡ p ∷ next → IsTrue (list_all has_lawful_row left) → IsTrue (has_lawful_row p) × IsTrue (list_all has_lawful_row next)

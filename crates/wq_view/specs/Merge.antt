@@ -1,6 +1,6 @@
 -- The step by which a view takes in a pass: records and rows in the order of their names, side by
 -- side. The meaning of the result is in the view of a history.
-use Rattle.std.specs.Prelude.{ℕ, ℤ, Bool, false, not, ◌&&◌, List, [], ◌∷◌, map, Some, None}
+use Rattle.std.specs.Prelude.{ℕ, ℤ, Bool, true, false, not, ◌&&◌, List, [], ◌∷◌, map, Some, None}
 use Rattle.std.specs.FinMap.Entries.{by_order}
 use Rattle.std.specs.List.{list_all}
 use Rattle.wq_view.specs.Seen.{SeenData, stat_of, same_stat}
@@ -34,6 +34,12 @@ abbrev pub is_unchanged : PairData → Bool
 is_unchanged (record_alone r) = not r.exists
 is_unchanged (record_and_row r row) = r.exists && same_stat (last_stat r) (stat_of row)
 is_unchanged (row_alone row) = false
+
+-- whether there is a record of the name
+abbrev pub has_record : PairData → Bool
+has_record (record_alone r) = true
+has_record (record_and_row r row) = true
+has_record (row_alone row) = false
 
 -- whether the rows say the same as the records of the files that exist
 abbrev pub shows : List RecordData → List SeenData → Bool

@@ -1,8 +1,9 @@
 -- The order of last change: the positions of a view's records, those of the latest pass first. The
 -- positions of one pass rise. The order is this server's own.
-use Rattle.std.specs.Prelude.{ℕ, zero, suc, ◌≡◌, ◌≤◌, ◌<◌, ◌⊎◌, ◌+◌, Bool, ◌==◌, if◌then◌else◌}
-use Rattle.std.specs.Prelude.{get_or, length, List, [], ◌∷◌, ◌++◌, map}
-use Rattle.std.specs.List.{All, AllByRecursion}
+use Rattle.std.specs.Prelude.{ℕ, zero, suc, ◌≡◌, ◌≤◌, ◌<◌, ◌⊎◌, ◌+◌, ◌-◌, Bool, ◌==◌, nat_le, nat_lt, if◌then◌else◌}
+use Rattle.std.specs.Prelude.{get_or, length, List, [], ◌∷◌, ◌++◌, map, refl}
+use Rattle.std.specs.Coded.{Coded, code_by, coded×, coded_ℕ, coded_list}
+use Rattle.std.specs.List.{All, AllByRecursion, range_with_len}
 use Rattle.wq_view.specs.RecordData.{RecordData}
 
 -- the positions of the items that pass the test, rising
@@ -24,11 +25,6 @@ ticks_of = map (λ r. r.otick)
 -- each record was seen to change at a tick from 1 to t
 abbrev pub Known : ℕ → List RecordData → Type 0
 Known t rs = AllByRecursion (λ n. (1 ≤ n) × (n ≤ t)) (ticks_of rs)
-
--- the order of last change of these records, each of which changed at a tick from 1 to this one
-pub record IsOrderOf (tick : ℕ) (records : List RecordData) (order : List ℕ) : Type 0 where
-  pub known : Known tick records
-  pub sorted : order ≡ newest_first tick (ticks_of records)
 
 -- the first position comes before the second one: its tick is later, or it is the lower position of
 -- one tick
@@ -59,3 +55,48 @@ NewestIsSplit = (more since t : ℕ) (ticks : List ℕ) → t ≡ more + since
     → (newest_first t ticks ≡ newer more since ticks ++ newest_first since ticks)
     × AllByRecursion (λ p. since < get_or ticks p 0) (newer more since ticks)
     × AllByRecursion (λ p. get_or ticks p 0 ≤ since) (newest_first since ticks)
+
+-- each number is below all later ones
+abbrev pub Rises : List ℕ → Type 0
+Rises [] = Unit {0}
+Rises (p ∷ ps) = AllByRecursion (λ q. p < q) ps × Rises ps
+
+-- the number at a place among those that are not in a rising list
+abbrev pub nth_outside : List ℕ → ℕ → ℕ
+nth_outside [] place = place
+nth_outside (p ∷ rising) place = if nat_le p place then nth_outside rising (place + 1) else place
+
+-- the numbers below this one that are not in a rising list
+abbrev pub outside : List ℕ → ℕ → List ℕ
+outside rising count = map (nth_outside rising) (range_with_len 0 (count - length rising))
+
+-- the parts of an order of last change
+pub record OrderParts : Type 0 where
+  -- the positions of the records that a later pass than the first saw change, the latest first
+  pub later : List ℕ
+  -- the same, rising
+  pub rising : List ℕ
+  -- how many records there are
+  pub count : ℕ
+
+-- the parts of an order as pairs
+abbrev pub order_code : Coded OrderParts
+order_code =
+    code_by (List ℕ × (List ℕ × ℕ)) (coded× (coded_list coded_ℕ) (coded× (coded_list coded_ℕ) coded_ℕ))
+    (λ order. (order.later, (order.rising, order.count)))
+    (λ (later, (rising, count)). record { later = later; rising = rising; count = count }) (λ _. refl)
+
+-- the positions of an order: those of the list, and then the others
+abbrev pub positions_in : OrderParts → List ℕ
+positions_in order = order.later ++ outside order.rising order.count
+
+-- whether a tick comes after the first one
+abbrev pub is_later : ℕ → Bool
+is_later n = nat_lt 1 n
+
+-- the order of last change of these records, each of which changed at a tick from 1 to this one
+pub record IsOrderOf (tick : ℕ) (records : List RecordData) (order : OrderParts) : Type 0 where
+  pub known : Known tick records
+  pub later : order.later ≡ newer (tick - 1) 1 (ticks_of records)
+  pub rising : order.rising ≡ positions is_later (ticks_of records)
+  pub count : order.count ≡ length records

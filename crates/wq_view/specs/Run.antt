@@ -5,7 +5,7 @@ use Rattle.std.specs.FinMap.Entries.{by_order}
 use Rattle.std.specs.List.{list_all}
 use Rattle.wq_view.specs.Seen.{SeenData}
 use Rattle.wq_view.specs.Listing.{name_cmp}
-use Rattle.wq_view.specs.Merge.{PairData, pairs_from, is_unchanged, pair_after}
+use Rattle.wq_view.specs.Merge.{PairData, pairs_from, has_record, is_unchanged, pair_after}
 use Rattle.wq_view.specs.RecordData.{RecordData}
 
 -- the pairs of a run and the rows that belong to it
@@ -27,6 +27,10 @@ rows_behind (r ∷ rs) rows = rows_after r (rows_behind rs) rows
 -- whether a pass with these rows leaves a run as it is
 abbrev pub is_same_run : List RecordData → List SeenData → Bool
 is_same_run rs rows = list_all is_unchanged (run_pairs rs rows)
+
+-- whether a pass with these rows brings no name into a run
+abbrev pub keeps_names : List RecordData → List SeenData → Bool
+keeps_names rs rows = list_all has_record (run_pairs rs rows)
 
 -- a run after a pass with these rows
 abbrev pub run_after : ℕ → ℤ → List RecordData → List SeenData → List RecordData

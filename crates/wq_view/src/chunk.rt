@@ -44,6 +44,21 @@ impl Chunk {
         Ok(Chunk { records, marks })
     }
 
+    /// The chunk of these records, which have the marks of other records of the same names.
+    pub(crate) fn of_same_names(
+        alloc: Global,
+        records: Vec<Record>,
+        marks: &[u8],
+    ) -> Result<Chunk, AllocError>
+        requires some { 1 ≤ length records.items }
+        requires few { length records.items ≤ max_chunk }
+        requires marks { marks.now ≡ marks_of records.items }
+        ensures { IfOk result (λ chunk. chunk ≡ records.items) }
+    {
+        let marks = Vec::from_slice(alloc, marks)?;
+        Ok(Chunk { records, marks })
+    }
+
     /// The records.
     pub(crate) fn records(&self) -> &[Record]
         ensures value { result.now ≡ self.now }

@@ -11,10 +11,10 @@ use std::mem;
 use std::sync::Arc;
 
 /// The number of records in a chunk, if many new records come together.
-const USUAL: usize = 2048;
+const USUAL: usize = 512;
 
 /// The greatest number of records in a chunk that is made.
-const FULL: usize = 3072;
+const FULL: usize = 768;
 
 /// Chunks that are made, and the records of the next one.
 #[derive(Drop)]
@@ -42,12 +42,25 @@ impl Filling {
         })
     }
 
+    /// The allocator of the list of chunks.
+    pub(crate) fn allocator(&self) -> Global {
+        self.chunks.allocator()
+    }
+
     /// Adds a chunk as it is.
     pub(crate) fn share(&mut self, chunk: &Arc<Chunk>) -> Result<(), AllocError>
         ensures { OnOk result (filled self.new ≡ filled self.old ++ arc_value chunk.now) }
     {
         self.close(0)?;
         self.chunks.push(chunk.clone()?)
+    }
+
+    /// Adds a chunk of its own.
+    pub(crate) fn put(&mut self, chunk: Chunk) -> Result<(), AllocError>
+        ensures { OnOk result (filled self.new ≡ filled self.old ++ chunk) }
+    {
+        self.close(0)?;
+        self.chunks.push(Arc::new(self.chunks.allocator(), chunk)?)
     }
 
     /// Begins a chunk of its own for so many records. If they are too many for one chunk, they come into chunks of equal

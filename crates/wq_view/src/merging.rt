@@ -1,15 +1,16 @@
 //! The changes that a pass makes in a view. The view after the pass shares each chunk that the pass leaves as it is.
-ghost use Rattle.std.specs.Prelude.{◌≡◌, ◌≤◌, ◌++◌, true, false, take, drop, length, [], IfNone, IfOk, IfSome, IsTrue, MatchOption, OnOk};
+ghost use Rattle.std.specs.Prelude.{◌≡◌, ◌≤◌, ◌++◌, true, false, take, drop, length, [], IfNone, IfOk, IfSome, IsTrue, OnOk};
 ghost use Rattle.std.specs.List.{list_all};
 ghost use Rattle.wq_view.specs.Change.{IsChange};
 ghost use Rattle.wq_view.specs.Chunk.{records_in, slot_records};
 ghost use Rattle.wq_view.specs.Filling.{filled};
-ghost use Rattle.wq_view.specs.Merge.{pairs_of, records_after, shows};
-ghost use Rattle.wq_view.specs.Moves.{moves_data, no_moves, with_pairs, with_same};
-ghost use Rattle.wq_view.specs.Run.{is_same_run, rows_behind, run_after, run_pairs};
+ghost use Rattle.wq_view.specs.Merge.{pair_after, pairs_of, records_after, shows};
+ghost use Rattle.wq_view.specs.Moves.{moves_data, no_moves, with_pair, with_pairs, with_same};
+ghost use Rattle.wq_view.specs.Pair.{has_lawful_row, pair_data};
+ghost use Rattle.wq_view.specs.Run.{is_same_run, keeps_names, rows_behind, run_after, run_pairs};
 ghost use Rattle.wq_view.specs.Seen.{is_lawful_row, is_count};
 
-use crate::chunk::Slot;
+use crate::chunk::{Chunk, Slot};
 use crate::chunks::Chunks;
 use crate::file_record::Record;
 use crate::filling::Filling;
@@ -37,10 +38,11 @@ pub(crate) fn first_change<'a>(slots: &'a [Slot], rows: &'a [Seen]) -> Option<Ch
 {
     let mut left = rows;
     for (at, slot) in slots.iter().enumerate() {
-        match rows_if_same(slot.chunk.records(), left) {
-            Some(later) => left = later,
-            None => return Some(change_at(slots, at, left)),
+        let seen = look(slot.chunk.records(), left);
+        if !seen.is_same {
+            return Some(change_at(slots, at, left));
         }
+        left = seen.left;
     }
     if left.is_empty() {
         return None;
@@ -59,18 +61,39 @@ fn change_at<'a>(slots: &'a [Slot], at: usize, rows: &'a [Seen]) -> Change<'a>
     Change { same, others, rows }
 }
 
-/// The rows after the ones that belong to a run of records, if a pass leaves the run as it is.
-fn rows_if_same<'a>(records: &'a [Record], rows: &'a [Seen]) -> Option<&'a [Seen]>
-    ensures { MatchOption result (is_same_run records.now rows.now ≡ false)
-        (λ left. (is_same_run records.now rows.now ≡ true) × (left.now ≡ rows_behind records.now rows.now)) }
+/// What the rows of a run of records say of it, and the rows after them.
+#[derive(Clone, Copy)]
+struct Looked<'a> {
+    /// Whether the pass leaves the run as it is.
+    is_same: bool,
+    /// Whether the pass brings no name into the run.
+    keeps_names: bool,
+    /// How many records the run has after the pass.
+    count: usize,
+    left: &'a [Seen],
+}
+
+/// Compares a run of records with its rows. Each pair is looked at once.
+fn look<'a>(records: &'a [Record], rows: &'a [Seen]) -> Looked<'a>
+    ensures same { result.is_same ≡ is_same_run records.now rows.now }
+    ensures names { result.keeps_names ≡ keeps_names records.now rows.now }
+    ensures left { result.left.now ≡ rows_behind records.now rows.now }
 {
     let mut pairs = Pairs::of(records, rows);
+    let mut is_same = true;
+    let mut keeps_names = true;
+    let mut count = 0usize;
     while let Some(pair) = pairs.take() {
-        if !pair.is_unchanged() {
-            return None;
-        }
+        is_same = is_same && pair.is_unchanged();
+        keeps_names = keeps_names && pair.has_record();
+        count = count.saturating_add(1);
     }
-    Some(pairs.rows())
+    Looked {
+        is_same,
+        keeps_names,
+        count,
+        left: pairs.rows(),
+    }
 }
 
 /// The chunks after a pass that makes this change, and the moves of their records. The call is refused if memory runs
@@ -91,19 +114,11 @@ pub(crate) fn chunks_after(
 {
     let count = change.same.len().saturating_add(change.others.len());
     let mut filling = Filling::new(alloc, count)?;
-    let mut moves = Moves::new(alloc, count_records(change))?;
+    let mut moves = Moves::new(alloc);
     share_all(&mut filling, &mut moves, change.same)?;
     let left = push_all_after(&mut filling, &mut moves, change.others, change.rows, at)?;
     push_new(&mut filling, &mut moves, left, at)?;
     Ok((filling.finish()?, moves))
-}
-
-/// The number of records in the chunks of a change.
-fn count_records(change: &Change<'_>) -> usize {
-    match (change.same.last(), change.others.last()) {
-        (_, Some(slot)) | (Some(slot), None) => slot.end,
-        (None, None) => 0,
-    }
 }
 
 /// Adds chunks as they are.
@@ -162,38 +177,81 @@ fn push_after<'a>(
         ≡ with_pairs (run_pairs (slot_records slot.now) rows.now) (moves_data moves.old)) }
 {
     let records = slot.chunk.records();
-    if let Some(left) = rows_if_same(records, rows) {
+    let seen = look(records, rows);
+    if seen.is_same {
         moves.keep(records.len())?;
         filling.share(&slot.chunk)?;
-        return Ok(left);
+        return Ok(seen.left);
     }
-    push_run_after(filling, moves, records, rows, at)
+    if seen.keeps_names {
+        let chunk = chunk_after(filling.allocator(), moves, &slot.chunk, rows, at)?;
+        filling.put(chunk)?;
+        return Ok(seen.left);
+    }
+    filling.begin(seen.count)?;
+    push_run_after(filling, moves, records, rows, at)?;
+    Ok(seen.left)
 }
 
-/// Adds the records of a run as they are after a pass, and gives the rows after its own.
-fn push_run_after<'a>(
-    filling: &mut Filling,
+/// A chunk after a pass that brings no name into it. Its marks stay as they are.
+fn chunk_after(
+    alloc: Global,
     moves: &mut Moves,
-    records: &'a [Record],
-    rows: &'a [Seen],
+    chunk: &Chunk,
+    rows: &[Seen],
     at: &Moment,
-) -> Result<&'a [Seen], AllocError>
+) -> Result<Chunk, AllocError>
     requires lawful { IsTrue (list_all is_lawful_row rows.now) }
     requires tick { at.now.tick ≤ MAX_TICK }
     requires second { IsTrue (is_count at.now.second) }
-    ensures records { IfOk result (λ left. filled filling.new
-        ≡ filled filling.old ++ run_after at.now.tick at.now.second records.now rows.now) }
-    ensures left { IfOk result (λ left. left.now ≡ rows_behind records.now rows.now) }
+    requires names { IsTrue (keeps_names chunk.now rows.now) }
+    ensures records { IfOk result (λ after. after ≡ run_after at.now.tick at.now.second chunk.now rows.now) }
     ensures moves { IfOk result (λ _. moves_data moves.new
+        ≡ with_pairs (run_pairs chunk.now rows.now) (moves_data moves.old)) }
+{
+    let known = chunk.records();
+    let mut records = Vec::with_capacity(alloc, known.len())?;
+    let mut pairs = Pairs::of(known, rows);
+    while let Some(pair) = pairs.take() {
+        records.push(note_after(moves, pair, at)?)?;
+    }
+    Chunk::of_same_names(alloc, records, chunk.marks())
+}
+
+/// Adds the records of a run as they are after a pass.
+fn push_run_after(
+    filling: &mut Filling,
+    moves: &mut Moves,
+    records: &[Record],
+    rows: &[Seen],
+    at: &Moment,
+) -> Result<(), AllocError>
+    requires lawful { IsTrue (list_all is_lawful_row rows.now) }
+    requires tick { at.now.tick ≤ MAX_TICK }
+    requires second { IsTrue (is_count at.now.second) }
+    ensures records { OnOk result (filled filling.new
+        ≡ filled filling.old ++ run_after at.now.tick at.now.second records.now rows.now) }
+    ensures moves { OnOk result (moves_data moves.new
         ≡ with_pairs (run_pairs records.now rows.now) (moves_data moves.old)) }
 {
-    filling.begin(Pairs::of(records, rows).count())?;
     let mut pairs = Pairs::of(records, rows);
     while let Some(pair) = pairs.take() {
-        moves.note(pair)?;
-        filling.push(pair.after(at)?)?;
+        filling.push(note_after(moves, pair, at)?)?;
     }
-    Ok(pairs.rows())
+    Ok(())
+}
+
+/// Notes a pair, and gives its record after a pass.
+fn note_after(moves: &mut Moves, pair: Pair<'_>, at: &Moment) -> Result<Record, AllocError>
+    requires lawful { IsTrue (has_lawful_row (pair_data pair)) }
+    requires tick { at.now.tick ≤ MAX_TICK }
+    requires second { IsTrue (is_count at.now.second) }
+    ensures made { IfOk result (λ r. r ≡ pair_after at.now.tick at.now.second (pair_data pair.entry)) }
+    ensures moves { IfOk result (λ _. moves_data moves.new ≡ with_pair (pair_data pair.entry) (moves_data moves.old)) }
+{
+    let stays = pair.is_unchanged();
+    moves.note(pair, stays)?;
+    pair.after_if(stays, at)
 }
 
 /// Adds the records of the rows that come after all records. Their names are new.
@@ -216,8 +274,7 @@ fn push_new(
     }
     filling.reopen(rows.len())?;
     for row in rows {
-        moves.note(Pair::New(row))?;
-        filling.push(Pair::New(row).after(at)?)?;
+        filling.push(note_after(moves, Pair::New(row), at)?)?;
     }
     Ok(())
 }

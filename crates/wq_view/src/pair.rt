@@ -2,7 +2,7 @@
 //! that a pass makes in a record is for others.
 ghost use Rattle.std.specs.Prelude.{◌≡◌, ◌≤◌, ◌∷◌, [], IfOk, IsTrue, MatchOption};
 ghost use Rattle.wq_view.specs.Seen.{is_count};
-ghost use Rattle.wq_view.specs.Merge.{is_unchanged, pair_after};
+ghost use Rattle.wq_view.specs.Merge.{has_record, is_unchanged, pair_after};
 ghost use Rattle.wq_view.specs.Pair.{has_lawful_row, pair_data, pairs_left, rows_left};
 ghost use Rattle.wq_view.specs.Run.{run_pairs, rows_behind};
 
@@ -41,8 +41,31 @@ impl Pair<'_> {
         }
     }
 
+    /// Whether a record has the name.
+    pub(crate) fn has_record(self) -> bool
+        ensures { result ≡ has_record (pair_data self.entry) }
+    {
+        !matches!(self, Pair::New(_))
+    }
+
+    /// The record of the name after a pass, if it is known whether the pass leaves it as it is.
+    #[tactic(auto, using(crate::proofs::Runs::absent_stays, crate::proofs::Runs::same_stays))]
+    pub(crate) fn after_if(self, stays: bool, at: &Moment) -> Result<Record, AllocError>
+        requires lawful { IsTrue (has_lawful_row (pair_data self)) }
+        requires tick { at.now.tick ≤ MAX_TICK }
+        requires second { IsTrue (is_count at.now.second) }
+        requires stays { stays ≡ is_unchanged (pair_data self) }
+        ensures { IfOk result (λ r. r ≡ pair_after at.now.tick at.now.second (pair_data self.entry)) }
+    {
+        match self {
+            Pair::Old(record) if stays => record.copy(),
+            Pair::Both(record, _) if stays => record.copy(),
+            _ => self.after(at),
+        }
+    }
+
     /// The record of the name after a pass that saw the row, or saw no file of this name.
-    pub(crate) fn after(self, at: &Moment) -> Result<Record, AllocError>
+    fn after(self, at: &Moment) -> Result<Record, AllocError>
         requires lawful { IsTrue (has_lawful_row (pair_data self)) }
         requires tick { at.now.tick ≤ MAX_TICK }
         requires second { IsTrue (is_count at.now.second) }
@@ -123,14 +146,5 @@ impl<'a> Pairs<'a> {
         ensures { result.now ≡ self.now.rows.now }
     {
         self.rows
-    }
-
-    /// How many pairs are left.
-    pub(crate) fn count(mut self) -> usize {
-        let mut count = 0usize;
-        while self.take().is_some() {
-            count = count.saturating_add(1);
-        }
-        count
     }
 }

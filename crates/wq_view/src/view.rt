@@ -1,6 +1,7 @@
 //! The view of a root: the records of all files that its passes saw, in the byte order of their names.
 //! A view keeps its records in chunks. Two views share each chunk that no pass between them changed.
-//! A view also keeps the order of last change, which a pass that moves the view writes anew.
+//! A view also keeps the order of last change. What a later pass than the first saw change is a list in it, and a pass
+//! that moves the view writes that list anew.
 //! Lookups take no memory. Only a pass that moves the view, and a copy of the view, take memory.
 ghost use Rattle.std.specs.Prelude.{MatchOption, ℕ, nat_le, nat_lt, ◌==◌, ◌&&◌, ◌≡◌, ◌≢◌, ◌+◌, ◌≤◌, ◌<◌, ◌↔◌, List, [], ◌∷◌, ◌++◌, Ok, Err, Some, None, true, false, drop, length, IfOk, IfErr, IfNone, IfSome, IsTrue, slice_get};
 ghost use Rattle.wq_view.specs.RecordData.{record_named};
@@ -81,7 +82,7 @@ impl View {
         View {
             tick: 0,
             chunks: Chunks::new(alloc),
-            order: Order::new(),
+            order: Order::first(0),
         }
     }
 
@@ -169,7 +170,7 @@ impl View {
         };
         let alloc = self.chunks.allocator();
         let (chunks, moves) = chunks_after(alloc, change, &at)?;
-        let order = self.order.moved(alloc, &moves)?;
+        let order = self.order.after(alloc, &moves, self.tick == 0)?;
         Ok(View {
             tick: at.tick,
             chunks,

@@ -6,7 +6,7 @@ use Rattle.std.proofs.lemmas.List.Elements.{All-cons, All-head, All-map, All-nil
 use Rattle.wq_walk.specs.declared.names.Names.{Names}
 use Rattle.wq_walk.specs.declared.names.Place.{Place}
 use Rattle.wq_walk.specs.Directory.{left_of}
-use Rattle.wq_walk.specs.Entries.{is_entry}
+use Rattle.wq_walk.specs.Entries.{AreEntries, is_entry}
 use Rattle.wq_walk.specs.Names.{name_at, names_at}
 use Rattle.wq_walk.specs.System.{has_here}
 use Rattle.wq_walk.specs.Unseen.{HasMissed}
@@ -16,10 +16,15 @@ pub taken : (bytes : List ℕ) (old new : List Place) (place : Place) → old �
     → names_at bytes old ≡ names_at bytes new ++ (name_at bytes place ∷ [])
 taken bytes old new place is = ap (names_at bytes) is ∙ map-append (name_at bytes) new (place ∷ [])
 
+-- the names of a directory are those of entries, each once
+pub are_entries : (names : Names) → AreEntries (left_of names)
+are_entries names =
+    (All-map (λ name. IsTrue (is_entry name)) (name_at names.bytes.items) names.places.items names.entries, names.distinct)
+
 -- the names of a directory: those of its entries, or none because a call of the system failed
 pub told_here : {E : Type 0} (path : List ℕ) (result : Result (Option Names) E) → IfOk result (λ names. IfNone names HasMissed) → IfOk result (λ names. has_here path (option_map left_of names))
 told_here path (Ok None) missed = missed
-told_here path (Ok (Some names)) missed = All-map (λ name. IsTrue (is_entry name)) (name_at names.bytes.items) names.places.items names.entries
+told_here path (Ok (Some names)) missed = are_entries names
 told_here path (Err fault) missed = tt
 
 -- if a test leaves some items out and changes none, the rest keep each fact that holds of all

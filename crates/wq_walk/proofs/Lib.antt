@@ -2,7 +2,10 @@ mod Below
 mod Joins
 mod Pieces
 mod Entries
+mod Distinct
 mod Walking
 mod Walked
 mod Drawn
 mod SameDirectory
+mod Accounts
+mod Once

@@ -1,8 +1,8 @@
 -- The steps of a walk, as the code takes them.
-use Rattle.std.proofs.Common.{◌≡◌, ◌⊎◌, ℕ, zero, suc, Bool, true, false, List, [], ◌∷◌, ◌++◌, inl, inr, refl, ap, sym, subst, ◌∙◌, if◌then◌else◌, append-nil, Option, Some, None, MatchOption}
+use Rattle.std.proofs.Common.{◌≡◌, ℕ, suc, Bool, false, List, [], ◌∷◌, ◌++◌, inl, refl, ap, sym, subst, ◌∙◌, if◌then◌else◌, append-nil, Option, Some, None, MatchOption}
 use Rattle.std.proofs.lemmas.Option.{none-some}
 use Rattle.std.specs.Str.{byte}
-use Rattle.wq_view.specs.Seen.{SeenData, Stat}
+use Rattle.wq_view.specs.Seen.{SeenData}
 use Rattle.wq_walk.specs.declared.part.Part.{Part}
 use Rattle.wq_walk.specs.Told.{Has, IsRead, Says}
 use Rattle.wq_walk.specs.Walk.{DirectoryData, Ends, Enters, IsDone, IsLooked, IsPassedOver, IsStep, Leads, Looks, WalkData, fresh, looked, name_of_path}

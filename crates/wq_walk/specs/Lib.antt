@@ -9,3 +9,5 @@ pub mod Names
 pub mod Directory
 pub mod System
 pub mod Listed
+pub mod Accounts
+pub mod Once

@@ -12,7 +12,7 @@ use Rattle.wq_walk.specs.declared.piece.Piece.{Piece}
 use Rattle.wq_walk.specs.declared.rows.Rows.{Rows}
 use Rattle.wq_walk.specs.declared.walks.Walked.{Walked}
 use Rattle.wq_walk.specs.Pieces.{IsSharedOut}
-use Rattle.wq_walk.specs.Told.{Has, IsHandleFault, IsRootFault, IsUnreadable, Says}
+use Rattle.wq_walk.specs.Told.{Has, IsHandleFault, IsRootFault, IsThere, IsUnreadable, Says}
 use Rattle.wq_walk.specs.Walk.{IsWalk}
 
 -- the parts of pieces
@@ -61,6 +61,10 @@ abbrev pub IsListed : Says → Has → List ℕ → List SeenData → Type 0
 IsListed says has root rows =
     (path : List ℕ) × (pieces : List Piece) × IsPathOf root path × IsSharedOut pieces
     × IsWalked says has path (parts_of pieces) rows
+
+-- the root of a listing was still there at a look after its walks
+abbrev pub IsRooted : Says → List ℕ → Type 0
+IsRooted says root = (path : List ℕ) × IsPathOf root path × IsThere says path
 
 -- a fault of a listing: it says that the root cannot be read only if the root could not be read, and
 -- that no file handle is left only if a call of the system failed so

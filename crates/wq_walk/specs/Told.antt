@@ -5,6 +5,7 @@ use Rattle.std.specs.Str.{IsUtf8}
 use Rattle.wq_crawl.specs.declared.tree.TreeFault.{TreeFault}
 use Rattle.wq_crawl.specs.declared.tree.TreeFault.TheVariants.{NoHandle, Unreadable}
 use Rattle.wq_view.specs.Seen.{Stat}
+use Rattle.wq_walk.specs.Entries.{AreEntries}
 
 -- the stats that a disk may give for the file of a path: none if it cannot look at the file
 abbrev pub Says : Type 1
@@ -22,15 +23,20 @@ IsHandleFault fails fault = fault ≡ NoHandle → (path : List ℕ) × fails pa
 abbrev pub IsFailure : (List ℕ → Type 0) → TreeFault → Type 0
 IsFailure fails fault = (fault ≡ Unreadable → ⊥) × IsHandleFault fails fault
 
--- a directory of this path was read, and has these names; none if it cannot be read, or the path is
--- no text
+-- a directory of this path was read, and has these entries, each once; none if it cannot be read, or
+-- the path is no text
 abbrev pub IsRead : Has → List ℕ → List (List ℕ) → Type 0
 IsRead has path names =
-    has path (Some names) ⊎ ((names ≡ []) × (has path None ⊎ (IsUtf8 path → ⊥)))
+    (has path (Some names) × AreEntries names)
+    ⊎ ((names ≡ []) × (has path None ⊎ (IsUtf8 path → ⊥)))
 
 -- a root cannot be read: the disk cannot read its directory, or cannot look at it
 abbrev pub IsUnreadable : Says → Has → List ℕ → Type 0
 IsUnreadable says has root = has root None ⊎ says root None
+
+-- the disk could look at the file of a path
+abbrev pub IsThere : Says → List ℕ → Type 0
+IsThere says path = (stat : Stat) × says path (Some stat)
 
 -- a fault says that a root cannot be read only if it cannot be read, and that no file handle is left
 -- only if a call of the system failed so

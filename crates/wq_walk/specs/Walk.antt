@@ -1,13 +1,13 @@
 -- The walk of a tree: the rows that a walk lists from the answers of a disk. No public document
 -- defines it.
 use Rattle.std.specs.Prelude.{◌≡◌, ◌⊎◌, ℕ, zero, suc, Bool, true, false, IsTrue, if◌then◌else◌}
-use Rattle.std.specs.Prelude.{List, [], ◌∷◌, ◌++◌, length, drop, Option, Some, None}
+use Rattle.std.specs.Prelude.{List, [], ◌∷◌, ◌++◌, length, drop, Some, None}
 use Rattle.std.specs.Str.{IsUtf8, byte}
 use Rattle.wq_view.specs.Name.{is_valid_name}
 use Rattle.wq_view.specs.Seen.{SeenData, Stat}
-use Rattle.wq_view.specs.declared.kind.Kind.{Kind}
 use Rattle.wq_view.specs.declared.kind.Kind.TheVariants.{Dir}
 use Rattle.wq_walk.specs.declared.part.Part.{Part}
+use Rattle.wq_walk.specs.Entries.{AreEntries}
 use Rattle.wq_walk.specs.Part.{MayHaveBelow, is_in, name_below}
 use Rattle.wq_walk.specs.Told.{Has, IsRead, Says}
 
@@ -134,6 +134,6 @@ Ends says has root_len part before rows =
 -- and ends when no step is left
 abbrev pub IsWalk : Says → Has → List ℕ → Part → List SeenData → Type 0
 IsWalk says has root part rows =
-    (names : List (List ℕ)) × has root (Some names)
+    (names : List (List ℕ)) × has root (Some names) × AreEntries names
     × Ends says has (length root) part
     (record { above = []; here = fresh root names; rows = [] }) rows

@@ -13,7 +13,7 @@ use wq_crawl::TreeFault;
 
 /// A source of directories and files. It fails if no answer can be had for any of them, because no file handle is left
 /// or memory ran out.
-pub(crate) trait Disk {
+pub trait Disk {
     ghost use Rattle.std.specs.Prelude.{ℕ, List, Option};
     ghost use Rattle.wq_view.specs.Seen.{Stat};
 
@@ -40,12 +40,13 @@ pub(crate) trait Disk {
 
 /// The disk of this machine.
 #[derive(Drop)]
-pub(crate) struct FileDisk {
+pub struct FileDisk {
     files: HostRuntime,
 }
 
 impl FileDisk {
-    pub(crate) fn new(files: &HostRuntime) -> FileDisk {
+    /// The disk that these files are on. The call takes no memory.
+    pub fn new(files: &HostRuntime) -> FileDisk {
         FileDisk { files: *files }
     }
 }

@@ -5,6 +5,7 @@
 mod directory;
 mod disk;
 mod guess;
+mod law;
 mod listing;
 mod names;
 mod new_names;
@@ -19,4 +20,8 @@ mod walk;
 mod walker;
 mod walks;
 
+pub use disk::{Disk, FileDisk};
+pub use law::{listings_list_once, names_are_accounted_for, rows_are_of_paths, walks_list_once};
+pub use names::{Block, Names};
+pub use stat::Stat;
 pub use walker::Walker;

@@ -5,8 +5,8 @@ ghost use Rattle.wq_crawl.specs.declared.tree.TreeFault.TheVariants.{TooManyRows
 ghost use Rattle.wq_crawl.specs.Tree.{is_of_device};
 ghost use Rattle.wq_view.specs.Limit.{max_listing_rows};
 ghost use Rattle.wq_view.specs.Seen.{is_lawful_row};
-ghost use Rattle.wq_walk.specs.Listed.{IsListed, IsUnread, IsWalked, parts_of};
-ghost use Rattle.wq_walk.specs.Told.{IsRootFault};
+ghost use Rattle.wq_walk.specs.Listed.{IsListed, IsRooted, IsUnread, IsWalked, parts_of};
+ghost use Rattle.wq_walk.specs.Told.{IsRootFault, IsThere};
 
 use crate::disk::Disk;
 use crate::guess::names_at_top;
@@ -33,6 +33,7 @@ pub(crate) fn first_rows<T: Threads, D: Disk + Sync>(
     ensures few { IfOk result (λ rows. length rows.items ≤ max_listing_rows) }
     ensures listed { IfOk result (λ rows.
         IsListed (D.says disk.now) (D.has disk.now) root.now rows.items) }
+    ensures rooted { IfOk result (λ _. IsRooted (D.says disk.now) root.now) }
     ensures fault { IfErr result
         (IsUnread (D.says disk.now) (D.has disk.now) (D.fails disk.now) root.now) }
 {
@@ -55,6 +56,7 @@ pub(crate) fn rows_again<T: Threads, D: Disk + Sync>(
     ensures few { IfOk result (λ rows. length rows.items ≤ max_listing_rows) }
     ensures listed { IfOk result (λ rows.
         IsListed (D.says disk.now) (D.has disk.now) root.now rows.items) }
+    ensures rooted { IfOk result (λ _. IsRooted (D.says disk.now) root.now) }
     ensures fault { IfErr result
         (IsUnread (D.says disk.now) (D.has disk.now) (D.fails disk.now) root.now) }
 {
@@ -80,6 +82,7 @@ fn rows_of<T: Threads, D: Disk + Sync>(
     ensures few { IfOk result (λ rows. length rows.items ≤ max_listing_rows) }
     ensures walked { IfOk result (λ rows.
         IsWalked (D.says disk.now) (D.has disk.now) root.now (parts_of pieces.now) rows.items) }
+    ensures rooted { IfOk result (λ _. IsThere (D.says disk.now) root.now) }
     ensures fault { IfErr result
         (IsRootFault (D.says disk.now) (D.has disk.now) (D.fails disk.now) root.now) }
 {

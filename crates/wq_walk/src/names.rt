@@ -1,7 +1,11 @@
 //! The names in one directory on disk. Another module looks at their files.
-ghost use Rattle.std.specs.Prelude.{◌≡◌, ◌++◌, ◌∷◌, [], IfErr, IfNone, IfOk, IfSome, IsTrue, None};
-ghost use Rattle.wq_walk.specs.Entries.{is_entry};
-ghost use Rattle.wq_walk.specs.Names.{AreOfEntries, name_at};
+ghost use Rattle.std.specs.Prelude.{◌≡◌, false, ◌++◌, ◌∷◌, [], IfErr, IfNone, IfOk, IfSome, IsTrue, None};
+ghost use Rattle.wq_walk.specs.Entries.{AreDistinct, has_no_slash, is_entry};
+ghost use Rattle.wq_walk.specs.Names.{AreOfEntries, name_at, names_at};
+ghost use Rattle.wq_view.specs.Listing.{name_cmp};
+ghost use Rattle.std.proofs.Props.{props};
+ghost use Rattle.std.specs.Ordering.{is_lt};
+ghost use Rattle.std.specs.declared.cmp.Ordering.TheVariants.{Less};
 ghost use Rattle.wq_walk.specs.Unseen.{HasMissed, IsCallFault};
 
 use crate::new_names::MOST_SHARED;
@@ -21,7 +25,7 @@ const HEAD: usize = 16;
 
 /// Memory for names that the system gives. All directories of a walk use it in turn.
 #[derive(Drop)]
-pub(crate) struct Block {
+pub struct Block {
     bytes: Vec<u8>,
 }
 
@@ -47,13 +51,22 @@ pub(crate) struct Place {
     end: usize,
 }
 
+/// The names of the entries of a directory as the system gives them, in one text. A name may be there twice.
+#[derive(Drop)]
+struct Given {
+    bytes: Vec<u8>,
+    places: Vec<Place>,
+    ghost entries: { AreOfEntries bytes.items places.items },
+}
+
 /// The names of the entries of a directory, in one text.
 #[derive(Drop)]
-pub(crate) struct Names {
+pub struct Names {
     bytes: Vec<u8>,
     /// The places of the names that were not taken yet, in falling order.
     places: Vec<Place>,
     ghost entries: { AreOfEntries bytes.items places.items },
+    ghost distinct: { AreDistinct (names_at bytes.items places.items) } by { Prim.hlevel props },
 }
 
 impl Names {
@@ -121,6 +134,16 @@ impl Names {
     {
         text_at(&self.bytes, place)
     }
+}
+
+impl Given {
+    /// No names. It takes no memory.
+    fn new(alloc: Global) -> Given {
+        Given {
+            bytes: Vec::new(alloc),
+            places: Vec::new(alloc),
+        }
+    }
 
     /// Adds the names of a block, in which byte 0 ends each name. It leaves out the names of the directory itself and
     /// of the one above it.
@@ -147,14 +170,21 @@ impl Names {
         Ok(())
     }
 
-    /// Sorts the names, and keeps each once.
-    fn sort(&mut self) {
-        let bytes = self.bytes.as_slice();
-        self.places.sort_unstable_by(|a, b| order(bytes, *b, *a));
+    /// The names in their order, each once.
+    fn sorted(self) -> Names {
+        let (text, mut places) = (self.bytes, self.places);
+        let bytes = text.as_slice();
+        places.sort_unstable_by(|a, b| order(bytes, *b, *a));
         let is_same = |a: &mut Place, b: &mut Place| -> bool
-            ensures { (a.exit.now ≡ a.entry.now) × (b.exit.now ≡ b.entry.now) }
-        { order(bytes, *a, *b).is_eq() };
-        self.places.dedup_by(is_same);
+            ensures { (a.exit.now ≡ a.entry.now) × (b.exit.now ≡ b.entry.now)
+                × (result ≡ false → name_cmp (name_at bytes.entry.now a.entry.now)
+                (name_at bytes.entry.now b.entry.now) ≡ Less) }
+        { !is_below(bytes, *a, *b) };
+        places.dedup_by(is_same);
+        Names {
+            bytes: text,
+            places,
+        }
     }
 }
 
@@ -172,7 +202,7 @@ pub(crate) fn names_in<R: Files>(
         Ok(directory) => directory,
         Err(error) => return nothing(&error),
     };
-    let mut names = Names::new(block.allocator());
+    let mut names = Given::new(block.allocator());
     for _ in 0..u64::MAX {
         match directory.read(&mut block.bytes) {
             Ok(0) => break,
@@ -181,15 +211,21 @@ pub(crate) fn names_in<R: Files>(
             Err(error) => return nothing(&error),
         }
     }
-    names.sort();
-    Ok(Some(names))
+    Ok(Some(names.sorted()))
 }
 
-/// Whether a name that the system gives is that of an entry, and not of the directory itself or the one above it.
+/// Whether a name that the system gives is that of an entry, and not of the directory itself or the one above it. No
+/// entry's name has a slash.
 fn is_entry(name: &[u8]) -> bool
     ensures { result ≡ is_entry name.now }
 {
-    !name.is_empty() && name != b".".as_slice() && name != b"..".as_slice()
+    !name.is_empty() && name != b".".as_slice() && name != b"..".as_slice() && has_no_slash(name)
+}
+
+fn has_no_slash(name: &[u8]) -> bool
+    ensures { result ≡ has_no_slash name.now }
+{
+    name.iter().all(|byte| *byte != b'/')
 }
 
 /// The first bytes of a name as a number. The numbers rise as the names do.
@@ -206,6 +242,13 @@ fn order(bytes: &[u8], a: Place, b: Place) -> Ordering {
         Ordering::Equal => text_at(bytes, a).cmp(text_at(bytes, b)),
         order => order,
     }
+}
+
+/// Whether the name at a place is below the name at another one.
+fn is_below(bytes: &[u8], a: Place, b: Place) -> bool
+    ensures { result ≡ is_lt (name_cmp (name_at bytes.now a) (name_at bytes.now b)) }
+{
+    text_at(bytes, a).cmp(text_at(bytes, b)).is_lt()
 }
 
 fn text_at(bytes: &[u8], place: Place) -> &[u8]

@@ -20,12 +20,12 @@ const NANOSECONDS: i64 = 1_000_000;
 
 /// The kind, size and time of a file. The numbers are in the ranges of a listing.
 #[derive(Drop)]
-pub(crate) struct Stat {
-    pub(crate) kind: Kind,
+pub struct Stat {
+    pub kind: Kind,
     /// In bytes.
-    pub(crate) size: i64,
+    pub size: i64,
     /// In milliseconds of the Unix epoch.
-    pub(crate) mtime_ms: i64,
+    pub mtime_ms: i64,
 }
 
 impl Model for Stat {

@@ -6,6 +6,7 @@ ghost use Rattle.wq_crawl.specs.Tree.{is_of_device};
 ghost use Rattle.wq_view.specs.Name.{is_valid_name};
 ghost use Rattle.wq_view.specs.Seen.{SeenData, is_lawful_row};
 ghost use Rattle.wq_walk.specs.Directory.{data_of, entry_at, left_of, walk_of};
+ghost use Rattle.wq_walk.specs.Entries.{AreEntries};
 ghost use Rattle.wq_walk.specs.Told.{IsFailure, IsRead, IsRootFault};
 ghost use Rattle.wq_walk.specs.Walk.{Ends, IsDone, IsLooked, IsStep, IsWalk};
 ghost use Rattle.wq_walk.specs.Walk.{fresh, looked, name_of_path, row_of, rows_of_file};
@@ -75,6 +76,7 @@ pub(crate) fn rows_in<'a, D: Disk>(
 }
 
 /// The directory of a root, before the walk looks at any of its names.
+#[tactic(auto, using(crate::proofs::Entries::are_entries))]
 fn top<D: Disk>(
     disk: &D,
     alloc: Global,
@@ -82,7 +84,7 @@ fn top<D: Disk>(
     root: &str,
 ) -> Result<Directory, TreeFault>
     ensures read { IfOk result (λ top. (names : List (List ℕ)) × D.has disk.now root.now (Some names)
-        × (data_of top ≡ fresh root.now names)) }
+        × AreEntries names × (data_of top ≡ fresh root.now names)) }
     ensures fault { IfErr result
         (IsRootFault (D.says disk.now) (D.has disk.now) (D.fails disk.now) root.now) }
 {
@@ -272,6 +274,7 @@ fn stat_at<D: Disk>(disk: &D, path: &TreePath) -> Result<Option<Stat>, TreeFault
 }
 
 /// The names in the directory of a path, or none if it cannot be read.
+#[tactic(auto, using(crate::proofs::Entries::are_entries))]
 fn names_at<D: Disk>(
     disk: &D,
     alloc: Global,

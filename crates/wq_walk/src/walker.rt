@@ -4,9 +4,10 @@ ghost use Rattle.std.specs.List.{list_all};
 ghost use Rattle.wq_crawl.specs.Tree.{IsCounted};
 ghost use Rattle.wq_view.specs.Limit.{max_listing_rows};
 ghost use Rattle.wq_view.specs.Seen.{is_lawful_row};
+ghost use Rattle.wq_walk.specs.Listed.{IsListed, IsRooted, IsUnread};
 ghost use Rattle.wq_walk.specs.System.{IsListedHere, IsUnreadHere};
 
-use crate::disk::FileDisk;
+use crate::disk::{Disk, FileDisk};
 use crate::listing::{first_rows, rows_again};
 use std::alloc::Global;
 use std::sync::Arc;
@@ -19,8 +20,8 @@ use wq_view::{Seen, View};
 /// Walks the trees of a disk, and counts how often a root could not be read or no file handle was left. Several threads
 /// walk a large tree if somebody waits for its listing.
 #[derive(Drop)]
-pub struct Walker<T: Threads + Drop> {
-    disk: FileDisk,
+pub struct Walker<T: Threads + Drop, D: Disk + Drop> {
+    disk: D,
     threads: T,
     alloc: Global,
     /// How many threads may walk a tree if somebody waits for its listing.
@@ -30,21 +31,23 @@ pub struct Walker<T: Threads + Drop> {
     failures: u64,
 }
 
-impl<T: Threads + Drop> Walker<T> {
-    /// A walker that has listed nothing and counted no failure. Up to so many threads walk a tree, or one if this count
-    /// of callers that wait for a listing is 0. The call takes no memory.
+impl<T: Threads + Drop, D: Disk + Drop> Walker<T, D> {
+    /// A walker of the trees of a disk that has listed nothing and counted no failure. Up to so many threads walk a
+    /// tree, or one if this count of callers that wait for a listing is 0. The call takes no memory.
     pub fn new(
-        files: &HostRuntime,
+        disk: D,
+        alloc: Global,
         threads: T,
         walkers: Workers,
         waiting: Arc<AtomicU64>,
-    ) -> Walker<T>
-        ensures { result.failures ≡ 0 }
+    ) -> Walker<T, D>
+        ensures failures { result.failures ≡ 0 }
+        ensures disk { result.disk ≡ disk }
     {
         Walker {
-            disk: FileDisk::new(files),
+            disk,
             threads,
-            alloc: files.alloc(),
+            alloc,
             walkers,
             waiting,
             failures: 0,
@@ -72,17 +75,19 @@ fn failures_after(before: u64, listed: &Result<Vec<Seen>, TreeFault>) -> u64
     }
 }
 
-impl<T: Threads + Drop> Tree for Walker<T> {
-    ghost failed = { λ walker. walker.failures };
-
+impl<T: Threads + Drop, D: Disk + Sync + Drop> Walker<T, D> {
     /// The rows of the files below a root. Their names rise if the tree does not change meanwhile. A pass takes each
     /// row.
-    fn list(&mut self, root: &str) -> Result<Vec<Seen>, TreeFault>
+    pub fn walk(&mut self, root: &str) -> Result<Vec<Seen>, TreeFault>
         ensures counted { IfErr result (IsCounted self.old.failures self.new.failures) }
-        ensures unread { IfErr result (IsUnreadHere root.now) }
+        ensures disk { self.new.disk ≡ self.old.disk }
+        ensures unread { IfErr result (IsUnread (D.says self.old.disk) (D.has self.old.disk)
+            (D.fails self.old.disk) root.now) }
         ensures lawful { IfOk result (λ rows. IsTrue (list_all is_lawful_row rows.items)) }
         ensures few { IfOk result (λ rows. length rows.items ≤ max_listing_rows) }
-        ensures walked { IfOk result (λ rows. IsListedHere root.now rows.items) }
+        ensures walked { IfOk result (λ rows.
+            IsListed (D.says self.old.disk) (D.has self.old.disk) root.now rows.items) }
+        ensures rooted { IfOk result (λ _. IsRooted (D.says self.old.disk) root.now) }
     {
         let walkers = self.walkers_now();
         let listed = first_rows(&self.threads, walkers, &self.disk, self.alloc, root);
@@ -91,6 +96,39 @@ impl<T: Threads + Drop> Tree for Walker<T> {
     }
 
     /// The rows of the files below a root, as above. They share the names of the records of its last view.
+    pub fn walk_again(&mut self, root: &str, last: &View) -> Result<Vec<Seen>, TreeFault>
+        ensures counted { IfErr result (IsCounted self.old.failures self.new.failures) }
+        ensures disk { self.new.disk ≡ self.old.disk }
+        ensures unread { IfErr result (IsUnread (D.says self.old.disk) (D.has self.old.disk)
+            (D.fails self.old.disk) root.now) }
+        ensures lawful { IfOk result (λ rows. IsTrue (list_all is_lawful_row rows.items)) }
+        ensures few { IfOk result (λ rows. length rows.items ≤ max_listing_rows) }
+        ensures walked { IfOk result (λ rows.
+            IsListed (D.says self.old.disk) (D.has self.old.disk) root.now rows.items) }
+        ensures rooted { IfOk result (λ _. IsRooted (D.says self.old.disk) root.now) }
+    {
+        let walkers = self.walkers_now();
+        let listed = rows_again(&self.threads, walkers, &self.disk, self.alloc, root, last);
+        self.failures = failures_after(self.failures, &listed);
+        listed
+    }
+}
+
+impl<T: Threads + Drop> Tree for Walker<T, FileDisk> {
+    ghost failed = { λ walker. walker.failures };
+
+    /// The rows of the files below a root on this machine, as [`Walker::walk`] gives them.
+    fn list(&mut self, root: &str) -> Result<Vec<Seen>, TreeFault>
+        ensures counted { IfErr result (IsCounted self.old.failures self.new.failures) }
+        ensures unread { IfErr result (IsUnreadHere root.now) }
+        ensures lawful { IfOk result (λ rows. IsTrue (list_all is_lawful_row rows.items)) }
+        ensures few { IfOk result (λ rows. length rows.items ≤ max_listing_rows) }
+        ensures walked { IfOk result (λ rows. IsListedHere root.now rows.items) }
+    {
+        self.walk(root)
+    }
+
+    /// The rows of the files below a root on this machine, as [`Walker::walk_again`] gives them.
     fn list_again(&mut self, root: &str, last: &View) -> Result<Vec<Seen>, TreeFault>
         ensures counted { IfErr result (IsCounted self.old.failures self.new.failures) }
         ensures unread { IfErr result (IsUnreadHere root.now) }
@@ -98,10 +136,7 @@ impl<T: Threads + Drop> Tree for Walker<T> {
         ensures few { IfOk result (λ rows. length rows.items ≤ max_listing_rows) }
         ensures walked { IfOk result (λ rows. IsListedHere root.now rows.items) }
     {
-        let walkers = self.walkers_now();
-        let listed = rows_again(&self.threads, walkers, &self.disk, self.alloc, root, last);
-        self.failures = failures_after(self.failures, &listed);
-        listed
+        self.walk_again(root, last)
     }
 
     fn failures(&self) -> u64 {

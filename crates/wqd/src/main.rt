@@ -19,7 +19,7 @@ use wq_check::{FAULT, MAX_FILE, check};
 use wq_crawl::MachineClock;
 use wq_launch::System;
 use wq_replay::{ReplayFault, replay};
-use wq_walk::Walker;
+use wq_walk::{FileDisk, Walker};
 
 /// The exit status after a wrong command line.
 const WRONG_COMMAND_LINE: u8 = 2;
@@ -33,7 +33,7 @@ fn main(rt: HostRuntime) -> ExitCode {
                 return cannot_listen(&rt);
             };
             let machine = Machine {
-                tree: Walker::new(&rt, rt, settings.walkers, seen),
+                tree: Walker::new(FileDisk::new(&rt), rt.alloc(), rt, settings.walkers, seen),
                 seconds: MachineClock::new(rt),
                 notices: StandardError { rt },
                 spawn: System::new(rt),

@@ -1,6 +1,7 @@
 -- One more event was taken, after which the session goes on, or ends.
 use Rattle.std.proofs.Common.{rules, inr, refl, ◌+◌, ◌++◌, ◌∷◌, [], ◌∙◌, ap, length-append, subst}
 use Rattle.wq_session.specs.Followed.{follows_of}
+use Rattle.wq_serve.specs.Basis.{basis_of}
 use Rattle.wq_serve.specs.Serving.{Serves, place, written_for}
 use Rattle.wq_base.proofs.Fronts.{appends_then}
 use Rattle.wq_serve.proofs.Going.{ends_well, ends_within, goes_on_by}
@@ -11,12 +12,12 @@ returns-then-is_err g c =
     let inv = c.loop.invariant in
     let event = c.take_event-after.ensures.serves.0 in (
       follows_of c.take_event-after.new.client.session,
-      ends_within c.args.run (place (g.I.Inbox.left c.args.inbox.now) (g.R.Roots.crawler c.args.roots.now) c.args.seat (g.D.Desk.shelf c.args.desk.now) [])
+      ends_within (basis_of c.args.run (g.N.Witness.published g.N.Named.book) (g.N.Witness.refused g.N.Named.book)) (place (g.I.Inbox.left c.args.inbox.now) (g.R.Roots.crawler c.args.roots.now) c.args.seat (g.D.Desk.shelf c.args.desk.now) [])
           (g.W.Write.contents c.args.writer.now) (g.W.Write.contents c.loop.writer) (g.W.Write.contents c.write_out.new.writer) inv.1 inv.2
           (place (g.I.Inbox.left c.loop.inbox) (g.R.Roots.crawler c.loop.roots) c.loop.seat (g.D.Desk.shelf c.loop.desk) (follows_of c.loop.client.session)) event c.take_event-after.result.1
           (place (g.I.Inbox.left c.take_event-after.new.inbox) (g.R.Roots.crawler c.take_event-after.new.roots) c.take_event-after.result.0
           (g.D.Desk.shelf c.take_event-after.new.desk) (follows_of c.take_event-after.new.client.session)) c.shuts-shut.result (search rules) inv.4
-          (subst (λ r. Serves r (place (g.I.Inbox.left c.loop.inbox) (g.R.Roots.crawler c.loop.roots) c.loop.seat (g.D.Desk.shelf c.loop.desk) (follows_of c.loop.client.session)) event
+          (subst (λ r. Serves (basis_of r (g.N.Witness.published g.N.Named.book) (g.N.Witness.refused g.N.Named.book)) (place (g.I.Inbox.left c.loop.inbox) (g.R.Roots.crawler c.loop.roots) c.loop.seat (g.D.Desk.shelf c.loop.desk) (follows_of c.loop.client.session)) event
           c.take_event-after.result.1 (place (g.I.Inbox.left c.take_event-after.new.inbox) (g.R.Roots.crawler c.take_event-after.new.roots)
           c.take_event-after.result.0 (g.D.Desk.shelf c.take_event-after.new.desk) (follows_of c.take_event-after.new.client.session))) inv.0 c.take_event-after.ensures.serves.1)
           (search rules) inv.5 (search rules),
@@ -27,12 +28,12 @@ returns-then-not-goes_on g c =
     let inv = c.loop.invariant in
     let event = c.take_event-after.ensures.serves.0 in (
       follows_of c.take_event-after.new.client.session,
-      ends_well c.args.run (place (g.I.Inbox.left c.args.inbox.now) (g.R.Roots.crawler c.args.roots.now) c.args.seat (g.D.Desk.shelf c.args.desk.now) [])
+      ends_well (basis_of c.args.run (g.N.Witness.published g.N.Named.book) (g.N.Witness.refused g.N.Named.book)) (place (g.I.Inbox.left c.args.inbox.now) (g.R.Roots.crawler c.args.roots.now) c.args.seat (g.D.Desk.shelf c.args.desk.now) [])
           (g.W.Write.contents c.args.writer.now) (g.W.Write.contents c.loop.writer) (g.W.Write.contents c.write_out.new.writer) inv.1 inv.2
           (place (g.I.Inbox.left c.loop.inbox) (g.R.Roots.crawler c.loop.roots) c.loop.seat (g.D.Desk.shelf c.loop.desk) (follows_of c.loop.client.session)) event c.take_event-after.result.1
           (place (g.I.Inbox.left c.take_event-after.new.inbox) (g.R.Roots.crawler c.take_event-after.new.roots) c.take_event-after.result.0
           (g.D.Desk.shelf c.take_event-after.new.desk) (follows_of c.take_event-after.new.client.session)) c.shuts-shut.result (search rules) inv.4
-          (subst (λ r. Serves r (place (g.I.Inbox.left c.loop.inbox) (g.R.Roots.crawler c.loop.roots) c.loop.seat (g.D.Desk.shelf c.loop.desk) (follows_of c.loop.client.session)) event
+          (subst (λ r. Serves (basis_of r (g.N.Witness.published g.N.Named.book) (g.N.Witness.refused g.N.Named.book)) (place (g.I.Inbox.left c.loop.inbox) (g.R.Roots.crawler c.loop.roots) c.loop.seat (g.D.Desk.shelf c.loop.desk) (follows_of c.loop.client.session)) event
           c.take_event-after.result.1 (place (g.I.Inbox.left c.take_event-after.new.inbox) (g.R.Roots.crawler c.take_event-after.new.roots)
           c.take_event-after.result.0 (g.D.Desk.shelf c.take_event-after.new.desk) (follows_of c.take_event-after.new.client.session))) inv.0 c.take_event-after.ensures.serves.1)
           (search rules) (search rules) inv.5 (search rules),
@@ -46,8 +47,8 @@ loop-preserved g c =
       inv.1 ++ event ∷ [],
       inv.2 ++ written_for c.take_event-after.result.1,
       length-append inv.1 (event ∷ []) ∙ ap (λ n. n + 1) inv.3,
-      goes_on_by c.args.run _ inv.1 inv.2 _ event c.take_event-after.result.1 _ inv.4
-          (subst (λ r. Serves r (place (g.I.Inbox.left c.loop.inbox) (g.R.Roots.crawler c.loop.roots) c.loop.seat (g.D.Desk.shelf c.loop.desk) (follows_of c.loop.client.session)) event
+      goes_on_by (basis_of c.args.run (g.N.Witness.published g.N.Named.book) (g.N.Witness.refused g.N.Named.book)) _ inv.1 inv.2 _ event c.take_event-after.result.1 _ inv.4
+          (subst (λ r. Serves (basis_of r (g.N.Witness.published g.N.Named.book) (g.N.Witness.refused g.N.Named.book)) (place (g.I.Inbox.left c.loop.inbox) (g.R.Roots.crawler c.loop.roots) c.loop.seat (g.D.Desk.shelf c.loop.desk) (follows_of c.loop.client.session)) event
           c.take_event-after.result.1 (place (g.I.Inbox.left c.take_event-after.new.inbox) (g.R.Roots.crawler c.take_event-after.new.roots)
           c.take_event-after.result.0 (g.D.Desk.shelf c.take_event-after.new.desk) (follows_of c.take_event-after.new.client.session))) inv.0 c.take_event-after.ensures.serves.1) (search rules),
       appends_then _ _ _ inv.2 (written_for c.take_event-after.result.1) inv.5 (search rules),

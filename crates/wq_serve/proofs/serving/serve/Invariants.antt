@@ -3,11 +3,12 @@ use Rattle.std.proofs.Common.{◌≡◌, ℕ, List, [], length}
 use Rattle.std.specs.Io.KnownBytes.{Appends}
 use Rattle.wq_stream.specs.declared.event.Event.{Event}
 use Rattle.wq_session.specs.Followed.{follows_of}
+use Rattle.wq_serve.specs.Basis.{basis_of}
 use Rattle.wq_serve.specs.Serving.{GoesOn, place}
 use Rattle.wq_serve.proofs.serving.serve.Given as goal
 
 abbrev pub invariant-loop : goal.invariant-loop
 invariant-loop g l = (l.client.run ≡ l.fn.run) × (events : List Event) × (lines : List ℕ) × (length events ≡ l.counter)
-    × GoesOn l.fn.run (place (g.I.Inbox.left l.fn.inbox) (g.R.Roots.crawler l.fn.roots) l.fn.seat (g.D.Desk.shelf l.fn.desk) []) events lines
+    × GoesOn (basis_of l.fn.run (g.N.Witness.published g.N.Named.book) (g.N.Witness.refused g.N.Named.book)) (place (g.I.Inbox.left l.fn.inbox) (g.R.Roots.crawler l.fn.roots) l.fn.seat (g.D.Desk.shelf l.fn.desk) []) events lines
     (place (g.I.Inbox.left l.inbox) (g.R.Roots.crawler l.roots) l.seat (g.D.Desk.shelf l.desk) (follows_of l.client.session))
     × Appends (g.W.Write.contents l.fn.writer) (g.W.Write.contents l.writer) lines

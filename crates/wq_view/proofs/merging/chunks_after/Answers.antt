@@ -25,6 +25,6 @@ returns-clause-records c =
 pub returns-clause-moves : goal.returns-clause-moves
 returns-clause-moves c =
     let others = records_in c.args.change.now.others.now in
-    let before = c.in_ok-share_all.ensures.moves ∙ ap (with_same (length (records_in c.args.change.now.same.now))) c.in_ok-moves.ensures in
+    let before = c.in_ok-share_all.ensures.moves ∙ ap (with_same (length (records_in c.args.change.now.same.now))) c.new-moves.ensures in
     moves_made others c.args.change.now.rows.now c.in_ok-left.left.now (moves_data c.share_all.new.moves) (moves_data c.push_all_after.new.moves) (moves_data c.push_new.new.moves) c.in_ok-left.ensures.left c.in_ok-left.ensures.moves c.in_ok-push_new.ensures.moves
     ∙ ap (with_pairs (pairs_of others c.args.change.now.rows.now)) before

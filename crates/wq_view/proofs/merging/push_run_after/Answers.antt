@@ -10,8 +10,7 @@ use Rattle.wq_view.proofs.merging.push_run_after.Goals as goal
 
 pub loop-pair-init : goal.loop-pair-init
 loop-pair-init c = record {
-  made = ap (λ l. filled c.begin.new.self ++ map (pair_after c.args.at.now.tick c.args.at.now.second) l) c.of-pairs.ensures.pairs;
-  rows = c.of-pairs.ensures.rows;
+  made = ap (λ l. filled c.args.filling.now ++ map (pair_after c.args.at.now.tick c.args.at.now.second) l) c.of-pairs.ensures.pairs;
   lawful = ap (list_all has_lawful_row) c.of-pairs.ensures.pairs ∙ rows_lawful c.args.records.now c.args.rows.now c.requires.lawful;
   moves = ap (λ ps. with_pairs ps (moves_data c.args.moves.now)) c.of-pairs.ensures.pairs;
 }

@@ -1,5 +1,5 @@
 -- twice the number of threads that are still to draw
-use Rattle.std.proofs.Common.{ℕ, ◌+◌, ◌*◌}
+use Rattle.std.proofs.Common.{◌+◌, ◌*◌}
 use Rattle.wq_walk.proofs.walks.+threads.Given as goal
 
 abbrev pub decreases-Walks::drawn_by : goal.decreases-Walks::drawn_by

@@ -9,4 +9,4 @@ pub add-requires : goal.add-requires
 add-requires g c =
     let events = c.args.self.now in
     rw c.from_ref.ensures.value (subst (λ o. MatchOption o (is_shown events c.args.number ≡ false) (λ table. (is_shown events c.args.number ≡ true) × IsTableOf (events ++ Ended c.args.number ∷ []) table))
-    c.in-Some.is (c.in_ok-next.ensures events c.table.ensures)).1
+    c.in-Some.is (c.in_ok-next.ensures events c.table.ensures.table)).1

@@ -2,4 +2,4 @@
 use Rattle.wq_live.proofs.publisher.Publisher.find.Goals as goal
 
 pub returns : goal.returns
-returns g c = c.number_of.ensures.list c.args.self.now c.table.ensures
+returns g c = c.number_of.ensures.list c.args.self.now c.table.ensures.table

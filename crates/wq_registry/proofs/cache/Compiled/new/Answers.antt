@@ -9,4 +9,4 @@ use Rattle.wq_registry.proofs.cache.Compiled.new.Goals as goal
 pub invariant_of-result : goal.invariant_of-result
 invariant_of-result c =
     subst (λ (raw : Raw). StandsFor c.args.key.instance c.args.key.text raw) (sym c.in-Ok.ensures)
-    (stands_for c.args.key (term_of c.args.expr.now) c.args.program.now.value c.requires.says c.requires.meaning c.requires.small)
+    (stands_for c.args.key (term_of c.args.expr.now) c.args.program.now.value c.requires.says c.requires.meaning c.requires.small c.requires.cost)

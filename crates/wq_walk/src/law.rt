@@ -1,0 +1,35 @@
+//! Laws of walks. Each law is the contract of a function that does nothing, for the answers of any disk.
+ghost use Rattle.wq_walk.specs.Accounts.{NamesAreAccountedFor, RowsAreOfPaths};
+ghost use Rattle.wq_walk.specs.Once.{ListingsListOnce, WalksListOnce};
+
+use crate::disk::Disk;
+
+/// Each row of a walk is of the path of its name: the disk gave that stat for the root's path and the name after it,
+/// and the name is in the part that was walked.
+pub fn rows_are_of_paths<D: Disk>(disk: &D)
+    ensures { RowsAreOfPaths (D.says disk.now) (D.has disk.now) }
+{
+    let _ = disk;
+}
+
+/// A walk accounts for each name in each directory that it read: it passes over the file, or lists its row if the name
+/// is in the part, and reads the file if it is a directory below which a name may be in the part.
+pub fn names_are_accounted_for<D: Disk>(disk: &D)
+    ensures { NamesAreAccountedFor (D.says disk.now) (D.has disk.now) }
+{
+    let _ = disk;
+}
+
+/// No two rows of a walk have one name.
+pub fn walks_list_once<D: Disk>(disk: &D)
+    ensures { WalksListOnce (D.says disk.now) (D.has disk.now) }
+{
+    let _ = disk;
+}
+
+/// No two rows of a listing have one name, though several threads walked its parts.
+pub fn listings_list_once<D: Disk>(disk: &D)
+    ensures { ListingsListOnce (D.says disk.now) (D.has disk.now) }
+{
+    let _ = disk;
+}
