@@ -16,12 +16,15 @@ sys.dont_write_bytecode = True
 from wq.words import FORMS, Option, options_of
 
 # What the values of some options can be.
-VALUES = {"-t": "f d l", "--newer": "10m 1h 1d 1w", "--size": "+1M -1k 0", "--quiet": "100 500", "--share": "5 10 25 50 100",
-          "--interval": "1000 60000 600000", "--workers": "1 2 4"}
+VALUES = {
+    "-t": "f d l", "--newer": "10m 1h 1d 1w", "--size": "+1M -1k 0", "--quiet": "100 500",
+    "--share": "5 10 25 50 100", "--interval": "1000 60000 600000", "--workers": "1 2 4",
+}
 
 
 def bash() -> str:
-    cases = "\n".join(f'            {command}) choices="{" ".join(options_of(command) + ["--help"])}" ;;' for command in FORMS)
+    options = {command: " ".join([*options_of(command), "--help"]) for command in FORMS}
+    cases = "\n".join(f'            {command}) choices="{words}" ;;' for command, words in options.items())
     values = "\n".join(f'        {option}) choices="{words}" ;;' for option, words in VALUES.items())
     return f"""# Completes the words of wq in bash.
 
@@ -53,7 +56,7 @@ complete -o filenames -F _wq wq
 def zsh() -> str:
     commands = "\n".join(f"        {shlex.quote(f'{command}:{form.about}')}" for command, form in FORMS.items())
     cases = "\n".join(
-        f"        {command}) _arguments {' '.join(shlex.quote(text) for text in zsh_options(command))} '*:file:_files' ;;"
+        f"        {command}) _arguments {' '.join(map(shlex.quote, zsh_options(command)))} '*:file:_files' ;;"
         for command in FORMS
     )
     return f"""#compdef wq
@@ -89,7 +92,7 @@ def zsh_options(command: str) -> Iterator[str]:
 
 
 def fish() -> str:
-    lines = ["# Completes the words of wq in fish.", "complete -c wq -f -n __fish_use_subcommand -l help -d 'prints the words'"]
+    lines = ["# Completes the words of wq in fish."]
     for command, form in FORMS.items():
         lines.append(f"complete -c wq -f -n __fish_use_subcommand -a {command} -d {quoted(form.about)}")
         for option in named(command):

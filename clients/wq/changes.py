@@ -11,8 +11,8 @@ File = Dict[str, Any]
 
 
 def counted(files: List[File], options: argparse.Namespace) -> List[File]:
-    """The files that a person means. A directory that was there before has changed if a file came or went in it, which is told
-    by that file; so it counts only if it is asked for."""
+    """The files that a person means. A directory that was there before has changed if a file came or went in it, which
+    is told by that file; so it counts only if it is asked for."""
     if options.all or options.type:
         return files
     return [file for file in files if file["type"] != "d" or file["new"] or not file["exists"]]
@@ -23,4 +23,5 @@ def mark_of(file: File) -> str:
 
 
 def print_changes(files: List[File], place: Place, ending: str) -> None:
-    show((name_shown(f"{mark_of(file)} {place.shown(file['name'])}", OF_MARKS[mark_of(file)], ending) for file in files), ending)
+    marked = ((mark_of(file), place.shown(file["name"])) for file in files)
+    show((name_shown(f"{mark} {name}", OF_MARKS[mark], ending) for mark, name in marked), ending)

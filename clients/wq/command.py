@@ -21,6 +21,7 @@ MODULES: Dict[str, str] = {
 
 def main(words: List[str], directory: str) -> int:
     """Runs a command; `directory` is that of the command wq, without links."""
+    speak_utf8()
     if sys.stdout is None:
         say("there is no standard output")
         return FAILED
@@ -45,6 +46,12 @@ def main(words: List[str], directory: str) -> int:
         return FAILED
 
 
+def speak_utf8() -> None:
+    """Names of files are UTF-8 to the server, whatever the locale is. Python has one encoding for a whole run."""
+    if sys.getfilesystemencoding() != "utf-8":
+        os.execv(sys.executable, [sys.executable, "-X", "utf8", *sys.argv])
+
+
 def run(words: List[str], home: Home) -> int:
     if not words:
         raise WrongWords("there is no command; `wq --help` says which there are")
@@ -57,7 +64,8 @@ def run(words: List[str], home: Home) -> int:
         print(home.version().replace("wqd ", "wq ", 1) or "wq", flush=True)
         return FOUND
     if command not in FORMS:
-        raise WrongWords(f"there is no command {command}{meant(command, FORMS).replace(chr(34), '')}; `wq --help` says which there are")
+        hint = meant(command, FORMS).replace('"', "")
+        raise WrongWords(f"there is no command {command}{hint}; `wq --help` says which there are")
     return function_of(command)(read(command, words[1:]), home)
 
 

@@ -38,7 +38,8 @@ class Command:
         words = [word for given in self.words for word in (paths if given == PLACE else [given])]
         stream = self.input_of(paths)
         try:
-            return Run(subprocess.Popen(words, stdin=stream, preexec_fn=own_group if self.is_alone else None), self.is_alone)
+            process = subprocess.Popen(words, stdin=stream, preexec_fn=own_group if self.is_alone else None)
+            return Run(process, self.is_alone)
         except OSError as error:
             raise Unrunnable(*self.reason_of(error, len(names))) from None
         finally:
@@ -49,17 +50,19 @@ class Command:
         if isinstance(error, FileNotFoundError):
             return f"{self.name}: there is no such command", NOT_FOUND
         if error.errno == errno.E2BIG:
-            return f"the names of {count:,} files are too long for a command; take them on standard input, by --stdin", CANNOT_START
+            reason = f"the names of {count:,} files are too long for a command; take them on standard input, by --stdin"
+            return reason, CANNOT_START
         return f"{self.name}: {error.strerror}", CANNOT_START
 
     def path_of(self, name: str) -> str:
-        """The name as the command finds it, which runs in the current directory. A dash at its front would be an option."""
+        """The name as the command finds it, which runs in the current directory. A dash at its front would be an
+        option."""
         path = name if self.directory in (".", "") else os.path.join(self.directory, name)
         return f"./{path}" if path.startswith("-") else path
 
     def input_of(self, paths: List[str]) -> "Optional[IO[bytes]]":
-        """Standard input of a run, if it is not this command's own: its names, or nothing for a group of its own, which may not
-        read the terminal."""
+        """Standard input of a run, if it is not this command's own: its names, or nothing for a group of its own, which
+        may not read the terminal."""
         if not self.on_input:
             return open(os.devnull, "rb") if self.is_alone else None
         stream = tempfile.TemporaryFile()

@@ -21,7 +21,7 @@ def culprits(error: str, command: Any, look: Look) -> List[str]:
     sentences = OF_ERRORS.get(int(found[1])) if found else None
     # A value of a kind that nobody foresaw makes no second error of the first.
     try:
-        return [] if sentences is None else list(sentences(command, look))[:3]
+        return [] if sentences is None else list(sentences(command, look))
     except (KeyError, IndexError, TypeError, AttributeError):
         return []
 
@@ -50,7 +50,8 @@ def long_line(command: Any, look: Look) -> Iterator[str]:
 
 
 def no_command(command: Any, look: Look) -> Iterator[str]:
-    yield f"a line is a list that begins with the name of a command, such as [\"watch-list\"], and this is {kind_of(command)}"
+    shape = "a line is a list that begins with the name of a command, such as [\"watch-list\"]"
+    yield f"{shape}, and this is {kind_of(command)}"
 
 
 def unknown_command(command: Any, look: Look) -> Iterator[str]:
@@ -65,14 +66,15 @@ def wrong_arguments(command: Any, look: Look) -> Iterator[str]:
     takes = " or ".join(str(count) for count in counts)
     if len(arguments) not in range(shape.fewest, len(shape.kinds) + 1):
         noun = "argument" if counts == [1] else "arguments"
-        yield f"\"{name}\" takes {takes} {noun} ({', '.join(shape.kinds) or 'none'}), and there are {len(arguments)}: " \
-              f"{shape.example}"
+        kinds = ", ".join(shape.kinds) or "none"
+        yield f"\"{name}\" takes {takes} {noun} ({kinds}), and there are {len(arguments)}: {shape.example}"
         return
     for number, (kind, value) in enumerate(zip(shape.kinds, arguments), 1):
         wanted = dict if kind == "object" else str
         if not isinstance(value, wanted):
             word = "an object" if kind == "object" else "a text"
             yield f"argument {number} of \"{name}\" is the {kind}, {word}, and not {kind_of(value)}: {shape.example}"
+            return
 
 
 # Roots.
@@ -105,7 +107,8 @@ def many_files(command: Any, look: Look) -> Iterator[str]:
 
 def many_roots(command: Any, look: Look) -> Iterator[str]:
     roots = look("watch-list").get("roots", [])
-    yield f"{len(roots)} roots are watched, and more may not be; `wq unwatch DIR` gives one back: {', '.join(roots)}"
+    yield f"{len(roots)} roots are watched, and more may not be; `wq unwatch DIR` gives the place of one back:"
+    yield from (f"  {root}" for root in roots)
 
 
 def not_watched(command: Any, look: Look) -> Iterator[str]:
@@ -118,8 +121,9 @@ def not_watched(command: Any, look: Look) -> Iterator[str]:
 
 def no_program(command: Any, look: Look) -> Iterator[str]:
     name, names = object_of(command).get("program"), look("program-list").get("programs", [])
-    kept = f"; there are {', '.join(map(quoted, names))}" if names else "; none is stored, and `wqasm add NAME FILE` stores one"
-    yield f"no program is stored as {quoted(name)}{meant(name, names) or kept}"
+    none = "; none is stored, and `wqasm add NAME FILE` stores one"
+    others = f"; there are {', '.join(map(quoted, names))}" if names else none
+    yield f"no program is stored as {quoted(name)}{meant(name, names) or others}"
 
 
 def bad_name(command: Any, look: Look) -> Iterator[str]:

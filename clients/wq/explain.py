@@ -25,8 +25,7 @@ def explain(options: argparse.Namespace, home: Home) -> int:
         return FOUND
     if options.expression is None:
         raise WrongWords("explain takes an expression, such as '[\"suffix\",\"c\"]', or - for that of standard input")
-    text = sys.stdin.buffer.read().decode("utf-8", "surrogateescape") if options.expression == "-" else options.expression
-    value = value_of(text)
+    value = value_of(text_of(options.expression))
     fault = fault_in(value)
     if fault is not None:
         raise Trouble(fault.error, fault.sentence)
@@ -35,11 +34,16 @@ def explain(options: argparse.Namespace, home: Home) -> int:
     try:
         program = compiled(value)
     except TooLarge as large:
-        raise Trouble(PROGRAM_TOO_LARGE, f"the program would have {large.length + 1:,} instructions of {LONGEST_CODE:,}, or a "
-                                         f"list over {LONGEST_LIST:,} texts") from None
+        reason = f"the program would have {large.length + 1:,} instructions of {LONGEST_CODE:,}, or a list over " \
+                 f"{LONGEST_LIST:,} texts"
+        raise Trouble(PROGRAM_TOO_LARGE, reason) from None
     show(["A file matches if", *lines_of(value, "  "), "", "Its program, whose cost is for a name of 4,096 bytes:"])
     write(explained(program).encode("utf-8"))
     return FOUND
+
+
+def text_of(word: str) -> str:
+    return sys.stdin.buffer.read().decode("utf-8", "surrogateescape") if word == "-" else word
 
 
 def value_of(text: str) -> Any:

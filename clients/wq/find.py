@@ -41,7 +41,8 @@ def require_no_other(options: argparse.Namespace, globs: List[str]) -> None:
     require_utf8(options.program, "--program")
     others = [name for name in ("expression", "type", "ext", "size", "newer", "exclude") if getattr(options, name)]
     if globs or others:
-        raise WrongWords("--program takes the place of globs, -t, -e, --size, --newer, --exclude and --expression; take them out")
+        raise WrongWords("--program takes the place of globs, -t, -e, --size, --newer, --exclude and --expression; "
+                         "take them out")
 
 
 def query_of(place: Place, globs: List[str], options: argparse.Namespace) -> Dict[str, Any]:
@@ -72,15 +73,18 @@ def print_found(found: Value, place: Place, options: argparse.Namespace) -> None
     elif options.long:
         show(rows_of(found["files"], place, ending), ending)
     else:
-        show((name_shown(place.shown(file["name"]), OF_KINDS.get(file["type"]), ending) for file in found["files"]), ending)
+        show((shown(file, place, ending) for file in found["files"]), ending)
+
+
+def shown(file: Dict[str, Any], place: Place, ending: str) -> str:
+    return name_shown(place.shown(file["name"]), OF_KINDS.get(file["type"]), ending)
 
 
 def rows_of(files: List[Dict[str, Any]], place: Place, ending: str) -> List[str]:
     """A row for each file: its kind, size, time and name."""
     width = max((len(str(file["size"])) for file in files), default=0)
     return [
-        f"{file['type']} {file['size']:>{width}} {time_of(file['mtime_ms'])} "
-        + name_shown(place.shown(file["name"]), OF_KINDS.get(file["type"]), ending)
+        f"{file['type']} {file['size']:>{width}} {time_of(file['mtime_ms'])} {shown(file, place, ending)}"
         for file in files
     ]
 

@@ -55,15 +55,17 @@ class Feed:
         self.server.ask("subscribe", self.place.root, SUBSCRIPTION, query)
 
     def lists(self, watches_output: bool = False) -> List[Value]:
-        """The next lists, of which one is waited for."""
+        """The next lists, of which one is waited for. The line that ends the subscription is met after those before it."""
         client = self.server.client
         if not client.lists:
             if watches_output:
                 wait(client)
             self.take()
-        found = [client.lists.popleft() for _ in range(len(client.lists))]
-        if any(value.get("canceled") for value in found):
+        if client.lists and client.lists[0].get("canceled"):
             raise Trouble(f"{self.place.root} is no longer watched, so nothing more is told of it")
+        found: List[Value] = []
+        while client.lists and not client.lists[0].get("canceled"):
+            found.append(client.lists.popleft())
         return found
 
     def take(self) -> None:

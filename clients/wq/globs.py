@@ -1,4 +1,5 @@
-"""The expression of what a command line asks for: the directory, globs, kinds, suffixes, sizes, times, and what is left out."""
+"""The expression of what a command line asks for: the directory, globs, kinds, suffixes, sizes, times, and what is left
+out."""
 
 import argparse
 import re
@@ -61,7 +62,8 @@ def glob_term(glob: str, front: str, place: Place) -> Any:
     """A glob without a slash is for the last part of a name, however deep. One with a slash is for the name below the
     directory; a slash at its front says no more than that."""
     if glob.startswith("./"):
-        say(f"no name begins with \"./\", so {quoted(glob)} is taken as {quoted(glob[1:])}, directly in the directory", "yellow")
+        anchored = f"{quoted(glob)} is taken as {quoted(glob[1:])}, directly in the directory"
+        say(f"no name begins with \"./\", so {anchored}", "yellow")
         glob = glob[1:]
     directory = f"{place.root.rstrip('/')}/{place.below}".rstrip("/") + "/"
     if glob.startswith(directory) and len(glob) > len(directory):
@@ -76,14 +78,15 @@ def glob_term(glob: str, front: str, place: Place) -> Any:
 
 def warn(sentences: Any) -> None:
     for sentence in sentences:
-        say(sentence.replace("at the glob: ", "the glob "), "yellow")
+        say(sentence.replace("at the glob: ", "the glob ", 1), "yellow")
 
 
 def kinds_of(word: str) -> List[str]:
     letters = [letter for letter in word.replace(",", "") if letter]
     for letter in letters:
         if letter not in KINDS:
-            raise WrongWords(f"-t takes letters of f (file), d (directory), l (link), b, c, p, s and D, and not {quoted(letter)}")
+            raise WrongWords("-t takes letters of f (file), d (directory), l (link), b, c, p, s and D, and not "
+                             f"{quoted(letter)}")
     if not letters:
         raise WrongWords("-t takes a letter: f (file), d (directory), l (link), b, c, p, s or D")
     return letters
@@ -103,7 +106,8 @@ def size_term(word: str) -> List[Any]:
     """`+1M` is at least so much, `-1M` at most, `1M` just that."""
     found = SIZE.fullmatch(word)
     if not found:
-        raise WrongWords(f"--size takes a number with a unit, such as +1M (at least), -10k (at most) or 0, and not {quoted(word)}")
+        raise WrongWords("--size takes a number with a unit, such as +1M (at least), -10k (at most) or 0, and not "
+                         f"{quoted(word)}")
     sign, digits, unit, _ = found.groups()
     number = int(digits) * 1024 ** UNITS[unit.lower()]
     if number > 2**62:
@@ -146,7 +150,8 @@ def is_left_out(name: str) -> bool:
 
 
 def user_expression(text: str) -> Any:
-    """The expression that the user wrote. Its first fault is told as the server would, with the place in what was written."""
+    """The expression that the user wrote. Its first fault is told as the server would, with the place in what was
+    written."""
     value = read(text, "--expression")
     fault = fault_in(value)
     if fault is not None:

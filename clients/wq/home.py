@@ -1,4 +1,5 @@
-"""Where this command is, a clone of the repository or beside an installed wqd, and how it starts a server from there."""
+"""Where this command is, a clone of the repository or beside an installed wqd, and how it starts a server from
+there."""
 
 import os
 import shutil
@@ -40,7 +41,8 @@ class Home:
         return ended.stdout.decode("utf-8", "replace").strip()
 
     def start(self, sockname: str, words: Optional[List[str]] = None) -> bool:
-        """Starts a server at a socket, unless one listens there. Of several commands at once one does, and the others wait."""
+        """Starts a server at a socket, unless one listens there. Of several commands at once one does, and the others
+        wait."""
         try:
             with alone(sockname):
                 if is_listened_on(sockname):

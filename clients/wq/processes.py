@@ -51,14 +51,6 @@ def boot_time() -> float:
         return time.time() - float(stream.read().split()[0])
 
 
-def start_of(process: int) -> str:
-    """What tells this process from another one that had its number: when it started, in ticks of the system."""
-    try:
-        return text_of(process, "stat").rsplit(")", 1)[1].split()[19]
-    except (OSError, IndexError):
-        return "?"
-
-
 def clients_of(process: int) -> Optional[int]:
     """How many clients are connected, this one counted: the sockets of the process that are connected."""
     try:

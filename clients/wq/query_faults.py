@@ -21,7 +21,8 @@ def left_out_key(query: Object) -> Iterator[str]:
         if key in query:
             yield f"the key \"{key}\" is not built{INSTEAD.get(key, '; take it out')}"
     if query.get("case_sensitive", True) is not True:
-        yield "the key \"case_sensitive\" may only be true; the terms iname, imatch and idirname leave out the case of A to Z"
+        yield "the key \"case_sensitive\" may only be true; the terms iname, imatch and idirname leave out the case " \
+              "of A to Z"
 
 
 INSTEAD = {"relative_root": "; [\"dirname\",..] narrows a query to a directory, and names stay those below the root"}
@@ -33,7 +34,8 @@ def unknown_field(query: Object) -> Iterator[str]:
 
 def fields_fault(fields: Any, place: str) -> Iterator[str]:
     if not isinstance(fields, list):
-        yield f"\"{place}\" is a list of texts, such as [\"name\",\"size\"], and not {kind_of(fields)}: {quoted(fields)}"
+        shape = f"\"{place}\" is a list of texts, such as [\"name\",\"size\"]"
+        yield f"{shape}, and not {kind_of(fields)}: {quoted(fields)}"
         return
     if not fields:
         yield f"\"{place}\" is empty, and needs one field or more, such as [\"name\"]"
@@ -43,7 +45,8 @@ def fields_fault(fields: Any, place: str) -> Iterator[str]:
         elif field in FIELDS_OF_WATCHMAN:
             yield f"at {place}[{number}]: the server sees no {quoted(field)} of a file; it has {', '.join(FIELDS)}"
         elif field not in FIELDS:
-            yield f"at {place}[{number}]: {quoted(field)} is no field{meant(field, FIELDS) or '; there are ' + ', '.join(FIELDS)}"
+            hint = meant(field, FIELDS) or f"; there are {', '.join(FIELDS)}"
+            yield f"at {place}[{number}]: {quoted(field)} is no field{hint}"
 
 
 def bad_generator(query: Object, is_subscription: bool = False) -> Iterator[str]:
@@ -127,7 +130,8 @@ def bad_clock(query: Object, is_subscription: bool = False) -> Iterator[str]:
         yield f"at since: {bad_clock_spec(query.get('since'))}"
     except NamedCursor as named:
         if is_subscription:
-            yield f"at since: {quoted('n:' + named.name)} is a named cursor, which a subscription does not take; take a clock id"
+            cursor = quoted(f"n:{named.name}")
+            yield f"at since: {cursor} is a named cursor, which a subscription does not take; take a clock id"
 
 
 def expression_and_program(query: Object) -> Iterator[str]:
@@ -140,8 +144,8 @@ def program_too_large(query: Object) -> Iterator[str]:
         compiled(query.get("expression", "true"))
     except TooLarge as large:
         if large.length >= LONGEST_CODE:
-            yield f"the expression has a program of {large.length + 1:,} instructions, and at most {LONGEST_CODE:,} may be; " \
-                  "name many files by one list: [\"name\",[..]]"
+            counts = f"{large.length + 1:,} instructions, and at most {LONGEST_CODE:,} may be"
+            yield f"the expression has a program of {counts}; name many files by one list: [\"name\",[..]]"
         else:
             yield f"a list of the expression has over {LONGEST_LIST:,} texts: make two of it, inside \"anyof\""
 
@@ -186,7 +190,8 @@ def command_fault(trigger: Object) -> Iterator[str]:
     if "command" not in trigger:
         yield "there is no \"command\", such as [\"make\",\"-s\"]"
     elif not isinstance(command, list):
-        yield f"\"command\" is a list of texts, such as [\"make\",\"-s\"], and not {kind_of(command)}: {quoted(command)}"
+        shape = "\"command\" is a list of texts, such as [\"make\",\"-s\"]"
+        yield f"{shape}, and not {kind_of(command)}: {quoted(command)}"
     elif not command or command[0] == "":
         yield "\"command\" has no program as its first text"
     else:

@@ -21,8 +21,8 @@ class Place(NamedTuple):
 
 
 def place_of(directory: str, watched: List[str]) -> Place:
-    """The place of a directory that is there. The root is the nearest directory at or above it with a file of a project; else
-    the nearest one that is watched already; else itself."""
+    """The place of a directory that is there. The root is the nearest directory at or above it with a file of a
+    project; else the nearest one that is watched already; else itself."""
     path = real_path(directory)
     above = [path]
     while above[-1] != "/":

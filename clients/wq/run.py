@@ -19,6 +19,8 @@ from .trouble import Trouble, WrongWords
 
 # A run that is to end gets SIGTERM, and SIGKILL after so many seconds.
 GRACE = 5.0
+# A burst that does not end is one for so many times as long as it has to be quiet.
+MOST_QUIETS = 10
 CLEAR = b"\x1b[H\x1b[2J\x1b[3J"
 
 
@@ -49,8 +51,9 @@ class Runner:
         self.run: Optional[Run] = None
         # The names that the next run is given, in the order in which they came.
         self.names: Dict[str, None] = {}
-        # Whether a run is due, and since when nothing more changed.
+        # Whether a run is due, since when it is, and since when nothing more changed.
         self.is_due = not options.postpone
+        self.due_since = -float("inf")
         self.quiet_since = -float("inf")
         # When a run that is to end is killed.
         self.killed_at = float("inf")
@@ -80,7 +83,7 @@ class Runner:
         if self.run is not None and now >= self.killed_at:
             self.run.signal(signal.SIGKILL)
             self.killed_at = float("inf")
-        if self.is_due and now >= self.quiet_since + self.options.quiet / 1000:
+        if self.is_due and now >= self.burst_end():
             if self.run is None:
                 self.start()
             elif self.options.restart and not self.run.is_ending:
@@ -94,9 +97,14 @@ class Runner:
         """How long to wait at most: until it is quiet, or until a run is killed."""
         moments = [self.killed_at] if self.run is not None else []
         if self.is_due and (self.run is None or self.options.restart and not self.run.is_ending):
-            moments.append(self.quiet_since + self.options.quiet / 1000)
+            moments.append(self.burst_end())
         nearest = min(moments, default=float("inf"))
         return None if nearest == float("inf") else max(0.0, nearest - now)
+
+    def burst_end(self) -> float:
+        """When the changes that came count as a burst of which no more come."""
+        quiet = self.options.quiet / 1000
+        return min(self.quiet_since + quiet, self.due_since + MOST_QUIETS * quiet)
 
     def wait(self, seconds: Optional[float]) -> None:
         """Waits for lists and ends."""
@@ -127,8 +135,9 @@ class Runner:
             self.names.pop(name, None)
             if file["exists"]:
                 self.names[name] = None
-        self.is_due = True
         self.quiet_since = time.monotonic()
+        if not self.is_due:
+            self.is_due, self.due_since = True, self.quiet_since
 
     def start(self) -> None:
         """Starts a run, unless its command takes names and there are none: what changed is gone."""

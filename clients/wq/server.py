@@ -1,4 +1,5 @@
-"""The server that is asked: at the default socket, started if nobody listens there; and its errors, with what they name."""
+"""The server that is asked: at the default socket, started if nobody listens there; and its errors, with what they
+name."""
 
 import contextlib
 import json
@@ -49,7 +50,8 @@ class Server:
             raise Trouble(f"{self.sockname}: {error.strerror or error}") from None
 
     def reply(self, command: Any, crawls: str = "") -> Value:
-        """The reply to a command, which may be an error. If a first crawl comes before it, a person is told how long it takes."""
+        """The reply to a command, which may be an error. If a first crawl comes before it, a person is told how long it
+        takes."""
         return json.loads(self.line(json_of(command), crawls))
 
     def line(self, line: bytes, crawls: str = "") -> bytes:

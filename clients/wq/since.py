@@ -4,17 +4,17 @@ import argparse
 import time
 from typing import Any, Dict, Optional
 
+from wqclient.kept import CLOCKS, keep, kept
+
 from .changes import FIELDS, counted, print_changes
 from .globs import expression_of
 from .home import Home
 from .roots import Place, directory_and_globs, place_of, require_utf8
 from .server import reached
-from .state import keep, kept
 from .terminal import say, show
 from .trouble import FOUND, NOTHING, WrongWords
 from .values_shown import json_line
 
-CLOCKS = "clocks"
 LONGEST_NAME = 255
 
 
@@ -33,7 +33,7 @@ def since(options: argparse.Namespace, home: Home) -> int:
         if found["is_fresh_instance"]:
             say(f"{why_all(name, before, found['clock'], place)}, so all files are listed", "yellow")
         if not options.peek:
-            keep({"clock": found["clock"]}, CLOCKS, server.sockname, place.root, name)
+            keep_clock(found["clock"], server.sockname, place, name)
     found["files"] = counted(found["files"], options)
     if options.json:
         show([json_line(found)])
@@ -50,8 +50,15 @@ def require_name(name: str) -> None:
 
 def clock_kept(sockname: str, place: Place, name: str) -> Optional[str]:
     """The clock that the last call under this name wrote."""
-    clock = (kept(CLOCKS, sockname, place.root, name) or {}).get("clock")
+    clock = kept(CLOCKS, sockname, place.root, name).get("clock")
     return clock if isinstance(clock, str) and clock.count(":") == 4 else None
+
+
+def keep_clock(clock: str, sockname: str, place: Place, name: str) -> None:
+    try:
+        keep({"clock": clock}, CLOCKS, sockname, place.root, name)
+    except OSError as error:
+        say(f"{error.filename}: {error.strerror}; so --peek does not know what this call told", "yellow")
 
 
 def why_all(name: str, before: Optional[str], now: str, place: Place) -> str:
@@ -61,8 +68,8 @@ def why_all(name: str, before: Optional[str], now: str, place: Place) -> str:
     _, start, process, root, _ = before.split(":")
     _, other_start, other_process, other_root, _ = now.split(":")
     if (start, process) != (other_start, other_process):
-        return f"the server was restarted since: it is of {time_of(other_start)}, and {name} was last asked of the one " \
-               f"of {time_of(start)}"
+        last = f"{name} was last asked of the one of {time_of(start)}"
+        return f"the server was restarted since: it is of {time_of(other_start)}, and {last}"
     if root != other_root:
         return f"{place.root} was unwatched since, and is watched anew"
     return f"the server no longer knows {name}"

@@ -1,14 +1,16 @@
 """`wq status`: the server's process, its roots, triggers and programs."""
 
 import argparse
+import shlex
 import sys
 import time
 from typing import Any, Dict, Iterator, List, Optional
 
+from wqclient.kept import BUDGETS, kept, run_of
+
 from .home import Home
-from .processes import Facts, facts_of, start_of
+from .processes import Facts, facts_of
 from .server import Server, reached
-from .state import kept
 from .terminal import painted, show
 from .trouble import FOUND
 from .values_shown import json_shown
@@ -16,7 +18,8 @@ from .values_shown import json_shown
 # How far back the last change is looked for, in seconds.
 AGES = (1, 10, 60, 600, 3_600, 21_600, 86_400, 604_800)
 MEBIBYTE = 1024 * 1024
-BUDGETS = "budgets"
+# How the system names a program whose file is gone, as after an upgrade.
+REPLACED = " (deleted)"
 
 
 def status(options: argparse.Namespace, home: Home) -> int:
@@ -85,8 +88,7 @@ def changed_within(server: Server, root: str) -> Optional[int]:
 
 def budget_of(server: Server, name: str) -> Optional[int]:
     """What a run of a stored program can cost at most, if `wqasm add` stored it: the server gives no program back."""
-    found = kept(BUDGETS, server.sockname, str(server.peer.process), start_of(server.peer.process), name)
-    budget = (found or {}).get("budget")
+    budget = kept(BUDGETS, server.sockname, run_of(server.peer.process), name).get("budget")
     return budget if isinstance(budget, int) else None
 
 
@@ -97,6 +99,8 @@ def lines_of(found: Dict[str, Any]) -> Iterator[str]:
     yield row("socket", found["socket"])
     if "program" in found:
         yield row("process", f"{found['process']}, {found['program']}")
+        if found["program"].endswith(REPLACED):
+            yield row("", "the program was replaced since it started; `wq restart` starts the new one", "yellow")
         started = time.strftime("%Y-%m-%d %H:%M:%S", time.localtime(found["started"]))
         yield row("since", f"{started}, {duration(time.time() - found['started'])}")
         yield row("memory", f"{found['memory'] / MEBIBYTE:.1f} MiB")
@@ -126,7 +130,7 @@ def root_lines(root: Dict[str, Any]) -> Iterator[str]:
     yield row("", f"{files} and {directories}, tick {root['tick']}, a crawl takes {root['crawl_seconds']:.3f} s, "
                   f"last change {changed}")
     for trigger in root["triggers"]:
-        yield row("", f"trigger {trigger['name']}: {' '.join(trigger['command'])}")
+        yield row("", f"trigger {trigger['name']}: {shlex.join(trigger['command'])}")
 
 
 def row(head: str, text: str, colour: Optional[str] = None) -> str:

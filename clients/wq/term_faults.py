@@ -62,8 +62,7 @@ def faults_of(head: str, arguments: List[Any], place: str) -> Iterator[Fault]:
             errors.WRONG_TERM_ARGUMENTS: lambda: wrong_arguments(head, arguments),
             errors.PATTERN_TOO_LONG: lambda: too_long(arguments[0]),
             errors.BAD_CLOCK_SPEC: lambda: bad_clock_spec(arguments[0], arguments[1] if arguments[1:] else "oclock"),
-            errors.CURSOR_IN_TERM: lambda: f"{quoted(arguments[0])} is a named cursor, which the key \"since\" of a query "
-                                           "takes, and no term; take a clock id, or a second as a whole number",
+            errors.CURSOR_IN_TERM: lambda: cursor_in_term(arguments[0]),
         }
         yield Fault(refused.error, at(place, sentences[refused.error]()))
 
@@ -82,6 +81,11 @@ def unknown(head: str) -> str:
 
 def too_long(pattern: str) -> str:
     return f"the pattern has {len(pattern.encode()):,} bytes, and at most {MAX_PATTERN} may be: {quoted(pattern)}"
+
+
+def cursor_in_term(spec: str) -> str:
+    return f"{quoted(spec)} is a named cursor, which the key \"since\" of a query takes, and no term; take a clock id, " \
+           "or a second as a whole number"
 
 
 def bad_clock_spec(spec: Any, field: str = "oclock") -> str:
@@ -114,7 +118,8 @@ def of_type(arguments: List[Any]) -> str:
     if len(arguments) != 1:
         return counted(arguments)
     letter = arguments[0]
-    hint = meant(letter[:1].lower(), TYPE_LETTERS) if isinstance(letter, str) and letter else ""
+    short = letter[:1].lower() if isinstance(letter, str) else ""
+    hint = f"; did you mean {quoted(short)}?" if short in TYPE_LETTERS else ""
     return f"{quoted(letter)} is none of these letters{hint}"
 
 
@@ -208,6 +213,6 @@ TAKES: Dict[str, str] = {
 }
 CULPRITS: Dict[str, Callable[[List[Any]], str]] = {
     **dict.fromkeys(("true", "false", "exists", "empty"), of_nothing),
-    "type": of_type, "size": of_relation, "name": of_names, "iname": of_names, "match": of_pattern, "imatch": of_pattern,
-    "dirname": of_directory, "idirname": of_directory, "suffix": of_suffixes, "since": of_since,
+    "type": of_type, "size": of_relation, "name": of_names, "iname": of_names, "match": of_pattern,
+    "imatch": of_pattern, "dirname": of_directory, "idirname": of_directory, "suffix": of_suffixes, "since": of_since,
 }

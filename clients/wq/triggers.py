@@ -41,7 +41,8 @@ def trigger(options: argparse.Namespace, home: Home) -> int:
 
 
 def root_of(server: Server, word: str) -> str:
-    """The watched root that a directory means; if none is, the root that would be watched, of which the server says so."""
+    """The watched root that a directory means; if none is, the root that would be watched, of which the server says
+    so."""
     require_utf8(word, "a word of the command line")
     watched = server.roots()
     return root_to_unwatch(word, watched) or place_of(word, watched).root
@@ -53,8 +54,13 @@ def triggers(options: argparse.Namespace, home: Home) -> int:
     if options.json:
         show([json_shown(found)])
     else:
-        show(f"{one['name']}: {shlex.join(one['command'])}{' {}' if one.get('append_files') else ''}" for one in found["triggers"])
+        show(map(row_of, found["triggers"]))
     return FOUND if found["triggers"] else NOTHING
+
+
+def row_of(found: Dict[str, Any]) -> str:
+    names = f" {PLACE}" if found.get("append_files") else ""
+    return f"{found['name']}: {shlex.join(found['command'])}{names}"
 
 
 def untrigger(options: argparse.Namespace, home: Home) -> int:

@@ -18,7 +18,8 @@ from .terminal import say
 STAY = 86_400
 TELL = 15
 COMPILES = "nothing is built yet; a server is compiled without proof in one to three minutes, and stays for a day"
-NOT_PROVED = "not proved, and some 40 times slower a file, since it checks each access; ./wqd --build proves and builds it"
+NOT_PROVED = "not proved, and some 40 times slower a file, since it checks each access; " \
+             "./wqd --build proves and builds it"
 SIGNALS = {signal.SIGHUP, signal.SIGINT, signal.SIGTERM}
 
 
@@ -75,8 +76,8 @@ def begin(command: List[str], top: str, log: str, signals: Set[signal.Signals]) 
     with open(log, "wb", opener=opened) as output:
         output.truncate()
         return subprocess.Popen(
-            command, cwd=os.path.join(top, "crates", "wqd"), start_new_session=True, stdin=subprocess.DEVNULL, stdout=output,
-            stderr=output, preexec_fn=lambda: signal.pthread_sigmask(signal.SIG_SETMASK, signals),
+            command, cwd=os.path.join(top, "crates", "wqd"), start_new_session=True, stdin=subprocess.DEVNULL,
+            stdout=output, stderr=output, preexec_fn=lambda: signal.pthread_sigmask(signal.SIG_SETMASK, signals),
         )
 
 

@@ -24,8 +24,8 @@ def read(text: str, what: str) -> Any:
             if '"' not in text else ""
         raise NotJson(NOT_JSON, f"{what}, {where}: {error.msg}{hint}") from None
     except UnicodeEncodeError:
-        raise NotJson(NOT_JSON, f"{what}: half a surrogate pair is no letter, and bytes that are not UTF-8 are none either") \
-            from None
+        reason = "half a surrogate pair is no letter, and bytes that are not UTF-8 are none either"
+        raise NotJson(NOT_JSON, f"{what}: {reason}") from None
     except (RecursionError, ValueError) as error:
         reason = "it is nested too deep" if isinstance(error, RecursionError) else str(error)
         raise NotJson(NOT_JSON, f"{what}: {reason}") from None

@@ -1,4 +1,5 @@
-"""The words of the protocol: commands with their arguments, keys of queries and triggers, fields; and what a wrong one meant."""
+"""The words of the protocol: commands with their arguments, keys of queries and triggers, fields; and what a wrong one
+meant."""
 
 import difflib
 import json
@@ -6,10 +7,12 @@ from typing import Dict, Iterable, NamedTuple, Tuple
 
 FIELDS = ["name", "exists", "new", "size", "type", "cclock", "oclock", "mtime", "mtime_ms"]
 # Watchman has these, and the server sees no such thing of a file.
-FIELDS_OF_WATCHMAN = ["mode", "uid", "gid", "ino", "dev", "nlink", "ctime", "ctime_ms", "symlink_target", "content.sha1hex"]
+FIELDS_OF_WATCHMAN = [
+    "mode", "uid", "gid", "ino", "dev", "nlink", "ctime", "ctime_ms", "symlink_target", "content.sha1hex",
+]
 QUERY_KEYS = [
-    "expression", "program", "fields", "since", "suffix", "path", "glob", "glob_includedotfiles", "empty_on_fresh_instance",
-    "sync_timeout", "case_sensitive", "dedup_results", "defer", "drop",
+    "expression", "program", "fields", "since", "suffix", "path", "glob", "glob_includedotfiles",
+    "empty_on_fresh_instance", "sync_timeout", "case_sensitive", "dedup_results", "defer", "drop",
 ]
 # The server takes these keys of Watchman, and they change nothing.
 IGNORED_KEYS = ["omit_changed_files", "always_include_directories", "lock_timeout", "request_id"]

@@ -1,5 +1,6 @@
 """What is no error and yet cannot be meant: keys that nobody knows, and patterns that can match nothing."""
 
+import re
 from typing import Any, Iterator, List
 
 from wqprogram.patterns import Flags, atoms_of
@@ -10,16 +11,18 @@ OF_NAMES = ("name", "iname")
 OF_PATTERNS = ("match", "imatch")
 OF_DIRECTORIES = ("dirname", "idirname")
 GROUPS = ("not", "allof", "anyof")
+# What a shell would make several words of.
+BRACES = re.compile(r"\{[^{}]*,[^{}]*\}")
+OF_QUERIES = QUERY_KEYS + LEFT_OUT_KEYS + IGNORED_KEYS
+KNOWN_KEYS = {"query": OF_QUERIES, "subscribe": OF_QUERIES, "trigger": TRIGGER_KEYS + LEFT_OUT_OF_TRIGGERS}
 
 
 def warnings_of(command: Any) -> List[str]:
     """The warnings about a command, whatever it is."""
     if not isinstance(command, list) or not command or not isinstance(command[-1], dict):
         return []
-    known = TRIGGER_KEYS + LEFT_OUT_OF_TRIGGERS if command[0] == "trigger" else QUERY_KEYS + LEFT_OUT_KEYS + IGNORED_KEYS
-    if command[0] not in ("query", "subscribe", "trigger"):
-        return []
-    return [*of_keys(command[-1], known), *of_values(command[-1])]
+    known = KNOWN_KEYS.get(command[0] if isinstance(command[0], str) else "")
+    return [] if known is None else [*of_keys(command[-1], known), *of_values(command[-1])]
 
 
 def of_keys(value: Any, known: List[str]) -> Iterator[str]:
@@ -69,8 +72,8 @@ def of_suffix(suffix: Any, place: str) -> Iterator[str]:
     if suffix.startswith(".") and "." not in suffix[1:]:
         yield nothing(place, suffix, f"a suffix has no dot: {quoted(suffix[1:])}")
     elif "." in suffix:
-        yield nothing(place, suffix, f"the suffix is what follows the last dot; the pattern {quoted('*.' + suffix.lstrip('.'))} "
-                                     "finds such names")
+        pattern = quoted(f"*.{suffix.lstrip('.')}")
+        yield nothing(place, suffix, f"the suffix is what follows the last dot; the pattern {pattern} finds such names")
     elif "/" in suffix:
         yield nothing(place, suffix, "no suffix has a slash")
 
@@ -113,6 +116,8 @@ def of_glob(glob: Any, place: str, is_whole: bool, has_no_escape: bool) -> Itera
         yield nothing(place, glob, f"no name ends in a slash; {quoted(glob + '**')} is what lies below it")
     elif is_whole and "//" in glob:
         yield nothing(place, glob, "no name has two slashes side by side")
+    elif BRACES.search(glob):
+        yield f"at {place}: {quoted(glob)} takes its braces as they are; write a pattern for each"
 
 
 def nothing(place: str, text: str, why: str) -> str:

@@ -78,7 +78,8 @@ NUMBERS = [
     value("--share", metavar="P", help="how much of one processor rounds may take at most, in percent; 10 if left out"),
     value("--workers", metavar="N", help="how many threads a query may use"),
 ]
-WORDS = value("words", metavar="WORD", nargs="*", help=argparse.SUPPRESS)
+WORDS = value("words", metavar="WORD", nargs="*", default=[], help=argparse.SUPPRESS)
+NAME = value("name", metavar="NAME", help=argparse.SUPPRESS)
 DIRECTORY = value("directory", metavar="DIR", nargs="?", default=".", help="a directory of the root")
 
 
@@ -98,14 +99,16 @@ FORMS: Dict[str, Form] = {
         value("--program", metavar="NAME", help="a stored program, in place of the other words"),
         flag("-l", dest="long", help="the kind, size, time and name of each"), ZEROS, JSON,
         flag("--count", help="how many there are"),
-        Option(("--no-sync",), {"dest": "sync", "action": "store_false", "help": "as the last crawl saw it, without another"}),
+        Option(("--no-sync",), {"dest": "sync", "action": "store_false", "help": "as the last crawl saw it"}),
         flag("--keep", help="goes on to watch a root that was not watched before"), WORDS]),
     "since": Form("NAME [DIR] [GLOB..]", "prints what changed since it was last asked under this name", [
         *NARROWING, ZEROS, JSON, flag("--peek", help="by the clock that the last call wrote; the name does not move"),
-        value("name", metavar="NAME", help=argparse.SUPPRESS), WORDS]),
-    "follow": Form("[DIR] [GLOB..]", "prints changes as they come, until it is interrupted", [*NARROWING, ZEROS, JSON, WORDS]),
+        NAME, WORDS]),
+    "follow": Form("[DIR] [GLOB..]", "prints changes as they come, until you stop it", [
+        *NARROWING, ZEROS, JSON, WORDS]),
     "run": Form("[DIR] [GLOB..] -- COMMAND..", "runs a command now and after each change; {} stands for the names", [
-        *NARROWING, value("--quiet", metavar="MS", type=int, default=100, help="a burst ends when it is so long quiet; 100"),
+        *NARROWING,
+        value("--quiet", metavar="MS", type=int, default=100, help="a burst ends when it is so long quiet; 100"),
         flag("--restart", help="a change ends the running one by SIGTERM, and after 5 seconds by SIGKILL"),
         flag("--once", help="ends after one run, with its status"),
         flag("--postpone", help="waits for the first change"),
@@ -116,15 +119,13 @@ FORMS: Dict[str, Form] = {
     "watch": Form("[DIR..]", "watches the projects of directories, and prints their roots", [WORDS]),
     "unwatch": Form("[DIR..]", "gives places of roots back, also of directories that are gone", [WORDS]),
     "roots": Form("", "prints the roots that are watched", [ZEROS, JSON]),
-    "trigger": Form("DIR NAME [GLOB..] -- COMMAND..", "has the server run a command in the root after changes; {} as its last "
-                    "word stands for the names", [
-                        *NARROWING, flag("--stdin", help="the names are lines on its standard input"),
-                        value("directory", metavar="DIR", help=argparse.SUPPRESS),
-                        value("name", metavar="NAME", help=argparse.SUPPRESS),
-                        value("globs", metavar="GLOB", nargs="*", help=argparse.SUPPRESS)]),
+    "trigger": Form("DIR NAME [GLOB..] -- COMMAND..", "has the server run a command in the root after changes", [
+        *NARROWING, flag("--stdin", help="the names are lines on its input; {} as its last word is for the names"),
+        value("directory", metavar="DIR", help=argparse.SUPPRESS), NAME,
+        value("globs", metavar="GLOB", nargs="*", default=[], help=argparse.SUPPRESS)]),
     "triggers": Form("[DIR]", "prints the triggers of a root", [JSON, DIRECTORY]),
     "untrigger": Form("DIR NAME", "takes a trigger out", [
-        value("directory", metavar="DIR", help=argparse.SUPPRESS), value("name", metavar="NAME", help=argparse.SUPPRESS)]),
+        value("directory", metavar="DIR", help=argparse.SUPPRESS), NAME]),
     "ask": Form("LINE..", "sends lines of the protocol, and prints the replies", [WORDS]),
     "start": Form("", "starts a server, unless one listens", NUMBERS),
     "stop": Form("", "ends the server", []),
@@ -155,12 +156,24 @@ def read(command: str, words: List[str]) -> argparse.Namespace:
     if "--" in words:
         place = words.index("--")
         words, rest = words[:place], words[place + 1:]
+    words = with_joined_sizes(words)
     parser = parser_of(command)
     if command in NEEDS_DASHES:
         found = read_any_order(parser, command, words)
         found.command = rest
         return found
     return read_any_order(parser, command, words, rest)
+
+
+def with_joined_sizes(words: List[str]) -> List[str]:
+    """A size may begin with a dash, and argparse takes that for an option unless it is joined to its own."""
+    found: List[str] = []
+    for word in words:
+        if found and found[-1] == "--size" and word.startswith("-"):
+            found[-1] = f"--size={word}"
+        else:
+            found.append(word)
+    return found
 
 
 def read_any_order(parser: Parser, command: str, words: List[str], rest: Any = ()) -> argparse.Namespace:

@@ -10,7 +10,8 @@ Value = Dict[str, object]
 
 
 def json_of(value: object) -> bytes:
-    """A value on a line without its newline, in UTF-8. A text with half a surrogate pair has no UTF-8, and is an error."""
+    """A value on a line without its newline, in UTF-8. A text with half a surrogate pair has no UTF-8, and is an
+    error."""
     return json.dumps(value, ensure_ascii=False, separators=(",", ":")).encode("utf-8")
 
 

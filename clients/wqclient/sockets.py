@@ -9,8 +9,9 @@ SOCKET = "wqd.sock"
 
 
 def default_sockname() -> str:
-    """The socket, if no word of a command names one: the variable WQD_SOCK, else `wqd.sock` in the directory of the session
-    (XDG_RUNTIME_DIR), else in a directory of the user's own, below TMPDIR or /tmp, which is made if it is not there."""
+    """The socket, if no word of a command names one: the variable WQD_SOCK, else `wqd.sock` in the directory of the
+    session (XDG_RUNTIME_DIR), else in a directory of the user's own, below TMPDIR or /tmp, which is made if it is not
+    there."""
     named = os.environ.get("WQD_SOCK")
     if named:
         return os.path.abspath(named)
@@ -34,8 +35,8 @@ def own_room(name: str) -> str:
 
 
 def is_own_directory(path: str) -> bool:
-    """Whether this user made the directory and may write to it. Another user who made it could put another socket there; the
-    superuser may be left with the variables of one."""
+    """Whether this user made the directory and may write to it. Another user who made it could put another socket
+    there; the superuser may be left with the variables of one."""
     try:
         found = os.stat(path)
     except (OSError, ValueError):
@@ -44,8 +45,8 @@ def is_own_directory(path: str) -> bool:
 
 
 def opened(path: str, flags: int) -> int:
-    """A file beside a socket that this user alone reads and writes; for `open` as its opener. It may be in a directory where
-    others make files too, so a link, and a file of another, is refused."""
+    """A file beside a socket that this user alone reads and writes; for `open` as its opener. It may be in a directory
+    where others make files too, so a link, and a file of another, is refused."""
     number = os.open(path, flags & ~os.O_TRUNC | os.O_NOFOLLOW | os.O_NONBLOCK, 0o600)
     found = os.fstat(number)
     if not stat.S_ISREG(found.st_mode) or found.st_uid != os.getuid():

@@ -1,4 +1,5 @@
-"""Starts a program that listens on a socket, if none does. Of several that start one at once, one does, and the others wait."""
+"""Starts a program that listens on a socket, if none does. Of several that start one at once, one does, and the others
+wait."""
 
 import contextlib
 import fcntl
@@ -21,7 +22,8 @@ class Unstarted(Exception):
 
 def serve_words(sockname: str) -> List[str]:
     """The words of a server at this socket, which name this second and this process as its run."""
-    return ["serve", "--sockname", sockname, "--start", str(int(time.time())), "--pid", str(os.getpid()), "--share", SHARE]
+    numbers = ["--start", str(int(time.time())), "--pid", str(os.getpid())]
+    return ["serve", "--sockname", sockname, *numbers, "--share", SHARE]
 
 
 @contextlib.contextmanager

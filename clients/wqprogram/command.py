@@ -8,6 +8,7 @@ import os
 import sys
 from typing import Callable, Dict, List, NoReturn, Optional
 
+from wqclient.kept import BUDGETS, keep, run_of
 from wqclient.lines import Ended, Lines
 from wqclient.sockets import default_sockname
 
@@ -25,7 +26,7 @@ from .records import Clocks, RowFault, record_of_row
 from .source import TextFault, one_of
 from .terms import read_term
 from .tracer import traced
-from .verifier import looked_at, refusal_of, said, said_of
+from .verifier import LONGEST_NAME, budget_of, looked_at, refusal_of, said, said_of
 
 USAGE = """\
 usage: wqasm assemble TEXT [-o FILE] [--version N]
@@ -269,29 +270,35 @@ def add(arguments: argparse.Namespace) -> int:
     if arguments.socket == "":
         return fail(WRONG_LINE, "the socket has no name; does WQD_SOCK name it?")
     sockname = default_sockname() if arguments.socket is None else arguments.socket
-    text = base64.b64encode(bytes_of(arguments.file, LONGEST_FILE)).decode()
-    line = json.dumps(["program-add", arguments.name, text], ensure_ascii=False)
+    data = bytes_of(arguments.file, LONGEST_FILE)
+    line = json.dumps(["program-add", arguments.name, base64.b64encode(data).decode()], ensure_ascii=False)
     try:
-        reply = answer(sockname, line.encode("utf-8", "surrogateescape") + b"\n")
+        with Lines(sockname, PATIENCE) as lines:
+            reply = answer(lines, line.encode("utf-8", "surrogateescape") + b"\n")
+            run = run_of(lines.peer().process)
     except OSError as error:
         return fail(CANNOT, f"{sockname}: {error.strerror or error}")
     if not reply.endswith(b"\n"):
         return fail(CANNOT, f"{sockname}: the server did not answer")
     sys.stdout.buffer.write(reply)
     sys.stdout.buffer.flush()
-    return REFUSED if reply.startswith(b'{"error"') else 0
+    if reply.startswith(b'{"error"'):
+        return REFUSED
+    # `wq status` tells it, if it could be kept.
+    with contextlib.suppress(OSError):
+        keep({"budget": budget_of(read(data), LONGEST_NAME)}, BUDGETS, os.path.abspath(sockname), run, arguments.name)
+    return 0
 
 
-def answer(sockname: str, line: bytes) -> bytes:
+def answer(lines: Lines, line: bytes) -> bytes:
     """The line that a server answers to a line; a part of it, if the server ends before."""
-    with Lines(sockname, PATIENCE) as lines:
-        try:
-            # A server that ends the session at a line that is too long has answered it before.
-            with contextlib.suppress(BrokenPipeError, ConnectionResetError):
-                lines.send_bytes(line)
-            return lines.line() + b"\n"
-        except Ended as ended:
-            return ended.rest
+    try:
+        # A server that ends the session at a line that is too long has answered it before.
+        with contextlib.suppress(BrokenPipeError, ConnectionResetError):
+            lines.send_bytes(line)
+        return lines.line() + b"\n"
+    except Ended as ended:
+        return ended.rest
 
 
 COMMANDS: Dict[str, Callable[[argparse.Namespace], int]] = {

@@ -153,13 +153,18 @@ def check_package(tally: built.Tally, room: Path) -> None:
     check_members(tally, path, room / "prefix")
     directory = room / "directory"
     remove = install_package(path, directory)
-    expected = {path: mode for path, mode in FILES.items() if path != LIST}
+    expected = {in_debian(path): mode for path, mode in FILES.items() if path != LIST}
     same(tally, "the files of the package", modes(directory / "usr", expected), expected)
     unit = (directory / "usr" / UNIT).read_text()
     same(tally, "the unit of the package", 'ExecStart="/usr/bin/wqd" serve' in unit, True)
     check_server(tally, "of the package", room, unit.replace("/usr/bin/wqd", f"{directory}/usr/bin/wqd"))
     remove()
     same(tally, "what a removed package leaves", (directory / "usr").exists(), False)
+
+
+def in_debian(path: str) -> str:
+    """Where a package has a file that ./install puts here."""
+    return path.replace("share/zsh/site-functions/", "share/zsh/vendor-completions/")
 
 
 def check_members(tally: built.Tally, package: Path, prefix: Path) -> None:
@@ -169,7 +174,7 @@ def check_members(tally: built.Tally, package: Path, prefix: Path) -> None:
     with tarfile.open(fileobj=BytesIO(members["data.tar.gz"])) as archive:
         entries = archive.getmembers()
         found = {entry.name: archive.extractfile(entry).read() for entry in entries if entry.isfile()}
-    installed = {f"./usr/{path}": (prefix / path).read_bytes() for path in FILES if path not in (LIST, UNIT)}
+    installed = {f"./usr/{in_debian(path)}": (prefix / path).read_bytes() for path in FILES if path not in (LIST, UNIT)}
     found.pop(f"./usr/{UNIT}")
     tally.check("a package has what ./install writes", found == installed, [f"{sorted(found)}", f"{sorted(installed)}"])
     owners = {(entry.uid, entry.gid, entry.uname, entry.gname, entry.mtime) for entry in entries}

@@ -1,5 +1,5 @@
-"""./wq if nothing is built: a server that the kit compiles without proof. A script takes the place of the kit, and starts
-the program as `rt try` does."""
+"""./wq if nothing is built: a server that the kit compiles without proof. A script takes the place of the kit, and
+starts the program as `rt try` does."""
 
 import os
 import signal
@@ -90,7 +90,8 @@ def ended(process: subprocess.Popen) -> built.Ended:
 
 
 def check_unproved(tally: built.Tally, room: Path) -> None:
-    """The first call compiles, and says so before it answers; the next one finds the server, and says that it is not proved."""
+    """The first call compiles, and says so before it answers; the next one finds the server, and says that it is not
+    proved."""
     with Asking(room) as asking:
         first = built.Ended(COMPILES + asking.started() + NOT_PROVED + b"a.c\n", b"", 0)
         second = built.Ended(NOT_PROVED + b"a.c\n", b"", 0)
@@ -118,7 +119,8 @@ def check_turns(tally: built.Tally, room: Path) -> None:
 
 
 def check_compilation(tally: built.Tally, room: Path) -> None:
-    """A compilation that fails, that is interrupted, and for which there is no kit; a directory that others may enter."""
+    """A compilation that fails, that is interrupted, and for which there is no kit; a directory that others may
+    enter."""
     with Asking(room) as asking:
         words = b"wq: the server did not start: the program could not be compiled: error: it does not compile\n"
         same(tally, "a compilation that fails", asking.find(FAILS="1"), built.Ended(COMPILES + words, b"", 3))

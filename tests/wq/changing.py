@@ -1,0 +1,158 @@
+"""`wq since` and `wq follow`: what changed, once and as it comes."""
+
+import json
+import os
+import shutil
+import signal
+from pathlib import Path
+
+import built
+from client import same
+from scene import Going, Scene, said, wrong
+
+FIRST = b"+ Makefile\n+ src\n+ src/a.c\n+ src/b b.c\n+ src/deep\n+ src/deep/c.h\n"
+
+
+def check_since(tally: built.Tally, room: Path) -> None:
+    with Scene(room) as scene:
+        new = said("a is new to this server, so all files are listed")
+        same(tally, "a first since", scene.wq("since", "a"), built.Ended(FIRST, new, 0))
+        same(tally, "nothing since", scene.wq("since", "a"), built.Ended(b"", b"", 1))
+        scene.write("src/a.c", "changed")
+        same(tally, "since with --peek", scene.wq("since", "a", "--peek"), built.Ended(b"~ src/a.c\n", b"", 0))
+        same(tally, "the name has not moved", scene.wq("since", "a"), built.Ended(b"~ src/a.c\n", b"", 0))
+        same(tally, "--peek after it", scene.wq("since", "a", "--peek"), built.Ended(b"", b"", 1))
+        scene.write("src/new", "new")
+        (scene.tree / "Makefile").unlink()
+        scene.write("node_modules/more", "left out")
+        same(tally, "what came and went", scene.wq("since", "a"), built.Ended(b"- Makefile\n+ src/new\n", b"", 0))
+        same(tally, "another name", scene.wq("since", "b").output.count(b"\n"), 6)
+        scene.write("dir/in", "x")
+        same(tally, "a directory that came", scene.names("since", "a"), ["+ dir", "+ dir/in"])
+        scene.write("dir/other", "x")
+        same(tally, "a directory that changed is not told", scene.names("since", "a"), ["+ dir/other"])
+        scene.write("dir/third", "x")
+        same(tally, "unless it is asked for", scene.names("since", "a", "--all"), ["~ dir", "+ dir/third"])
+        same(tally, "two names do not disturb each other", scene.names("since", "b", "dir"), ["+ in", "+ other", "+ third"])
+        check_since_narrowed(tally, scene)
+        check_since_restarted(tally, scene)
+        check_since_words(tally, scene)
+
+
+def check_since_narrowed(tally: built.Tally, scene: Scene) -> None:
+    scene.wq("since", "c")
+    scene.write("src/deep/d.h")
+    scene.write("src/e.c")
+    same(tally, "since with a directory and a glob", scene.names("since", "c", "src", "*.h"), ["+ deep/d.h"])
+    scene.write("src/f g.c")
+    same(tally, "since -0", scene.wq("since", "c", "-0").output, b"+ src/f g.c\0")
+    scene.write("src/h.c")
+    reply = json.loads(scene.wq("since", "c", "--json").output)
+    same(tally, "since --json", [file["name"] for file in reply["files"]], ["src/h.c"])
+
+
+def check_since_restarted(tally: built.Tally, scene: Scene) -> None:
+    """All files are listed, and why is said."""
+    scene.wq("since", "a")
+    scene.wq("unwatch")
+    ended = scene.wq("since", "a")
+    words = f"{scene.tree} was unwatched since, and is watched anew, so all files are listed"
+    same(tally, "since after unwatch", (ended.errors, ended.output.startswith(b"+ dir\n")), (said(words), True))
+    with scene.client() as client:
+        start = client.ask("clock", str(scene.tree))["clock"]
+    scene.wq("restart")
+    ended = scene.wq("since", "a")
+    same(tally, "since after a restart", (ended.status, ended.output.startswith(b"+ dir\n")), (0, True))
+    text = ended.errors.decode()
+    is_said = text.startswith("wq: the server was restarted since: it is of 2") and text.endswith(", so all files are listed\n")
+    tally.check("what is said of a restart", is_said, [text, start])
+    same(tally, "since after that", scene.wq("since", "a"), built.Ended(b"", b"", 1))
+
+
+def check_since_words(tally: built.Tally, scene: Scene) -> None:
+    wrong(tally, scene, ["since"],
+          "the following arguments are required: NAME; `wq since --help` says which words there are")
+    wrong(tally, scene, ["since", ""], "the name has 0 bytes, and 1 to 255 may be")
+    wrong(tally, scene, ["since", "x" * 256], "the name has 256 bytes, and 1 to 255 may be")
+    same(tally, "a name with blanks", scene.wq("since", "a b:ü").status, 0)
+    (scene.room / "state" / "wq" / "clocks").rename(scene.room / "kept")
+    (scene.room / "state" / "wq" / "clocks").write_text("no directory")
+    ended = scene.wq("since", "d", "*.h")
+    same(tally, "clocks that cannot be kept", (ended.status, ended.output, b"so --peek does not know" in ended.errors),
+         (0, b"+ src/deep/c.h\n+ src/deep/d.h\n", True))
+
+
+def check_follow(tally: built.Tally, room: Path) -> None:
+    with Scene(room) as scene:
+        with scene.begin("follow") as going:
+            touch_until(scene, going, "src/a.c")
+            scene.write("one two", "x")
+            tally.check("a new file", going.prints("+ one two\n"))
+            (scene.tree / "one two").unlink()
+            tally.check("a file that went", going.prints("- one two\n"))
+            scene.write(".git/index", "left out")
+            scene.write("last", "x")
+            tally.check("the last one", going.prints("+ last\n"))
+            lines = [line for line in going.output.splitlines() if line != b"~ src/a.c"]
+            same(tally, "all of it", lines, [b"+ one two", b"- one two", b"+ last"])
+            same(tally, "a change comes first", going.output[:10], b"~ src/a.c\n")
+            same(tally, "Ctrl-C", (going.ends(signal.SIGINT), going.errors), (130, b""))
+        check_follow_options(tally, scene)
+        check_ends_of_follow(tally, scene)
+
+
+def is_followed(scene: Scene) -> bool:
+    """Whether the root is watched. The subscription comes a moment later."""
+    with scene.client() as client:
+        return str(scene.tree) in client.ask("watch-list")["roots"]
+
+
+def check_follow_options(tally: built.Tally, scene: Scene) -> None:
+    with scene.begin("follow", "src", "*.c", "--json") as going:
+        touch_until(scene, going, "src/a.c")
+        lists = [json.loads(line) for line in going.output.splitlines()]
+        found = (lists[0]["subscription"], lists[0]["files"][0]["name"], lists[0]["files"][0]["exists"])
+        same(tally, "follow --json", found, ("wq", "src/a.c", True))
+    with scene.begin("follow", "src", "-0", "-t", "f") as going:
+        touch_until(scene, going, "src/b b.c")
+        same(tally, "follow -0 below a directory", going.output.split(b"\0")[0], b"~ b b.c")
+
+
+def touch_until(scene: Scene, going: Going, name: str) -> None:
+    """Changes a file until that is told: when the subscription begins is not told."""
+    turns = iter(range(10_000))
+    going.waits_for(lambda one: one.output or scene.write(name, "x" * (next(turns) % 50 + 1)))
+
+
+def check_ends_of_follow(tally: built.Tally, scene: Scene) -> None:
+    with scene.begin("follow") as going:
+        touch_until(scene, going, "src/a.c")
+        scene.wq("unwatch")
+        same(tally, "the end of a watch", going.ends(), 3)
+        words = f"{scene.tree} is no longer watched, so nothing more is told of it"
+        same(tally, "what is said of it", going.errors, said(words))
+    reading, writing = os.pipe()
+    with scene.begin("follow", output=writing) as going:
+        os.close(writing)
+        tally.check("follow into a pipe", going.waits_for(lambda _: is_followed(scene)))
+        os.close(reading)
+        same(tally, "a pipe that closes", (going.ends(), going.errors), (141, b""))
+    with scene.begin("follow") as going:
+        touch_until(scene, going, "src/a.c")
+        same(tally, "SIGTERM", going.ends(signal.SIGTERM), 143)
+    with scene.begin("follow") as going:
+        touch_until(scene, going, "src/a.c")
+        scene.wq("stop")
+        same(tally, "the end of the server", (going.ends(), going.errors), (3, said("the server has ended")))
+    same(tally, "a closed pipe of find", closed_pipe(scene), (141, b""))
+    shutil.rmtree(scene.tree / "src")
+
+
+def closed_pipe(scene: Scene) -> tuple:
+    """A call whose reader has gone before it writes."""
+    reading, writing = os.pipe()
+    os.close(reading)
+    with scene.begin("find", output=writing) as going:
+        os.close(writing)
+        status = going.ends()
+        return status, going.errors.replace(said(f"started a server at {scene.sockname}"), b"")

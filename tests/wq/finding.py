@@ -1,0 +1,195 @@
+"""`wq find`: what is listed, how it is printed, which root is watched, and the words that are wrong."""
+
+import json
+import os
+import subprocess
+import time
+from pathlib import Path
+
+import built
+from client import same
+from scene import Scene, said, wrong
+
+C_FILES = ["src/a.c", "src/b b.c"]
+
+
+def check_find(tally: built.Tally, room: Path) -> None:
+    with Scene(room) as scene:
+        check_globs(tally, scene)
+        check_options(tally, scene)
+        check_printing(tally, scene)
+        check_names(tally, scene)
+        check_wrong_words(tally, scene)
+        check_programs(tally, scene)
+
+
+def check_globs(tally: built.Tally, scene: Scene) -> None:
+    """Globs of the last part of names and of whole names, directories, and what is left out."""
+    everything = ["Makefile", "src", *C_FILES, "src/deep", "src/deep/c.h"]
+    for words, expected in (
+        ([], everything),
+        (["."], everything),
+        ([".", "*.c"], C_FILES),
+        (["*.c"], C_FILES),
+        (["*.c", "*.h"], [*C_FILES, "src/deep/c.h"]),
+        (["src"], ["a.c", "b b.c", "deep", "deep/c.h"]),
+        (["src", "*.h"], ["deep/c.h"]),
+        (["src", "deep/*"], ["deep/c.h"]),
+        (["src/", "/*.c"], ["a.c", "b b.c"]),
+        (["src/*.c"], C_FILES),
+        (["/Make*"], ["Makefile"]),
+        (["**/c.*"], ["src/deep/c.h"]),
+        (["src/**"], [*C_FILES, "src/deep", "src/deep/c.h"]),
+        (["Makefile"], ["Makefile"]),
+        (["src/a.c"], ["src/a.c"]),
+        ([scene.tree / "src" / "deep"], ["c.h"]),
+        ([f"{scene.tree}/src/*.c"], C_FILES),
+        (["node_modules"], ["x", "x/y.c"]),
+        (["node_modules/x", "*.c"], ["y.c"]),
+        (["target"], ["z.c"]),
+        ([".git"], ["HEAD"]),
+        (["--all", "*.c"], ["node_modules/x/y.c", *C_FILES, "target/z.c"]),
+        (["--exclude", "*.c", "-t", "f"], ["Makefile", "src/deep/c.h"]),
+        (["--exclude", "deep", "--exclude", "Make*"], ["src", *C_FILES]),
+        (["--exclude", "src/deep"], ["Makefile", "src", *C_FILES]),
+        (["src", "--exclude", "/deep"], ["a.c", "b b.c"]),
+    ):
+        same(tally, f"find {words}", scene.names("find", *words), expected)
+    same(tally, "find in another directory", scene.names("find", scene.tree / "src", "a*"), ["a.c"])
+
+
+def check_options(tally: built.Tally, scene: Scene) -> None:
+    scene.write("large", "x" * 5_000)
+    os.utime(scene.tree / "large", (1_000_000_000, 1_000_000_000))
+    scene.write("empty", "")
+    (scene.tree / "link").symlink_to("large")
+    for words, expected in (
+        (["-t", "d"], ["src", "src/deep"]),
+        (["-t", "l"], ["link"]),
+        (["-t", "f,l", "l*"], ["large", "link"]),
+        (["-e", "h"], ["src/deep/c.h"]),
+        (["-e", "C", "-e", "h"], [*C_FILES, "src/deep/c.h"]),
+        (["--size", "+4k", "-t", "f"], ["large"]),
+        (["--size", "5000"], ["large"]),
+        (["--size", "0", "-t", "f"], ["empty"]),
+        (["--size", "-0b", "-t", "f"], ["empty"]),
+        (["--newer", "1h", "large", "empty"], ["empty"]),
+        (["--newer", "10000d", "large"], ["large"]),
+        (["--expression", '["suffix","h"]'], ["src/deep/c.h"]),
+        (["src", "--expression", '["allof",["type","f"],["name","a.c"]]'], ["a.c"]),
+        (["--count"], ["9"]),
+        (["--count", "*.c", "-t", "f"], ["2"]),
+        (["-t", "f", "*.c", "--count", "src"], ["2"]),
+    ):
+        same(tally, f"find {words}", scene.names("find", *words), expected)
+    dotted = scene.wq("find", "-e", ".h")
+    note = 'a suffix has no dot at its front: ".h" is taken as "h"'
+    same(tally, "a suffix with a dot", dotted, built.Ended(b"src/deep/c.h\n", said(note), 0))
+    here = scene.wq("find", "./M*")
+    note = 'no name begins with "./", so "./M*" is taken as "/M*", directly in the directory'
+    same(tally, "a glob with ./", here, built.Ended(b"Makefile\n", said(note), 0))
+    same(tally, "nothing found", scene.wq("find", "*.nothing"), built.Ended(b"", b"", 1))
+    same(tally, "a count of nothing", scene.wq("find", "--count", "*.nothing"), built.Ended(b"0\n", b"", 1))
+
+
+def check_printing(tally: built.Tally, scene: Scene) -> None:
+    same(tally, "find -0", scene.wq("find", "-0", "*.c").output, b"src/a.c\0src/b b.c\0")
+    reply = json.loads(scene.wq("find", "--json", "*.h").output)
+    same(tally, "find --json", (reply["files"], reply["is_fresh_instance"], reply["version"]), (["src/deep/c.h"], True, "wq-1"))
+    long = json.loads(scene.wq("find", "--json", "-l", "*.h").output)["files"][0]
+    same(tally, "find --json -l", sorted(long), ["mtime_ms", "name", "size", "type"])
+    rows = scene.names("find", "-l", "large", "empty")
+    moment = time.strftime("%Y-%m-%d %H:%M:%S", time.localtime(1_000_000_000))
+    same(tally, "find -l", (rows[0][:6], rows[0][-5:], rows[1]), ("f    0", "empty", f"f 5000 {moment} large"))
+    same(tally, "a pipe has no colours", scene.wq("find", "-t", "d").output, b"src\nsrc/deep\n")
+    scene.names("find", "--keep")
+    scene.write("later")
+    same(tally, "find --no-sync of a tree that was just watched", scene.names("find", "--no-sync", "Makefile"), ["Makefile"])
+
+
+def check_names(tally: built.Tally, scene: Scene) -> None:
+    """Names with blanks, quotes, newlines, and of bytes that are no UTF-8."""
+    odd = ["with 'one' quote", 'with "two"', "with\nnewline", "-dash", "ü", "back\\slash", "[class]"]
+    for name in odd:
+        scene.write(f"odd/{name}")
+    found = scene.wq("find", "odd", "-0").output.decode().split("\0")[:-1]
+    same(tally, "odd names", sorted(found), sorted(odd))
+    same(tally, "a name with a newline in a pipe", scene.wq("find", "odd", "*newline").output, b"with\nnewline\n")
+    same(tally, "a glob after two dashes", scene.names("find", "odd", "--", "-dash"), ["-dash"])
+    same(tally, "a glob with an escape", scene.names("find", "odd", "\\[class\\]"), ["[class]"])
+    same(tally, "a directory with a class in its name", scene.names("find", "odd", "ü"), ["ü"])
+    (scene.tree / "[x]" / "y").mkdir(parents=True)
+    scene.write("[x]/y/target/in")
+    same(tally, "a directory like a pattern", scene.names("find", "[x]", "--all"), ["y", "y/target", "y/target/in"])
+    same(tally, "a glob below it", scene.names("find", "[x]", "y/*", "--all"), ["y/target"])
+    for words in (["find", b"\xff"], ["since", b"\xff"], ["find", ".", b"a\xff"], ["watch", b"\xff"], ["find", "--program", b"\xff"]):
+        ended = scene.call(words)
+        same(tally, f"{words}", (ended.status, b"is not UTF-8, and the server sees no such names" in ended.errors), (2, True))
+        same(tally, f"{words}: one line", ended.errors.count(b"\n"), 1)
+    other = {"LC_ALL": "C", "PYTHONUTF8": "0", "PYTHONCOERCECLOCALE": "0"}
+    same(tally, "a locale without UTF-8", scene.wq("find", "odd", "ü", **other).output, "ü\n".encode())
+
+
+def check_wrong_words(tally: built.Tally, scene: Scene) -> None:
+    letters = "-t takes letters of f (file), d (directory), l (link), b, c, p, s and D, and not"
+    size = "--size takes a number with a unit, such as +1M (at least), -10k (at most) or 0, and not"
+    for words, reason in (
+        (["-t", "x"], f'{letters} "x"'),
+        (["--size", "big"], f'{size} "big"'),
+        (["--newer", "soon"], '--newer takes an age, such as 30s, 10m, 2h, 3d or 1w, and not "soon"'),
+        (["--frob"], "there is no word --frob; `wq find --help` says which words there are"),
+        (["-e"], "argument -e: expected one argument; `wq find --help` says which words there are"),
+        (["/not/there"], "/not/there: No such file or directory"),
+        (["--program", "p", "*.c"],
+         "--program takes the place of globs, -t, -e, --size, --newer, --exclude and --expression; take them out"),
+    ):
+        wrong(tally, scene, ["find", *words], reason)
+    json_reason = "--expression, column 2: Expecting value; a text has double quotes, and the shell takes them away: " \
+                  "put single quotes around the whole"
+    wrong(tally, scene, ["find", "--expression", "[suffix,c]"], "E2: not JSON", json_reason, status=3)
+
+
+def check_programs(tally: built.Tally, scene: Scene) -> None:
+    tool = [str(built.TOP / "clients" / "wqasm"), "add", "large", str(built.TOP / "examples" / "large.program")]
+    with scene.client() as client:
+        wrong(tally, scene, ["find", "--program", "large"], "E34: no such program",
+              'no program is stored as "large"; none is stored, and `wqasm add NAME FILE` stores one', status=3)
+        added = subprocess.run(tool, env=scene.environment, stdout=subprocess.PIPE)
+        same(tally, "wqasm add at the default socket", added.returncode, 0)
+        scene.write("huge/h", "x" * 1_048_577)
+        scene.write("target/t", "x" * 1_048_577)
+        same(tally, "find --program", scene.names("find", "--program", "large"), ["huge/h"])
+        same(tally, "find DIR --program", scene.names("find", "huge", "--program", "large"), ["h"])
+        same(tally, "find --program --all", scene.names("find", "--program", "large", "--all"), ["huge/h", "target/t"])
+        wrong(tally, scene, ["find", "--program", "lage"], "E34: no such program",
+              'no program is stored as "lage"; did you mean "large"?', status=3)
+        same(tally, "the programs", client.ask("program-list")["programs"], ["large"])
+
+
+def check_roots(tally: built.Tally, room: Path) -> None:
+    """The root of a project is watched, and find gives it back."""
+    with Scene(room) as scene, scene.client() as client:
+        def watched() -> object:
+            return client.ask("watch-list")["roots"]
+
+        scene.names("find", "src")
+        same(tally, "find leaves no root", watched(), [])
+        wrong(tally, scene, ["find", "--expression", '["sufix","c"]'], "E24: unknown term",
+              'at expression: "sufix" is no term; did you mean "suffix"?', status=3)
+        same(tally, "nor does one that is refused", watched(), [])
+        scene.names("find", "src", "--keep")
+        same(tally, "find --keep", watched(), [str(scene.tree)])
+        scene.names("find", "src/deep")
+        same(tally, "a root that was watched stays", watched(), [str(scene.tree)])
+        for name in (".hg", ".watchmanconfig"):
+            project = room / name[1:]
+            (project / "in" / "side").mkdir(parents=True)
+            (project / name).touch()
+            same(tally, f"the root by {name}", scene.names("watch", project / "in" / "side"), [str(project)])
+        (room / "plain" / "below").mkdir(parents=True)
+        same(tally, "a directory of no project", scene.names("watch", room / "plain"), [str(room / "plain")])
+        same(tally, "one below a watched root", scene.names("watch", room / "plain" / "below"), [str(room / "plain")])
+        (room / "link").symlink_to(scene.tree / "src")
+        same(tally, "a link to a directory", scene.names("find", room / "link", "*.h"), ["deep/c.h"])
+        same(tally, "ten directories of a project are one root", watched(),
+             [str(scene.tree), str(room / "hg"), str(room / "watchmanconfig"), str(room / "plain")])

@@ -1,0 +1,196 @@
+"""A server and a tree that calls of wq ask about: each scene has a directory, a default socket and a home of its
+own."""
+
+import contextlib
+import os
+import pty
+import select
+import signal
+import subprocess
+import time
+from pathlib import Path
+from typing import Callable, Dict, List, NamedTuple, Optional
+
+import built
+from client import PATIENCE, Client, same
+
+COMMAND = str(built.TOP / "wq")
+# In milliseconds: how soon the server looks again, so that nothing waits for a second.
+INTERVAL = "40"
+FILES = ["Makefile", "src/a.c", "src/b b.c", "src/deep/c.h", ".git/HEAD", "node_modules/x/y.c", "target/z.c"]
+
+
+class Scene:
+    """Calls of wq in a directory. The server that they start ends with the scene."""
+
+    def __init__(self, room: Path, starts: bool = True) -> None:
+        self.room = room
+        self.tree = room / "tree"
+        self.runtime = room / "run"
+        self.runtime.mkdir(mode=0o700)
+        self.sockname = str(self.runtime / "wqd.sock")
+        for name in FILES:
+            self.write(name, name)
+        self.environment: Dict[str, str] = {
+            **os.environ, "WQD": str(built.program_path()), "XDG_RUNTIME_DIR": str(self.runtime), "HOME": str(room),
+            "XDG_STATE_HOME": str(room / "state"), "TMPDIR": str(room), "LC_ALL": "C.UTF-8", "TERM": "xterm",
+        }
+        for name in ("WQD_SOCK", "NO_COLOR"):
+            self.environment.pop(name, None)
+        if starts:
+            self.wq("start", "--interval", INTERVAL, "--share", "100")
+
+    def __enter__(self) -> "Scene":
+        return self
+
+    def __exit__(self, *_: object) -> None:
+        with contextlib.suppress(OSError), self.client() as client:
+            client.ask("shutdown-server")
+
+    def client(self) -> Client:
+        return Client(self.sockname)
+
+    def write(self, name: str, text: str = "x") -> None:
+        path = self.tree / name
+        path.parent.mkdir(parents=True, exist_ok=True)
+        path.write_text(text)
+
+    def call(self, words: List[object], enters: bytes = b"", **environment: str) -> built.Ended:
+        """A call in the tree, with a standard input."""
+        ended = subprocess.run(
+            [COMMAND, *words], input=enters, cwd=self.tree, stdout=subprocess.PIPE, stderr=subprocess.PIPE,
+            env={**self.environment, **environment}, timeout=PATIENCE,
+        )
+        return built.Ended(ended.stdout, ended.stderr, ended.returncode)
+
+    def wq(self, *words: object, **environment: str) -> built.Ended:
+        return self.call(list(words), **environment)
+
+    def names(self, *words: object) -> List[str]:
+        """The lines that a call writes, if it ends well and says nothing else."""
+        ended = self.wq(*words)
+        return ended.output.decode().splitlines() if (ended.status, ended.errors) == (0, b"") else [str(ended)]
+
+    def begin(self, *words: object, **settings: object) -> "Going":
+        return Going(self, [str(word) for word in words], **settings)
+
+    def changes(self, root: Optional[Path] = None) -> int:
+        """The tick of a root: how often its files changed."""
+        with self.client() as client:
+            return int(client.ask("clock", str(root or self.tree), {"sync_timeout": 1})["clock"].rsplit(":", 1)[1])
+
+
+class Going:
+    """A call that goes on, whose two streams are read as they come."""
+
+    def __init__(self, scene: Scene, words: List[str], output: Optional[int] = None, **environment: str) -> None:
+        self.output, self.errors = b"", b""
+        self.process = subprocess.Popen(
+            [COMMAND, *words], cwd=scene.tree, stdin=subprocess.DEVNULL, stderr=subprocess.PIPE,
+            stdout=subprocess.PIPE if output is None else output, env={**scene.environment, **environment},
+            preexec_fn=hear_interrupts, start_new_session=True,
+        )
+
+    def __enter__(self) -> "Going":
+        return self
+
+    def __exit__(self, *_: object) -> None:
+        with contextlib.suppress(ProcessLookupError):
+            os.killpg(self.process.pid, signal.SIGKILL)
+        self.process.wait()
+        for stream in (self.process.stdout, self.process.stderr):
+            if stream is not None:
+                stream.close()
+
+    def read(self, seconds: float) -> None:
+        """Reads what comes within some time."""
+        streams = [stream for stream in (self.process.stdout, self.process.stderr) if stream is not None]
+        for stream in select.select(streams, [], [], seconds)[0]:
+            piece = os.read(stream.fileno(), 65_536)
+            if stream is self.process.stdout:
+                self.output += piece
+            else:
+                self.errors += piece
+            if not piece:
+                time.sleep(min(seconds, 0.01))
+
+    def waits_for(self, is_so: Callable[["Going"], bool]) -> bool:
+        """Whether this becomes so before the patience ends."""
+        end = time.monotonic() + PATIENCE
+        while not is_so(self):
+            if time.monotonic() > end:
+                return False
+            self.read(0.05)
+        return True
+
+    def prints(self, text: str) -> bool:
+        return self.waits_for(lambda going: text.encode() in going.output)
+
+    def says(self, text: str, times: int = 1) -> bool:
+        return self.waits_for(lambda going: going.errors.count(text.encode()) >= times)
+
+    def ends(self, number: Optional[int] = None) -> int:
+        """The status with which it ends, after a signal if one is given."""
+        if number is not None:
+            self.process.send_signal(number)
+        end = time.monotonic() + PATIENCE
+        while self.process.poll() is None and time.monotonic() < end:
+            self.read(0.01)
+        self.read(0)
+        self.read(0)
+        return self.process.wait(1)
+
+
+def hear_interrupts() -> None:
+    """A job in the background ignores SIGINT, and so would what it starts."""
+    signal.signal(signal.SIGINT, signal.SIG_DFL)
+
+
+class AtTerminal(NamedTuple):
+    """What a call wrote to a terminal, both of its streams, and the status with which it ended."""
+
+    text: str
+    status: int
+
+
+def at_terminal(scene: Scene, *words: str, **environment: str) -> str:
+    return called_at_terminal(scene, list(words), environment).text
+
+
+def called_at_terminal(
+    scene: Scene, words: List[str], environment: Optional[Dict[str, str]] = None, keys: bytes = b"", after: str = "",
+) -> AtTerminal:
+    """A call at a terminal. Keys are pressed when it has written a text."""
+    number, terminal = pty.fork()
+    if number == 0:
+        os.chdir(scene.tree)
+        os.execve(COMMAND, [COMMAND, *words], {**scene.environment, **(environment or {})})
+    found = b""
+    end = time.monotonic() + PATIENCE
+    while time.monotonic() < end:
+        try:
+            piece = os.read(terminal, 65_536)
+        except OSError:
+            break
+        if not piece:
+            break
+        found += piece
+        if keys and after.encode() in found:
+            os.write(terminal, keys)
+            keys = b""
+    os.close(terminal)
+    status = os.waitpid(number, 0)[1]
+    code = os.WEXITSTATUS(status) if os.WIFEXITED(status) else -os.WTERMSIG(status)
+    return AtTerminal(found.decode("utf-8", "backslashreplace").replace("\r\n", "\n"), code)
+
+
+
+
+def said(*lines: str) -> bytes:
+    """Lines of standard error."""
+    return "".join(f"wq: {line}\n" for line in lines).encode()
+
+
+def wrong(tally: built.Tally, scene: Scene, words: List[object], *lines: str, status: int = 2) -> None:
+    """A call that is refused with these lines."""
+    same(tally, f"wq {words}", scene.call(words), built.Ended(b"", said(*lines), status))

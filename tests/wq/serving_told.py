@@ -1,0 +1,191 @@
+"""`wq start`, `stop`, `restart`, `status`, roots and triggers: the server, what it watches, and what it runs."""
+
+import json
+import os
+import shutil
+import subprocess
+import time
+from pathlib import Path
+
+import built
+from client import PATIENCE, same
+from scene import COMMAND, Scene, said, wrong
+
+A_HOUR = 3_600
+
+
+def check_server(tally: built.Tally, room: Path) -> None:
+    with Scene(room, starts=False) as scene:
+        nobody = f"no server listens on {scene.sockname}; `wq start` starts one"
+        for words in (["status"], ["stop"], ["roots"], ["unwatch"], ["triggers"], ["untrigger", ".", "t"]):
+            wrong(tally, scene, words, nobody, status=1)
+        started = said(f"started a server at {scene.sockname}")
+        same(tally, "start", scene.wq("start", "--interval", "50", "--workers=2"), built.Ended(b"", started, 0))
+        again = said(f"a server listens on {scene.sockname} already")
+        same(tally, "start again", scene.wq("start"), built.Ended(b"", again, 0))
+        process = facts(scene)["process"]
+        same(tally, "the words of the server", words_of(process)[-6:], ["--share", "10", "--interval", "50", "--workers", "2"])
+        ended = said(f"the server at {scene.sockname} has ended")
+        same(tally, "restart", scene.wq("restart"), built.Ended(b"", ended + started, 0))
+        same(tally, "restart keeps the words", words_of(facts(scene)["process"])[-4:], ["--interval", "50", "--workers", "2"])
+        same(tally, "another process", facts(scene)["process"] != process, True)
+        scene.wq("watch")
+        gone = said("1 root with triggers and cursors went with it; commands that need one watch it again")
+        same(tally, "restart with words", scene.wq("restart", "--share", "50"), built.Ended(b"", ended + gone + started, 0))
+        same(tally, "those words", words_of(facts(scene)["process"])[-2:], ["--share", "50"])
+        same(tally, "stop", scene.wq("stop"), built.Ended(b"", ended, 0))
+        same(tally, "restart of none", scene.wq("restart"), built.Ended(b"", started, 0))
+        scene.wq("stop")
+        failed = scene.wq("start", "--interval", "1")
+        same(tally, "start with a wrong word", (failed.status, b"--interval takes a number from 10" in failed.errors), (3, True))
+        check_starts_at_once(tally, scene)
+        check_sockets(tally, scene)
+
+
+def words_of(process: int) -> list:
+    return Path(f"/proc/{process}/cmdline").read_text().split("\0")[:-1]
+
+
+def facts(scene: Scene) -> dict:
+    return json.loads(scene.wq("status", "--json").output)
+
+
+def check_starts_at_once(tally: built.Tally, scene: Scene) -> None:
+    """Of commands that start a server at once one does, and the others wait for it."""
+    calls = [subprocess.Popen([COMMAND, "find", "*.h", "--keep"], cwd=scene.tree, stdout=subprocess.PIPE, stderr=subprocess.PIPE,
+                              env=scene.environment) for _ in range(4)]
+    ended = [call.communicate(timeout=PATIENCE) for call in calls]
+    same(tally, "what commands at once find", [output for output, _ in ended], [b"src/deep/c.h\n"] * 4)
+    started = said(f"started a server at {scene.sockname}")
+    same(tally, "one of them starts a server", sorted(errors for _, errors in ended), [b"", b"", b"", started])
+    scene.wq("stop")
+
+
+def check_sockets(tally: built.Tally, scene: Scene) -> None:
+    """Where the socket is, and sockets that cannot be."""
+    named = scene.room / "named"
+    same(tally, "WQD_SOCK", scene.wq("start", WQD_SOCK=str(named)).errors, said(f"started a server at {named}"))
+    same(tally, "its status", json.loads(scene.wq("status", "--json", WQD_SOCK=str(named)).output)["socket"], str(named))
+    scene.wq("stop", WQD_SOCK=str(named))
+    own = scene.room / f"wqd-{os.getuid()}"
+    ended = scene.wq("start", XDG_RUNTIME_DIR="")
+    same(tally, "without a session", ended.errors, said(f"started a server at {own}/wqd.sock"))
+    same(tally, "the mode of the directory", own.stat().st_mode & 0o777, 0o700)
+    scene.wq("stop", XDG_RUNTIME_DIR="")
+    own.chmod(0o711)
+    refused = built.Ended(b"", said(f"{own}: it is no directory of yours alone"), 3)
+    same(tally, "a directory that others enter", scene.wq("find", XDG_RUNTIME_DIR=""), refused)
+    shutil.rmtree(own)
+    own.symlink_to(scene.runtime)
+    same(tally, "a link in its place", scene.wq("find", XDG_RUNTIME_DIR=""), refused)
+    missing = scene.wq("find", WQD_SOCK=str(scene.room / "no" / "sock"))
+    same(tally, "a socket in no directory", (missing.status, b"No such file or directory" in missing.errors), (3, True))
+    long = scene.wq("find", WQD_SOCK=str(scene.room / ("x" * 120)))
+    same(tally, "a path that is too long", (long.status, long.errors.count(b"\n")), (3, 1))
+    broken = scene.room / "broken"
+    broken.write_text("#!/bin/sh\necho it cannot >&2\nexit 1\n")
+    broken.chmod(0o755)
+    ended = scene.wq("find", WQD=str(broken))
+    same(tally, "a server that does not start", (ended.status, ended.errors.endswith(b": it cannot\n")), (3, True))
+
+
+def check_status(tally: built.Tally, room: Path) -> None:
+    with Scene(room) as scene, scene.client() as other:
+        scene.wq("watch")
+        scene.wq("trigger", ".", "build", "--", "make", "all targets")
+        (room / "gone").mkdir()
+        scene.wq("watch", room / "gone")
+        (room / "gone").rmdir()
+        tool = [str(built.TOP / "clients" / "wqasm"), "add", "large", str(built.TOP / "examples" / "large.program")]
+        subprocess.run(tool, env=scene.environment, stdout=subprocess.DEVNULL)
+        other.ask("program-add", "other", "V1FQRgEAAAAAAAAAAAACAQEAACMAAAA=")
+        found = facts(scene)
+        version = (built.TOP / "CHANGELOG.md").read_text().split("\n## ")[1].split(",")[0]
+        same(tally, "the versions", (found["version"], found["protocol"]), (f"wqd {version}", "wq-1"))
+        same(tally, "the socket", found["socket"], scene.sockname)
+        same(tally, "the program", found["program"], str(built.program_path()))
+        same(tally, "since when", 0 <= time.time() - found["started"] < A_HOUR, True)
+        same(tally, "the clients", found["clients"], 1)
+        for name in ("process", "memory", "threads"):
+            same(tally, f"the {name}", found[name] > 0, True)
+        same(tally, "the processor time", 0 <= found["processor_seconds"] < A_HOUR, True)
+        root = found["roots"][0]
+        same(tally, "a root", (root["root"], root["files"], root["directories"]), (str(scene.tree), 13, 6))
+        same(tally, "its tick", root["tick"], 1)
+        same(tally, "its crawl", 0 < root["crawl_seconds"] < PATIENCE, True)
+        same(tally, "its last change", root["changed_within"] in (1, 10, 60), True)
+        triggers = [(trigger["name"], trigger["command"]) for trigger in root["triggers"]]
+        same(tally, "its triggers", triggers, [("build", ["make", "all targets"])])
+        same(tally, "a root that is gone", found["roots"][1], {"root": str(room / "gone"), "error": "E11: root cannot be read"})
+        programs = [{"name": "large", "budget": 7}, {"name": "other", "budget": None}]
+        same(tally, "the programs", found["programs"], programs)
+        text = scene.wq("status").output.decode()
+        for part in (f"socket    {scene.sockname}\n", "clients   1 beside this one", "7 files and 6 directories, tick 1, a crawl takes",
+                     "trigger build: make 'all targets'", "E11: root cannot be read", "program   large, budget 7 steps a file",
+                     "program   other, budget unknown", f"process   {found['process']}, "):
+            tally.check(f"status has {part!r}", part in text, text.splitlines())
+
+
+def check_watches(tally: built.Tally, room: Path) -> None:
+    with Scene(room) as scene:
+        same(tally, "no roots", scene.wq("roots"), built.Ended(b"", b"", 1))
+        same(tally, "watch", scene.wq("watch"), built.Ended(f"{scene.tree}\n".encode(), b"", 0))
+        same(tally, "roots", scene.names("roots"), [str(scene.tree)])
+        same(tally, "roots -0", scene.wq("roots", "-0").output, f"{scene.tree}\0".encode())
+        same(tally, "roots --json", json.loads(scene.wq("roots", "--json").output)["roots"], [str(scene.tree)])
+        wrong(tally, scene, ["watch", "not-there"], "not-there: No such file or directory")
+        wrong(tally, scene, ["watch", "Makefile"], "Makefile: Not a directory")
+        wrong(tally, scene, ["unwatch", room], f"{room} is not watched; watched are {scene.tree}", status=1)
+        same(tally, "unwatch of a part", scene.names("unwatch", "src"), [str(scene.tree)])
+        wrong(tally, scene, ["unwatch"], ". is not watched; no root is", status=1)
+        names = [str(room / f"r{number:02}") for number in range(17)]
+        for name in names:
+            os.mkdir(name)
+        same(tally, "sixteen roots", scene.names("watch", *names[:16]), names[:16])
+        words = ["16 roots are watched, and more may not be; `wq unwatch DIR` gives the place of one back:"]
+        words += [f"  {name}" for name in names[:16]]
+        wrong(tally, scene, ["watch", names[16]], "E13: too many roots", *words, status=3)
+        wrong(tally, scene, ["find", names[16]], "E13: too many roots", *words, status=3)
+        os.rmdir(names[3])
+        same(tally, "unwatch of one that is gone", scene.names("unwatch", names[3]), [names[3]])
+        same(tally, "a place that was given back", scene.names("watch", names[16]), [names[16]])
+
+
+def check_triggers(tally: built.Tally, room: Path) -> None:
+    with Scene(room) as scene:
+        same(tally, "the root of a trigger is watched", scene.wq("triggers").status, 3)
+        made = said(f"trigger t of {scene.tree} is created; its command runs there")
+        script = 'pwd > ../ran; echo "$@" >> ../ran'
+        call = scene.wq("trigger", "src", "t", "*.h", "--", "sh", "-c", script, "sh", "{}")
+        same(tally, "trigger", call, built.Ended(b"", made, 0))
+        tally.check("its command runs", reads(room / "ran", f"{scene.tree}\nsrc/deep/c.h\n"))
+        lines = scene.names("triggers", "src")
+        same(tally, "triggers", lines, [f"t: sh -c '{script}' sh {{}}"])
+        asked = json.loads(scene.wq("triggers", "--json").output)["triggers"][0]
+        same(tally, "triggers --json", (asked["append_files"], asked["expression"][0]), (True, "allof"))
+        again = said(f"trigger t of {scene.tree} is replaced; its command runs there")
+        call = scene.wq("trigger", ".", "t", "Makefile", "--stdin", "--", "sh", "-c", "cat > ../names")
+        same(tally, "a second one", call, built.Ended(b"", again, 0))
+        tally.check("names on its input", reads(room / "names", "Makefile\n"))
+        same(tally, "untrigger", scene.wq("untrigger", ".", "t"), built.Ended(b"", b"", 0))
+        wrong(tally, scene, ["untrigger", ".", "t"], f"{scene.tree} has no trigger t", status=1)
+        same(tally, "no triggers", scene.wq("triggers"), built.Ended(b"", b"", 1))
+        wrong(tally, scene, ["trigger", ".", "t"],
+              "trigger takes `--` and a command after it, such as: wq trigger . build '*.c' -- make")
+        for command in (["echo", "{}", "x"], ["{}"]):
+            wrong(tally, scene, ["trigger", ".", "t", "--", *command],
+                  "the names of files come last in the command of a trigger, so {} may be its last word alone")
+        wrong(tally, scene, ["trigger", ".", "n" * 256, "--", "true"], "E36: bad name",
+              f'the name has 256 bytes, and at most 255 may be: "{"n" * 59}..', status=3)
+        wrong(tally, scene, ["triggers", room], "E14: root is not watched",
+              f'"{room}" is not watched; did you mean "{scene.tree}"?. ["watch","{room}"] watches it', status=3)
+
+
+def reads(path: Path, text: str) -> bool:
+    """Whether a file comes to have this text."""
+    end = time.monotonic() + PATIENCE
+    while time.monotonic() < end:
+        if path.exists() and path.read_text() == text:
+            return True
+        time.sleep(0.02)
+    return False

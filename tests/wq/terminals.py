@@ -1,0 +1,131 @@
+"""What is written to a terminal; help, and words that are no command; a first crawl that takes long."""
+
+import json
+import os
+import socket
+import threading
+import time
+from pathlib import Path
+
+import built
+from client import same
+from scene import Scene, at_terminal, called_at_terminal, said, wrong
+from wq.words import FORMS, USAGE, options_of
+
+SLOW = 2.3
+
+
+def check_terminal(tally: built.Tally, room: Path) -> None:
+    """Colours, layout and escapes are for terminals, and NO_COLOR takes the colours away."""
+    with Scene(room) as scene:
+        (scene.tree / "link").symlink_to("Makefile")
+        found = at_terminal(scene, "find", "src", "link", "-t", "d,l")
+        same(tally, "no link below a directory", found, "\x1b[34mdeep\x1b[0m\n"[:0])
+        same(tally, "a directory in its colour", at_terminal(scene, "find", "-t", "d", "deep"), "\x1b[34msrc/deep\x1b[0m\n")
+        same(tally, "a link in its colour", at_terminal(scene, "find", "link"), "\x1b[36mlink\x1b[0m\n")
+        same(tally, "a file has none", at_terminal(scene, "find", "Makefile"), "Makefile\n")
+        same(tally, "NO_COLOR", at_terminal(scene, "find", "link", NO_COLOR="1"), "link\n")
+        same(tally, "an empty NO_COLOR is none", at_terminal(scene, "find", "link", NO_COLOR=""), "\x1b[36mlink\x1b[0m\n")
+        same(tally, "a dumb terminal", at_terminal(scene, "find", "link", TERM="dumb"), "link\n")
+        scene.write("new\nline\x1b[31m")
+        same(tally, "control characters", at_terminal(scene, "find", "new*"), "new\\x0aline\\x1b[31m\n")
+        same(tally, "byte 0 and no colours", at_terminal(scene, "find", "-0", "link"), "link\0")
+        scene.wq("since", "a")
+        scene.write("Makefile", "changed")
+        (scene.tree / "link").unlink()
+        scene.write("added", "x")
+        marks = "\x1b[33m~ Makefile\x1b[0m\n\x1b[32m+ added\x1b[0m\n\x1b[31m- link\x1b[0m\n"
+        same(tally, "marks in their colours", at_terminal(scene, "since", "a"), marks)
+        error = at_terminal(scene, "find", "-t", "x")
+        same(tally, "an error in red", (error[:9], error[-5:]), ("\x1b[31mwq: ", "\x1b[0m\n"))
+        same(tally, "a reply laid out", at_terminal(scene, "ask", '["version"]'), '{\n  "version": "wq-1"\n}\n')
+        ran = at_terminal(scene, "run", "--once", "--clear", "--", "echo", "done")
+        same(tally, "a run at a terminal", ran, "\x1b[H\x1b[2J\x1b[3Jdone\n\x1b[32mwq: echo ended with status 0\x1b[0m\n")
+        same(tally, "a run that fails", at_terminal(scene, "run", "--once", "--", "false"),
+             "\x1b[31mwq: false ended with status 1\x1b[0m\n")
+        check_keys(tally, scene)
+        same(tally, "status at a terminal", "\x1b[36msocket    \x1b[0m" in at_terminal(scene, "status"), True)
+        same(tally, "status --json at a terminal", json.loads(at_terminal(scene, "status", "--json"))["protocol"], "wq-1")
+
+
+def check_keys(tally: built.Tally, scene: Scene) -> None:
+    """Ctrl-C at a terminal ends a command and what it runs; a command that runs may read the terminal."""
+    script = "echo ready; sleep 1000"
+    for option in ("--once", "--restart"):
+        ended = called_at_terminal(scene, ["run", option, "--", "sh", "-c", script], keys=b"\x03", after="ready")
+        same(tally, f"Ctrl-C at run {option}", (ended.status, "Traceback" in ended.text), (130, False))
+    ended = called_at_terminal(scene, ["run", "--once", "--", "sh", "-c", "echo ready; read a; echo got $a"], keys=b"key\n",
+                               after="ready")
+    same(tally, "a command that reads the terminal", (ended.status, "got key\n" in ended.text), (0, True))
+
+
+def check_words(tally: built.Tally, room: Path) -> None:
+    with Scene(room, starts=False) as scene:
+        for words in (["--help"], ["-h"], ["help"]):
+            same(tally, f"wq {words}", scene.wq(*words), built.Ended(USAGE.encode(), b"", 0))
+        version = (built.TOP / "CHANGELOG.md").read_text().split("\n## ")[1].split(",")[0]
+        same(tally, "wq --version", scene.wq("--version"), built.Ended(f"wq {version}\n".encode(), b"", 0))
+        wrong(tally, scene, [], "there is no command; `wq --help` says which there are")
+        wrong(tally, scene, ["frobnicate"], "there is no command frobnicate; `wq --help` says which there are")
+        wrong(tally, scene, ["finde"], "there is no command finde; did you mean find?; `wq --help` says which there are")
+        wrong(tally, scene, ["stop", "now"], "there is no word now; `wq stop --help` says which words there are")
+        for command in FORMS:
+            text = scene.wq(command, "--help")
+            missing = [option for option in options_of(command) if option not in text.output.decode()]
+            same(tally, f"wq {command} --help", (text.status, text.errors, missing), (0, b"", []))
+            same(tally, f"{command} in the help", f" {command}" in USAGE, True)
+        full = scene.wq("--help")
+        same(tally, "the help fits a terminal of 80 columns", max(map(len, full.output.decode().splitlines())) <= 80, True)
+        with open("/dev/full", "wb") as device, scene.begin("--help", output=device.fileno()) as going:
+            same(tally, "a device that is full", (going.ends(), going.errors), (3, said("output: No space left on device")))
+        with scene.begin("find") as going:
+            same(tally, "a server that is started for a command", (going.ends(), going.errors),
+                 (0, said(f"started a server at {scene.sockname}")))
+
+
+class Slow:
+    """A server that answers each `watch` after some seconds, and everything else at once."""
+
+    def __init__(self, sockname: str) -> None:
+        self.listener = socket.socket(socket.AF_UNIX)
+        self.listener.bind(sockname)
+        self.listener.listen(5)
+        threading.Thread(target=self.run, daemon=True).start()
+
+    def run(self) -> None:
+        while True:
+            stream, _ = self.listener.accept()
+            threading.Thread(target=self.serve, args=(stream,), daemon=True).start()
+
+    def serve(self, stream: socket.socket) -> None:
+        with stream.makefile("rwb") as lines:
+            for line in lines:
+                name, *rest = json.loads(line)
+                if name == "watch":
+                    time.sleep(SLOW)
+                replies = {
+                    "watch": {"watch": rest[:1]}, "watch-list": {"roots": []},
+                    "query": {"files": [], "is_fresh_instance": True, "clock": "c:1:2:3:4"},
+                }
+                lines.write(json.dumps({**replies.get(name, {}), "version": "wq-1"}).encode() + b"\n")
+                lines.flush()
+
+
+def check_first_crawl(tally: built.Tally, room: Path) -> None:
+    """A first crawl of over a second shows how long it goes on; it can be interrupted at once."""
+    with Scene(room, starts=False) as scene:
+        Slow(scene.sockname)
+        looks = f"the server looks at all files below {scene.tree} for the first time"
+        ended = scene.wq("find")
+        lines = ended.errors.decode().splitlines()
+        same(tally, "a slow crawl, beside a pipe", (ended.status, lines[:1], len(lines)), (1, [f"wq: {looks}"], 2))
+        took = lines[-1]
+        tally.check("how long it took", took.startswith("wq: that took 2.") and took.endswith(" s"), lines)
+        shown = at_terminal(scene, "find", NO_COLOR="1")
+        tally.check("a slow crawl at a terminal", f"\rwq: {looks}, 1 s so far" in shown and f"{looks}, 2 s so far" in shown, [shown])
+        with scene.begin("find") as going:
+            tally.check("a crawl that goes on", going.says(looks))
+            began = time.monotonic()
+            same(tally, "Ctrl-C in a first crawl", going.ends(2), 130)
+            same(tally, "ends at once", time.monotonic() - began < 1.5, True)
+        os.unlink(scene.sockname)
