@@ -1,4 +1,4 @@
-"""The blocks of a page with the marks that say how they are run, and what it means that an output is as the page shows it.
+"""The blocks of a page with the marks that say how they are run, and whether an output is as the page shows it.
 
 A mark is an HTML comment before an indented or fenced block:
 
