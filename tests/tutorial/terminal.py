@@ -1,5 +1,6 @@
 """A terminal for the commands of a page: a directory, an environment, and commands that go on beside others."""
 
+import json
 import os
 import shutil
 import signal
@@ -15,8 +16,8 @@ from reading import Block, Command, commands_of, is_as_shown
 
 PATIENCE = 60.0
 PAUSE = 0.05
-# So long a command that goes on gets to begin, before others change something.
-BEGINNING = 2.0
+# So long a client gets to ask for what it wants to hear of, before others change something.
+BEGINNING = 1.0
 
 
 class Done(NamedTuple):
@@ -114,6 +115,14 @@ class Terminal:
         command = commands_of(lines)[0]
         self.begun[name] = Begun(command.line, self.directory, self.environment, self.room / f"{name}.log")
         yield done(command, self.begun[name].next_output(command.output))
+        self.wait_for_clients()
+
+    def wait_for_clients(self) -> None:
+        """Waits until each command that goes on is a client of the server."""
+        going = sum(begun.process.poll() is None for begun in self.begun.values())
+        end = time.monotonic() + PATIENCE
+        while json.loads(self.do("wq status --json"))["clients"] < going and time.monotonic() < end:
+            time.sleep(PAUSE)
         time.sleep(BEGINNING)
 
     def then(self, name: str, lines: List[str]) -> Iterator[Done]:
