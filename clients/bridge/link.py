@@ -5,9 +5,11 @@ import socket
 import struct
 from typing import List, Optional
 
-from bridge.encodings import LONGEST, json_of
+from bridge.encodings import json_of
 from bridge.faults import Ended, Refused
 
+# The server takes no longer line.
+LONGEST = 1_048_576
 SMALL = 65_536
 LARGE = 1_048_576
 # Replies and lists have their keys in byte order, so these are the last bytes of their lines.
