@@ -29,6 +29,8 @@ run "$@"
 """
 # The module of the archive that Python runs.
 WQASM_MAIN = "import sys\n\nfrom wqprogram.command import main\n\nsys.exit(main(sys.argv[1:]))\n"
+# The modules that the command watchman and its bridge are made of.
+BRIDGE_PACKAGES = ["bridge", "wqclient"]
 # The manual pages of section 7: their pages in docs/, and what they are.
 REFERENCE = {
     "wqd-programs": ("PROGRAMS.md", "programs with which clients of wqd filter files"),
@@ -66,7 +68,7 @@ def files(prefix: str) -> List[File]:
     """The files for a prefix."""
     return [
         File("bin/wqd", 0o755, (HEAD.format(version=version()) + text("contrib/command.sh") + TAIL).encode()),
-        File("bin/wqasm", 0o755, wqasm()),
+        File("bin/wqasm", 0o755, archive(["wqprogram", "wqclient"], WQASM_MAIN)),
         File("lib/wqd/wqd", 0o755, built_program()),
         File("lib/wqd/git-fsmonitor-hook", 0o755, text("contrib/git-fsmonitor-hook").encode()),
         File("share/man/man1/wqd.1", 0o644, server_manual().encode()),
@@ -82,10 +84,10 @@ def files(prefix: str) -> List[File]:
 
 def files_as_watchman() -> List[File]:
     """The command watchman, and the bridge that it starts."""
-    modules = sorted((TOP / "clients" / "bridge").glob("*.py"))
+    modules = [module for package in BRIDGE_PACKAGES for module in sorted((TOP / "clients" / package).glob("*.py"))]
     return [
         File("bin/watchman", 0o755, text("clients/watchman").encode()),
-        *(File(f"lib/wqd/clients/bridge/{module.name}", 0o644, module.read_bytes()) for module in modules),
+        *(File(f"lib/wqd/clients/{module.parent.name}/{module.name}", 0o644, module.read_bytes()) for module in modules),
     ]
 
 
@@ -93,14 +95,15 @@ def text(path: str) -> str:
     return (TOP / path).read_text(encoding="utf-8")
 
 
-def wqasm() -> bytes:
-    """The tool as one file: an archive of its modules, which Python runs. It is the same on every machine."""
+def archive(packages: List[str], main: str) -> bytes:
+    """A tool as one file: an archive of its packages, of which Python runs this text. It is the same on every machine."""
     written = io.BytesIO(b"#!/usr/bin/env python3\n")
     written.seek(0, io.SEEK_END)
-    with zipfile.ZipFile(written, "a") as archive:
-        for module in sorted((TOP / "clients" / "wqprogram").glob("*.py")):
-            archive.writestr(zipfile.ZipInfo(f"wqprogram/{module.name}"), module.read_bytes())
-        archive.writestr(zipfile.ZipInfo("__main__.py"), WQASM_MAIN)
+    with zipfile.ZipFile(written, "a") as found:
+        for package in packages:
+            for module in sorted((TOP / "clients" / package).glob("*.py")):
+                found.writestr(zipfile.ZipInfo(f"{package}/{module.name}"), module.read_bytes())
+        found.writestr(zipfile.ZipInfo("__main__.py"), main)
     return written.getvalue()
 
 

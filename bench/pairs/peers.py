@@ -1,16 +1,20 @@
 """The two servers: Watchman and wqd, each started with its socket in a directory, and clients of them."""
 
-import json
 import os
 import signal
-import socket
 import subprocess
 import sys
 import time
 from pathlib import Path
-from typing import Dict, List, Optional
+from typing import List, Optional
 
 TOP = Path(__file__).resolve().parent.parent.parent
+sys.path[:0] = [str(TOP / "clients")]
+
+from wqclient import client
+from wqclient.client import Value
+from wqclient.lines import Ended
+
 PATIENCE = 300.0
 TICKS = os.sysconf("SC_CLK_TCK")
 AN_HOUR = 3_600_000
@@ -18,43 +22,22 @@ AN_HOUR = 3_600_000
 MALLOC = {
     "MALLOC_ARENA_MAX": "2", "MALLOC_MMAP_THRESHOLD_": "131072", "GLIBC_TUNABLES": "glibc.malloc.tcache_count=0",
 }
-Value = Dict[str, object]
 
 
-class Client:
-    """A client in JSON lines. Lists of subscriptions are kept until they are asked for."""
+class Client(client.Client):
+    """A client that takes every error for a fault of the bench."""
 
     def __init__(self, sockname: str) -> None:
-        self.stream = socket.socket(socket.AF_UNIX, socket.SOCK_STREAM)
-        self.stream.settimeout(PATIENCE)
-        self.stream.connect(sockname)
-        self.lines = self.stream.makefile("rb")
-        self.lists: List[Value] = []
+        super().__init__(sockname, PATIENCE)
 
     def __enter__(self) -> "Client":
         return self
 
-    def __exit__(self, *_: object) -> None:
-        self.lines.close()
-        self.stream.close()
-
     def ask(self, *command: object) -> Value:
-        self.stream.sendall(json.dumps(command).encode() + b"\n")
-        while True:
-            value = self.value()
-            if "unilateral" not in value:
-                break
-            self.lists.append(value)
+        value = super().ask(*command)
         if "error" in value:
             raise ValueError(f"{command}: {value['error']}")
         return value
-
-    def value(self) -> Value:
-        value: Value = json.loads(self.lines.readline())
-        return value
-
-    def next_list(self) -> Value:
-        return self.lists.pop(0) if self.lists else self.value()
 
 
 class Peer:
@@ -72,7 +55,7 @@ class Peer:
                 with self.client() as client:
                     client.ask("version")
                 return
-            except OSError:
+            except (OSError, Ended):
                 if self.process.poll() is not None or time.monotonic() > end:
                     sys.exit(f"bench/peers: {name} does not start: {(room / f'{name}.log').read_text()}")
                 time.sleep(0.005)

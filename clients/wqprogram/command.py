@@ -5,9 +5,11 @@ import base64
 import contextlib
 import json
 import os
-import socket
 import sys
 from typing import Callable, Dict, List, NoReturn, Optional
+
+from wqclient.lines import Ended, Lines
+from wqclient.sockets import default_sockname
 
 from . import json_values
 from .assembler import assembled
@@ -31,7 +33,7 @@ usage: wqasm assemble TEXT [-o FILE] [--version N]
        wqasm explain FILE
        wqasm run FILE --record 'f 12 1000 src/a.c' [--deleted] [--cclock N] [--csec N] [--oclock N] [--osec N]
        wqasm compile EXPRESSION [-o FILE] [--clock ID]
-       wqasm add SOCKET NAME FILE
+       wqasm add [SOCKET] NAME FILE
        wqasm --help
 
   assemble      makes a program file of a text, and says what `wqd check` says of it
@@ -39,7 +41,8 @@ usage: wqasm assemble TEXT [-o FILE] [--version N]
   explain       shows what each instruction meets and costs, and where a program that may not run is wrong
   run           shows the run of a program on one file, step by step
   compile       makes the program file of a JSON expression
-  add           hands a program file to a server, under a name, and shows the answer
+  add           hands a program file to a server, under a name, and shows the answer. Without SOCKET it is the server at
+                WQD_SOCK, else at wqd.sock in XDG_RUNTIME_DIR, else in your own directory below TMPDIR or /tmp
 
   -o FILE       the file to write; else standard output takes it. - in place of a text, a file or an expression is
                 standard input
@@ -110,7 +113,8 @@ def parser() -> Parser:
     added["run"].add_argument("--deleted", action="store_true")
     for name in ("--cclock", "--csec", "--oclock", "--osec"):
         added["run"].add_argument(name, metavar="N")
-    for name in ("socket", "name", "file"):
+    added["add"].add_argument("socket", metavar="SOCKET", nargs="?")
+    for name in ("name", "file"):
         added["add"].add_argument(name, metavar=name.upper())
     return top
 
@@ -262,16 +266,17 @@ def program_of(text: bytes, instance: Instance, has_instance: bool) -> Program:
 
 def add(arguments: argparse.Namespace) -> int:
     """Asks a server to keep a program file. What is wrong with it, the server says."""
-    if not arguments.socket:
+    if arguments.socket == "":
         return fail(WRONG_LINE, "the socket has no name; does WQD_SOCK name it?")
+    sockname = default_sockname() if arguments.socket is None else arguments.socket
     text = base64.b64encode(bytes_of(arguments.file, LONGEST_FILE)).decode()
     line = json.dumps(["program-add", arguments.name, text], ensure_ascii=False)
     try:
-        reply = answer(arguments.socket, line.encode("utf-8", "surrogateescape") + b"\n")
+        reply = answer(sockname, line.encode("utf-8", "surrogateescape") + b"\n")
     except OSError as error:
-        return fail(CANNOT, f"{arguments.socket}: {error.strerror or error}")
+        return fail(CANNOT, f"{sockname}: {error.strerror or error}")
     if not reply.endswith(b"\n"):
-        return fail(CANNOT, f"{arguments.socket}: the server did not answer")
+        return fail(CANNOT, f"{sockname}: the server did not answer")
     sys.stdout.buffer.write(reply)
     sys.stdout.buffer.flush()
     return REFUSED if reply.startswith(b'{"error"') else 0
@@ -279,14 +284,14 @@ def add(arguments: argparse.Namespace) -> int:
 
 def answer(sockname: str, line: bytes) -> bytes:
     """The line that a server answers to a line; a part of it, if the server ends before."""
-    with socket.socket(socket.AF_UNIX) as stream:
-        stream.settimeout(PATIENCE)
-        stream.connect(os.fsencode(sockname))
-        # A server that ends the session at a line that is too long has answered it before.
-        with contextlib.suppress(BrokenPipeError, ConnectionResetError):
-            stream.sendall(line)
-        with stream.makefile("rb") as replies:
-            return replies.readline()
+    with Lines(sockname, PATIENCE) as lines:
+        try:
+            # A server that ends the session at a line that is too long has answered it before.
+            with contextlib.suppress(BrokenPipeError, ConnectionResetError):
+                lines.send_bytes(line)
+            return lines.line() + b"\n"
+        except Ended as ended:
+            return ended.rest
 
 
 COMMANDS: Dict[str, Callable[[argparse.Namespace], int]] = {

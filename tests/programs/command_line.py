@@ -30,7 +30,7 @@ WRONG_WORDS: List[Tuple[Sequence[str], str]] = [
     (["explain", "file", "file"], f"unrecognized arguments: file{HELP}"),
     (["explain", "file", "--record", "f 1 1 a"], f"unrecognized arguments: --record f 1 1 a{HELP}"),
     (["run", "file"], f"the following arguments are required: --record{HELP}"),
-    (["add", "socket", "name"], f"the following arguments are required: FILE{HELP}"),
+    (["add", "name"], f"the following arguments are required: FILE{HELP}"),
     (["add", "", "name", "file"], "the socket has no name; does WQD_SOCK name it?\n"),
     (["assemble", "file", "--version", "3"], 'unknown version: found "3", expected "1" or "2"\n'),
     (["assemble", "file", "--version", "one"], 'unknown version: found "one", expected "1" or "2"\n'),

@@ -13,6 +13,10 @@ from typing import Callable, List, Optional, Sequence, Tuple
 
 import built
 
+sys.path[:0] = [str(built.TOP / "clients")]
+
+from wqclient.lines import Ended, Lines
+
 PATIENCE = 60.0
 A_HOUR = 3_600_000
 VERSION = {"version": "wq-1"}
@@ -35,31 +39,33 @@ def query_of_names() -> dict:
     return {"fields": ["name"]}
 
 
-class Client:
-    """A client that sends a JSON value on a line, and reads one on a line."""
+class Client(Lines):
+    """A client that sends a JSON value on a line, and reads one on a line: a reply or a list, whichever comes."""
 
     def __init__(self, sockname: str) -> None:
-        self.socket = socket.socket(socket.AF_UNIX, socket.SOCK_STREAM)
-        self.socket.settimeout(PATIENCE)
-        self.socket.connect(sockname)
-        self.read = b""
+        super().__init__(sockname)
+        self.stream.settimeout(PATIENCE)
 
     def __enter__(self) -> "Client":
         return self
 
-    def __exit__(self, *_: object) -> None:
-        self.close()
+    @property
+    def socket(self) -> "socket.socket":
+        return self.stream
 
-    def close(self) -> None:
-        self.socket.close()
+    @property
+    def read(self) -> bytes:
+        """What came after the last line that was asked for."""
+        return bytes(self.held)
 
     @staticmethod
     def text(value: object) -> bytes:
         return json.dumps(value).encode()
 
     def send_bytes(self, data: bytes) -> None:
+        """Sends all of it, and reads nothing meanwhile."""
         try:
-            self.socket.sendall(data)
+            self.stream.sendall(data)
         except (BrokenPipeError, ConnectionResetError):
             pass  # the server ended the session; what it said before can still be read
 
@@ -71,13 +77,10 @@ class Client:
 
     def line(self) -> bytes:
         """The next line, without its end."""
-        while b"\n" not in self.read:
-            piece = self.socket.recv(65_536)
-            if not piece:
-                raise ValueError(f"the stream ended behind {self.read!r}")
-            self.read += piece
-        line, self.read = self.read.split(b"\n", 1)
-        return line
+        try:
+            return super().line()
+        except Ended as ended:
+            raise ValueError(f"the stream ended behind {ended.rest!r}") from None
 
     def ask(self, *command: object) -> dict:
         self.send(*command)
@@ -101,14 +104,11 @@ class Client:
 
     def rest(self) -> bytes:
         """What comes until the server closes the stream."""
-        while True:
-            try:
-                piece = self.socket.recv(65_536)
-            except ConnectionResetError:
-                return self.read
-            if not piece:
-                return self.read
-            self.read += piece
+        try:
+            while True:
+                self.receive()
+        except Ended as ended:
+            return ended.rest
 
 
 class Server:

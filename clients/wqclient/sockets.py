@@ -1,0 +1,68 @@
+"""Where the socket of a server is, and whether somebody listens there."""
+
+import errno
+import os
+import socket
+import stat
+
+SOCKET = "wqd.sock"
+
+
+def default_sockname() -> str:
+    """The socket, if no word of a command names one: the variable WQD_SOCK, else `wqd.sock` in the directory of the session
+    (XDG_RUNTIME_DIR), else in a directory of the user's own, below TMPDIR or /tmp, which is made if it is not there."""
+    named = os.environ.get("WQD_SOCK")
+    if named:
+        return os.path.abspath(named)
+    above = os.environ.get("XDG_RUNTIME_DIR", "")
+    if is_own_directory(above):
+        return os.path.join(os.path.abspath(above), SOCKET)
+    return os.path.join(own_room(f"wqd-{os.getuid()}"), SOCKET)
+
+
+def own_room(name: str) -> str:
+    """A directory of this name below TMPDIR or /tmp that nobody else can enter."""
+    room = os.path.join(os.path.abspath(os.environ.get("TMPDIR") or "/tmp"), name)
+    try:
+        os.mkdir(room, 0o700)
+    except FileExistsError:
+        pass
+    found = os.lstat(room)
+    if not stat.S_ISDIR(found.st_mode) or found.st_uid != os.getuid() or stat.S_IMODE(found.st_mode) & 0o077:
+        raise OSError(errno.EPERM, "it is no directory of yours alone", room)
+    return room
+
+
+def is_own_directory(path: str) -> bool:
+    """Whether this user made the directory and may write to it. Another user who made it could put another socket there; the
+    superuser may be left with the variables of one."""
+    try:
+        found = os.stat(path)
+    except (OSError, ValueError):
+        return False
+    return stat.S_ISDIR(found.st_mode) and found.st_uid == os.getuid() and os.access(path, os.W_OK | os.X_OK)
+
+
+def opened(path: str, flags: int) -> int:
+    """A file beside a socket that this user alone reads and writes; for `open` as its opener. It may be in a directory where
+    others make files too, so a link, and a file of another, is refused."""
+    number = os.open(path, flags & ~os.O_TRUNC | os.O_NOFOLLOW | os.O_NONBLOCK, 0o600)
+    found = os.fstat(number)
+    if not stat.S_ISREG(found.st_mode) or found.st_uid != os.getuid():
+        os.close(number)
+        raise OSError(errno.EPERM, "it is no file of yours", path)
+    return number
+
+
+def is_listened_on(sockname: str) -> bool:
+    stream = socket.socket(socket.AF_UNIX, socket.SOCK_STREAM)
+    stream.setblocking(False)
+    try:
+        stream.connect(os.fsencode(sockname))
+    except BlockingIOError:
+        return True
+    except OSError:
+        return False
+    finally:
+        stream.close()
+    return True

@@ -1,0 +1,63 @@
+"""Starts a program that listens on a socket, if none does. Of several that start one at once, one does, and the others wait."""
+
+import contextlib
+import fcntl
+import os
+import subprocess
+import time
+from typing import Dict, Iterator, List, Optional
+
+from .sockets import is_listened_on, opened
+
+PAUSE = 0.02
+PATIENCE = 60.0
+# Of one processor, in percent: how much the rounds of a server that was started without a word of its user may take.
+SHARE = "10"
+
+
+class Unstarted(Exception):
+    """The program did not start, for this reason."""
+
+
+def serve_words(sockname: str) -> List[str]:
+    """The words of a server at this socket, which name this second and this process as its run."""
+    return ["serve", "--sockname", sockname, "--start", str(int(time.time())), "--pid", str(os.getpid()), "--share", SHARE]
+
+
+@contextlib.contextmanager
+def alone(sockname: str) -> Iterator[None]:
+    """Waits until no other command starts a program for this socket."""
+    try:
+        file = open(f"{sockname}.start", "w", opener=opened)
+    except OSError as error:
+        raise Unstarted(f"{sockname}.start: {error.strerror}") from None
+    with file:
+        fcntl.flock(file, fcntl.LOCK_EX)
+        yield
+
+
+def begin(command: List[str], sockname: str, log: str, environment: Optional[Dict[str, str]] = None) -> None:
+    """Starts a program that outlives this one, and waits until it listens. What it writes goes to the log."""
+    try:
+        with open(log, "ab", opener=opened) as output:
+            began = os.fstat(output.fileno()).st_size
+            process = subprocess.Popen(
+                command, stdin=subprocess.DEVNULL, stdout=output, stderr=output, cwd="/", env=environment,
+                start_new_session=True,
+            )
+    except OSError as error:
+        raise Unstarted(f"{error.filename}: {error.strerror}") from None
+    end = time.monotonic() + PATIENCE
+    while not is_listened_on(sockname):
+        if process.poll() is not None or time.monotonic() > end:
+            process.kill()
+            raise Unstarted(f"{command[0]} does not listen on {sockname}: {said(log, began)}")
+        time.sleep(PAUSE)
+
+
+def said(log: str, began: int) -> str:
+    """The last line that a program wrote to its log, which had so many bytes before."""
+    with open(log, "rb") as stream:
+        stream.seek(began)
+        lines = stream.read().decode("utf-8", "backslashreplace").strip().splitlines()
+    return lines[-1] if lines else "it says nothing"
