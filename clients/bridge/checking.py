@@ -121,7 +121,9 @@ def check_kind(_: str, words: object) -> None:
 
 
 def check_suffix(_: str, words: object) -> None:
-    if not isinstance(words, list) or len(words) < 2 or not isinstance(words[1], str):
+    """A list of suffixes is taken too: the server knows it, and clients ask for the capability `suffix-set`."""
+    value = words[1] if isinstance(words, list) and len(words) > 1 else None
+    if not isinstance(value, str) and not (isinstance(value, list) and all(isinstance(each, str) for each in value)):
         raise unparsed('must use ["suffix", "suffixstring"]')
 
 

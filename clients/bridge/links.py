@@ -1,7 +1,7 @@
 """A client's connections to the server: the first is for its commands, and each takes 64 of its subscriptions."""
 
 import select
-from typing import Dict, List, Optional, Set, Tuple
+from typing import Callable, Dict, List, Optional, Set, Tuple
 
 from bridge.link import Link
 
@@ -13,8 +13,9 @@ MOST = 64
 class Links:
     """The connections. Each is made when it is needed, and one without subscriptions is given back, but for the first."""
 
-    def __init__(self, server: str, ready: "select.poll") -> None:
+    def __init__(self, server: str, ready: "select.poll", sees: Callable[[int], None]) -> None:
         self.server = server
+        self.sees = sees
         self.ready = ready
         self.all: List[Link] = []
         self.subscriptions: Dict[Link, Set[Key]] = {}
@@ -27,6 +28,7 @@ class Links:
         self.all.append(link)
         self.subscriptions[link] = set()
         self.ready.register(link, select.POLLIN)
+        self.sees(link.server_process())
         return link
 
     def of(self, key: Key) -> Optional[Link]:

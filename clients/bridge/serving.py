@@ -20,10 +20,11 @@ from bridge.encodings import MISSING, find_codec
 from bridge.keeper import Keeper
 from bridge.notices import Mailboxes
 from bridge.recrawls import Recrawls
+from bridge.running import Running
 from bridge.session import Session
-from bridge.sockets import is_listened_on, opened
 from bridge.states import States
 from bridge.symlinks import Follower
+from wqclient.sockets import is_listened_on, opened
 
 GRACE = 1.0
 PAUSE = 0.2
@@ -78,6 +79,7 @@ class Serving:
         for number in (signal.SIGTERM, signal.SIGINT, signal.SIGHUP):
             signal.signal(number, lambda *_: self.end())
         lock = locked(self.sockname)
+        self.running = Running(lock)
         listener = listening(self.sockname)
         own = os.stat(self.sockname)
         say(f"listening on {self.sockname}")

@@ -16,6 +16,7 @@ from bridge.links import Links
 from bridge.listing import Listed, Listing, Passing, list_for
 from bridge.notices import LEAVES, Mailbox, Mailboxes, Notice
 from bridge.recrawls import Recrawls
+from bridge.running import Running
 from bridge.states import States
 from bridge.subscriptions import Subscription
 from bridge.telling import Teller
@@ -52,6 +53,7 @@ class Bridge(Protocol):
     configurations: Configurations
     mailboxes: Mailboxes
     recrawls: Recrawls
+    running: Running
     states: States
 
     def end(self) -> None:
@@ -81,7 +83,7 @@ class Session:
         self.encoding = JSON
         self.ready = select.poll()
         self.ready.register(client, select.POLLIN)
-        self.links = Links(bridge.server, self.ready)
+        self.links = Links(bridge.server, self.ready, bridge.running.sees)
         # By root and name.
         self.subscriptions: Dict[Tuple[str, str], Subscription] = {}
         self.teller = Teller(self)

@@ -160,7 +160,7 @@ def check_commands_at_once(tally: built.Tally, room: Path) -> None:
 
     def begin(*words: str, script: bytes = b"") -> subprocess.Popen:
         process = subprocess.Popen(
-            [sys.executable, str(COMMAND), "--no-pretty", *words], env=environment, stdin=subprocess.PIPE,
+            [str(COMMAND), "--no-pretty", *words], env=environment, stdin=subprocess.PIPE,
             stdout=subprocess.PIPE, stderr=subprocess.PIPE,
         )
         process.stdin.write(script)

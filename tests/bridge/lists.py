@@ -98,6 +98,7 @@ def check_globs_and_case(tally: built.Tally, room: Path) -> None:
             ({"path": ["d/.", "d/f.h"]}, ["d/f.h"]),
             ({"glob": ["[a]\\.c"], "glob_noescape": True}, []),
             ({"expression": ["suffix", "c", "more"]}, ["B.C", "a.c", "d/.e.c", "d/c.c"]),
+            ({"expression": ["suffix", ["c", "h"]]}, ["B.C", "a.c", "d/.e.c", "d/c.c", "d/f.h"]),
             ({"expression": ["exists", "more"]}, ["B.C", "a.c", "d", "d/.e.c", "d/c.c", "d/f.h"]),
             ({"expression": ["match", "*.c", "basename", {"frob": 1, "includedotfiles": True}]}, ["a.c", "d/.e.c", "d/c.c"]),
             ({"expression": ["name", ["x" * 5000, "a.c"]]}, ["a.c"]),

@@ -18,7 +18,7 @@ def run(
     """Runs the command in a directory, with names that are relative to it, and with bytes on its standard input."""
     environment = {**os.environ, "WATCHMAN_SOCK": sockname, "WQD": os.path.relpath(str(built.program_path()), str(room))}
     environment.pop("WQD_SOCK", None)
-    return subprocess.run([sys.executable, str(COMMAND), *words], env=environment, cwd=str(room), input=given,
+    return subprocess.run([str(COMMAND), *words], env=environment, cwd=str(room), input=given,
                           stdout=output, stderr=subprocess.PIPE, timeout=PATIENCE)
 
 
@@ -81,7 +81,7 @@ def check_names_by_default(tally: built.Tally, room: Path) -> None:
 def name_by_default(runtime: Path, temporary: Path) -> str:
     environment = {**os.environ, "XDG_RUNTIME_DIR": str(runtime), "TMPDIR": str(temporary)}
     environment.pop("WATCHMAN_SOCK", None)
-    ended = subprocess.run([sys.executable, str(COMMAND), "--no-spawn", "--no-pretty", "get-sockname"], env=environment,
+    ended = subprocess.run([str(COMMAND), "--no-spawn", "--no-pretty", "get-sockname"], env=environment,
                            stdout=subprocess.PIPE, timeout=PATIENCE)
     return str(json.loads(ended.stdout)["sockname"])
 
@@ -89,7 +89,7 @@ def name_by_default(runtime: Path, temporary: Path) -> str:
 def check_a_command_that_stays(tally: built.Tally, room: Path) -> None:
     """It says that the bridge has ended, and its status is not 0."""
     with Bridge(room) as bridge:
-        staying = subprocess.Popen([sys.executable, str(COMMAND), "--sockname", bridge.sockname, "--no-spawn", "-p", "version"],
+        staying = subprocess.Popen([str(COMMAND), "--sockname", bridge.sockname, "--no-spawn", "-p", "version"],
                                    stdout=subprocess.PIPE, stderr=subprocess.PIPE)
         same(tally, "a command that stays is answered", staying.stdout.readline(), b"{\n")
         bridge.process.terminate()

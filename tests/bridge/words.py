@@ -162,7 +162,7 @@ ERRORS_OF_TERMS: List[Tuple[object, str]] = [
     (["since", "n:a"], 'named cursors are not allowed in "since" terms'),
     (["since", 1, "foo"], 'invalid field name "foo" for "since" term'),
     (["since", "c:1:1", "mtime"], 'field "mtime" requires a timestamp value for comparison in "since" term'),
-    (["suffix", ["a"]], 'must use ["suffix", "suffixstring"]'),
+    (["suffix", [7]], 'must use ["suffix", "suffixstring"]'),
     (["dirname", 7], "Argument 2 to 'dirname' must be a string"),
     (["dirname", "d", ["foo", "ge", 1]], "Third parameter to 'dirname' should be a relational depth term"),
     (["dirname", "d", 7], "Invalid number of arguments for 'dirname' term"),
