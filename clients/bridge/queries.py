@@ -103,8 +103,8 @@ def entries_of(query: Query, key: str) -> List[object]:
 def check_path(entry: object) -> None:
     if isinstance(entry, str):
         return
-    depth = entry.get("depth") if isinstance(entry, dict) else None
-    if not isinstance(entry, dict) or not isinstance(entry.get("path"), str) or isinstance(depth, bool) or not isinstance(depth, int):
+    path, depth = (entry.get("path"), entry.get("depth")) if isinstance(entry, dict) else (None, None)
+    if not isinstance(path, str) or isinstance(depth, bool) or not isinstance(depth, int):
         raise unparsed("expected object with 'path' and 'depth' properties")
     if depth < -1:
         raise unparsed("the depth of a path must be an integer >= -1")

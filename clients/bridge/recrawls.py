@@ -34,4 +34,5 @@ class Recrawls:
             return {}
         return {"warning": (
             f"Recrawled this watch {count} times, most recently because:\ndebug-recrawlTo resolve, please review the "
-            f"information on\n{ADVICE}\nTo clear this warning, run:\n`watchman watch-del {root} ; watchman watch-project {root}`\n")}
+            f"information on\n{ADVICE}\nTo clear this warning, run:\n"
+            f"`watchman watch-del {root} ; watchman watch-project {root}`\n")}

@@ -1,9 +1,9 @@
-"""The server runs this for a trigger of the bridge: it gives the trigger's command the input, directory and output of its definition.
+"""The server runs this for a trigger of the bridge. It gives the command the input, directory and output of the definition.
 
     python3 -I -S started.py DEFINITION SOCKNAME [NAME..]
 
-DEFINITION is the trigger as the client registered it, and SOCKNAME the bridge's socket. It uses nothing else of the bridge, so that
-a command starts soon.
+DEFINITION is the trigger as the client registered it, and SOCKNAME the bridge's socket. It uses no other module of the bridge,
+so that a command starts soon.
 """
 
 import json

@@ -98,8 +98,8 @@ def try_django(room: Room) -> Outcome:
         found = [reloader, restarts, *with_new_module(site)]
     finally:
         end_of(server, room)
-    done = (f"`WatchmanReloader` is taken; {ROUNDS} rounds: it starts anew after an edit of a module and shows an edited template; "
-            f"it starts anew for a new module, and after an edit of that; {site.again} edits were too early and made again")
+    done = (f"`WatchmanReloader` is taken; {ROUNDS} rounds: it starts anew after an edit of a module and shows an edited "
+            f"template; it starts anew for a new module, and after an edit of that; {site.again} edits were too early and made again")
     return outcome(done, found, [True, ROUNDS, "n0", "n1"])
 
 

@@ -2,8 +2,8 @@
 
     /usr/bin/python3 clients/tried/integration.py SOURCE watchman|bridge RESULTS [PART]
 
-SOURCE is the unpacked package. Nothing of the tests is changed: their `Instance` is given another way to start. RESULTS gets a JSON
-object with what became of each test. PART runs the modules alone that have it in their names. `clients/suite` runs this.
+SOURCE is the unpacked package. Nothing of the tests is changed: their `Instance` is given another way to start. RESULTS gets a
+JSON object with the outcome of each test. PART runs the modules alone that have it in their names. `clients/suite` runs this.
 """
 
 import importlib

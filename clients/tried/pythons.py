@@ -94,8 +94,8 @@ def try_makefile(room: Room) -> Outcome:
     room.put("Makefile", MAKEFILE)
     room.put("a.c")
     room.put("b.c")
-    making = room.begin([PYTHON, "-u", "/usr/bin/watchman-make", "--root", ".", "--pattern", "*.c", "Makefile", "--target", "all"],
-                        "make")
+    words = ["--root", ".", "--pattern", "*.c", "Makefile", "--target", "all"]
+    making = room.begin([PYTHON, "-u", "/usr/bin/watchman-make", *words], "make")
 
     def built(lines: list) -> list:
         return [line.split()[1] for line in lines if line.startswith("built ")]

@@ -19,8 +19,8 @@ ROOT = "ROOT"
 # Expressions that are refused, or that Watchman takes with more words than they need.
 TERMS: List[object] = [
     ["allof"], ["anyof"], ["not"], ["not", "exists", "exists"], "not", "allof", "foo", ["foo"], 7, [], {}, None, [7], ["name", 7],
-    ["name", "a", "x"], ["name", "a", "wholename", "z"], ["iname", ["a", 7]], "name", ["match", 7], ["match", "a", "foo"], ["imatch"],
-    ["match", "*", "basename", {"frob": 1}], ["match", "*", "basename", {"includedotfiles": 3}], ["size", "xx", 1],
+    ["name", "a", "x"], ["name", "a", "wholename", "z"], ["iname", ["a", 7]], "name", ["match", 7], ["match", "a", "foo"],
+    ["imatch"], ["match", "*", "basename", {"frob": 1}], ["match", "*", "basename", {"includedotfiles": 3}], ["size", "xx", 1],
     ["size", "eq", "a"], ["size"], "size", ["since", "x"], ["since", "n:a"], ["since", 1, "foo"], ["since", "c:1:1", "mtime"],
     ["since"], "since", ["type", "x"], ["type"], ["type", "ff"], "type", ["type", "f", "more"], ["suffix"], ["suffix", "c", "d"],
     ["dirname"], ["dirname", "d", ["depth", "ge"]], ["dirname", "d", ["foo", "ge", 1]], ["dirname", 7], ["dirname", "d", 7],

@@ -31,8 +31,8 @@ def check_directories_left_out(tally: built.Tally, room: Path) -> None:
         same(tally, "get-config", client.ask("get-config", str(root)), {"config": settings, "version": VERSION})
         found = [".git/f", ".watchmanconfig", "a", "deep/d", "outer/c"]
         same(tally, "a list", names_of(client, root, query), found)
-        same(tally, "directories too", [name for name in names_of(client, root, {}) if name in ("out", "deep/er", ".git/objects")],
-             [".git/objects"])
+        directories = names_of(client, root, {"expression": ["type", "d"]})
+        same(tally, "directories too", directories, [".git", ".git/objects", "deep", "outer"])
         same(tally, "below a directory", names_of(client, root, {**query, "relative_root": "deep"}), ["d"])
         same(tally, "by a path", names_of(client, root, {**query, "path": ["out", "a"]}), ["a"])
         client.ask("subscribe", str(root), "s", {"fields": ["name"], "expression": ["type", "f"]})

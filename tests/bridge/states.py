@@ -1,4 +1,4 @@
-"""States that clients assert, and the lists that they hold back or drop; lists that are flushed, paused, or wait for source control."""
+"""States that clients assert, and lists that they hold back or drop; lists that are flushed, paused, or wait for an end."""
 
 import time
 from pathlib import Path
@@ -167,7 +167,8 @@ def check_many_subscriptions(tally: built.Tally, room: Path) -> None:
         same(tally, "one is left", len(client.ask("debug-get-subscriptions", str(root))["subscribers"]), 1)
         others = [bridge.server.client_when_free() for _ in range(30)]
         same(tally, "the places of the others are free again", direct.ask("version"), {"version": "wq-1"})
-        refused = [client.ask("subscribe", str(root), f"t{number}", {**NAMES, "empty_on_fresh_instance": True}) for number in range(64)]
+        query = {**NAMES, "empty_on_fresh_instance": True}
+        refused = [client.ask("subscribe", str(root), f"t{number}", query) for number in range(64)]
         same(tally, "without a place it is said", refused[-1].get("error"),
              "the 32 places of the server are taken: each client has one, and one more for each 64 subscriptions (E17)")
         same(tally, "the client goes on", client.ask("watch-list")["roots"], [str(root)])

@@ -10,7 +10,8 @@ from bridged import VERSION, Bridge, make_files
 from client import PATIENCE, same
 from lists import move_in
 
-SHOWN = 'cat; pwd; for word; do echo "$word"; done; echo "$WATCHMAN_RELATIVE_ROOT|$WATCHMAN_ROOT|$WATCHMAN_TRIGGER|$WATCHMAN_SOCK"'
+VARIABLES = "$WATCHMAN_RELATIVE_ROOT|$WATCHMAN_ROOT|$WATCHMAN_TRIGGER|$WATCHMAN_SOCK"
+SHOWN = f'cat; pwd; for word; do echo "$word"; done; echo "{VARIABLES}"'
 
 
 def trigger_of(name: str, keys: Dict[str, object]) -> Dict[str, object]:
@@ -105,8 +106,8 @@ def check_subscriptions_from_elsewhere(tally: built.Tally, room: Path) -> None:
         client.ask("query", str(root), {**query, "since": "n:k"})
         move_in(room / "aside", root, ["new"])
         client.ask("query", str(root), query)
-        same(tally, "a subscription from a cursor", client.ask("subscribe", str(root), "s", {**query, "since": "n:k"}).get("subscribe"),
-             "s")
+        reply = client.ask("subscribe", str(root), "s", {**query, "since": "n:k"})
+        same(tally, "a subscription from a cursor", reply.get("subscribe"), "s")
         first = client.reply()
         same(tally, "begins with what changed", (first["files"], first["is_fresh_instance"]), (["new"], False))
         move_in(room / "aside", root, ["newer"])

@@ -9,7 +9,8 @@ import built
 from bridged import VERSION, Bridge, make_files
 from client import same
 
-HAS = ("cmd-watch-project", "cmd-state-enter", "cmd-flush-subscriptions", "cmd-log-level", "relative_root", "wildmatch", "term-dirname", "suffix-set", "field-mode", "glob_generator")
+HAS = ("cmd-watch-project", "cmd-state-enter", "cmd-flush-subscriptions", "cmd-log-level", "relative_root", "wildmatch",
+       "term-dirname", "suffix-set", "field-mode", "glob_generator")
 HAS_NOT = ("term-pcre", "scm-hg", "scm-since", "cmd-debug-ageout", "nothing")
 
 
@@ -48,7 +49,8 @@ def check_errors(tally: built.Tally, room: Path) -> None:
         for query, words in ERRORS_OF_QUERIES:
             same(tally, f"{query}", client.ask("query", str(root), query)["error"], f"failed to parse query: {words}")
         for term, words in ERRORS_OF_TERMS:
-            same(tally, f"{term}", client.ask("query", str(root), {"expression": term})["error"], f"failed to parse query: {words}")
+            reply = client.ask("query", str(root), {"expression": term})
+            same(tally, f"{term}", reply["error"], f"failed to parse query: {words}")
         for query, words in (({"since": "x"}, "invalid clockspec"), ({"glob": [7]}, "expected json string object")):
             same(tally, f"{query}", client.ask("query", str(root), query)["error"], words)
         query = {"fields": ["name"], "expression": ["name", ["a", *["ü" * 7] * 40_000]]}
@@ -134,7 +136,8 @@ ERRORS_OF_QUERIES: List[Tuple[Dict[str, object], str]] = [
     ({"path": 7}, "'path' must be an array"),
     ({"path": [{"path": "d"}]}, "expected object with 'path' and 'depth' properties"),
     ({"suffix": [7]}, "'suffix' must be a string or an array of strings"),
-    ({"glob": ["*"], "since": "c:1:1", "case_sensitive": False}, "glob and since together take case_sensitive and no glob_noescape"),
+    ({"glob": ["*"], "since": "c:1:1", "case_sensitive": False},
+     "glob and since together take case_sensitive and no glob_noescape"),
     ({"expression": ["match", "x" * 256]}, "pattern too long (E28)"),
     ({"program": "p", "relative_root": "d"}, NO_PROGRAM),
     ({"program": "p", "glob": ["*"]}, NO_PROGRAM),
