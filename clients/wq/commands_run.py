@@ -5,7 +5,7 @@ import os
 import signal
 import subprocess
 import tempfile
-from typing import IO, List, Optional, Tuple
+from typing import IO, List, Optional, Set, Tuple
 
 PLACE = "{}"
 # As shells end if a command is not there, or cannot be started.
@@ -21,7 +21,7 @@ class Unrunnable(Exception):
 
 
 class Command:
-    """The words of a command. `{}` as a word of its own stands for the names; they can come on standard input too."""
+    """The words of a command. The names take the place of the word `{}`, or come on standard input."""
 
     def __init__(self, words: List[str], directory: str, on_input: bool, with_zeros: bool, is_alone: bool) -> None:
         self.words = words
@@ -33,12 +33,13 @@ class Command:
         self.name = words[0]
         self.takes_names = on_input or PLACE in words
 
-    def start(self, names: List[str]) -> "Run":
+    def start(self, names: List[str], signals: Set[signal.Signals]) -> "Run":
+        """Starts a run, which blocks these signals alone."""
         paths = [self.path_of(name) for name in names]
         words = [word for given in self.words for word in (paths if given == PLACE else [given])]
         stream = self.input_of(paths)
         try:
-            process = subprocess.Popen(words, stdin=stream, preexec_fn=own_group if self.is_alone else None)
+            process = subprocess.Popen(words, stdin=stream, preexec_fn=lambda: prepare(self.is_alone, signals))
             return Run(process, self.is_alone)
         except OSError as error:
             raise Unrunnable(*self.reason_of(error, len(names))) from None
@@ -71,8 +72,11 @@ class Command:
         return stream
 
 
-def own_group() -> None:
-    os.setpgid(0, 0)
+def prepare(is_alone: bool, signals: Set[signal.Signals]) -> None:
+    """Prepares the process of a run, before it becomes the command."""
+    if is_alone:
+        os.setpgid(0, 0)
+    signal.pthread_sigmask(signal.SIG_SETMASK, signals)
 
 
 class Run:

@@ -1,8 +1,8 @@
-"""What is said after an error of the server: its words are fixed, so the line that names the culprit is found here."""
+"""The line after an error of the server: the words of the error are fixed, so this names the culprit."""
 
 import os
 import re
-from typing import Any, Callable, Dict, Iterator, List, Optional
+from typing import Any, Callable, Dict, Iterator, List
 
 from wqprogram.limits import MAX_LINE, MAX_ROOT
 
@@ -172,8 +172,3 @@ OF_ERRORS: Dict[int, Callable[[Any, Look], Iterator[str]]] = {
     34: no_program, 35: full_shelf, 36: bad_name, 37: of_query(query_faults.wrong_value),
     41: many_subscriptions, 42: many_triggers, 43: of_query(query_faults.bad_trigger),
 }
-
-
-def number_of(error: str) -> Optional[int]:
-    found = NUMBER.match(error)
-    return int(found[1]) if found else None

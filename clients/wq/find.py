@@ -22,7 +22,7 @@ def find(options: argparse.Namespace, home: Home) -> int:
         watched = server.roots()
         place = place_of(directory, watched)
         query = query_of(place, globs, options)
-        server.watch(place.root)
+        query.update(server.watch(place.root, watched))
         try:
             found = server.ask("query", place.root, query)
         finally:

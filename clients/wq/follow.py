@@ -3,12 +3,12 @@
 import argparse
 import select
 import sys
-from typing import Any, Dict, List
+from typing import Any, List
 
 from wqclient.client import Client
 from wqclient.lines import Ended
 
-from .changes import FIELDS, counted, print_changes
+from .changes import FIELDS, File, counted, print_changes
 from .globs import expression_of
 from .home import Home
 from .roots import Place, directory_and_globs, place_of
@@ -24,7 +24,7 @@ def follow(options: argparse.Namespace, home: Home) -> int:
     directory, globs = directory_and_globs(options.words)
     with reached(home) as server:
         feed = Feed(server, directory, globs, options)
-        feed.subscribe(server.ask("query", feed.place.root, {"expression": "false"})["clock"])
+        feed.begin("false")
         while True:
             for found in feed.lists(watches_output=True):
                 tell(found, feed.place, options)
@@ -45,14 +45,19 @@ class Feed:
 
     def __init__(self, server: Server, directory: str, globs: List[str], options: argparse.Namespace) -> None:
         self.server = server
-        self.place = place_of(directory, server.roots())
+        watched = server.roots()
+        self.place = place_of(directory, watched)
         self.expression = expression_of(self.place, globs, options)
-        server.watch(self.place.root)
+        self.now = server.watch(self.place.root, watched)
 
-    def subscribe(self, clock: str) -> None:
-        """From the files of this clock on. The first list may have changes already."""
-        query: Dict[str, Any] = {"expression": self.expression, "since": clock, "fields": FIELDS}
+    def begin(self, expression: Any) -> List[File]:
+        """Begins with what is there now, and gives the files of it that an expression matches. The first list may have changes
+        already."""
+        query = {"expression": expression, "fields": FIELDS, **self.now}
+        found = self.server.ask("query", self.place.root, query)
+        query = {"expression": self.expression, "fields": FIELDS, "since": found["clock"]}
         self.server.ask("subscribe", self.place.root, SUBSCRIPTION, query)
+        return found["files"]
 
     def lists(self, watches_output: bool = False) -> List[Value]:
         """The next lists, of which one is waited for. The line that ends the subscription is met after those before it."""

@@ -14,7 +14,7 @@ from .values import read
 from .vocabulary import quoted
 from .warnings import of_glob, of_term
 
-# What a person seldom means; --all brings it back.
+# People seldom mean these directories; --all brings them back.
 LEFT_OUT = (".git", ".hg", "node_modules", "target")
 WITH_DOTS = {"includedotfiles": True}
 SPECIAL = "*?[\\"
@@ -127,7 +127,7 @@ def age_of(word: str) -> int:
 
 
 def left_out_terms(front: str, place: Place, options: argparse.Namespace) -> List[Any]:
-    """What is left out: directories that people seldom mean, and what --exclude says, with all that is below them."""
+    """Terms of files to leave out: directories that people seldom mean, globs of --exclude, and all below them."""
     terms: List[Any] = []
     if not options.all:
         terms.append(["name", list(LEFT_OUT)])
@@ -150,7 +150,7 @@ def is_left_out(name: str) -> bool:
 
 
 def user_expression(text: str) -> Any:
-    """The expression that the user wrote. Its first fault is told as the server would, with the place in what was
+    """The expression that the user wrote. Its first fault is an error as the server's, with the place in what was
     written."""
     value = read(text, "--expression")
     fault = fault_in(value)

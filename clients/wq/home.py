@@ -44,7 +44,7 @@ class Home:
         """Starts a server at a socket, unless one listens there. Of several commands at once one does, and the others
         wait."""
         try:
-            with alone(sockname):
+            with alone(sockname, lambda: say("waiting for another command that starts the server")):
                 if is_listened_on(sockname):
                     return False
                 words = words or serve_words(sockname)

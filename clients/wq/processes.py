@@ -1,11 +1,11 @@
-"""What the system tells of the server's process."""
+"""The facts that the system has about the server's process."""
 
 import os
 import time
 from typing import List, NamedTuple, Optional, Set
 
+UNIT = "wqd.service"
 TICKS = os.sysconf("SC_CLK_TCK")
-CONNECTED = "03"
 
 
 class Facts(NamedTuple):
@@ -52,14 +52,24 @@ def boot_time() -> float:
 
 
 def clients_of(process: int) -> Optional[int]:
-    """How many clients are connected, this one counted: the sockets of the process that are connected."""
+    """How many clients are connected, this one counted: each has a socket of the process, and one more is listened on."""
     try:
-        with open("/proc/net/unix", encoding="utf-8", errors="replace") as stream:
-            rows = [line.split() for line in stream.read().splitlines()[1:]]
-        connected = {row[6] for row in rows if row[5] == CONNECTED}
-        return len(sockets_of(process) & connected)
-    except (OSError, IndexError):
+        return max(0, len(sockets_of(process)) - 1)
+    except OSError:
         return None
+
+
+def is_of_unit(process: int) -> bool:
+    """Whether systemd started the process, by the unit that is installed."""
+    try:
+        return names_unit(text_of(process, "cgroup"))
+    except OSError:
+        return False
+
+
+def names_unit(groups: str) -> bool:
+    """Whether a line of control groups ends in the unit."""
+    return any(line.rsplit("/", 1)[-1] == UNIT for line in groups.splitlines())
 
 
 def sockets_of(process: int) -> Set[str]:

@@ -1,4 +1,4 @@
-"""What is wrong with the object of a query, a subscription or a trigger: which key, and what it takes."""
+"""The faults of the object of a query, a subscription or a trigger: which key is wrong, and what it takes."""
 
 from typing import Any, Callable, Dict, Iterator
 

@@ -6,9 +6,9 @@ import select
 import signal
 import sys
 import time
-from typing import Any, Dict, List, Optional
+from typing import Dict, List, Optional
 
-from .changes import FIELDS, File, counted
+from .changes import File, counted
 from .commands_run import Command, Run, Unrunnable, status_words
 from .follow import Feed
 from .home import Home
@@ -21,6 +21,7 @@ from .trouble import Trouble, WrongWords
 GRACE = 5.0
 # A burst that does not end is one for so many times as long as it has to be quiet.
 MOST_QUIETS = 10
+SIGNALS = {signal.SIGHUP, signal.SIGINT, signal.SIGTERM}
 CLEAR = b"\x1b[H\x1b[2J\x1b[3J"
 
 
@@ -33,12 +34,8 @@ def run(options: argparse.Namespace, home: Home) -> int:
     command = Command(options.command, directory, options.stdin, options.print0, options.restart)
     with reached(home) as server:
         feed = Feed(server, directory, globs, options)
-        query: Dict[str, Any] = {"expression": feed.expression, "fields": FIELDS}
-        if not command.takes_names:
-            query["expression"] = "false"
-        found = server.ask("query", feed.place.root, query)
-        feed.subscribe(found["clock"])
-        return Runner(feed, command, options, found["files"]).loop()
+        files = feed.begin(feed.expression if command.takes_names else "false")
+        return Runner(feed, command, options, files).loop()
 
 
 class Runner:
@@ -78,7 +75,7 @@ class Runner:
                 self.run.end_at_once(GRACE)
 
     def step(self) -> Optional[int]:
-        """What is to be done now, and a wait for what comes next; the status, if that was the last run."""
+        """Does what is due now, and waits for what comes next. Gives the status, if that was the last run."""
         now = time.monotonic()
         if self.run is not None and now >= self.killed_at:
             self.run.signal(signal.SIGKILL)
@@ -147,10 +144,14 @@ class Runner:
             return
         if self.options.clear and is_terminal(sys.stdout):
             write(CLEAR)
+        # A signal that comes while it begins is held back until the run can be ended for that.
+        before = signal.pthread_sigmask(signal.SIG_BLOCK, SIGNALS)
         try:
-            self.run = self.command.start(names)
+            self.run = self.command.start(names, before)
         except Unrunnable as reason:
             raise Trouble(str(reason), status=reason.status) from None
+        finally:
+            signal.pthread_sigmask(signal.SIG_SETMASK, before)
         self.killed_at = float("inf")
 
     def take_end(self) -> Optional[int]:

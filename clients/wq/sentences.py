@@ -1,4 +1,4 @@
-"""What an expression means, in words."""
+"""The meaning of an expression, in words."""
 
 from typing import Any, Callable, Dict, Iterator, List, Optional
 

@@ -102,8 +102,12 @@ class Server:
     def roots(self) -> List[str]:
         return self.ask("watch-list")["roots"]
 
-    def watch(self, root: str) -> None:
-        self.ask("watch", root, crawls=root)
+    def watch(self, root: str, watched: List[str]) -> Value:
+        """Watches a root, and gives the keys with which a query knows all that there was when this was called. A root that was
+        not watched before was just listed, so nothing is crawled for the query."""
+        is_new = root not in watched
+        self.ask("watch", root, crawls=root if is_new else "")
+        return {"sync_timeout": 0} if is_new else {}
 
     def close(self) -> None:
         self.client.close()

@@ -8,7 +8,7 @@ from wqclient.sockets import is_listened_on
 from wqclient.starting import PAUSE, serve_words
 
 from .home import Home
-from .processes import words_of
+from .processes import is_of_unit, words_of
 from .server import Server, reached, sockname
 from .terminal import say
 from .trouble import FOUND, Trouble
@@ -60,6 +60,8 @@ def restart(options: argparse.Namespace, home: Home) -> int:
     words = given(options)
     if is_listened_on(where):
         with reached(home) as server:
+            if is_of_unit(server.peer.process):
+                raise Trouble("systemd started this server, and starts it anew by: systemctl --user restart wqd")
             words = words or kept_words(words_of(server.peer.process))
             roots = server.roots()
             end(server)

@@ -22,10 +22,11 @@ def since(options: argparse.Namespace, home: Home) -> int:
     name, (directory, globs) = options.name, directory_and_globs(options.words)
     require_name(name)
     with reached(home) as server:
-        place = place_of(directory, server.roots())
-        server.watch(place.root)
-        before = clock_kept(server.sockname, place, name)
+        watched = server.roots()
+        place = place_of(directory, watched)
         query: Dict[str, Any] = {"fields": FIELDS, "expression": expression_of(place, globs, options)}
+        query.update(server.watch(place.root, watched))
+        before = clock_kept(server.sockname, place, name)
         bound = before if options.peek else f"n:{name}"
         if bound is not None:
             query["since"] = bound

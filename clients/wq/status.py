@@ -33,8 +33,9 @@ def status(options: argparse.Namespace, home: Home) -> int:
 
 
 def facts(server: Server, home: Home) -> Dict[str, Any]:
-    process = facts_of(server.peer.process)
+    # A client is one of the server's only when it was answered.
     programs = server.ask("program-list")["programs"]
+    process = facts_of(server.peer.process)
     return {
         "socket": server.sockname,
         "version": home.version(),
@@ -87,7 +88,7 @@ def changed_within(server: Server, root: str) -> Optional[int]:
 
 
 def budget_of(server: Server, name: str) -> Optional[int]:
-    """What a run of a stored program can cost at most, if `wqasm add` stored it: the server gives no program back."""
+    """The most that a run of a stored program can cost, if `wqasm add` stored it: the server gives no program back."""
     budget = kept(BUDGETS, server.sockname, run_of(server.peer.process), name).get("budget")
     return budget if isinstance(budget, int) else None
 

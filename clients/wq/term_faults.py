@@ -104,7 +104,7 @@ def counted(arguments: List[Any]) -> str:
     return f"there {'is' if count == 1 else 'are'} {count or 'none'}"
 
 
-# What a term takes, and which of its arguments is wrong.
+# The arguments that a term takes, and which of them is wrong.
 
 def wrong_arguments(head: str, arguments: List[Any]) -> str:
     return f"\"{head}\" takes {TAKES[head]}; {CULPRITS[head](arguments)}"

@@ -1,4 +1,4 @@
-"""What is written, and how: names, colours at a terminal, and the time that a first crawl takes."""
+"""Writes names, colours at a terminal, and the time that a first crawl takes."""
 
 import os
 import re
@@ -9,7 +9,7 @@ from typing import IO, Iterable, Optional
 COLOURS = {"red": "31", "green": "32", "yellow": "33", "blue": "34", "cyan": "36", "grey": "90"}
 OF_KINDS = {"d": "blue", "l": "cyan"}
 OF_MARKS = {"+": "green", "-": "red", "~": "yellow"}
-# What could move the cursor of a terminal.
+# These could move the cursor of a terminal.
 CONTROL = re.compile(r"[\x00-\x1f\x7f-\x9f]")
 
 

@@ -15,7 +15,7 @@ from .values_shown import json_shown
 
 
 def trigger(options: argparse.Namespace, home: Home) -> int:
-    """Registers a trigger. `{}` as the last word of its command stands for the names of the files."""
+    """Registers a trigger. The names of the files take the place of `{}`, the last word of its command."""
     for word in [options.directory, options.name, *options.globs, *options.command]:
         require_utf8(word, "a word of the command line")
     if not options.command:
@@ -25,8 +25,9 @@ def trigger(options: argparse.Namespace, home: Home) -> int:
     if PLACE in command or not command:
         raise WrongWords("the names of files come last in the command of a trigger, so {} may be its last word alone")
     with reached(home) as server:
-        place = place_of(options.directory, server.roots())
-        server.watch(place.root)
+        watched = server.roots()
+        place = place_of(options.directory, watched)
+        server.watch(place.root, watched)
         asked: Dict[str, Any] = {"name": options.name, "command": command}
         expression = expression_of(place, options.globs, options)
         if expression != "true":

@@ -8,7 +8,7 @@ BROKEN_PIPE = 141
 
 
 class Trouble(Exception):
-    """What is wrong, in lines for a person, and the exit status."""
+    """Lines for a person on what is wrong, and the exit status."""
 
     def __init__(self, *lines: str, status: int = FAILED) -> None:
         super().__init__("\n".join(lines))

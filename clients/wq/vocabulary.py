@@ -51,7 +51,7 @@ COMMANDS: Dict[str, Shape] = {
 
 
 def meant(word: object, words: Iterable[str]) -> str:
-    """What was probably meant by a word, as the end of a sentence; nothing if no word is like it."""
+    """The word that was probably meant, as the end of a sentence; nothing if no word is like it."""
     found = difflib.get_close_matches(str(word).lower(), list(words), 1)
     return f"; did you mean {json.dumps(found[0])}?" if found and found[0] != word else ""
 

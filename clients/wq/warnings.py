@@ -1,4 +1,4 @@
-"""What is no error and yet cannot be meant: keys that nobody knows, and patterns that can match nothing."""
+"""Warnings of what nobody can mean, and is no error: unknown keys, and patterns that can match nothing."""
 
 import re
 from typing import Any, Iterator, List
@@ -11,7 +11,7 @@ OF_NAMES = ("name", "iname")
 OF_PATTERNS = ("match", "imatch")
 OF_DIRECTORIES = ("dirname", "idirname")
 GROUPS = ("not", "allof", "anyof")
-# What a shell would make several words of.
+# A shell would make several words of these.
 BRACES = re.compile(r"\{[^{}]*,[^{}]*\}")
 OF_QUERIES = QUERY_KEYS + LEFT_OUT_KEYS + IGNORED_KEYS
 KNOWN_KEYS = {"query": OF_QUERIES, "subscribe": OF_QUERIES, "trigger": TRIGGER_KEYS + LEFT_OUT_OF_TRIGGERS}

@@ -16,8 +16,9 @@ def watch(options: argparse.Namespace, home: Home) -> int:
         require_utf8(word, "a word of the command line")
     with reached(home) as server:
         for word in options.words or ["."]:
-            root = place_of(word, server.roots()).root
-            server.watch(root)
+            watched = server.roots()
+            root = place_of(word, watched).root
+            server.watch(root, watched)
             show([name_shown(root, None)])
     return FOUND
 

@@ -106,7 +106,7 @@ FORMS: Dict[str, Form] = {
         NAME, WORDS]),
     "follow": Form("[DIR] [GLOB..]", "prints changes as they come, until you stop it", [
         *NARROWING, ZEROS, JSON, WORDS]),
-    "run": Form("[DIR] [GLOB..] -- COMMAND..", "runs a command now and after each change; {} stands for the names", [
+    "run": Form("[DIR] [GLOB..] -- COMMAND..", "runs a command now and after each change, with the names in place of {}", [
         *NARROWING,
         value("--quiet", metavar="MS", type=int, default=100, help="a burst ends when it is so long quiet; 100"),
         flag("--restart", help="a change ends the running one by SIGTERM, and after 5 seconds by SIGKILL"),
@@ -138,7 +138,7 @@ FORMS: Dict[str, Form] = {
 
 def parser_of(command: str) -> Parser:
     form = FORMS[command]
-    usage = f"wq {command} {form.usage}".rstrip() + (" [OPTION..]" if options_of(command) else "")
+    usage = f"wq {command}{' [OPTION..]' if options_of(command) else ''} {form.usage}".rstrip()
     parser = Parser(prog=f"wq {command}", usage=usage, description=form.about, allow_abbrev=False)
     for option in form.options:
         parser.add_argument(*option.names, **option.settings)

@@ -1,10 +1,10 @@
-"""What clients keep between two calls, since a server tells neither: the clock of each name of `wq since`, and what the
-programs that were handed to a server cost."""
+"""Notes of clients between two calls, since a server tells neither: the clock of each name of `wq since`, and the cost of
+the programs that were handed to a server."""
 
 import hashlib
 import json
 import os
-from typing import Any, Dict, Optional
+from typing import Any, Dict
 
 CLOCKS, BUDGETS = "clocks", "budgets"
 
@@ -22,7 +22,7 @@ def path_of(kind: str, *parts: str) -> str:
 
 
 def kept(kind: str, *parts: str) -> Dict[str, Any]:
-    """What was kept under these parts of a name; nothing if nothing was, or it cannot be read."""
+    """The value that was kept under these parts of a name; an empty one if none was, or it cannot be read."""
     try:
         with open(path_of(kind, *parts), encoding="utf-8") as stream:
             found = json.load(stream)
@@ -41,8 +41,7 @@ def keep(value: Dict[str, Any], kind: str, *parts: str) -> None:
 
 
 def run_of(process: int) -> str:
-    """What tells a process from another one that had its number: its number, and when it started, in ticks of the
-    system."""
+    """A name of a process that no later one with its number has: its number and its start, in ticks of the system."""
     try:
         with open(f"/proc/{process}/stat", encoding="utf-8", errors="replace") as stream:
             return f"{process}:{stream.read().rsplit(')', 1)[1].split()[19]}"

@@ -25,7 +25,7 @@ class TooLate(OSError):
 
 
 class Peer(NamedTuple):
-    """Who listens at the other end, as the system says: the number of the process, its user and its group."""
+    """The process at the other end, as the system says: its number, its user and its group."""
 
     process: int
     user: int

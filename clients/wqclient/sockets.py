@@ -1,4 +1,4 @@
-"""Where the socket of a server is, and whether somebody listens there."""
+"""The place of a server's socket, and whether somebody listens there."""
 
 import errno
 import os

@@ -6,12 +6,13 @@ import fcntl
 import os
 import subprocess
 import time
-from typing import Dict, Iterator, List, Optional
+from typing import IO, Callable, Dict, Iterator, List, Optional
 
 from .sockets import is_listened_on, opened
 
 PAUSE = 0.02
 PATIENCE = 60.0
+SOME_SECONDS = 5.0
 # Of one processor, in percent: how much the rounds of a server that was started without a word of its user may take.
 SHARE = "10"
 
@@ -27,15 +28,30 @@ def serve_words(sockname: str) -> List[str]:
 
 
 @contextlib.contextmanager
-def alone(sockname: str) -> Iterator[None]:
-    """Waits until no other command starts a program for this socket."""
+def alone(sockname: str, tell: Callable[[], None] = lambda: None) -> Iterator[None]:
+    """Waits until no other command starts a program for this socket. If that takes some seconds, it says so by `tell`."""
     try:
         file = open(f"{sockname}.start", "w", opener=opened)
     except OSError as error:
         raise Unstarted(f"{sockname}.start: {error.strerror}") from None
     with file:
-        fcntl.flock(file, fcntl.LOCK_EX)
+        end = time.monotonic() + SOME_SECONDS
+        while not is_locked(file):
+            if time.monotonic() > end:
+                tell()
+                fcntl.flock(file, fcntl.LOCK_EX)
+                break
+            time.sleep(PAUSE)
         yield
+
+
+def is_locked(file: IO[str]) -> bool:
+    """Whether the file is locked now by this process, and no other had it."""
+    try:
+        fcntl.flock(file, fcntl.LOCK_EX | fcntl.LOCK_NB)
+    except BlockingIOError:
+        return False
+    return True
 
 
 def begin(command: List[str], sockname: str, log: str, environment: Optional[Dict[str, str]] = None) -> None:

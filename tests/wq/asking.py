@@ -243,7 +243,7 @@ def check_many_clients(tally: built.Tally, scene: Scene) -> None:
 
 
 def check_explain(tally: built.Tally, room: Path) -> None:
-    """What an expression means, and its program, for which no server is needed."""
+    """The meaning of an expression and its program, for which no server is needed."""
     with Scene(room, starts=False) as scene:
         term = '["allof",["suffix",["c","h"]],["not",["dirname","t",["depth","ge",1]]],["size","gt",10],["since",5,"mtime"]]'
         lines = scene.names("explain", term)

@@ -16,7 +16,7 @@ SCRIPT = 'echo run >> "$LOG"; echo "$@" >> "$LOG.names"; while [ -e "$LOG.hold" 
 
 
 class Log:
-    """What the runs of a command wrote."""
+    """The lines that the runs of a command wrote."""
 
     def __init__(self, scene: Scene) -> None:
         self.path = scene.room / "log"

@@ -147,7 +147,7 @@ def hear_interrupts() -> None:
 
 
 class AtTerminal(NamedTuple):
-    """What a call wrote to a terminal, both of its streams, and the status with which it ended."""
+    """The text that a call wrote to a terminal, on both of its streams, and the status with which it ended."""
 
     text: str
     status: int
@@ -168,6 +168,8 @@ def called_at_terminal(
     found = b""
     end = time.monotonic() + PATIENCE
     while time.monotonic() < end:
+        if not select.select([terminal], [], [], 1)[0]:
+            continue
         try:
             piece = os.read(terminal, 65_536)
         except OSError:

@@ -10,6 +10,7 @@ from pathlib import Path
 import built
 from client import PATIENCE, same
 from scene import COMMAND, Scene, said, wrong
+from wq.processes import is_of_unit, names_unit
 
 A_HOUR = 3_600
 
@@ -50,6 +51,18 @@ def facts(scene: Scene) -> dict:
     return json.loads(scene.wq("status", "--json").output)
 
 
+def check_unit(tally: built.Tally, room: Path) -> None:
+    """A server that systemd started is known by its control group."""
+    for groups, expected in (
+        ("0::/user.slice/user-1000.slice/user@1000.service/app.slice/wqd.service\n", True),
+        ("1:name=systemd:/a/wqd.service\n0::/b\n", True),
+        ("0::/user.slice/user-1000.slice/user@1000.service/app.slice/vte.scope\n", False),
+        ("0::/\n", False), ("", False),
+    ):
+        same(tally, f"the unit in {groups!r}", names_unit(groups), expected)
+    same(tally, "the unit of this process", is_of_unit(os.getpid()), False)
+
+
 def check_starts_at_once(tally: built.Tally, scene: Scene) -> None:
     """Of commands that start a server at once one does, and the others wait for it."""
     calls = [subprocess.Popen([COMMAND, "find", "*.h", "--keep"], cwd=scene.tree, stdout=subprocess.PIPE, stderr=subprocess.PIPE,
@@ -62,7 +75,7 @@ def check_starts_at_once(tally: built.Tally, scene: Scene) -> None:
 
 
 def check_sockets(tally: built.Tally, scene: Scene) -> None:
-    """Where the socket is, and sockets that cannot be."""
+    """Places of the socket, and sockets that cannot be."""
     named = scene.room / "named"
     same(tally, "WQD_SOCK", scene.wq("start", WQD_SOCK=str(named)).errors, said(f"started a server at {named}"))
     same(tally, "its status", json.loads(scene.wq("status", "--json", WQD_SOCK=str(named)).output)["socket"], str(named))

@@ -1,4 +1,4 @@
-"""What is written to a terminal; help, and words that are no command; a first crawl that takes long."""
+"""Calls at a terminal; help, and words that are no command; a first crawl that takes long."""
 
 import json
 import os
