@@ -3,7 +3,6 @@
 from typing import Dict, Iterable, List
 
 from bridge.expressions import TERMS
-from bridge.faults import Refused
 from bridge.fields import KEPT, READ
 
 OF_QUERIES = (
@@ -20,12 +19,9 @@ def abilities_of(commands: Iterable[str], has_bser: bool) -> List[str]:
 
 
 def checked(wishes: object, abilities: List[str]) -> Dict[str, object]:
-    """The answer beside the version to a client that asks for capabilities."""
-    if not isinstance(wishes, dict):
-        raise Refused("wrong arguments for 'version'")
+    """The answer beside the version to a client that asks for capabilities. As in Watchman, wishes in another form ask for
+    none, as those of Mercurial's debuginstall."""
     optional, required = names_in(wishes, "optional"), names_in(wishes, "required")
-    if not optional and not required:
-        return {}
     has = {name: name in abilities for name in (*optional, *required)}
     found: Dict[str, object] = {"capabilities": has}
     for name in required:
@@ -35,8 +31,6 @@ def checked(wishes: object, abilities: List[str]) -> Dict[str, object]:
     return found
 
 
-def names_in(wishes: Dict[str, object], key: str) -> List[str]:
-    names = wishes.get(key, [])
-    if not isinstance(names, list) or not all(isinstance(name, str) for name in names):
-        raise Refused(f"version: {key} must be an array of strings")
-    return names
+def names_in(wishes: object, key: str) -> List[str]:
+    names = wishes.get(key) if isinstance(wishes, dict) else None
+    return [name for name in names if isinstance(name, str)] if isinstance(names, list) else []

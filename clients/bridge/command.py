@@ -5,9 +5,10 @@ import os
 import sys
 from typing import Dict, List, NamedTuple, Optional
 
-from bridge.asker import Asker
-from bridge.sockets import is_listened_on, server_of, sockname_by_default
+from bridge.sockets import server_of, sockname_by_default
 from bridge.version import VERSION
+from wqclient.lines import Ended, Lines
+from wqclient.sockets import is_listened_on
 
 USAGE = """usage: watchman [OPTION..] COMMAND [ARGUMENT..]
        watchman [OPTION..] -j < COMMAND
@@ -171,15 +172,16 @@ def with_absolute_root(command: object) -> object:
 
 def ask(command: object, sockname: str, printer: "Printer", stays: bool) -> None:
     """Prints the reply to a command; and if it stays, what comes later too."""
-    with Asker(sockname) as asker:
-        asker.send(command)
-        reply = asker.receive()
-        while reply is not None:
-            printer.print(reply)
-            if not stays and "unilateral" not in reply:
-                return
-            reply = asker.receive()
-    sys.exit("watchman: the bridge has ended" if stays else "watchman: the command was not answered")
+    try:
+        with Lines(sockname) as lines:
+            lines.send_bytes(json.dumps(command).encode() + b"\n")
+            while True:
+                reply = json.loads(lines.line())
+                printer.print(reply)
+                if not stays and "unilateral" not in reply:
+                    return
+    except Ended:
+        sys.exit("watchman: the bridge has ended" if stays else "watchman: the command was not answered")
 
 
 def without_server(command: object, sockname: str, printer: "Printer", is_remote: bool) -> None:

@@ -1,19 +1,19 @@
 """Each command of a client: what the server is asked for it, and what the client is answered."""
 
-from typing import Callable, Dict, List, Tuple
+import os
+from typing import Callable, Dict, List, NamedTuple
 
-from bridge import old_forms
+from bridge import notifying, old_forms, subscribing, triggering, watching
 from bridge.abilities import abilities_of, checked
 from bridge.encodings import JSON
 from bridge.faults import Refused
 from bridge.listing import Listed, Listing
-from bridge.places import project_of, resolved, resolved_if_there
-from bridge.queries import asking_of, asking_of_subscription
+from bridge.places import resolved
+from bridge.queries import asking_of, directory_of
 from bridge.session import Reply, Session
+from bridge.settling import settle
 
 Command = List[object]
-# The server refuses triggers with these keys.
-NOT_IN_TRIGGERS = ("stdout", "stderr", "chdir", "relative_root")
 
 
 def answer(session: Session, command: object) -> Reply:
@@ -23,18 +23,18 @@ def answer(session: Session, command: object) -> Reply:
     name = command[0]
     if not isinstance(name, str):
         raise Refused("invalid command: expected element 0 to be the command name")
-    if name not in COMMANDS:
+    found = COMMANDS.get(name)
+    if found is None:
         raise Refused(f"unknown command {name}")
-    handler, least, most = COMMANDS[name]
-    if not least <= len(command) - 1 <= most:
-        raise Refused(f"wrong number of arguments for '{name}'")
-    return handler(session, command)
+    if not found.least <= len(command) - 1 <= found.most:
+        raise Refused(found.refusal.format(name))
+    return found.handler(session, command)
 
 
 def version(session: Session, command: Command) -> Reply:
     reply = session.ask(["version"])
     found: Dict[str, object] = {"wqd": reply["version"]}
-    if len(command) > 1:
+    if len(command) == 2:
         found.update(checked(command[1], abilities(session)))
     return found
 
@@ -55,57 +55,13 @@ def get_pid(session: Session, _: Command) -> Reply:
     return {"pid": session.server().server_process()}
 
 
-def get_config(session: Session, command: Command) -> Reply:
-    session.ask(["clock", resolved(command[1])])  # a root that is not watched is refused
-    return {"config": {}}
-
-
-def watch(session: Session, command: Command) -> Reply:
-    return watched(session, resolved(command[1]))
-
-
-def watched(session: Session, root: str) -> Dict[str, object]:
-    """Has the server watch a root, whose place is given back if its directory goes."""
-    reply = session.ask(["watch", root])
-    session.bridge.keeper.add(root)
-    return reply
-
-
-def watch_project(session: Session, command: Command) -> Reply:
-    project = project_of(command[1], roots(session))
-    reply = watched(session, project.root)
-    if project.below:
-        reply["relative_path"] = project.below
-    return reply
-
-
-def roots(session: Session) -> List[str]:
-    found = session.ask(["watch-list"])["roots"]
-    assert isinstance(found, list)
-    return found
-
-
-def watch_list(session: Session, _: Command) -> Reply:
-    return session.ask(["watch-list"])
-
-
-def watch_del(session: Session, command: Command) -> Reply:
-    root = resolved_if_there(command[1])
-    reply = session.ask(["watch-del", root])
-    session.bridge.keeper.remove(root)
-    return reply
-
-
-def watch_del_all(session: Session, _: Command) -> Reply:
-    found = roots(session)
-    for root in found:
-        session.ask(["watch-del", root])
-        session.bridge.keeper.remove(root)
-    return {"roots": found}
-
-
 def clock(session: Session, command: Command) -> Reply:
-    return session.ask(["clock", resolved(command[1]), *command[2:]])
+    wishes = command[2] if len(command) > 2 else {}
+    timeout = wishes.get("sync_timeout", 0) if isinstance(wishes, dict) else None
+    if isinstance(timeout, bool) or not isinstance(timeout, int):
+        raise Refused("malformated argument list for 'clock'")
+    root = resolved(command[1])
+    return {**session.ask(["clock", root, {"sync_timeout": timeout}]), **session.bridge.recrawls.keys(root)}
 
 
 def query(session: Session, command: Command) -> Reply:
@@ -113,8 +69,21 @@ def query(session: Session, command: Command) -> Reply:
 
 
 def listed(session: Session, root: str, wishes: object) -> Listed:
-    asking = asking_of(root, wishes, session.encoding == JSON)
-    return session.ask_for_list(["query", root, asking.query], asking.lister)
+    bridge = session.bridge
+    asking = asking_of(root, wishes, session.encoding == JSON, bridge.configurations.of(root).terms())
+    assert isinstance(wishes, dict)
+    check_directory(root, wishes)
+    settle(wishes, lambda: str(session.ask(["clock", root, {"sync_timeout": 1}])["clock"]))
+    found = session.ask_for_list(["query", root, asking.query], asking.lister)
+    found.more.update(bridge.recrawls.keys(root))
+    return found
+
+
+def check_directory(root: str, wishes: Dict[str, object]) -> None:
+    """Watchman looks for the directory of a query with globs, and only of one."""
+    directory = os.path.join(root, directory_of(wishes))
+    if "glob" in wishes and "relative_root" in wishes and not os.path.isdir(directory):
+        raise Refused(f"query failed: glob_generator could not resolve {directory}, check your relative_root parameter!")
 
 
 def find(session: Session, command: Command) -> Reply:
@@ -125,61 +94,9 @@ def find(session: Session, command: Command) -> Reply:
 
 
 def since(session: Session, command: Command) -> Reply:
+    if not isinstance(command[2], str):
+        raise Refused("expected argument 2 to be a valid clockspec")
     return listed(session, resolved(command[1]), old_forms.query_of(command[3:], command[2]))
-
-
-def subscribe(session: Session, command: Command) -> Reply:
-    root, name = resolved(command[1]), command[2]
-    if not isinstance(name, str):
-        raise Refused("expected 2nd parameter to be subscription name")
-    asking = asking_of_subscription(root, command[3])
-    if root not in roots(session):
-        watched(session, root)
-    reply = session.ask(["subscribe", root, name, asking.query])
-    session.subscriptions[root, name] = asking.lister
-    return reply
-
-
-def unsubscribe(session: Session, command: Command) -> Reply:
-    root, name = resolved_if_there(command[1]), command[2]
-    if not isinstance(name, str):
-        raise Refused("expected 2nd parameter to be subscription name")
-    reply = session.ask(["unsubscribe", root, name])
-    session.subscriptions.pop((root, name), None)
-    return reply
-
-
-def trigger(session: Session, command: Command) -> Reply:
-    root = resolved(command[1])
-    given = command[2] if isinstance(command[2], dict) else old_forms.trigger_of(command[2:])
-    if isinstance(command[2], dict) and len(command) > 3:
-        raise Refused("wrong number of arguments for 'trigger'")
-    for key in NOT_IN_TRIGGERS:
-        if key in given:
-            raise Refused(f"trigger: the key {key} is not supported")
-    if root not in roots(session):
-        watched(session, root)
-    return session.ask(["trigger", root, given])
-
-
-def trigger_list(session: Session, command: Command) -> Reply:
-    return session.ask(["trigger-list", resolved(command[1])])
-
-
-def trigger_del(session: Session, command: Command) -> Reply:
-    return session.ask(["trigger-del", resolved(command[1]), command[2]])
-
-
-def debug_recrawl(session: Session, command: Command) -> Reply:
-    session.ask(["clock", resolved(command[1]), {"sync_timeout": 1}])
-    return {"recrawl": True}
-
-
-def debug_get_subscriptions(session: Session, command: Command) -> Reply:
-    """Those of this client: no client sees those of another."""
-    root = resolved(command[1])
-    names = [name for at, name in session.subscriptions if at == root]
-    return {"subscribers": [{"info": {"name": name, "root": root}} for name in names]}
 
 
 def shutdown_server(session: Session, _: Command) -> Reply:
@@ -194,32 +111,51 @@ def passed(session: Session, command: Command) -> Reply:
 
 
 MANY = 1_000_000
+# The words with which Watchman refuses a wrong number of arguments.
+FOR, TO = "wrong number of arguments for '{}'", "wrong number of arguments to '{}'"
+BARE, FEW, FEW_BARE = "wrong number of arguments", "not enough arguments for '{}'", "not enough arguments"
 Handler = Callable[[Session, Command], Reply]
-# The handler of each command, and how many arguments it takes at least and at most.
-COMMANDS: Dict[str, Tuple[Handler, int, int]] = {
-    "clock": (clock, 1, 2),
-    "debug-get-subscriptions": (debug_get_subscriptions, 1, 1),
-    "debug-recrawl": (debug_recrawl, 1, 1),
-    "find": (find, 1, MANY),
-    "get-config": (get_config, 1, 1),
-    "get-pid": (get_pid, 0, 0),
-    "get-sockname": (get_sockname, 0, 0),
-    "list-capabilities": (list_capabilities, 0, 0),
-    "program-add": (passed, 2, 2),
-    "program-del": (passed, 1, 1),
-    "program-list": (passed, 0, 0),
-    "query": (query, 2, 2),
-    "shutdown-server": (shutdown_server, 0, 0),
-    "since": (since, 2, MANY),
-    "subscribe": (subscribe, 3, 3),
-    "trigger": (trigger, 2, MANY),
-    "trigger-del": (trigger_del, 2, 2),
-    "trigger-list": (trigger_list, 1, 1),
-    "unsubscribe": (unsubscribe, 2, 2),
-    "version": (version, 0, 1),
-    "watch": (watch, 1, 1),
-    "watch-del": (watch_del, 1, 1),
-    "watch-del-all": (watch_del_all, 0, 0),
-    "watch-list": (watch_list, 0, MANY),
-    "watch-project": (watch_project, 1, 1),
+
+
+class Known(NamedTuple):
+    """The handler of a command, how many arguments it takes, and the words that refuse another number."""
+
+    handler: Handler
+    least: int
+    most: int
+    refusal: str = FOR
+
+
+COMMANDS: Dict[str, Known] = {
+    "clock": Known(clock, 1, 2, TO),
+    "debug-get-subscriptions": Known(subscribing.get_subscriptions, 1, MANY, BARE),
+    "debug-recrawl": Known(watching.debug_recrawl, 1, 1),
+    "debug-set-subscriptions-paused": Known(subscribing.set_paused, 1, MANY),
+    "find": Known(find, 1, MANY, FEW),
+    "flush-subscriptions": Known(subscribing.flush_subscriptions, 0, MANY),
+    "get-config": Known(watching.get_config, 1, 1),
+    "get-pid": Known(get_pid, 0, MANY),
+    "get-sockname": Known(get_sockname, 0, MANY),
+    "list-capabilities": Known(list_capabilities, 0, MANY),
+    "log": Known(notifying.log, 0, MANY),
+    "log-level": Known(notifying.log_level, 0, MANY),
+    "program-add": Known(passed, 2, 2),
+    "program-del": Known(passed, 1, 1),
+    "program-list": Known(passed, 0, 0),
+    "query": Known(query, 2, 2),
+    "shutdown-server": Known(shutdown_server, 0, MANY),
+    "since": Known(since, 2, MANY, FEW),
+    "state-enter": Known(notifying.state_enter, 1, MANY, BARE),
+    "state-leave": Known(notifying.state_leave, 1, MANY, BARE),
+    "subscribe": Known(subscribing.subscribe, 3, 3, "wrong number of arguments for subscribe"),
+    "trigger": Known(triggering.trigger, 2, MANY, FEW_BARE),
+    "trigger-del": Known(triggering.trigger_del, 2, 2, BARE),
+    "trigger-list": Known(triggering.trigger_list, 1, MANY, BARE),
+    "unsubscribe": Known(subscribing.unsubscribe, 1, MANY, BARE),
+    "version": Known(version, 0, MANY),
+    "watch": Known(watching.watch, 1, 1, TO),
+    "watch-del": Known(watching.watch_del, 1, 1, TO),
+    "watch-del-all": Known(watching.watch_del_all, 0, MANY),
+    "watch-list": Known(watching.watch_list, 0, MANY),
+    "watch-project": Known(watching.watch_project, 1, 1, TO),
 }

@@ -15,8 +15,8 @@ from bridge.shape import INTEGER_SIZES, NoValue, TooDeep, Walk
 DISTRIBUTION = "/usr/lib/python3/dist-packages"
 CODECS = ("pywatchman.bser", "pywatchman.pybser")
 MISSING = "BSER is not spoken here, since this Python has no pywatchman; Debian has it as python3-pywatchman"
-# A longer line is refused by the server, and no BSER message that says the same is longer.
-LONGEST = 1_048_576
+# No message of a client is longer.
+LONGEST = 33_554_432
 
 MAGIC = {b"\x00\x01": 1, b"\x00\x02": 2}
 # A message begins with the two bytes of MAGIC, in BSER 2 four bytes of capabilities, and its length as a BSER integer.
@@ -236,7 +236,7 @@ class Inbox:
 
 def encoding_of(data: bytes) -> Encoding:
     version = MAGIC[data[:2]]
-    return Encoding(version, 0 if version == 1 else int.from_bytes(data[2:6], sys.byteorder))
+    return Encoding(version, 0 if version == 1 else int.from_bytes(data[2:6], sys.byteorder, signed=True))
 
 
 def head_length(data: bytes) -> int:

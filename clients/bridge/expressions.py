@@ -1,6 +1,6 @@
 """Expressions for a directory below the root, and without letter case, said in the server's terms."""
 
-from typing import Callable, Dict, List, NamedTuple, Optional
+from typing import Callable, Dict, List, NamedTuple
 
 from bridge.faults import Refused
 
@@ -12,10 +12,14 @@ NAMES = ("name", "iname")
 PATTERNS = ("match", "imatch")
 DIRECTORIES = ("dirname", "idirname")
 GROUPS = ("not", "allof", "anyof")
+OF_ONE_WORD = ("type", "suffix")
 TERMS = (*BARE, *WITHOUT_NAMES, *NAMES, *PATTERNS, *DIRECTORIES, *GROUPS)
 # Deeper terms than the server takes are left to it, which refuses them.
 DEEPEST = 64
 SPECIAL = "*?[\\"
+# The server takes no longer name, and no file has one.
+LONGEST_NAME = 4_096
+FLAGS = ("includedotfiles", "noescape")
 
 
 class Place(NamedTuple):
@@ -52,6 +56,10 @@ def said_at(term: Term, place: Place, depth: int = 0) -> Term:
     name, rest = term[0], term[1:]
     if name in GROUPS:
         return [name, *(said_at(inner, place, depth + 1) for inner in rest)]
+    if name in BARE:
+        return name  # Watchman takes words after it, which say nothing
+    if name in OF_ONE_WORD:
+        return [name, *rest[:1]]
     if not rest or name not in SAID:
         return term
     head = name if place.has_case else WITHOUT_CASE.get(name, name)
@@ -59,16 +67,29 @@ def said_at(term: Term, place: Place, depth: int = 0) -> Term:
 
 
 def said_name(rest: List[object], place: Place) -> List[object]:
+    """Names that are longer than any file's are left out."""
+    if isinstance(rest[0], (str, list)):
+        names = rest[0] if isinstance(rest[0], list) else [rest[0]]
+        short = [name for name in names if not isinstance(name, str) or len(name) <= LONGEST_NAME]
+        if len(short) < len(names):
+            rest = [short, *rest[1:]]
     if rest[1:] != ["wholename"]:
         return rest
     return [each_text(rest[0], place.path_of), "wholename"]
 
 
 def said_pattern(rest: List[object], place: Place) -> List[object]:
-    if rest[1:2] != ["wholename"] or not isinstance(rest[0], str):
-        return rest
-    flags = rest[2] if len(rest) > 2 and isinstance(rest[2], dict) else {}
-    return [place.pattern_of(rest[0], flags.get("noescape") is not True), *rest[1:]]
+    pattern, flags = rest[0], known_flags(rest[2]) if len(rest) > 2 else {}
+    scope = rest[1] if len(rest) > 1 and isinstance(rest[1], str) else "basename"
+    if scope == "wholename" and isinstance(pattern, str):
+        pattern = place.pattern_of(pattern, not flags.get("noescape"))
+    return [pattern, scope, *([flags] if flags else [])]
+
+
+def known_flags(flags: object) -> Dict[str, bool]:
+    """The flags of a pattern that Watchman knows. If one of these has no truth value, it takes none of them."""
+    found = {key: value for key, value in flags.items() if key in FLAGS} if isinstance(flags, dict) else {}
+    return found if all(isinstance(value, bool) for value in found.values()) else {}
 
 
 def said_directory(rest: List[object], place: Place) -> List[object]:
@@ -93,21 +114,6 @@ def each_text(value: object, change: Callable[[str], str]) -> object:
     return value
 
 
-def unknown_term(term: Term, depth: int = 0) -> Optional[str]:
-    """The name of the first term that the server does not know."""
-    name = term[0] if isinstance(term, list) and term else term
-    if not isinstance(name, str) or depth > DEEPEST:
-        return None
-    if name not in TERMS:
-        return name
-    if name in GROUPS and isinstance(term, list):
-        for inner in term[1:]:
-            found = unknown_term(inner, depth + 1)
-            if found is not None:
-                return found
-    return None
-
-
 def all_of(terms: List[Term]) -> Term:
     return terms[0] if len(terms) == 1 else ["allof", *terms]
 
@@ -121,14 +127,13 @@ def below(place: Place) -> List[Term]:
     return [["dirname", place.directory]] if place.directory else []
 
 
-def of_globs(globs: List[object], place: Place, takes_dots: bool) -> Term:
+def of_globs(globs: List[object], place: Place, flags: Dict[str, bool]) -> Term:
     """That a file fits one of these patterns. As in Watchman, globs give files that exist."""
     terms: List[Term] = []
     for pattern in globs:
         if not isinstance(pattern, str):
-            raise Refused("failed to parse query: glob value must be array of strings")
+            raise Refused("expected json string object")
         terms.append([
-            "match" if place.has_case else "imatch", place.pattern_of(pattern, True), "wholename",
-            {"includedotfiles": takes_dots},
+            "match" if place.has_case else "imatch", place.pattern_of(pattern, not flags["noescape"]), "wholename", flags,
         ])
     return all_of(["exists", any_of(terms)])

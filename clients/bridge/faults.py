@@ -8,6 +8,7 @@ NUMBERED = re.compile(r"E([0-9]+): (.*)", re.DOTALL)
 # Errors of the server about a query, and those about a root that it does not watch or cannot read.
 OF_QUERIES = {20, 21, 22, 24, 25, 26, 27, 28, 29, 30, 34, 37}
 BAD_CLOCK = 23
+NO_PLACE = 17
 OF_ROOTS = {12: "it has over 1,000,000 files", 13: "16 roots are watched already", 15: "its ticks are spent"}
 NOT_ABSOLUTE = 10
 UNREADABLE = 11
@@ -35,6 +36,8 @@ def of_server(error: str, command: List[object]) -> str:
         return f'unable to resolve root {root}: path "{root}" must be absolute'
     if number == UNREADABLE:
         return f"unable to resolve root {root}: opendir_nofollow: {root}: {reason_of(str(root))}"
+    if number == NO_PLACE:
+        return "the 32 places of the server are taken: each client has one, and one more for each 64 subscriptions (E17)"
     if number in OF_ROOTS:
         return f"unable to resolve root {root}: {OF_ROOTS[number]}"
     if number == BAD_CLOCK:

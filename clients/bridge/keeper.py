@@ -18,10 +18,11 @@ class Keeper:
     """Looks now and then whether the watched directories are there. One that is gone for the whole grace time is watched no
     longer."""
 
-    def __init__(self, server: str, grace: float, say: Callable[[str], None]) -> None:
+    def __init__(self, server: str, grace: float, say: Callable[[str], None], forget: Callable[[str], None]) -> None:
         self.server = server
         self.grace = grace
         self.say = say
+        self.forget = forget
         self.lock = threading.Lock()
         # When each root was first seen to be gone; 0 if it is there.
         self.gone_since: Dict[str, float] = {}
@@ -71,6 +72,6 @@ class Keeper:
             link.close()
         if str(reply.get("error", "")).startswith(NO_PLACE):
             return
-        self.remove(root)
+        self.forget(root)
         if "error" not in reply:
             self.say(f"{json.dumps(root)}: its directory is gone, so it is watched no longer")

@@ -5,7 +5,7 @@ import socket
 from typing import Dict, List, Union
 
 from bridge.cutting import Cutter
-from bridge.encodings import JSON, Encoding, Writer
+from bridge.encodings import JSON, Encoding, Writer, json_of
 from bridge.fields import Lister
 from bridge.link import VERSION_LAST
 from bridge.version import VERSION
@@ -29,6 +29,8 @@ class Passing:
         # Nothing that is replaced has this in it but at its beginning.
         self.between = b"," if len(self.above) == 1 else b',"' if self.before_first else b',{"'
         self.held = b""
+        # Keys of the client's list that the server's has not.
+        self.more: Dict[str, object] = {}
 
     def add(self, piece: bytes) -> None:
         """Takes the next part of the line, and tells it but for a last part, which is a whole one with the next."""
@@ -52,7 +54,8 @@ class Passing:
         return text.replace(self.before + self.above, self.before + b'"')
 
     def tell(self) -> None:
-        self.client.sendall(self.told(self.held[:-len(VERSION_LAST)]) + VERSION_TOLD)
+        more = b"".join(b"%b:%b," % (json_of(key).encode(), json_of(value).encode()) for key, value in self.more.items())
+        self.client.sendall(self.told(self.held[:-len(VERSION_LAST)]) + more + VERSION_TOLD)
 
 
 class Listing:
@@ -69,8 +72,9 @@ class Listing:
         self.held = b""
         self.written: List[bytes] = []
         self.count = 0
-        # The keys beside the files.
+        # The keys beside the files, and those that the server's list has not.
         self.value: Dict[str, object] = {}
+        self.more: Dict[str, object] = {}
 
     def add(self, piece: bytes) -> None:
         """Takes the next part of the line."""
@@ -108,7 +112,7 @@ class Listing:
             self.count += count
 
     def tell(self) -> None:
-        self.value["version"] = VERSION
+        self.value.update(self.more, version=VERSION)
         fields = self.lister.fields.wanted
         for part in self.writer.list_of(self.value, fields, self.written, self.count, self.encoding):
             self.client.sendall(part)

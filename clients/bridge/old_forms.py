@@ -7,8 +7,8 @@ from bridge.faults import Refused
 FIELDS = [
     "name", "exists", "size", "mode", "uid", "gid", "mtime", "ctime", "ino", "dev", "nlink", "new", "cclock", "oclock",
 ]
-# A trigger of the old form gives its command these fields; the server keeps no mode.
-INPUT = ["name", "exists", "new", "size"]
+# A trigger of the old form gives its command these fields.
+INPUT = ["name", "exists", "new", "size", "mode"]
 REGULAR_EXPRESSIONS = ("-p", "-P")
 END = "--"
 
@@ -43,14 +43,14 @@ class Rules:
                 is_negated = False
 
     def expression(self) -> Optional[object]:
-        terms: List[object] = []
-        if self.excluded:
-            terms.append(["not", ["anyof", *self.excluded]])
-        if self.included:
-            terms.append(["anyof", *self.included])
-        if not terms:
-            return None
-        return terms[0] if len(terms) == 1 else ["allof", *terms]
+        """The term that Watchman makes of the rules: `trigger-list` shows it."""
+        excluded: List[object] = ["not", ["anyof", *self.excluded]]
+        included: List[object] = ["anyof", *self.included]
+        if self.excluded and self.included:
+            return ["allof", excluded, included]
+        if self.excluded or self.included:
+            return included if self.included else excluded
+        return None
 
 
 def query_of(words: List[object], since: Optional[object] = None) -> Dict[str, object]:
@@ -70,6 +70,9 @@ def trigger_of(words: List[object]) -> Dict[str, object]:
     command = words[1 + rules.length:]
     if not command:
         raise Refused("no command was specified")
+    for place, word in enumerate(command):
+        if not isinstance(word, str):
+            raise Refused(f"expected argument {place} to be a string")
     trigger: Dict[str, object] = {"name": words[0], "command": command, "append_files": True, "stdin": INPUT}
     expression = rules.expression()
     if expression is not None:

@@ -5,9 +5,6 @@ from typing import List, NamedTuple, Optional
 
 from bridge.faults import Refused
 
-# In this order, as Watchman has them: a file of the first kind counts however far above it is.
-ROOT_FILES = (".watchmanconfig", ".hg", ".git", ".svn")
-
 
 class Project(NamedTuple):
     """A root, and the path of a directory below it; "" for the root itself."""
@@ -68,29 +65,38 @@ def in_utf8(path: str) -> str:
     return path
 
 
-def project_of(path: object, watched: List[str]) -> Project:
-    """The watched root that a directory lies in, or else the project above it, or else the directory itself."""
-    text = text_of(path)
+def project_of(path: object, watched: List[str], root_files: List[str], enforces: bool) -> Project:
+    """The watched root that a directory lies in, or else the project above it, or else the directory itself, unless only
+    projects may be watched."""
+    if not isinstance(path, str):
+        raise Refused("second argument must be a string")
     try:
-        if not text.startswith("/"):
+        if not path.startswith("/"):
             raise NotThere("it must be absolute")
-        directory = in_utf8(real_path(text))
+        directory = in_utf8(real_path(path))
     except NotThere as fault:
-        raise Refused(f"resolve_projpath: path `{text}`: open: {text}: {fault}")
-    above = [root for root in watched if lies_in(directory, root)]
-    if above:
-        return Project(max(above, key=len), directory[len(max(above, key=len)):].strip("/"))
-    root = project_root(directory) or directory
+        raise Refused(f"resolve_projpath: path `{path}`: open: {path}: {fault}")
+    above = enclosing(directory, watched)
+    root = above or project_root(directory, root_files) or ("" if enforces else directory)
+    if not root:
+        raise Refused(f"resolve_projpath: none of the files listed in global config root_files are present in path `{path}` or "
+                      "any of its parent directories")
     return Project(root, directory[len(root):].strip("/"))
+
+
+def enclosing(path: str, roots: List[str]) -> Optional[str]:
+    """The nearest root that a path lies in."""
+    return max((root for root in roots if lies_in(path, root)), key=len, default=None)
 
 
 def lies_in(path: str, root: str) -> bool:
     return path == root or path.startswith(root.rstrip("/") + "/")
 
 
-def project_root(directory: str) -> Optional[str]:
-    """The directory above, or this one, that a file of a project is in."""
-    for name in ROOT_FILES:
+def project_root(directory: str, root_files: List[str]) -> Optional[str]:
+    """The directory above, or this one, that a file of a project is in. A file of the first kind counts however far above it
+    is."""
+    for name in root_files:
         at = directory
         while True:
             if os.path.lexists(os.path.join(at, name)):

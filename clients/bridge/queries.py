@@ -1,14 +1,21 @@
 """Queries in Watchman's words, said in the server's; and its replies, told in Watchman's."""
 
-from typing import Dict, List, NamedTuple
+from typing import Dict, List, NamedTuple, Sequence
 
-from bridge.expressions import Place, Term, all_of, any_of, below, of_globs, said_at, unknown_term
-from bridge.faults import Refused
+from bridge.checking import check_term, unparsed
+from bridge.expressions import Place, Term, all_of, any_of, below, of_globs, said_at
 from bridge.fields import BY_DEFAULT, Lister, fields_of
 
 Query = Dict[str, object]
-GLOB_KEYS = ("glob", "glob_includedotfiles")
+GLOB_FLAGS = {"includedotfiles": "glob_includedotfiles", "noescape": "glob_noescape"}
 GENERATORS = ("suffix", "path", "glob")
+# Keys that the bridge says otherwise, or obeys by itself.
+OWN_KEYS = ("relative_root", "case_sensitive", "glob", *GLOB_FLAGS.values(), "settle_period", "settle_timeout", "defer", "drop",
+            "defer_vcs", "lock_timeout")
+TRUTHS = ("case_sensitive", "dedup_results", "empty_on_fresh_instance", *GLOB_FLAGS.values())
+TIMES = ("sync_timeout", "lock_timeout", "settle_period", "settle_timeout")
+# A step of these in a path leads to no file.
+NO_STEPS = ("", ".", "..")
 
 
 class Asking(NamedTuple):
@@ -18,122 +25,144 @@ class Asking(NamedTuple):
     lister: Lister
 
 
-def asking_of(root: str, query: object, is_in_json: bool, has_later_lists: bool = False) -> Asking:
-    """The query to the server for one of a client. One for which the server has no words is refused."""
+def asking_of(
+    root: str, query: object, is_in_json: bool, left_out: Sequence[Term] = (), has_later_lists: bool = False,
+) -> Asking:
+    """The query to the server for one of a client, without the files that the root's configuration leaves out. One for which
+    the server has no words is refused."""
     if not isinstance(query, dict):
-        raise Refused("failed to parse query: it must be an object")
+        raise unparsed("case_sensitive must be a boolean")  # the first key that Watchman looks for
+    check_values(query)
     is_fresh = "since" not in query and not has_later_lists
     fields = fields_of(query.get("fields", BY_DEFAULT), is_in_json, is_fresh)
-    place = Place(directory_of(query), case_of(query))
-    asked = {key: value for key, value in query.items() if key not in ("relative_root", "case_sensitive", *GLOB_KEYS)}
+    place = Place(directory_of(query), query.get("case_sensitive", True) is True)
+    asked = {key: value for key, value in query.items() if key not in OWN_KEYS}
     asked["fields"] = fields.asked
-    check_values(query)
-    for key in ("suffix", "path"):
-        if asked.get(key) == []:
-            del asked[key]  # in Watchman an empty list is no generator
-    if place.directory and "path" in asked:
-        asked["path"] = [path_at(entry, place) for entry in asked["path"]]
+    if asked.get("suffix") == []:
+        del asked["suffix"]  # in Watchman an empty list is no generator
+    if "path" in asked:
+        take_paths(asked, place)
     terms = [*below(place), *terms_of_globs(query, asked, place), *terms_of_expression(query, place)]
+    if "program" not in query:
+        terms += left_out
+    elif place.directory or "glob" in query:
+        raise unparsed("a program is asked of names below the root alone, so it has no relative_root and no glob")
     if terms:
-        if "program" in query and (place.directory or "glob" in query):
-            raise Refused("failed to parse query: a program is asked of names below the root alone, so it has no "
-                          "relative_root and no glob")
         asked["expression"] = all_of(terms)
-    if place.directory and not any(key in asked for key in ("since", "suffix", "path", "glob")) and "glob" not in query:
+    if place.directory and not any(key in asked for key in ("since", *GENERATORS)) and "glob" not in query:
         asked["path"] = [place.directory]
     return Asking(asked, Lister(fields, root, place.directory))
 
 
-def asking_of_subscription(root: str, query: object) -> Asking:
-    """As of a query. A subscription starts from every file, so it has no generator but `since`."""
+def asking_of_subscription(root: str, query: object, left_out: Sequence[Term] = ()) -> Asking:
+    """As of a query. A subscription starts from every file: as in Watchman, its other generators are looked at and change
+    nothing."""
     if isinstance(query, dict):
-        for key in GENERATORS:
-            if key in query and query[key] != []:
-                raise Refused(f"failed to parse query: a subscription takes no generator {key}; say it in its expression")
-    asking = asking_of(root, query, is_in_json=True, has_later_lists=True)
-    if "path" in asking.query:
-        del asking.query["path"]
+        check_values(query)
+        query = {key: value for key, value in query.items() if key not in GENERATORS}
+    asking = asking_of(root, query, is_in_json=True, left_out=left_out, has_later_lists=True)
+    asking.query.pop("path", None)
     return asking
 
 
 def directory_of(query: Query) -> str:
     value = query.get("relative_root", "")
     if not isinstance(value, str):
-        raise Refused("failed to parse query: 'relative_root' must be a string")
+        raise unparsed("'relative_root' must be a string")
     directory = value.rstrip("/")
-    if directory.startswith("/") or any(step in ("", ".", "..") for step in directory.split("/") if directory):
-        raise Refused(f"failed to parse query: relative_root '{value}' is no path below the root")
+    if directory.startswith("/") or any(step in NO_STEPS for step in directory.split("/") if directory):
+        raise unparsed(f"relative_root '{value}' is no path below the root")
     return directory
 
 
-def case_of(query: Query) -> bool:
-    value = query.get("case_sensitive", True)
-    if not isinstance(value, bool):
-        raise Refused("failed to parse query: case_sensitive must be a boolean")
-    return value
-
-
 def check_values(query: Query) -> None:
-    """Refuses values in the words of Watchman."""
-    timeout = query.get("sync_timeout", 0)
-    if isinstance(timeout, bool) or not isinstance(timeout, int) or timeout < 0:
-        raise Refused("failed to parse query: sync_timeout must be an integer value >= 0")
+    """Refuses values in the words of Watchman, of the first key that it looks at first."""
+    for key in TRUTHS:
+        if not isinstance(query.get(key, False), bool):
+            raise unparsed(f"{key} must be a boolean")
+    for key in TIMES:
+        time = query.get(key, 0)
+        if isinstance(time, bool) or not isinstance(time, int) or time < 0:
+            raise unparsed(f"{key} must be an integer value >= 0")
+    directory_of(query)
     for key in ("path", "glob"):
         if not isinstance(query.get(key, []), list):
-            raise Refused(f"failed to parse query: '{key}' must be an array")
-    if not isinstance(query.get("glob_includedotfiles", False), bool):
-        raise Refused("failed to parse query: glob_includedotfiles must be a boolean")
-    for key in ("settle_period", "settle_timeout"):
-        if key in query:
-            raise Refused(f"failed to parse query: {key} is not supported")
+            raise unparsed(f"'{key}' must be an array")
+    for entry in entries_of(query, "path"):
+        check_path(entry)
+    for suffix in entries_of(query, "suffix"):
+        if not isinstance(suffix, str):
+            raise unparsed("'suffix' must be a string or an array of strings")
+
+
+def entries_of(query: Query, key: str) -> List[object]:
+    value = query.get(key, [])
+    return value if isinstance(value, list) else [value]
+
+
+def check_path(entry: object) -> None:
+    if isinstance(entry, str):
+        return
+    path, depth = (entry.get("path"), entry.get("depth")) if isinstance(entry, dict) else (None, None)
+    if not isinstance(path, str) or isinstance(depth, bool) or not isinstance(depth, int):
+        raise unparsed("expected object with 'path' and 'depth' properties")
+    if depth < -1:
+        raise unparsed("the depth of a path must be an integer >= -1")
+
+
+def take_paths(asked: Query, place: Place) -> None:
+    """The paths in the server's words. An empty list is no generator in Watchman; a path that leads nowhere gives nothing."""
+    given = entries_of(asked, "path")
+    asked["path"] = [path_at(entry, place) for entry in given if leads_somewhere(entry)]
+    if not given:
+        del asked["path"]
+
+
+def leads_somewhere(entry: object) -> bool:
+    path = str(entry["path"] if isinstance(entry, dict) else entry).rstrip("/")
+    return not path or not any(step in NO_STEPS for step in path.split("/"))
 
 
 def path_at(entry: object, place: Place) -> object:
-    if isinstance(entry, str):
-        return place.path_of(entry.rstrip("/"))
-    if isinstance(entry, dict) and isinstance(entry.get("path"), str):
-        return {**entry, "path": place.path_of(entry["path"].rstrip("/"))}
-    return entry
+    if isinstance(entry, dict):
+        return {"path": place.path_of(str(entry["path"]).rstrip("/")), "depth": entry["depth"]}
+    return place.path_of(str(entry).rstrip("/"))
 
 
 def terms_of_expression(query: Query, place: Place) -> List[Term]:
     if "expression" not in query:
         return []
-    term = query["expression"]
-    unknown = unknown_term(term)
-    if unknown is not None:
-        raise Refused(f"failed to parse query: unknown expression term '{unknown}'")
-    return [said_at(term, place)]
+    check_term(query["expression"])
+    return [said_at(query["expression"], place)]
 
 
 def terms_of_globs(query: Query, asked: Query, place: Place) -> List[Term]:
-    """That a file fits a glob, or is given by another generator beside it. The server then starts from every file."""
+    """That a file fits a glob, or is given by another generator beside it. The server then starts from every file, unless it
+    has a `since`: it knows globs beside one itself."""
     if "glob" not in query:
         return []
-    globs = query["glob"]
+    globs, flags = entries_of(query, "glob"), {name: query.get(key) is True for name, key in GLOB_FLAGS.items()}
+    fits = of_globs(globs, place, flags)
+    if "since" in query and place.has_case and not flags["noescape"]:
+        asked["glob"] = [place.pattern_of(str(glob), True) for glob in globs]
+        asked["glob_includedotfiles"] = flags["includedotfiles"]
+        return []
     if "since" in query:
-        raise Refused("failed to parse query: glob and since together are not supported")
-    terms = [of_globs(globs, place, query.get("glob_includedotfiles") is True)]
+        raise unparsed("glob and since together take case_sensitive and no glob_noescape")
+    terms = [fits]
     if "suffix" in asked:
         terms.append(["suffix", asked.pop("suffix")])
-    for entry in asked.pop("path", []):
+    for entry in entries_of({"path": asked.pop("path", [])}, "path"):
         terms += terms_of_path(entry)
     return [any_of(terms)]
 
 
 def terms_of_path(entry: object) -> List[Term]:
     """That a file is given by an entry of `path`: it has that name and is no directory, or lies below it."""
-    path = entry.get("path") if isinstance(entry, dict) else entry
-    if not isinstance(path, str):
-        raise Refused("failed to parse query: 'path' must be an array of strings or objects with a path and a depth")
-    directory = path.rstrip("/")
+    directory = str(entry["path"] if isinstance(entry, dict) else entry)
     lies: List[object] = ["dirname", directory]
-    if isinstance(entry, dict):
-        depth = entry.get("depth")
-        if isinstance(depth, bool) or not isinstance(depth, int) or depth < -1:
-            raise Refused("failed to parse query: the depth of a path must be an integer >= -1")
-        if depth >= 0:
-            lies.append(["depth", "le", depth])
+    if isinstance(entry, dict) and isinstance(entry["depth"], int) and entry["depth"] >= 0:
+        lies.append(["depth", "le", entry["depth"]])
     if not directory:
         return [lies]
     return [lies, ["allof", ["name", directory, "wholename"], ["not", ["type", "d"]]]]

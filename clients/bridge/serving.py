@@ -15,12 +15,18 @@ import time
 from typing import IO, List, Optional
 
 from bridge.commands import answer
+from bridge.configuration import Configurations
 from bridge.encodings import MISSING, find_codec
 from bridge.keeper import Keeper
+from bridge.notices import Mailboxes
+from bridge.recrawls import Recrawls
+from bridge.running import Running
 from bridge.session import Session
-from bridge.sockets import is_listened_on, opened
+from bridge.states import States
+from bridge.symlinks import Follower
+from wqclient.sockets import is_listened_on, opened
 
-GRACE = 60.0
+GRACE = 1.0
 PAUSE = 0.2
 WAITING = 128
 SUPERUSER = 0
@@ -57,7 +63,12 @@ class Serving:
     def __init__(self, sockname: str, server: str, grace: float) -> None:
         self.sockname = sockname
         self.server = server
-        self.keeper = Keeper(server, grace, say)
+        self.configurations = Configurations(say)
+        self.recrawls = Recrawls(self.configurations)
+        self.states = States()
+        self.mailboxes = Mailboxes()
+        self.keeper = Keeper(server, grace, say, self.forget)
+        self.follower = Follower(server, self.configurations, self.keeper, say)
         # A byte in this pipe ends the bridge.
         self.end_seen, self.end_told = os.pipe()
         self.codec = find_codec()
@@ -68,6 +79,7 @@ class Serving:
         for number in (signal.SIGTERM, signal.SIGINT, signal.SIGHUP):
             signal.signal(number, lambda *_: self.end())
         lock = locked(self.sockname)
+        self.running = Running(lock)
         listener = listening(self.sockname)
         own = os.stat(self.sockname)
         say(f"listening on {self.sockname}")
@@ -82,6 +94,13 @@ class Serving:
 
     def end(self) -> None:
         os.write(self.end_told, b".")
+
+    def forget(self, root: str) -> None:
+        """The root is watched no longer: nothing that was set for it stays."""
+        self.keeper.remove(root)
+        self.configurations.forget(root)
+        self.recrawls.forget(root)
+        self.states.forget(root)
 
     def begin(self, listener: socket.socket) -> None:
         """Begins the session of the client that waits, if it is one of the same user."""

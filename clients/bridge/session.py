@@ -1,26 +1,32 @@
 """A client: its messages are answered one after the other, and lists that come by themselves go through as they come."""
 
 import json
-import re
 import select
 import socket
 import struct
 from types import ModuleType
-from typing import Callable, Dict, List, Optional, Protocol, Tuple, Union
+from typing import Callable, Dict, Optional, Protocol, Tuple, Union
 
+from bridge.configuration import Configurations
 from bridge.encodings import JSON, Broken, Inbox, Message, Unreadable, Writer
 from bridge.faults import Ended, Refused, of_server
 from bridge.fields import Lister
 from bridge.link import Link, comes_by_itself
+from bridge.links import Links
 from bridge.listing import Listed, Listing, Passing, list_for
+from bridge.notices import LEAVES, Mailbox, Mailboxes, Notice
+from bridge.recrawls import Recrawls
+from bridge.running import Running
+from bridge.states import States
+from bridge.subscriptions import Subscription
+from bridge.telling import Teller
 from bridge.version import VERSION
 
 PIECE = 65_536
 # A client that takes nothing of a reply for so many seconds is cut off.
 PATIENCE = 120
-# How a reply with files begins, and a list without them.
+# How a reply with files begins.
 LIST_BEGIN = b'{"clock":'
-NO_FILES = re.compile(rb'\{"clock":"[^"]*","files":\[\],')
 
 
 class Keeps(Protocol):
@@ -31,22 +37,38 @@ class Keeps(Protocol):
     def remove(self, root: str) -> None: ...
 
 
+class Follows(Protocol):
+    """It watches where the links of a root lead."""
+
+    def add(self, root: str) -> None: ...
+
+
 class Bridge(Protocol):
     """The things that the sessions of a bridge share."""
 
     sockname: str
     server: str
     keeper: Keeps
+    follower: Follows
+    configurations: Configurations
+    mailboxes: Mailboxes
+    recrawls: Recrawls
+    running: Running
+    states: States
 
     def end(self) -> None:
         """Ends the bridge, since its server has ended."""
 
+    def forget(self, root: str) -> None:
+        """The root is watched no longer: nothing that was set for it stays."""
 
-Reply = Union[Dict[str, object], Listed]
+
+# Nothing is the reply of a command that has told its client everything.
+Reply = Union[Dict[str, object], Listed, None]
 
 
 class Session:
-    """One client, and its own connection to the server, which is made for its first message."""
+    """One client, and its own connections to the server, of which the first is made for its first message."""
 
     def __init__(
         self, bridge: Bridge, client: socket.socket, codec: Optional[ModuleType], answer: Callable[["Session", object], "Reply"],
@@ -59,24 +81,28 @@ class Session:
         self.inbox = Inbox(codec)
         self.writer = Writer(codec)
         self.encoding = JSON
-        self.link: Optional[Link] = None
         self.ready = select.poll()
+        self.ready.register(client, select.POLLIN)
+        self.links = Links(bridge.server, self.ready, bridge.running.sees)
         # By root and name.
-        self.subscriptions: Dict[Tuple[str, str], Lister] = {}
+        self.subscriptions: Dict[Tuple[str, str], Subscription] = {}
+        self.teller = Teller(self)
+        self.mailbox: Optional[Mailbox] = None
+        self.log_level = "off"
         # Whether this client has ended the server.
         self.ends_server = False
 
     def server(self) -> Link:
-        if self.link is None:
-            self.link = Link(self.bridge.server)
-            for stream in (self.client, self.link):
-                self.ready.register(stream, select.POLLIN)
-        return self.link
+        return self.links.first()
 
     def close(self) -> None:
         self.client.close()
-        if self.link is not None:
-            self.link.close()
+        self.links.close()
+        for root, name in self.bridge.states.abandon(self):
+            self.bridge.mailboxes.put(Notice(root, {"root": root, LEAVES: name, "abandoned": True}))
+        if self.mailbox is not None:
+            self.bridge.mailboxes.remove(self.mailbox)
+            self.mailbox.close()
 
     def run(self) -> None:
         """Serves the client until it goes, or the server does."""
@@ -96,17 +122,25 @@ class Session:
             self.close()
 
     def wait(self) -> None:
-        """Waits for the client, and tells it lists meanwhile."""
-        if self.link is None:
-            self.read()
-            return
-        self.tell_lists(self.link)
-        numbers = [number for number, _ in self.ready.poll()]
-        if self.link.fileno() in numbers:
-            self.link.receive()
-            self.tell_lists(self.link)
+        """Waits for the client, and tells it lists and notices meanwhile."""
+        self.tell_all()
+        numbers = [number for number, _ in self.ready.poll(self.teller.patience())]
+        for link in list(self.links.all):
+            if link.fileno() in numbers:
+                link.receive()
+        self.tell_all()
         if self.client.fileno() in numbers:
             self.read()
+
+    def tell_all(self) -> None:
+        """Tells the client what is there."""
+        for link in list(self.links.all):
+            line = link.take()
+            while line is not None:
+                self.teller.take(line)
+                line = link.take()
+        self.tell_notices()
+        self.teller.tell_held_back()
 
     def read(self) -> None:
         piece = self.client.recv(PIECE)
@@ -126,6 +160,7 @@ class Session:
             if message is None:
                 return
             self.encoding = message.encoding
+            self.tell_notices()
             self.tell(self.answer(message))
 
     def answer(self, message: Message) -> "Reply":
@@ -134,12 +169,12 @@ class Session:
         except Refused as fault:
             return {"error": str(fault)}
 
-    def ask(self, command: List[object]) -> Dict[str, object]:
+    def ask(self, command: list, link: Optional[Link] = None) -> Dict[str, object]:
         """The server's reply to a command."""
-        reply: Dict[str, object] = json.loads(self.ask_for_line(command).decode())
+        reply: Dict[str, object] = json.loads(self.ask_for_line(command, link=link).decode())
         return reply
 
-    def ask_for_list(self, command: List[object], lister: Lister) -> Listed:
+    def ask_for_list(self, command: list, lister: Lister) -> Listed:
         """The server's reply with files. It is taken as it comes, if no list of a subscription can come before it."""
         found = list_for(lister, self.writer, self.encoding, self.client)
         found.end(self.ask_for_line(command, None if self.subscriptions else found))
@@ -156,44 +191,36 @@ class Session:
             line = server.take()
         return line
 
-    def ask_for_line(self, command: List[object], found: Optional[Listed] = None) -> bytes:
+    def ask_for_line(self, command: list, found: Optional[Listed] = None, link: Optional[Link] = None) -> bytes:
         """The line of the server's reply, or its last part, if a list takes those before it. An error has Watchman's words."""
-        server = self.server()
+        server = link or self.server()
         server.send(command)
         while True:
             line = self.line_after(server, found) if found else server.line()
             if not comes_by_itself(line):
                 break
-            self.tell_list(line)
+            self.teller.take(line)
         if line.startswith(b'{"error":'):
             raise Refused(of_server(json.loads(line)["error"], command))
         return line
 
-    def tell_lists(self, server: Link) -> None:
-        """Tells the client the lists that are there."""
-        while True:
-            line = server.take()
-            if line is None:
-                return
-            self.tell_list(line)
+    def listens(self) -> None:
+        """From now on the client gets notices of others."""
+        if self.mailbox is None:
+            self.mailbox = Mailbox()
+            self.ready.register(self.mailbox, select.POLLIN)
+            self.bridge.mailboxes.add(self.mailbox)
 
-    def tell_list(self, line: bytes) -> None:
-        """Tells a list of a subscription. As in Watchman, one without files is not told."""
-        if NO_FILES.match(line):
-            return
-        value = json.loads(line)
-        if not comes_by_itself(line):
-            raise Ended(of_server(str(value.get("error", "the server said what was not asked")), []))
-        key = (value["root"], value["subscription"])
-        if "canceled" in value:
-            self.subscriptions.pop(key, None)
-            self.tell(value)
-        else:
-            found = list_for(self.subscriptions[key], self.writer, self.encoding, self.client)
-            found.end(line)
-            self.tell(found)
+    def tell_notices(self) -> None:
+        for notice in self.mailbox.take() if self.mailbox is not None else ():
+            if notice.root is None:
+                self.teller.tell_log(notice)
+            else:
+                self.teller.tell_state(notice)
 
     def tell(self, value: "Reply") -> None:
+        if value is None:
+            return
         if isinstance(value, (Passing, Listing)):
             value.tell()
             return

@@ -1,18 +1,15 @@
 """Starts a server and a bridge if none runs. Of several that start them at once, one does."""
 
-import contextlib
-import fcntl
 import os
 import shutil
 import subprocess
 import sys
-import time
-from typing import Dict, Iterator, List, Optional
+from typing import Dict
 
-from bridge.sockets import is_listened_on, opened, server_of
+from bridge.sockets import server_of
+from wqclient.sockets import is_listened_on
+from wqclient.starting import Unstarted, alone, begin, serve_words
 
-PAUSE = 0.02
-PATIENCE = 60.0
 BRIDGE = os.path.dirname(os.path.realpath(__file__))
 
 
@@ -27,32 +24,25 @@ class Start:
         self.log = f"{sockname}.log"
 
     def start(self) -> None:
-        with self.alone():
-            if not is_listened_on(self.server):
-                self.start_server()
-            if not is_listened_on(self.sockname):
-                self.begin([sys.executable, BRIDGE, "--server", self.server, "--sockname", self.sockname], self.sockname)
-
-    @contextlib.contextmanager
-    def alone(self) -> Iterator[None]:
-        """Waits until no other command starts them."""
         try:
-            file = open(f"{self.sockname}.start", "w", opener=opened)
-        except OSError as error:
-            sys.exit(f"watchman: {self.sockname}.start: {error.strerror}")
-        with file:
-            fcntl.flock(file, fcntl.LOCK_EX)
-            yield
+            with alone(self.sockname):
+                if not is_listened_on(self.server):
+                    self.start_server()
+                if not is_listened_on(self.sockname):
+                    words = [sys.executable, BRIDGE, "--server", self.server, "--sockname", self.sockname]
+                    begin(words, self.sockname, self.log, self.environment())
+        except Unstarted as reason:
+            sys.exit(f"watchman: {reason}")
 
     def start_server(self) -> None:
         if self.given:
             sys.exit(f"watchman: nobody listens on {self.given}, which the variable WQD_SOCK names")
-        words = ["serve", "--sockname", self.server, "--start", str(int(time.time())), "--pid", str(os.getpid())]
-        words += ["--share", os.environ.get("WQD_SHARE") or "10"]
-        interval = os.environ.get("WQD_INTERVAL")
+        words, share, interval = serve_words(self.server), os.environ.get("WQD_SHARE"), os.environ.get("WQD_INTERVAL")
+        if share:
+            words[words.index("--share") + 1] = share
         if interval:
             words += ["--interval", interval]
-        self.begin([self.program(), *words], self.server)
+        begin([self.program(), *words], self.server, self.log, self.environment())
 
     def program(self) -> str:
         """The command wqd: that of the repository, which has to be built, or that which is installed beside this one."""
@@ -66,24 +56,6 @@ class Start:
         if found is None:
             sys.exit("watchman: the command wqd is not installed")
         return found
-
-    def begin(self, command: List[str], sockname: str) -> None:
-        """Starts a program that outlives this one, and waits until it listens."""
-        try:
-            with open(self.log, "ab", opener=opened) as log:
-                process = subprocess.Popen(
-                    command, stdin=subprocess.DEVNULL, stdout=log, stderr=log, cwd="/", env=self.environment(),
-                    start_new_session=True,
-                )
-        except OSError as error:
-            sys.exit(f"watchman: {error.filename}: {error.strerror}")
-        end = time.monotonic() + PATIENCE
-        while not is_listened_on(sockname):
-            status: Optional[int] = process.poll()
-            if status is not None or time.monotonic() > end:
-                process.kill()
-                sys.exit(f"watchman: {command[0]} does not listen on {sockname}; {self.log} says why")
-            time.sleep(PAUSE)
 
     def environment(self) -> Dict[str, str]:
         """That of this command, with paths that another directory does not change."""

@@ -5,7 +5,7 @@ import random
 from pathlib import Path
 from typing import Dict, List
 
-DIRECTORIES = ["", "src", "src/deep", "src/deep/er", "Lib", ".hid", "src/.hid", "s p"]
+DIRECTORIES = ["", "src", "src/deep", "src/deep/er", "Lib", "Lib/deep", "src/out", "src/out/deep", ".hid", "src/.hid", "s p"]
 STEMS = ["a", "b", "A", "main", "x_test", "ü", "a.b", ".dot", "q1", "README"]
 SUFFIXES = ["", ".c", ".h", ".C", ".py", ".txt"]
 FIELDS = ["name", "exists", "type", "size", "mode", "mtime", "mtime_ms", "mtime_ns", "uid", "nlink", "ino", "symlink_target",

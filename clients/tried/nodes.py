@@ -2,9 +2,12 @@
 
 import re
 
-from tried.room import HERE, Outcome, Room, outcome
+from tried.gits import commit, git
+from tried.room import HERE, Outcome, Room, Running, outcome
 
 COLOURS = re.compile(r"\x1b\[[0-9;]*[A-Za-z]")
+# How often a change is made until it is told.
+ATTEMPTS = 40
 TOTAL = re.compile(r"Tests: +([0-9]+) passed, ([0-9]+) total")
 
 
@@ -24,6 +27,31 @@ def try_sane(room: Room) -> Outcome:
     said = script(room, "with_sane.js")
     return outcome("a new file, a change, a deleted file; files that its patterns do not fit",
                    said, ["ready", "add b.js", "change b.js", "delete a.js"])
+
+
+def try_sane_restarts(room: Room) -> Outcome:
+    """Changes before and after the server ends, the server is killed, and the bridge is killed."""
+    (room.project / ".git").mkdir()
+    room.put("a.js")
+    sane = room.begin(["node", str(HERE / "with_sane_restarts.js"), str(room.project)], "sane")
+    found = [sane.waits_for(lambda lines: "ready" in lines)]
+    try:
+        for number, end in enumerate((lambda: None, room.end_server, room.kill_server, room.kill_bridge)):
+            end()
+            found.append(is_told(room, sane, f"b{number}.js"))
+    finally:
+        sane.end()
+    return outcome("a new file before the server ends, after it, after it was killed, and after the bridge was killed", found,
+                   [True] * 5)
+
+
+def is_told(room: Room, sane: Running, name: str) -> bool:
+    """Whether a change is told. A client that connects anew misses those before, so the file changes until one is."""
+    for attempt in range(ATTEMPTS):
+        room.put(name, "x" * (attempt + 1))
+        if sane.waits_for(lambda lines: any(line.endswith(f" {name}") for line in lines), 1):
+            return True
+    return False
 
 
 def script(room: Room, name: str) -> list:
@@ -47,13 +75,41 @@ def try_jest(room: Room) -> Outcome:
         room.put("src/new.test.js", test % "three")
         found.append(count_of_tests(jest, 3))
         (room.project / "src" / "new.test.js").unlink()
-        found.append(count_of_tests(jest, 2))
+        found += [count_of_tests(jest, 2), failed_crawls(jest)]
     finally:
         jest.end()
-    return outcome("first crawl; watch mode: a change, a new test, a deleted one", found, [1, [str(room.project)], 2, 3, 2])
+    return outcome("first crawl; watch mode: a change, a new test, a deleted one", found,
+                   [1, [str(room.project)], 2, 3, 2, []])
 
 
-def count_of_tests(jest, expected: int) -> int:
+def try_jest_in_git(room: Room) -> Outcome:
+    """`jest --watch`, which runs the tests of what changed since the last commit."""
+    git(room, "init", "-q", ".")
+    room.put("package.json", '{"name": "project", "version": "1.0.0", "jest": {"testEnvironment": "node"}}\n')
+    for name in ("one", "two"):
+        room.put(f"src/{name}.js", "module.exports = (a, b) => a + b;\n")
+        room.put(f"src/{name}.test.js", f"test('t', () => expect(require('./{name}')(1, 2)).toBe(3));\n")
+    commit(room, "one")
+    room.put("src/one.js", "module.exports = (a, b) => b + a;\n")
+    jest = room.begin(["jest", "--watch", "--no-cache", "--watchman"], "jest")
+    try:
+        found = [count_of_tests(jest, 1)]
+        room.put("src/two.js", "module.exports = (a, b) => b + a;\n")
+        found.append(count_of_tests(jest, 2))
+        room.put("src/new.test.js", "test('new', () => {});\n")
+        found += [count_of_tests(jest, 3), room.watchman("watch-list")["roots"], failed_crawls(jest)]
+    finally:
+        jest.end()
+    return outcome("in a git repository: the tests of a changed module, of a second one, and a new test", found,
+                   [1, 2, 3, [str(room.project)], []])
+
+
+def failed_crawls(jest: Running) -> list:
+    """If Watchman cannot crawl, jest says so and crawls by itself."""
+    return [line for line in jest.lines() if "crawl failed" in line]
+
+
+def count_of_tests(jest: Running, expected: int) -> int:
     """How many tests the last run of jest had, as soon as it is the expected number."""
     def count(lines: list) -> int:
         runs = TOTAL.findall(COLOURS.sub("", "\n".join(lines)))

@@ -84,3 +84,35 @@ def try_make(room: Room) -> Outcome:
     third = built(making.lines())
     making.end()
     return outcome("runs after a new file and after a deleted one, and not before", [at_first, second, third], [0, 1, 2])
+
+
+MAKEFILE = "all: a.o b.o\n%.o: %.c\n\tcp $< $@ && echo built $@\n"
+
+
+def try_makefile(room: Room) -> Outcome:
+    """make builds what is out of date, after each change."""
+    room.put("Makefile", MAKEFILE)
+    room.put("a.c")
+    room.put("b.c")
+    words = ["--root", ".", "--pattern", "*.c", "Makefile", "--target", "all"]
+    making = room.begin([PYTHON, "-u", "/usr/bin/watchman-make", *words], "make")
+
+    def built(lines: list) -> list:
+        return [line.split()[1] for line in lines if line.startswith("built ")]
+
+    making.waits_for(lambda lines: "# waiting for changes" in lines)
+    time.sleep(SILENCE)
+    at_first = built(making.lines())
+    room.put("a.c", "y\n")
+    making.waits_for(lambda lines: built(lines) == ["a.o", "b.o"])
+    time.sleep(SILENCE)
+    room.put("b.c", "y\n")
+    making.waits_for(lambda lines: len(built(lines)) == 3)
+    time.sleep(SILENCE)
+    room.put("c.c", "z\n")
+    room.put("Makefile", MAKEFILE.replace("a.o b.o", "a.o b.o c.o"))
+    making.waits_for(lambda lines: len(built(lines)) == 4)
+    found = [at_first, built(making.lines()), (room.project / "b.o").read_text(), (room.project / "c.o").exists()]
+    making.end()
+    return outcome("a real Makefile: all of it after a first change, one file after another, and a target that is new", found,
+                   [[], ["a.o", "b.o", "b.o", "c.o"], "y\n", True])

@@ -2,6 +2,7 @@
 
 import json
 import os
+import signal
 import subprocess
 import sys
 import time
@@ -102,6 +103,17 @@ class Room:
             raise ValueError(f"watchman {' '.join(words)}: {said.stderr}")
         reply: Dict[str, object] = json.loads(said.stdout)
         return reply
+
+    def end_server(self) -> None:
+        """Ends the server, and the bridge with it."""
+        self.run(["watchman", "--no-spawn", "shutdown-server"])
+
+    def kill_server(self) -> None:
+        os.kill(int(str(self.watchman("get-pid")["pid"])), signal.SIGKILL)
+
+    def kill_bridge(self) -> None:
+        """The number of the bridge is the first word of its lock."""
+        os.kill(int(Path(f"{self.sockname()}.lock").read_text().split()[0]), signal.SIGKILL)
 
     def sockname(self) -> str:
         return str(self.watchman("get-sockname")["sockname"])

@@ -4,6 +4,7 @@ import errno
 import os
 import socket
 import stat
+from typing import Optional
 
 SOCKET = "wqd.sock"
 
@@ -21,9 +22,9 @@ def default_sockname() -> str:
     return os.path.join(own_room(f"wqd-{os.getuid()}"), SOCKET)
 
 
-def own_room(name: str) -> str:
-    """A directory of this name below TMPDIR or /tmp that nobody else can enter."""
-    room = os.path.join(os.path.abspath(os.environ.get("TMPDIR") or "/tmp"), name)
+def own_room(name: str, above: Optional[str] = None) -> str:
+    """A directory of this name that nobody else can enter, below another, which is TMPDIR or /tmp if it is left out."""
+    room = os.path.join(os.path.abspath(above or os.environ.get("TMPDIR") or "/tmp"), name)
     try:
         os.mkdir(room, 0o700)
     except FileExistsError:

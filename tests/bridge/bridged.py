@@ -15,7 +15,7 @@ from client import PATIENCE, Client, Server
 sys.path[:0] = [str(built.TOP / "clients")]
 
 from bridge.encodings import find_codec
-from bridge.sockets import is_listened_on
+from wqclient.sockets import is_listened_on
 
 PROGRAM = built.TOP / "clients" / "bridge"
 COMMAND = built.TOP / "clients" / "watchman"

@@ -36,6 +36,21 @@ def check_a_root_that_goes(tally: built.Tally, room: Path) -> None:
         same(tally, "then the place is given back", client.ask("watch-list")["roots"], [str(back), str(stays)])
 
 
+def check_subscribers_of_a_root_that_goes(tally: built.Tally, room: Path) -> None:
+    """They are told that the root is watched no longer."""
+    root = room.resolve() / "root"
+    make_files(root, ["a"])
+    with Bridge(room, grace=0.2) as bridge, bridge.client() as client:
+        client.ask("subscribe", str(root), "s", {"fields": ["name"]})
+        client.reply()
+        shutil.rmtree(root)
+        found = client.reply()
+        while "canceled" not in found:
+            found = client.reply()
+        same(tally, "subscribers are told", (found["canceled"], found["root"], found["subscription"]), (True, str(root), "s"))
+        same(tally, "the root is watched no longer", client.ask("watch-list")["roots"], [])
+
+
 def check_a_root_that_goes_without_a_place(tally: built.Tally, room: Path) -> None:
     """The bridge tries again to give a place back, if the server had as many clients as it takes."""
     root = room.resolve() / "root"
@@ -89,7 +104,7 @@ def check_streams(tally: built.Tally, room: Path) -> None:
             client.send_bytes(b"\n" * 5000 + b'["version"]\n')
             same(tally, "many lines without words", client.reply()["version"], "4.9.0")
         with bridge.client() as client:
-            client.send_bytes(b"[" + b" " * 1_100_000)
+            client.send_bytes(b"[" + b" " * 34_000_000)
             same(tally, "a line that is too long", client.reply()["error"], "line too long")
             same(tally, "its stream ends", client.rest(), b"")
         with bridge.client() as client:
@@ -145,7 +160,7 @@ def check_commands_at_once(tally: built.Tally, room: Path) -> None:
 
     def begin(*words: str, script: bytes = b"") -> subprocess.Popen:
         process = subprocess.Popen(
-            [sys.executable, str(COMMAND), "--no-pretty", *words], env=environment, stdin=subprocess.PIPE,
+            [str(COMMAND), "--no-pretty", *words], env=environment, stdin=subprocess.PIPE,
             stdout=subprocess.PIPE, stderr=subprocess.PIPE,
         )
         process.stdin.write(script)

@@ -66,7 +66,7 @@ def drawn_query(draw: random.Random) -> Dict[str, object]:
 def drawn_term(draw: random.Random, depth: int) -> object:
     if depth < 3 and draw.random() < 0.4:
         head = draw.choice(["not", "allof", "anyof"])
-        return [head, *(drawn_term(draw, depth + 1) for _ in range(1 if head == "not" else draw.randrange(3)))]
+        return [head, *(drawn_term(draw, depth + 1) for _ in range(1 if head == "not" else draw.randrange(1, 3)))]
     i, scope = draw.choice(["", "i"]), draw.choice([[], ["basename"], ["wholename"]])
     flags = [{"includedotfiles": draw.random() < 0.5, "noescape": draw.random() < 0.5}] if scope and draw.random() < 0.5 else []
     name = draw.choice([*NAMES, "x.d/a.c", "a.d/s?r/x", "X.D/A.C"])
@@ -94,6 +94,15 @@ def check_globs_and_case(tally: built.Tally, room: Path) -> None:
             ({"glob": ["d"], "suffix": "h"}, ["d", "d/f.h"]),
             ({"glob": ["*.c"], "relative_root": "d"}, ["c.c"]),
             ({"suffix": [], "path": []}, ["B.C", "a.c", "d", "d/.e.c", "d/c.c", "d/f.h"]),
+            ({"path": ["."]}, []),
+            ({"path": ["d/.", "d/f.h"]}, ["d/f.h"]),
+            ({"glob": ["[a]\\.c"], "glob_noescape": True}, []),
+            ({"expression": ["suffix", "c", "more"]}, ["B.C", "a.c", "d/.e.c", "d/c.c"]),
+            ({"expression": ["suffix", ["c", "h"]]}, ["B.C", "a.c", "d/.e.c", "d/c.c", "d/f.h"]),
+            ({"expression": ["exists", "more"]}, ["B.C", "a.c", "d", "d/.e.c", "d/c.c", "d/f.h"]),
+            ({"expression": ["match", "*.c", "basename", {"frob": 1, "includedotfiles": True}]}, ["a.c", "d/.e.c", "d/c.c"]),
+            ({"expression": ["name", ["x" * 5000, "a.c"]]}, ["a.c"]),
+            ({"expression": ["name", "x" * 2_000_000]}, []),
             ({"expression": ["name", "b.c"], "case_sensitive": False}, ["B.C"]),
             ({"expression": ["name", "b.c"], "case_sensitive": True}, []),
         ):
@@ -101,6 +110,17 @@ def check_globs_and_case(tally: built.Tally, room: Path) -> None:
         same(tally, "find", sorted(row["name"] for row in client.ask("find", str(root), "*.c", "-X", "a*")["files"]), [])
         found = client.ask("since", str(root), "c:1:1", "d/*.c")
         same(tally, "since", ([row["name"] for row in found["files"]], found["is_fresh_instance"]), (["d/c.c"], True))
+        clock = client.ask("clock", str(root))["clock"]
+        make_files(root, ["new.c", "d/new.c", "d/.new.c"])
+        for query, expected in (
+            ({"glob": ["d/*.c"]}, ["d", "d/.new.c", "d/c.c", "d/new.c", "new.c"]),
+            ({"glob": ["a.c"], "expression": ["suffix", "c"]}, ["a.c", "d/.new.c", "d/new.c", "new.c"]),
+            ({"glob": ["c.c"], "relative_root": "d", "expression": ["suffix", "c"]}, [".new.c", "c.c", "new.c"]),
+        ):
+            same(tally, f"{query} since", names_of(client, root, {**query, "since": clock, "sync_timeout": 1000}), expected)
+        reply = client.ask("query", str(root), {"glob": ["*"], "relative_root": "no"})
+        same(tally, "glob below no directory", reply.get("error"),
+             f"query failed: glob_generator could not resolve {root}/no, check your relative_root parameter!")
 
 
 def check_long_lists(tally: built.Tally, room: Path) -> None:

@@ -71,6 +71,11 @@ def check_shapes(tally: built.Tally, room: Path) -> None:
                 same(tally, f"the bridge is sent {data[:20]!r}", answered(bridge, bser, data), fault)
         for length in (b"\x05\xff\xff\xff\x7f", b"\x03\x80", b"\x02", b"\x06" + b"\xff" * 8):
             same(tally, f"the length {length!r}", is_refused_in_bser(bridge, bser, length), True)
+        with BserClient(bridge.sockname, bser) as client:
+            for capabilities in (b"\xff\xff\xff\xff", b"\x00\x00\x00\x80", b"\x01\x00\x00\x00"):
+                data = bser.dumps(["version"], version=2, capabilities=0)
+                client.stream.sendall(data[:2] + capabilities + data[6:])
+                same(tally, f"the capabilities {capabilities!r}", client.reply(2).get("version"), "4.9.0")
         same(tally, "the bridge goes on", bridge.process.poll(), None)
 
 

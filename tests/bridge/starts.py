@@ -5,10 +5,10 @@ import os
 import subprocess
 import sys
 from pathlib import Path
-from typing import Dict
+from typing import Dict, List
 
 import built
-from bridged import COMMAND, PROGRAM, Bridge
+from bridged import COMMAND, PROGRAM, VERSION, Bridge, codec
 from client import PATIENCE, same
 
 
@@ -18,7 +18,7 @@ def run(
     """Runs the command in a directory, with names that are relative to it, and with bytes on its standard input."""
     environment = {**os.environ, "WATCHMAN_SOCK": sockname, "WQD": os.path.relpath(str(built.program_path()), str(room))}
     environment.pop("WQD_SOCK", None)
-    return subprocess.run([sys.executable, str(COMMAND), *words], env=environment, cwd=str(room), input=given,
+    return subprocess.run([str(COMMAND), *words], env=environment, cwd=str(room), input=given,
                           stdout=output, stderr=subprocess.PIPE, timeout=PATIENCE)
 
 
@@ -81,15 +81,45 @@ def check_names_by_default(tally: built.Tally, room: Path) -> None:
 def name_by_default(runtime: Path, temporary: Path) -> str:
     environment = {**os.environ, "XDG_RUNTIME_DIR": str(runtime), "TMPDIR": str(temporary)}
     environment.pop("WATCHMAN_SOCK", None)
-    ended = subprocess.run([sys.executable, str(COMMAND), "--no-spawn", "--no-pretty", "get-sockname"], env=environment,
+    ended = subprocess.run([str(COMMAND), "--no-spawn", "--no-pretty", "get-sockname"], env=environment,
                            stdout=subprocess.PIPE, timeout=PATIENCE)
     return str(json.loads(ended.stdout)["sockname"])
+
+
+def check_the_quick_command(tally: built.Tally, room: Path) -> None:
+    """While the bridge and its server run, the command says where and of which version without Python: the same bytes."""
+    home = str(COMMAND.parent)
+
+    def said(words: List[str], path: str) -> bytes:
+        environment = {**os.environ, "WATCHMAN_SOCK": bridge.sockname, "PATH": path}
+        return subprocess.run(words, env=environment, stdout=subprocess.PIPE, stderr=subprocess.DEVNULL, timeout=PATIENCE).stdout
+
+    def quick(*words: str) -> bytes:
+        return said(["/bin/sh", str(COMMAND), *words], "/none")
+
+    with Bridge(room.resolve()) as bridge:
+        same(tally, "the version needs no bridge", quick("--version"), f"{VERSION}\n".encode())
+        same(tally, "a bridge that has not seen its server", quick("get-sockname"), b"")
+        with bridge.client() as client:
+            client.ask("version")
+        for words in (["get-sockname"], ["version"], ["--no-pretty", "get-sockname"], ["version", "--no-pretty"],
+                      ["--output-encoding=json", "get-sockname"]):
+            slow = said([sys.executable, str(COMMAND.parent / "bridge" / "watchman.py"), home, *words], os.environ["PATH"])
+            same(tally, f"watchman {' '.join(words)}", (quick(*words), slow != b""), (slow, True))
+        bser = codec()
+        if bser is not None:
+            found = bser.loads(quick("--output-encoding=bser", "get-sockname"), value_encoding="utf-8")
+            same(tally, "the same in BSER", found, {"sockname": bridge.sockname, "version": VERSION})
+        for words in (["watch-list"], ["get-sockname", "more"], ["-j"], ["--output-encoding=bser-v2", "get-sockname"]):
+            same(tally, f"watchman {' '.join(words)} is left to Python", quick(*words), b"")
+        bridge.server.kill()
+        same(tally, "a server that was killed", quick("get-sockname"), b"")
 
 
 def check_a_command_that_stays(tally: built.Tally, room: Path) -> None:
     """It says that the bridge has ended, and its status is not 0."""
     with Bridge(room) as bridge:
-        staying = subprocess.Popen([sys.executable, str(COMMAND), "--sockname", bridge.sockname, "--no-spawn", "-p", "version"],
+        staying = subprocess.Popen([str(COMMAND), "--sockname", bridge.sockname, "--no-spawn", "-p", "version"],
                                    stdout=subprocess.PIPE, stderr=subprocess.PIPE)
         same(tally, "a command that stays is answered", staying.stdout.readline(), b"{\n")
         bridge.process.terminate()

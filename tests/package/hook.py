@@ -83,7 +83,21 @@ def check_git(tally: built.Tally, room: Path) -> None:
         same(tally, "nothing changed since", repository.status(), [])
         repository.write("kept", "other")
         same(tally, "a change since", repository.status(), [" M kept"])
+        check_modes(tally, repository)
         check_hook(tally, repository)
+
+
+def check_modes(tally: built.Tally, repository: Repository) -> None:
+    """The hook itself looks at executable bits, which the server does not keep."""
+    repository.git("add", "-A")
+    repository.git("commit", "-qm", "third")
+    repository.status()
+    path = repository.path / "deep" / "in" / "changed"
+    for mode in (0o755, 0o644):
+        path.chmod(mode)
+        same(tally, f"the mode {mode:o}", repository.status(), [" M deep/in/changed"])
+        repository.git("commit", "-qam", f"{mode:o}")
+        same(tally, f"the mode {mode:o} is committed", repository.status(), [])
 
 
 def check_hook(tally: built.Tally, repository: Repository) -> None:

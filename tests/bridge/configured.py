@@ -1,0 +1,135 @@
+"""Settings of Watchman that the bridge obeys: those of a root, and those of the system."""
+
+import json
+import os
+import time
+from pathlib import Path
+from typing import Dict, List
+
+import built
+from bridged import VERSION, Bridge, is_silent, make_files
+from client import PATIENCE, Client, same
+from lists import move_in, names_of
+
+
+def set_for(root: Path, settings: Dict[str, object]) -> None:
+    root.mkdir(parents=True, exist_ok=True)
+    (root / ".watchmanconfig").write_text(json.dumps(settings))
+
+
+def check_directories_left_out(tally: built.Tally, room: Path) -> None:
+    """Lists and subscriptions have no file of `ignore_dirs`, and of source control the first level alone."""
+    root, other = room.resolve() / "root", room.resolve() / "other"
+    settings = {"ignore_dirs": ["out", "deep/er"], "own": 7}
+    set_for(root, settings)
+    make_files(root, ["a", "out/b", "outer/c", "deep/d", "deep/er/e", ".git/f", ".git/objects/g"])
+    set_for(other, {"ignore_vcs": ["kept"]})
+    make_files(other, [".git/objects/g", "kept/a", "kept/b/c"])
+    query: Dict[str, object] = {"expression": ["type", "f"]}
+    with Bridge(room) as bridge, bridge.client() as client:
+        client.ask("watch", str(root))
+        same(tally, "get-config", client.ask("get-config", str(root)), {"config": settings, "version": VERSION})
+        found = [".git/f", ".watchmanconfig", "a", "deep/d", "outer/c"]
+        same(tally, "a list", names_of(client, root, query), found)
+        directories = names_of(client, root, {"expression": ["type", "d"]})
+        same(tally, "directories too", directories, [".git", ".git/objects", "deep", "outer"])
+        same(tally, "below a directory", names_of(client, root, {**query, "relative_root": "deep"}), ["d"])
+        same(tally, "by a path", names_of(client, root, {**query, "path": ["out", "a"]}), ["a"])
+        client.ask("subscribe", str(root), "s", {"fields": ["name"], "expression": ["type", "f"]})
+        same(tally, "the first list of a subscription", client.reply()["files"], found)
+        move_in(room / "aside", root, ["out/new", ".git/objects/new"])
+        same(tally, "what is left out is not told", is_silent(client), True)
+        move_in(room / "aside", root, ["new"])
+        same(tally, "what is not left out is", client.reply()["files"], ["new"])
+    with Bridge(room) as bridge, bridge.client() as client:
+        client.ask("watch", str(other))
+        same(tally, "ignore_vcs", names_of(client, other, query), [".git/objects/g", ".watchmanconfig", "kept/a"])
+
+
+def check_settings_read_again(tally: built.Tally, room: Path) -> None:
+    """The settings of a root are those of the time when it was watched; a file that holds none is as an empty one."""
+    root = room.resolve() / "root"
+    set_for(root, {"a": 1})
+    with Bridge(room) as bridge, bridge.client() as client:
+        client.ask("watch", str(root))
+        set_for(root, {"a": 2})
+        same(tally, "settings that changed", client.ask("get-config", str(root))["config"], {"a": 1})
+        client.ask("watch-del", str(root))
+        client.ask("watch", str(root))
+        same(tally, "settings of a root that is watched anew", client.ask("get-config", str(root))["config"], {"a": 2})
+        client.ask("watch-del", str(root))
+        (root / ".watchmanconfig").write_text("{")
+        client.ask("watch", str(root))
+        same(tally, "a file that holds no settings", client.ask("get-config", str(root))["config"], {})
+
+
+def check_settings_of_the_system(tally: built.Tally, room: Path) -> None:
+    """`root_files` say what a project is, and whether others may be watched."""
+    trees = room.resolve() / "trees"
+    make_files(trees, ["a/.foo", "a/b/c/", "d/e/", "g/.git/"])
+    for settings, path, expected in (
+        ({"root_files": [".foo"]}, "a/b/c", ("a", "b/c")),
+        ({"root_files": [".foo"]}, "d/e", ("d/e", None)),
+        ({"root_files": [".foo"]}, "g", ("g", None)),
+        ({"root_files": [".foo"], "enforce_root_files": True}, "d/e", "none of the files listed in global config root_files"),
+        ({"root_restrict_files": [".git"]}, "g", ("g", None)),
+        ({"root_restrict_files": [".git"]}, "a", "none of the files listed in global config root_files"),
+    ):
+        with configured(room, settings) as bridge, bridge.client() as client:
+            reply = client.ask("watch-project", str(trees / path))
+            found = reply["error"] if "error" in reply else (os.path.relpath(reply["watch"], trees), reply.get("relative_path"))
+            name = f"{settings}: {path}"
+            tally.check(name, expected in found if isinstance(expected, str) else expected == found, [f"{reply}"])
+    with configured(room, {"root_restrict_files": [".git"]}) as bridge, bridge.client() as client:
+        reply = client.ask("watch", str(trees / "a"))
+        same(tally, "a directory that may not be watched", "Your watchman administrator" in reply.get("error", ""), True)
+        same(tally, "one that may", client.ask("watch", str(trees / "g")).get("watch"), str(trees / "g"))
+
+
+def configured(room: Path, settings: Dict[str, object]) -> Bridge:
+    path = room / "settings.json"
+    path.write_text(json.dumps(settings))
+    os.environ["WATCHMAN_CONFIG_FILE"] = str(path)
+    try:
+        return Bridge(room)
+    finally:
+        del os.environ["WATCHMAN_CONFIG_FILE"]
+
+
+def check_links_that_are_followed(tally: built.Tally, room: Path) -> None:
+    """With `watch_symlinks` the projects are watched to which links of a root lead, and those behind them."""
+    first, second, third = (room.resolve() / name for name in ("first", "second", "third"))
+    for root in (first, second, third):
+        set_for(root, {"watch_symlinks": True})
+        (root / "file").touch()
+    (second / "link").symlink_to(third / "file")
+    (first / "link").symlink_to("../second/link")
+    with Bridge(room) as bridge, bridge.client() as client:
+        client.ask("watch", str(first))
+        same(tally, "links are followed", watched_by(client, 3), sorted(map(str, (first, second, third))))
+
+
+def watched_by(client: Client, count: int) -> List[str]:
+    end = time.monotonic() + PATIENCE
+    while True:
+        roots = sorted(client.ask("watch-list")["roots"])
+        if len(roots) >= count or time.monotonic() > end:
+            return roots
+        time.sleep(0.02)
+
+
+def check_recrawls(tally: built.Tally, room: Path) -> None:
+    """A root that a client had crawled is warned of, unless its settings say that it is not."""
+    root, quiet = room.resolve() / "root", room.resolve() / "quiet"
+    set_for(quiet, {"suppress_recrawl_warnings": True})
+    make_files(root, ["a"])
+    with Bridge(room) as bridge, bridge.client() as client:
+        for path, is_warned in ((root, True), (quiet, False)):
+            client.ask("watch", str(path))
+            same(tally, "debug-recrawl", client.ask("debug-recrawl", str(path)).get("recrawl"), True)
+            for fields in (["name"], ["name", "mode"]):
+                warning = client.ask("query", str(path), {"fields": fields}).get("warning", "")
+                same(tally, f"the warning of {path.name}", warning.startswith("Recrawled this watch 1 times"), is_warned)
+        client.ask("watch-del", str(root))
+        client.ask("watch", str(root))
+        same(tally, "a root that is watched anew", "warning" in client.ask("query", str(root), {}), False)

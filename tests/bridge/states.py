@@ -1,0 +1,176 @@
+"""States that clients assert, and lists that they hold back or drop; lists that are flushed, paused, or wait for an end."""
+
+import time
+from pathlib import Path
+from typing import Dict, List
+
+import built
+from bridged import VERSION, Bridge, is_silent, make_files
+from client import Client, same
+from lists import move_in
+
+NAMES: Dict[str, object] = {"fields": ["name"], "expression": ["type", "f"]}
+
+
+def subscribed(client: Client, root: Path, name: str, query: Dict[str, object]) -> Dict[str, object]:
+    """The first list of a subscription."""
+    reply = client.ask("subscribe", str(root), name, {**NAMES, **query})
+    if "subscribe" not in reply:
+        raise ValueError(f"{query}: {reply}")
+    return client.reply()
+
+
+def check_states(tally: built.Tally, room: Path) -> None:
+    """A list that a state holds back comes after it, once, and each subscriber is told of the state."""
+    root = room.resolve() / "root"
+    make_files(root, ["a"])
+    with Bridge(room) as bridge, bridge.client() as client, bridge.client() as other:
+        client.ask("watch", str(root))
+        before = subscribed(other, root, "s", {"defer": ["x"]})
+        reply = client.ask("state-enter", str(root), {"name": "x", "metadata": [1]})
+        same(tally, "state-enter", (reply.get("state-enter"), reply.get("root"), "clock" in reply), ("x", str(root), True))
+        same(tally, "another subscriber is told", without_clock(other.reply()), {
+            "state-enter": "x", "metadata": [1], "root": str(root), "subscription": "s", "unilateral": True, "version": VERSION})
+        same(tally, "a state twice", client.ask("state-enter", str(root), "x")["error"], "state x is already asserted")
+        same(tally, "a state of another", other.ask("state-leave", str(root), "x")["error"],
+             "state x was not asserted by this session")
+        move_in(room / "aside", root, ["b"])
+        same(tally, "a list is held back", is_silent(other), True)
+        move_in(room / "aside", root, ["c"])
+        same(tally, "and another", is_silent(other), True)
+        same(tally, "state-leave", client.ask("state-leave", str(root), "x").get("state-leave"), "x")
+        same(tally, "the end of the state", other.reply().get("state-leave"), "x")
+        found = other.reply()
+        same(tally, "one list comes after it", (found["files"], found["since"], found["is_fresh_instance"]),
+             (["b", "c"], before["clock"], False))
+        move_in(room / "aside", root, ["d"])
+        later = other.reply()
+        same(tally, "then lists come as before", (later["files"], later["since"]), (["d"], found["clock"]))
+        client.ask("state-enter", str(root), "x")
+        other.reply()
+        client.close()
+        found = other.reply()
+        same(tally, "a client that goes leaves its states", (found.get("state-leave"), found.get("abandoned"), "clock" in found),
+             ("x", True, True))
+
+
+def without_clock(value: Dict[str, object]) -> Dict[str, object]:
+    return {key: each for key, each in value.items() if key != "clock"}
+
+
+def check_dropping(tally: built.Tally, room: Path) -> None:
+    """Changes under a state that drops them are told to nobody."""
+    root = room.resolve() / "root"
+    make_files(root, ["a"])
+    with Bridge(room) as bridge, bridge.client() as client:
+        subscribed(client, root, "s", {"drop": ["x"]})
+        client.ask("state-enter", str(root), "x")
+        client.reply()
+        move_in(room / "aside", root, ["b"])
+        same(tally, "a list is dropped", is_silent(client), True)
+        move_in(room / "aside", root, ["c"])
+        reply = client.ask("flush-subscriptions", str(root), {"sync_timeout": 1000})
+        same(tally, "and not flushed", reply, {"dropped": ["s"], "no_sync_needed": [], "synced": [], "version": VERSION})
+        move_in(room / "aside", root, ["d"])
+        client.ask("state-leave", str(root), "x")
+        same(tally, "the end of the state", client.reply().get("state-leave"), "x")
+        same(tally, "nothing of it is told", is_silent(client), True)
+        move_in(room / "aside", root, ["e"])
+        same(tally, "a later change is told", client.reply()["files"], ["e"])
+
+
+def check_flushing(tally: built.Tally, room: Path) -> None:
+    """Lists come before the reply, those too that a pause holds back."""
+    root, elsewhere = room.resolve() / "root", room.resolve() / "elsewhere"
+    make_files(root, ["a"])
+    make_files(elsewhere, ["a"])
+    with Bridge(room) as bridge, bridge.client() as client:
+        subscribed(client, root, "s", {})
+        subscribed(client, root, "t", {})
+        subscribed(client, elsewhere, "u", {})
+        paused = client.ask("debug-set-subscriptions-paused", {"s": True, "t": True})["paused"]
+        same(tally, "paused", paused, {name: {"old": False, "new": True} for name in "st"})
+        move_in(room / "aside", root, ["b"])
+        same(tally, "nothing comes meanwhile", is_silent(client), True)
+        client.send("flush-subscriptions", str(root), {"sync_timeout": 1000, "subscriptions": ["s"]})
+        found = client.reply()
+        same(tally, "a list before the reply", (found.get("subscription"), found.get("files")), ("s", ["b"]))
+        same(tally, "the reply", client.reply(), {"dropped": [], "no_sync_needed": [], "synced": ["s"], "version": VERSION})
+        reply = client.ask("flush-subscriptions", str(root), {"sync_timeout": 1000, "subscriptions": ["s", "u"]})
+        same(tally, "a subscription to another root", reply["error"],
+             f"subscription 'u' is on root '{elsewhere}' different from command root '{root}'")
+        same(tally, "nothing is left", client.ask("flush-subscriptions", str(root), {"sync_timeout": 0, "subscriptions": ["s"]}),
+             {"dropped": [], "no_sync_needed": ["s"], "synced": [], "version": VERSION})
+        client.ask("debug-set-subscriptions-paused", {"s": False, "t": False})
+        same(tally, "a pause ends", (client.reply()["files"]), ["b"])
+        same(tally, "the subscribers", [each["info"] for each in client.ask("debug-get-subscriptions", str(root))["subscribers"]],
+             ["s", "t"])
+
+
+def check_source_control(tally: built.Tally, room: Path) -> None:
+    """No list is told while source control holds its lock, unless the subscription does not wait for it."""
+    root = room.resolve() / "root"
+    make_files(root, ["a", ".git/HEAD"])
+    with Bridge(room) as bridge, bridge.client() as client, bridge.client() as other:
+        query = {"expression": ["suffix", "c"], "fields": ["name"]}
+        client.ask("subscribe", str(root), "s", query)
+        other.ask("subscribe", str(root), "s", {**query, "defer_vcs": False})
+        (root / ".git" / "index.lock").touch()
+        move_in(room / "aside", root, ["b.c"])
+        same(tally, "a subscription that does not wait", other.reply()["files"], ["b.c"])
+        move_in(room / "aside", root, ["c.c"])
+        same(tally, "one that waits", is_silent(client), True)
+        (root / ".git" / "index.lock").unlink()
+        same(tally, "is told once", client.reply()["files"], ["b.c", "c.c"])
+
+
+def check_settling(tally: built.Tally, room: Path) -> None:
+    """A query with `settle_period` waits until nothing changes, and so does a subscription of a root with `settle`."""
+    root = room.resolve() / "root"
+    make_files(root, ["a"])
+    (root / ".watchmanconfig").write_text('{"settle": 400}')
+    with Bridge(room) as bridge, bridge.client() as client, bridge.client() as other:
+        client.ask("watch", str(root))
+        began = time.monotonic()
+        client.send("query", str(root), {**NAMES, "settle_period": 300})
+        time.sleep(0.1)
+        move_in(room / "aside", root, ["b"])
+        same(tally, "a query that waits", client.reply()["files"], [".watchmanconfig", "a", "b"])
+        same(tally, "it waited twice", time.monotonic() - began > 0.6, True)
+        reply = client.ask("query", str(root), {**NAMES, "settle_period": 300, "settle_timeout": 100})
+        same(tally, "a query that waits too long", reply.get("error"),
+             "query failed: the root did not settle for 300 ms within 100 ms")
+        subscribed(other, root, "s", {})
+        for name in ("c", "d"):
+            move_in(room / "aside", root, [name])
+            same(tally, f"{name} is not told at once", is_silent(other, 0.15), True)
+        same(tally, "one list comes when nothing changes", other.reply()["files"], ["c", "d"])
+
+
+def check_many_subscriptions(tally: built.Tally, room: Path) -> None:
+    """A client has more subscriptions than the server takes from one, until the server has no place for another client."""
+    root = room.resolve() / "root"
+    make_files(root, ["a"])
+    with Bridge(room) as bridge, bridge.client() as client, bridge.server.client() as direct:
+        client.ask("watch", str(root))
+        names = [f"s{number}" for number in range(130)]
+        for name in names:
+            subscribed(client, root, name, {})
+        move_in(room / "aside", root, ["b"])
+        found: List[str] = []
+        while len(found) < len(names):
+            reply = client.reply()
+            found += [str(reply["subscription"])] * (reply["files"] == ["b"])
+        same(tally, "each of 130 subscriptions is told", sorted(found), sorted(names))
+        for name in names[1:]:
+            client.ask("unsubscribe", str(root), name)
+        same(tally, "one is left", len(client.ask("debug-get-subscriptions", str(root))["subscribers"]), 1)
+        others = [bridge.server.client_when_free() for _ in range(30)]
+        same(tally, "the places of the others are free again", direct.ask("version"), {"version": "wq-1"})
+        query = {**NAMES, "empty_on_fresh_instance": True}
+        refused = [client.ask("subscribe", str(root), f"t{number}", query) for number in range(64)]
+        same(tally, "without a place it is said", refused[-1].get("error"),
+             "the 32 places of the server are taken: each client has one, and one more for each 64 subscriptions (E17)")
+        same(tally, "the client goes on", client.ask("watch-list")["roots"], [str(root)])
+        for other in others:
+            other.close()
