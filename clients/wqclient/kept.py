@@ -1,5 +1,5 @@
-"""Notes of clients between two calls, since a server tells none of it: the clock of each name of `wq since`, the cost of
-the programs that were handed to a server, and the roots that are to stay."""
+"""Notes of clients between two calls, since a server tells none of it: the clock of each name of `wq since`, the cost
+of the programs that were handed to a server, and the roots that are to stay."""
 
 import hashlib
 import json
