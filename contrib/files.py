@@ -35,9 +35,11 @@ WQASM_MAIN = "import sys\n\nfrom wqprogram.command import main\n\nsys.exit(main(
 WQ_MAIN = """import os
 import sys
 
-from wq.command import main
-
-sys.exit(main(sys.argv[1:], os.path.dirname(os.path.realpath(sys.argv[0]))))
+try:
+    from wq.command import main
+    sys.exit(main(sys.argv[1:], os.path.dirname(os.path.realpath(sys.argv[0]))))
+except KeyboardInterrupt:
+    sys.exit(130)
 """
 # The modules that the command watchman and its bridge are made of.
 BRIDGE_PACKAGES = ["bridge", "wqclient"]

@@ -25,10 +25,10 @@ def main(words: List[str], directory: str) -> int:
     if sys.stdout is None:
         say("there is no standard output")
         return FAILED
+    # A signal ends what was begun too. One that is ignored, as by nohup, stays so.
     for number in (signal.SIGTERM, signal.SIGHUP):
-        signal.signal(number, lambda number, _: sys.exit(128 + number))
-    # Python has a job in the background ignore it, and what that starts too.
-    signal.signal(signal.SIGINT, signal.default_int_handler)
+        if signal.getsignal(number) != signal.SIG_IGN:
+            signal.signal(number, lambda number, _: sys.exit(128 + number))
     try:
         return run(words, Home(directory))
     except Trouble as trouble:

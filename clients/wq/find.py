@@ -22,12 +22,12 @@ def find(options: argparse.Namespace, home: Home) -> int:
         watched = server.roots()
         place = place_of(directory, watched)
         query = query_of(place, globs, options)
-        query.update(server.watch(place.root, watched))
+        query.update(server.watch(place.root, watched, stays=options.keep))
         try:
             found = server.ask("query", place.root, query)
         finally:
             if place.root not in watched and not options.keep:
-                server.look("watch-del", place.root)
+                server.give_back(place.root)
     if options.program is not None and not options.all:
         found["files"] = [file for file in found["files"] if not is_left_out(place.shown(name_of(file)))]
     print_found(found, place, options)

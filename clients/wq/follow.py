@@ -51,8 +51,8 @@ class Feed:
         self.now = server.watch(self.place.root, watched)
 
     def begin(self, expression: Any) -> List[File]:
-        """Begins with what is there now, and gives the files of it that an expression matches. The first list may have changes
-        already."""
+        """Begins with what is there now, and gives the files of it that an expression matches. The first list may have
+        changes already."""
         query = {"expression": expression, "fields": FIELDS, **self.now}
         found = self.server.ask("query", self.place.root, query)
         query = {"expression": self.expression, "fields": FIELDS, "since": found["clock"]}
@@ -60,7 +60,8 @@ class Feed:
         return found["files"]
 
     def lists(self, watches_output: bool = False) -> List[Value]:
-        """The next lists, of which one is waited for. The line that ends the subscription is met after those before it."""
+        """The next lists, of which one is waited for. The line that ends the subscription is met after those before
+        it."""
         client = self.server.client
         if not client.lists:
             if watches_output:

@@ -52,7 +52,8 @@ def boot_time() -> float:
 
 
 def clients_of(process: int) -> Optional[int]:
-    """How many clients are connected, this one counted: each has a socket of the process, and one more is listened on."""
+    """How many clients are connected, this one counted: each has a socket of the process, and one more is listened
+    on."""
     try:
         return max(0, len(sockets_of(process)) - 1)
     except OSError:

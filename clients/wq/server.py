@@ -6,6 +6,7 @@ import json
 from typing import Any, Dict, Iterator, List, Optional
 
 from wqclient.client import Client, json_of
+from wqclient.kept import ROOTS, keep, kept, run_of
 from wqclient.lines import Ended
 from wqclient.sockets import default_sockname
 
@@ -102,12 +103,28 @@ class Server:
     def roots(self) -> List[str]:
         return self.ask("watch-list")["roots"]
 
-    def watch(self, root: str, watched: List[str]) -> Value:
-        """Watches a root, and gives the keys with which a query knows all that there was when this was called. A root that was
-        not watched before was just listed, so nothing is crawled for the query."""
+    def watch(self, root: str, watched: List[str], stays: bool = True) -> Value:
+        """Watches a root, and gives the keys with which a query knows all that there was when this was called. A root
+        that was not watched before was just listed, so nothing is crawled for the query. A root that is to stay is noted,
+        so that no other command gives it back that watched it for a moment."""
         is_new = root not in watched
         self.ask("watch", root, crawls=root if is_new else "")
+        if stays:
+            self.note(root, run_of(self.peer.process))
         return {"sync_timeout": 0} if is_new else {}
+
+    def note(self, root: str, run: str) -> None:
+        with contextlib.suppress(OSError):
+            keep({"run": run}, ROOTS, self.sockname, root)
+
+    def give_back(self, root: str) -> None:
+        """Ends the watch of a root, unless another command noted that it is to stay."""
+        if kept(ROOTS, self.sockname, root).get("run") != run_of(self.peer.process):
+            self.look("watch-del", root)
+
+    def unwatch(self, root: str) -> None:
+        self.note(root, "")
+        self.ask("watch-del", root)
 
     def close(self) -> None:
         self.client.close()

@@ -84,8 +84,8 @@ def too_long(pattern: str) -> str:
 
 
 def cursor_in_term(spec: str) -> str:
-    return f"{quoted(spec)} is a named cursor, which the key \"since\" of a query takes, and no term; take a clock id, " \
-           "or a second as a whole number"
+    return f"{quoted(spec)} is a named cursor, which the key \"since\" of a query takes, and no term; take a " \
+           "clock id, or a second as a whole number"
 
 
 def bad_clock_spec(spec: Any, field: str = "oclock") -> str:

@@ -36,7 +36,7 @@ def unwatch(options: argparse.Namespace, home: Home) -> int:
                 say(f"{word} is not watched{'; watched are ' + ', '.join(watched) if watched else '; no root is'}")
                 status = NOTHING
                 continue
-            server.ask("watch-del", root)
+            server.unwatch(root)
             show([name_shown(root, None)])
     return status
 

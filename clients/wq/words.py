@@ -106,7 +106,7 @@ FORMS: Dict[str, Form] = {
         NAME, WORDS]),
     "follow": Form("[DIR] [GLOB..]", "prints changes as they come, until you stop it", [
         *NARROWING, ZEROS, JSON, WORDS]),
-    "run": Form("[DIR] [GLOB..] -- COMMAND..", "runs a command now and after each change, with the names in place of {}", [
+    "run": Form("[DIR] [GLOB..] -- COMMAND..", "runs a command now and after each change; {} is for the names", [
         *NARROWING,
         value("--quiet", metavar="MS", type=int, default=100, help="a burst ends when it is so long quiet; 100"),
         flag("--restart", help="a change ends the running one by SIGTERM, and after 5 seconds by SIGKILL"),

@@ -1,12 +1,12 @@
-"""Notes of clients between two calls, since a server tells neither: the clock of each name of `wq since`, and the cost of
-the programs that were handed to a server."""
+"""Notes of clients between two calls, since a server tells none of it: the clock of each name of `wq since`, the cost
+of the programs that were handed to a server, and the roots that are to stay."""
 
 import hashlib
 import json
 import os
 from typing import Any, Dict
 
-CLOCKS, BUDGETS = "clocks", "budgets"
+CLOCKS, BUDGETS, ROOTS = "clocks", "budgets", "roots"
 
 
 def directory() -> str:

@@ -29,7 +29,8 @@ def serve_words(sockname: str) -> List[str]:
 
 @contextlib.contextmanager
 def alone(sockname: str, tell: Callable[[], None] = lambda: None) -> Iterator[None]:
-    """Waits until no other command starts a program for this socket. If that takes some seconds, it says so by `tell`."""
+    """Waits until no other command starts a program for this socket. If that takes some seconds, it says so by
+    `tell`."""
     try:
         file = open(f"{sockname}.start", "w", opener=opened)
     except OSError as error:

@@ -40,6 +40,25 @@ def check_client(tally: built.Tally, room: Path) -> None:
         found = followed(server, root, [str(LARGE)])
         same(tally, "the client with a program", found, ["  large"])
         check_client_of_the_page(tally, server, root)
+        check_default_socket(tally, server, room, root)
+
+
+def check_default_socket(tally: built.Tally, server: Server, room: Path, root: Path) -> None:
+    """Without WQD_SOCK the client asks at the default socket, and says so in one line if nobody listens there."""
+    runtime = room / "runtime"
+    runtime.mkdir(mode=0o700)
+    environment = {name: value for name, value in os.environ.items() if name != "WQD_SOCK"}
+    environment.update(XDG_RUNTIME_DIR=str(runtime), TMPDIR=str(room))
+    command = [sys.executable, str(EXAMPLES / "client.py"), str(root)]
+
+    def client() -> built.Ended:
+        ended = subprocess.run(command, stdin=subprocess.DEVNULL, stdout=subprocess.PIPE, stderr=subprocess.PIPE, env=environment)
+        return built.Ended(ended.stdout, ended.stderr, ended.returncode)
+
+    nobody = f"{runtime}/wqd.sock: No such file or directory; `wq start` starts a server\n".encode()
+    same(tally, "the client without a server", client(), built.Ended(b"", nobody, 1))
+    (runtime / "wqd.sock").symlink_to(server.sockname)
+    same(tally, "the client at the default socket", (client().status, b"src/b.c" in client().output), (0, True))
 
 
 def followed(server: Server, root: Path, words: List[str]) -> List[str]:

@@ -142,6 +142,14 @@ def check_ends_of_follow(tally: built.Tally, scene: Scene) -> None:
         same(tally, "SIGTERM", going.ends(signal.SIGTERM), 143)
     with scene.begin("follow") as going:
         touch_until(scene, going, "src/a.c")
+        same(tally, "SIGHUP", going.ends(signal.SIGHUP), 129)
+    with scene.begin("follow", ignores=signal.SIGHUP) as going:
+        touch_until(scene, going, "src/a.c")
+        going.process.send_signal(signal.SIGHUP)
+        scene.write("after")
+        tally.check("SIGHUP beside nohup", going.prints("after\n"))
+    with scene.begin("follow") as going:
+        touch_until(scene, going, "src/a.c")
         scene.wq("stop")
         same(tally, "the end of the server", (going.ends(), going.errors), (3, said("the server has ended")))
     same(tally, "a closed pipe of find", closed_pipe(scene), (141, b""))

@@ -193,3 +193,10 @@ def check_roots(tally: built.Tally, room: Path) -> None:
         same(tally, "a link to a directory", scene.names("find", room / "link", "*.h"), ["deep/c.h"])
         same(tally, "ten directories of a project are one root", watched(),
              [str(scene.tree), str(room / "hg"), str(room / "watchmanconfig"), str(room / "plain")])
+        # As if another command had begun to need the root while find had it watched.
+        client.ask("watch-del", str(scene.tree))
+        scene.names("find", "src")
+        same(tally, "find leaves a root that others need", str(scene.tree) in watched(), True)
+        scene.names("unwatch")
+        scene.names("find", "src")
+        same(tally, "but not after unwatch", str(scene.tree) in watched(), False)

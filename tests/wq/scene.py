@@ -83,12 +83,15 @@ class Scene:
 class Going:
     """A call that goes on, whose two streams are read as they come."""
 
-    def __init__(self, scene: Scene, words: List[str], output: Optional[int] = None, **environment: str) -> None:
+    def __init__(
+        self, scene: Scene, words: List[str], output: Optional[int] = None, ignores: Optional[int] = None,
+        **environment: str,
+    ) -> None:
         self.output, self.errors = b"", b""
         self.process = subprocess.Popen(
             [COMMAND, *words], cwd=scene.tree, stdin=subprocess.DEVNULL, stderr=subprocess.PIPE,
             stdout=subprocess.PIPE if output is None else output, env={**scene.environment, **environment},
-            preexec_fn=hear_interrupts, start_new_session=True,
+            preexec_fn=lambda: hear(ignores), start_new_session=True,
         )
 
     def __enter__(self) -> "Going":
@@ -141,9 +144,11 @@ class Going:
         return self.process.wait(1)
 
 
-def hear_interrupts() -> None:
-    """A job in the background ignores SIGINT, and so would what it starts."""
+def hear(ignored: Optional[int]) -> None:
+    """A job in the background ignores SIGINT, and so would what it starts. A signal may be ignored on purpose."""
     signal.signal(signal.SIGINT, signal.SIG_DFL)
+    if ignored is not None:
+        signal.signal(ignored, signal.SIG_IGN)
 
 
 class AtTerminal(NamedTuple):
