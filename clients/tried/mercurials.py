@@ -43,7 +43,7 @@ class Repository:
         return str(Path(draw.choice(DIRECTORIES)) / (draw.choice(STEMS) + draw.choice(SUFFIXES)))
 
     def put(self) -> None:
-        """A file with another text. Nobody is told of one in place of another of the same size and time."""
+        """A file with another text. Nobody sees one in place of another of the same size and time."""
         self.number += 1
         path = self.path()
         if not (self.room.project / path).is_dir():
@@ -104,7 +104,7 @@ class Repository:
 
 
 def lists_of_an_update(room: Room, repository: Repository) -> List[object]:
-    """What a subscription is sent that holds its lists back during an update of many files: notices, and the files of a list."""
+    """The notices and lists that come to a subscription during an update of many files, if it holds its lists back meanwhile."""
     for text in ("one", "two\n"):
         for number in range(MANY):
             room.put(f"many/f{number}", text)
@@ -136,5 +136,5 @@ def try_mercurial(room: Room) -> Outcome:
         differing += own != plain
     update = lists_of_an_update(room, repository)
     done = (f"`debuginstall`; the status is the same as without it over {ROUNDS} rounds of drawn edits, renames, deletions, "
-            f"directories, `.hgignore`, commit, update and revert; an update of {MANY} files is told in one list")
+            f"directories, `.hgignore`, commit, update and revert; an update of {MANY} files comes in one list")
     return outcome(done, [*found, differing, update], [True, "no problems detected", 0, ["state-enter", "state-leave", MANY]])

@@ -24,7 +24,7 @@ def subscribed(client: Client, root: Path, name: str, query: Dict[str, object]) 
 
 
 def check_states(tally: built.Tally, room: Path) -> None:
-    """A list that a state holds back comes after it, once, and each subscriber is told of the state."""
+    """A list that a state holds back comes after it, once, and each subscriber hears of the state."""
     root = room.resolve() / "root"
     make_files(root, ["a"])
     with Bridge(room) as bridge, bridge.client() as client, bridge.client() as other:
@@ -111,7 +111,7 @@ def check_flushing(tally: built.Tally, room: Path) -> None:
 
 
 def check_source_control(tally: built.Tally, room: Path) -> None:
-    """No list is told while source control holds its lock, unless the subscription does not wait for it."""
+    """No list comes while source control holds its lock, unless the subscription does not wait for it."""
     root = room.resolve() / "root"
     make_files(root, ["a", ".git/HEAD"])
     with Bridge(room) as bridge, bridge.client() as client, bridge.client() as other:
