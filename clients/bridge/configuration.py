@@ -7,6 +7,7 @@ from typing import Callable, Dict, List, Optional
 
 from bridge.expressions import Term
 from bridge.faults import Refused
+from bridge.filesystems import kind_of
 
 OF_A_ROOT = ".watchmanconfig"
 # The variable names the file of the system, as for Watchman; Debian's Watchman reads this one without it.
@@ -14,6 +15,7 @@ OF_THE_SYSTEM_BY, OF_THE_SYSTEM = "WATCHMAN_CONFIG_FILE", "/etc/watchman.json"
 # Of these directories Watchman looks no deeper than at what lies in them, unless a root says otherwise.
 OF_SOURCE_CONTROL = (".git", ".svn", ".hg")
 ROOT_FILES = (OF_A_ROOT, ".hg", ".git", ".svn")
+ADVICE = "relocate the dir to an allowed filesystem type"
 FORBIDDEN = ("Your watchman administrator has configured watchman to prevent watching this path.  None of the files listed in "
              "global config root_files are present and enforce_root_files is set to true")
 
@@ -105,5 +107,10 @@ class Configurations:
 
     def check(self, root: str) -> None:
         """Refuses a directory that may not be watched."""
+        kind = kind_of(root)
+        if kind in texts_in(self.system.get("illegal_fstypes")):
+            advice = self.system.get("illegal_fstypes_advice")
+            raise Refused(f'unable to resolve root {root}: path uses the "{kind}" filesystem and is disallowed by global config '
+                          f"illegal_fstypes: {advice if isinstance(advice, str) else ADVICE}")
         if self.enforces() and not any(os.path.lexists(os.path.join(root, name)) for name in self.root_files()):
             raise Refused(f"unable to resolve root {root}: {FORBIDDEN}")

@@ -10,7 +10,7 @@ ENTERS, LEAVES = "state-enter", "state-leave"
 
 
 class Notice(NamedTuple):
-    """The keys that a client is told. That of a state goes to each subscription of its root, and one of the log to the client."""
+    """The keys that a client gets. The notice of a state goes to each subscription of its root, one of the log to the client."""
 
     root: Optional[str]
     keys: Dict[str, object]

@@ -13,7 +13,7 @@ TELL, HOLD, DROP = "tell", "hold", "drop"
 
 
 class Policy:
-    """What holds lists back: states, and commands of source control."""
+    """States, and commands of source control, that hold lists back."""
 
     def __init__(self, query: Dict[str, object]) -> None:
         self.held_by = names_in(query, "defer")
@@ -38,7 +38,7 @@ class Subscription:
         self.query = {key: value for key, value in query.items() if key != "since"}
         self.lister = lister
         self.policy = policy
-        # For so many seconds nothing may change before a list is told.
+        # For so many seconds nothing may change before the client gets a list.
         self.settle = settle
         self.states: Set[str] = set()
         self.is_paused = False
@@ -51,7 +51,7 @@ class Subscription:
         self.seen: Optional[str] = None
 
     def action(self) -> str:
-        """What becomes of a list now."""
+        """Whether a list goes to the client now, later or never."""
         if self.states & self.policy.dropped_by:
             return DROP
         if self.is_paused or self.states & self.policy.held_by or self.waits_for_source_control():
@@ -66,6 +66,6 @@ class Subscription:
         return self.has_more and not self.is_paused and not self.states & self.policy.held_by
 
     def drop(self, clock: str) -> None:
-        """The client is told nothing up to this clock."""
+        """The client gets no change up to this clock."""
         self.told = clock
         self.has_more = False

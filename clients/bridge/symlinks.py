@@ -23,7 +23,7 @@ class Keeps(Protocol):
 
 
 class Follower:
-    """A client of the server, from the first such root on. It is told of links as a subscription is."""
+    """A client of the server, from the first such root on. It hears of links by a subscription."""
 
     def __init__(self, server: str, configurations: Configurations, keeper: Keeps, say: Callable[[str], None]) -> None:
         self.server = server

@@ -113,7 +113,7 @@ class Teller:
                 self.try_to_tell(subscription)
 
     def try_to_tell(self, subscription: Subscription) -> None:
-        """A root that is watched no longer is told so by the server, in its next line."""
+        """If the root is watched no longer, the next line of the server says so."""
         try:
             self.tell_since(subscription)
         except Refused:

@@ -17,7 +17,7 @@ def trigger(session: Session, command: Command) -> Reply:
     found = registered(given, session.bridge.sockname, session.bridge.configurations.of(root).terms())
     watch_if_needed(session, root)
     if given in listed(session, root):
-        # What is registered already stays, and does not start anew.
+        # A trigger that is registered already stays, and does not start anew.
         return {"triggerid": given["name"], "disposition": "already_defined"}
     return session.ask(["trigger", root, found])
 

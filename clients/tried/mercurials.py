@@ -1,13 +1,18 @@
 """Mercurial with its extension fsmonitor, beside itself without it."""
 
+import json
 import random
 import shutil
 from pathlib import Path
 from typing import Callable, List, Optional
 
-from tried.room import Outcome, Room, outcome
+from tried.room import PATIENCE, Outcome, Room, outcome
+from wqclient.lines import Lines
 
 ROUNDS = 100
+MANY = 500
+# How long nothing comes after a list, in seconds.
+SILENCE = 3.0
 DIRECTORIES = ["", "src", "src/deep", "lib", "doc"]
 STEMS = ["a", "b", "main", "util", "ü", "s p"]
 SUFFIXES = [".c", ".h", ".txt", ".o", ""]
@@ -38,7 +43,7 @@ class Repository:
         return str(Path(draw.choice(DIRECTORIES)) / (draw.choice(STEMS) + draw.choice(SUFFIXES)))
 
     def put(self) -> None:
-        """A file with another text. Nobody is told of one in place of another of the same size and time."""
+        """A file with another text. Nobody sees one in place of another of the same size and time."""
         self.number += 1
         path = self.path()
         if not (self.room.project / path).is_dir():
@@ -98,6 +103,24 @@ class Repository:
             self.draw.choice([self.commit, self.commit, self.update, self.revert])()
 
 
+def lists_of_an_update(room: Room, repository: Repository) -> List[object]:
+    """The notices and lists that come to a subscription during an update of many files, if it holds its lists back meanwhile."""
+    for text in ("one", "two\n"):
+        for number in range(MANY):
+            room.put(f"many/f{number}", text)
+        repository.commit()
+    query = {"fields": ["name"], "expression": ["allof", ["type", "f"], ["dirname", "many"]], "defer": ["hg.update"]}
+    found: List[object] = []
+    with Lines(room.sockname(), PATIENCE) as lines:
+        lines.send_bytes(json.dumps(["subscribe", str(room.project), "s", query]).encode() + b"\n")
+        lines.line(), lines.line()
+        repository.hg("update", "--clean", "-q", ".^")
+        while lines.has_line(SILENCE):
+            value = json.loads(lines.line())
+            found.append(len(value["files"]) if "files" in value else next(key for key in value if key.startswith("state-")))
+    return found
+
+
 def try_mercurial(room: Room) -> Outcome:
     """The same status with the extension and without it, after drawn changes; and its own look at what is installed."""
     repository = Repository(room, random.Random(5))
@@ -111,7 +134,7 @@ def try_mercurial(room: Room) -> Outcome:
         repository.change()
         own, plain = repository.status(), repository.status("--config", "extensions.fsmonitor=!")
         differing += own != plain
-    log = room.watchman("watch-list")["roots"]
+    update = lists_of_an_update(room, repository)
     done = (f"`debuginstall`; the status is the same as without it over {ROUNDS} rounds of drawn edits, renames, deletions, "
-            "directories, `.hgignore`, commit, update and revert")
-    return outcome(done, [*found, differing, log], [True, "no problems detected", 0, [str(room.project)]])
+            f"directories, `.hgignore`, commit, update and revert; an update of {MANY} files comes in one list")
+    return outcome(done, [*found, differing, update], [True, "no problems detected", 0, ["state-enter", "state-leave", MANY]])

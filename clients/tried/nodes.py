@@ -6,7 +6,7 @@ from tried.gits import commit, git
 from tried.room import HERE, Outcome, Room, Running, outcome
 
 COLOURS = re.compile(r"\x1b\[[0-9;]*[A-Za-z]")
-# How often a change is made until it is told.
+# How often a change is made until sane tells it.
 ATTEMPTS = 40
 TOTAL = re.compile(r"Tests: +([0-9]+) passed, ([0-9]+) total")
 
@@ -46,7 +46,7 @@ def try_sane_restarts(room: Room) -> Outcome:
 
 
 def is_told(room: Room, sane: Running, name: str) -> bool:
-    """Whether a change is told. A client that connects anew misses those before, so the file changes until one is."""
+    """Whether sane tells a change. It misses those before it connects anew, so the file changes until it tells one."""
     for attempt in range(ATTEMPTS):
         room.put(name, "x" * (attempt + 1))
         if sane.waits_for(lambda lines: any(line.endswith(f" {name}") for line in lines), 1):

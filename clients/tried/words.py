@@ -59,12 +59,12 @@ COMMANDS: List[List[object]] = [
 
 class Word(NamedTuple):
     name: str
-    # What one of the two answers, in the same words for both.
+    # The answer of one of the two, in the same words for both.
     answer: Callable[[Peer, Path], object]
 
 
 class Heard:
-    """A client that subscribed, and what it is told in each step."""
+    """A client that subscribed, and the files and notices that it gets in each step."""
 
     def __init__(self, peer: Peer, root: Path, query: Dict[str, object]) -> None:
         self.peer = peer

@@ -86,6 +86,22 @@ def check_settings_of_the_system(tally: built.Tally, room: Path) -> None:
         same(tally, "one that may", client.ask("watch", str(trees / "g")).get("watch"), str(trees / "g"))
 
 
+def check_file_systems(tally: built.Tally, room: Path) -> None:
+    """A directory on a file system that the settings forbid may not be watched. Those that are near are all of one name."""
+    root = room.resolve() / "root"
+    root.mkdir()
+    for settings, words in (
+        ({"illegal_fstypes": ["unknown"], "illegal_fstypes_advice": "go away"}, "illegal_fstypes: go away"),
+        ({"illegal_fstypes": ["unknown"]}, "illegal_fstypes: relocate the dir to an allowed filesystem type"),
+        ({"illegal_fstypes": ["nfs", "cifs"]}, None),
+    ):
+        with configured(room, settings) as bridge, bridge.client() as client:
+            error = client.ask("watch", str(root)).get("error")
+            expected = words and (f'unable to resolve root {root}: path uses the "unknown" filesystem and is disallowed by global '
+                                  f"config {words}")
+            same(tally, f"{settings}", error, expected)
+
+
 def configured(room: Path, settings: Dict[str, object]) -> Bridge:
     path = room / "settings.json"
     path.write_text(json.dumps(settings))

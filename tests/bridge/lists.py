@@ -110,17 +110,22 @@ def check_globs_and_case(tally: built.Tally, room: Path) -> None:
         same(tally, "find", sorted(row["name"] for row in client.ask("find", str(root), "*.c", "-X", "a*")["files"]), [])
         found = client.ask("since", str(root), "c:1:1", "d/*.c")
         same(tally, "since", ([row["name"] for row in found["files"]], found["is_fresh_instance"]), (["d/c.c"], True))
-        clock = client.ask("clock", str(root))["clock"]
-        make_files(root, ["new.c", "d/new.c", "d/.new.c"])
-        for query, expected in (
-            ({"glob": ["d/*.c"]}, ["d", "d/.new.c", "d/c.c", "d/new.c", "new.c"]),
-            ({"glob": ["a.c"], "expression": ["suffix", "c"]}, ["a.c", "d/.new.c", "d/new.c", "new.c"]),
-            ({"glob": ["c.c"], "relative_root": "d", "expression": ["suffix", "c"]}, [".new.c", "c.c", "new.c"]),
-        ):
-            same(tally, f"{query} since", names_of(client, root, {**query, "since": clock, "sync_timeout": 1000}), expected)
-        reply = client.ask("query", str(root), {"glob": ["*"], "relative_root": "no"})
-        same(tally, "glob below no directory", reply.get("error"),
-             f"query failed: glob_generator could not resolve {root}/no, check your relative_root parameter!")
+        check_globs_since(tally, root, client)
+
+
+def check_globs_since(tally: built.Tally, root: Path, client: Client) -> None:
+    """Beside a clock a glob gives files that exist, and the clock those that changed."""
+    clock = client.ask("clock", str(root))["clock"]
+    make_files(root, ["new.c", "d/new.c", "d/.new.c"])
+    for query, expected in (
+        ({"glob": ["d/*.c"]}, ["d", "d/.new.c", "d/c.c", "d/new.c", "new.c"]),
+        ({"glob": ["a.c"], "expression": ["suffix", "c"]}, ["a.c", "d/.new.c", "d/new.c", "new.c"]),
+        ({"glob": ["c.c"], "relative_root": "d", "expression": ["suffix", "c"]}, [".new.c", "c.c", "new.c"]),
+    ):
+        same(tally, f"{query} since", names_of(client, root, {**query, "since": clock, "sync_timeout": 1000}), expected)
+    reply = client.ask("query", str(root), {"glob": ["*"], "relative_root": "no"})
+    same(tally, "glob below no directory", reply.get("error"),
+         f"query failed: glob_generator could not resolve {root}/no, check your relative_root parameter!")
 
 
 def check_long_lists(tally: built.Tally, room: Path) -> None:

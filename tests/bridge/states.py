@@ -1,5 +1,6 @@
 """States that clients assert, and lists that they hold back or drop; lists that are flushed, paused, or wait for an end."""
 
+import random
 import time
 from pathlib import Path
 from typing import Dict, List
@@ -9,6 +10,8 @@ from bridged import VERSION, Bridge, is_silent, make_files
 from client import Client, same
 from lists import move_in
 
+# So many files come while lists are held back and let go.
+DRAWS = 60
 NAMES: Dict[str, object] = {"fields": ["name"], "expression": ["type", "f"]}
 
 
@@ -21,7 +24,7 @@ def subscribed(client: Client, root: Path, name: str, query: Dict[str, object]) 
 
 
 def check_states(tally: built.Tally, room: Path) -> None:
-    """A list that a state holds back comes after it, once, and each subscriber is told of the state."""
+    """A list that a state holds back comes after it, once, and each subscriber hears of the state."""
     root = room.resolve() / "root"
     make_files(root, ["a"])
     with Bridge(room) as bridge, bridge.client() as client, bridge.client() as other:
@@ -108,7 +111,7 @@ def check_flushing(tally: built.Tally, room: Path) -> None:
 
 
 def check_source_control(tally: built.Tally, room: Path) -> None:
-    """No list is told while source control holds its lock, unless the subscription does not wait for it."""
+    """No list comes while source control holds its lock, unless the subscription does not wait for it."""
     root = room.resolve() / "root"
     make_files(root, ["a", ".git/HEAD"])
     with Bridge(room) as bridge, bridge.client() as client, bridge.client() as other:
@@ -122,6 +125,42 @@ def check_source_control(tally: built.Tally, room: Path) -> None:
         same(tally, "one that waits", is_silent(client), True)
         (root / ".git" / "index.lock").unlink()
         same(tally, "is told once", client.reply()["files"], ["b.c", "c.c"])
+
+
+def check_each_change_once(tally: built.Tally, room: Path) -> None:
+    """Whatever holds lists back and lets them go, each of the files that came is in one list, and in no other."""
+    root, draw = room.resolve() / "root", random.Random(9)
+    make_files(root, ["first.c", ".git/HEAD"])
+    lock = root / ".git" / "index.lock"
+    with Bridge(room, 20) as bridge, bridge.client() as client, bridge.client() as other:
+        subscribed(client, root, "s", {"defer": ["x"], "expression": ["suffix", "c"]})
+        told: List[str] = []
+
+        def ask(*command: object) -> None:
+            client.send(*command)
+            reply = client.reply()
+            while "unilateral" in reply:
+                told.extend(reply.get("files", []))
+                reply = client.reply()
+
+        steps = [
+            lambda: other.ask("state-enter", str(root), "x"), lambda: other.ask("state-leave", str(root), "x"),
+            lambda: ask("debug-set-subscriptions-paused", {"s": True}), lambda: ask("debug-set-subscriptions-paused", {"s": False}),
+            lambda: ask("flush-subscriptions", str(root), {"sync_timeout": 1000}), lock.touch,
+            lambda: lock.unlink() if lock.exists() else None, lambda: time.sleep(0.03), lambda: time.sleep(0.03),
+        ]
+        names = [f"{number}.c" for number in range(DRAWS)]
+        for name in names:
+            move_in(room / "aside", root, [name])
+            draw.choice(steps)()
+        lock.touch()
+        lock.unlink()
+        other.ask("state-leave", str(root), "x")
+        ask("debug-set-subscriptions-paused", {"s": False})
+        ask("flush-subscriptions", str(root), {"sync_timeout": 1000})
+        is_silent(client)
+        ask("version")
+        same(tally, f"{DRAWS} files, each told once", sorted(told), sorted(names))
 
 
 def check_settling(tally: built.Tally, room: Path) -> None:
