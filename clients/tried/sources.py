@@ -18,6 +18,8 @@ def fetched(package: str, room: Path) -> Path:
         (room / name).mkdir(parents=True)
     options = options_of(room)
     run(["apt-get", *options, "update"], room)
+    if not any((room / "lists").glob("*Sources*")):
+        raise NoSource(f"the index of sources at {SERVER} cannot be fetched")
     # A part of a package may be gone from the server; the one that is wanted tells.
     try:
         run(["apt-get", *options, "source", "--download-only", package], room / "source")

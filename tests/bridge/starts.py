@@ -91,7 +91,7 @@ def check_the_quick_command(tally: built.Tally, room: Path) -> None:
     home = str(COMMAND.parent)
 
     def said(words: List[str], path: str) -> bytes:
-        environment = {**os.environ, "WATCHMAN_SOCK": bridge.sockname, "PATH": path}
+        environment = {**os.environ, "WATCHMAN_SOCK": bridge.sockname, "WQD_SOCK": bridge.server.sockname, "PATH": path}
         return subprocess.run(words, env=environment, stdout=subprocess.PIPE, stderr=subprocess.DEVNULL, timeout=PATIENCE).stdout
 
     def quick(*words: str) -> bytes:
