@@ -1,10 +1,11 @@
-"""The script at the top of the repository that asks a server of its own."""
+"""`./wq ask`, which starts a server of its own at the socket that it is told, and hands lines to it."""
 
+import contextlib
 import json
 import os
 import subprocess
 from pathlib import Path
-from typing import List
+from typing import Dict, Iterator, List
 
 import built
 from client import PATIENCE, VERSION, same
@@ -14,14 +15,23 @@ from gone import fill_directory
 FILES = 10_000
 LINES = 15
 LINE_BYTES = 100_000
+WQ = str(built.TOP / "wq")
+# The status of a command whose output nobody reads, as a shell has it of SIGPIPE.
+BROKEN_PIPE = 141
+
+
+@contextlib.contextmanager
+def environment(room: Path) -> Iterator[Dict[str, str]]:
+    """The variables of commands that share a server, which is ended after them."""
+    found = {**os.environ, "WQD": str(built.program_path()), "WQD_SOCK": str(room / "asked.socket"), "XDG_STATE_HOME": str(room)}
+    try:
+        yield found
+    finally:
+        subprocess.run([WQ, "stop"], env=found, stderr=subprocess.DEVNULL, timeout=PATIENCE)
 
 
 def command(directory: Path, *lines: str) -> List[str]:
-    return [str(built.TOP / "ask"), str(directory), *lines]
-
-
-def environment() -> dict:
-    return {**os.environ, "WQD": str(built.program_path())}
+    return [WQ, "ask", json.dumps(["watch", str(directory)]), *lines]
 
 
 def query_line(directory: Path, query: dict) -> str:
@@ -29,12 +39,15 @@ def query_line(directory: Path, query: dict) -> str:
 
 
 def check_ask(tally: built.Tally, room: Path) -> None:
-    (room / "a.c").touch()
-    line = query_line(room, {"fields": ["name"]})
-    ended = subprocess.run(command(room, line), stdout=subprocess.PIPE, env=environment(), timeout=PATIENCE)
+    root = room / "tree"
+    root.mkdir()
+    (root / "a.c").touch()
+    line = query_line(root, {"fields": ["name"]})
+    with environment(room) as variables:
+        ended = subprocess.run(command(root, line), stdout=subprocess.PIPE, env=variables, timeout=PATIENCE)
     replies = [json.loads(reply) for reply in ended.stdout.splitlines()]
     same(tally, "ask ends well", ended.returncode, 0)
-    same(tally, "ask watches", replies[0], {"watch": str(room), "watcher": "poll", **VERSION})
+    same(tally, "ask watches", replies[0], {"watch": str(root), "watcher": "poll", **VERSION})
     same(tally, "ask tells the files", [reply["files"] for reply in replies[1:]], [["a.c"]])
 
 
@@ -43,18 +56,22 @@ def check_ask_much(tally: built.Tally, room: Path) -> None:
     root = room / "tree"
     fill_directory(root, FILES)
     line = query_line(root, {"fields": ["name", "size"]}).ljust(LINE_BYTES)
-    ended = subprocess.run(command(root, *[line] * LINES), stdout=subprocess.PIPE, env=environment(), timeout=PATIENCE)
+    with environment(room) as variables:
+        ended = subprocess.run(command(root, *[line] * LINES), stdout=subprocess.PIPE, env=variables, timeout=PATIENCE)
     counts = [len(json.loads(reply).get("files", [])) for reply in ended.stdout.splitlines()]
     same(tally, "many long replies", (ended.returncode, counts), (0, [0] + [FILES] * LINES))
 
 
 def check_ask_that_fails(tally: built.Tally, room: Path) -> None:
-    """Where nobody reads the replies the script fails, and its server ends too: nobody holds its standard error then."""
+    """If nobody reads the replies the command fails without a word of its own, and the server that it started stays."""
     nobody, output = os.pipe()
     os.close(nobody)
-    ended = subprocess.run(
-        command(room, '["version"]'), stdout=output, stderr=subprocess.PIPE, env=environment(), timeout=PATIENCE
-    )
-    os.close(output)
-    tally.check("ask fails where nobody reads", ended.returncode != 0)
-    tally.check("its server did listen", b"listening on" in ended.stderr, [built.excerpt(ended.stderr)])
+    with environment(room) as variables:
+        ended = subprocess.run(
+            command(room, '["version"]'), stdout=output, stderr=subprocess.PIPE, env=variables, timeout=PATIENCE
+        )
+        os.close(output)
+        same(tally, "ask fails if nobody reads", ended.returncode, BROKEN_PIPE)
+        tally.check("it tells of its server alone", ended.stderr.count(b"\n") == 1, [built.excerpt(ended.stderr)])
+        again = subprocess.run([WQ, "ask", '["version"]'], stdout=subprocess.PIPE, env=variables, timeout=PATIENCE)
+        same(tally, "its server stays", json.loads(again.stdout), VERSION)
