@@ -1,6 +1,7 @@
 //! The filter on several threads. Workers draw pieces, and the collector puts together what they
 //! kept.
-ghost use Rattle.std.specs.Prelude.{◌≡◌, ◌<◌, ◌≤◌, All, IfOk, filter, length};
+ghost use Rattle.std.specs.Prelude.{◌≡◌, ◌<◌, ◌≤◌, ◌∷◌, [], All, IfOk, filter, length};
+ghost use Rattle.std.specs.Thread.{IsSync};
 ghost use Rattle.wq_eval.specs.Answer.{says_yes};
 ghost use Rattle.wq_base.specs.Limit.{AreFew};
 ghost use Rattle.wq_eval.specs.Piece.{AreRight, AreSound};
@@ -12,14 +13,13 @@ use crate::gate::Gate;
 use crate::piece::{Done, Pieces};
 use std::alloc::{AllocError, Global};
 use std::sync::atomic::{AtomicU64, Ordering};
-use std::thread;
-use std::thread::Threads;
+use std::thread::{Threads, join};
 use wq_verify::Program;
 use wq_view::View;
 
 /// The positions that [`filter`](crate::filter) gives, found by up to so many threads. Each takes
 /// pieces of so many positions until none is left, and calls the gate as it begins one.
-pub fn filter_workers<R: Threads + Sync, G: Gate + Sync>(
+pub fn filter_workers<R: Threads, G: Gate + Sync>(
     rt: &R,
     alloc: Global,
     gate: &G,
@@ -43,13 +43,39 @@ pub fn filter_workers<R: Threads + Sync, G: Gate + Sync>(
         size: piece,
     };
     let drawn = AtomicU64::new(0);
-    let done = thread::map_indices(
-        rt,
-        alloc,
-        workers as usize,
-        &|_| { work(alloc, gate, &drawn, &pieces) },
-    )?;
+    let done = drawn_by(rt, alloc, gate, &drawn, &pieces, workers)?;
     collect(alloc, &pieces, done)
+}
+
+/// The pieces that so many threads draw and evaluate, this one among them: a list of each thread.
+#[cycle(threads)]
+fn drawn_by<R: Threads, G: Gate + Sync>(
+    rt: &R,
+    alloc: Global,
+    gate: &G,
+    drawn: &AtomicU64,
+    pieces: &Pieces<'_>,
+    threads: u32,
+) -> Result<Vec<Vec<Done>>, AllocError>
+    requires { AreSound pieces.now }
+    ensures { IfOk result (λ lists. All (λ list. AreRight pieces.now list.items) lists.items) }
+{
+    if threads <= 1 {
+        return Ok(vec![in alloc; work(alloc, gate, drawn, pieces)]?);
+    }
+    let left = threads - 1;
+    let other = || -> Vec<Done>
+        requires { AreSound pieces.now }
+        ensures { AreRight pieces.entry.now result.items }
+    { work(alloc, gate, drawn, pieces) };
+    let this = || -> Result<Vec<Vec<Done>>, AllocError>
+        requires { IsSync G.row × AreSound pieces.now × 1 ≤ left }
+        ensures { IfOk result (λ lists. All (λ list. AreRight pieces.entry.now list.items) lists.items) }
+    { drawn_by(rt, alloc, gate, drawn, pieces, left) };
+    let (others, mine) = join(rt, other, this);
+    let mut lists = mine?;
+    lists.push(others)?;
+    Ok(lists)
 }
 
 /// Draws pieces as long as there are some, and evaluates them. If memory runs out it stops, and

@@ -13,6 +13,7 @@ ghost use Rattle.wq_query.specs.Listing.{AreWithin, files_of};
 ghost use Rattle.wq_query.specs.Printing.{Appends, IsFormOf, Prints};
 ghost use Rattle.wq_query.specs.Query.{planned};
 
+use crate::crew::Alone;
 use crate::field::Field;
 use crate::form::Form;
 use crate::listing::listed;
@@ -47,7 +48,7 @@ impl Plan {
         ensures files { IfOk result (λ places. records_at view.now.records places.items
             ≡ files_of (planned self.now) view.now.records) }
     {
-        listed(alloc, self, view)
+        listed(&Alone {}, alloc, self, view)
     }
 }
 

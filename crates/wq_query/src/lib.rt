@@ -2,7 +2,7 @@
 //! reply. Neither the choice of a root nor a crawl of it before the answer is described here.
 #![tactic(auto)]
 
-mod evaluating;
+mod crew;
 mod fault;
 mod field;
 mod following;
@@ -20,10 +20,11 @@ mod room;
 mod rows;
 mod subscribing;
 
+pub use crew::{Alone, Crew, Several};
 pub use fault::QueryFault;
 pub use field::Field;
 pub use following::{files_text, print_list};
 pub use law::{subscriptions_are_plain, values_ask_what_they_write};
 pub use query::{Plan, Query};
 pub use reading::{flag, some_fields};
-pub use reply::{answer, answer_bytes, answer_workers};
+pub use reply::{answer, answer_bytes};

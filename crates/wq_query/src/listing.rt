@@ -1,6 +1,5 @@
 //! The files that a plan lists: candidates for which its program answers yes.
 ghost use Rattle.std.specs.Prelude.{◌≡◌, ◌≤◌, IfOk, filter, length};
-ghost use Rattle.wq_base.specs.Limit.{AreFew};
 ghost use Rattle.wq_gen.specs.Candidate.{is_candidate};
 ghost use Rattle.wq_view.specs.Limit.{max_records};
 ghost use Rattle.wq_view.specs.Position.{passes_at, positions_of, records_at};
@@ -8,39 +7,20 @@ ghost use Rattle.wq_query.specs.Listing.{AreWithin, files_of, generators_of};
 ghost use Rattle.wq_query.specs.Listing.{lists_nothing, is_listed, is_match, is_new};
 ghost use Rattle.wq_query.specs.Query.{planned};
 
-use crate::evaluating::evaluate;
+use crate::crew::Crew;
 use crate::query::Plan;
 use std::alloc::{AllocError, Global};
-use std::thread::Threads;
 use wq_clock::Bound;
-use wq_eval::{Gate, filter};
 use wq_gen::{Generators, candidates};
 use wq_view::{Record, View, positions_are_there, positions_filter};
 
-/// The places of the files that the plan lists, in the view's order.
-pub(crate) fn listed(alloc: Global, plan: &Plan, view: &View) -> Result<Vec<u32>, AllocError>
-    ensures within { IfOk result (λ places. AreWithin view.now.records places.items) }
-    ensures files { IfOk result (λ places. records_at view.now.records places.items
-        ≡ files_of (planned plan.now) view.now.records) }
-{
-    if is_empty(plan) {
-        return Ok(Vec::new(alloc));
-    }
-    positions_filter();
-    positions_are_there();
-    listed_places(alloc, plan, view, matching(alloc, plan, view)?)
-}
-
-/// The places that [`listed`] gives, found by up to so many threads.
-pub(crate) fn listed_workers<R: Threads + Sync, G: Gate + Sync>(
-    rt: &R,
+/// The places of the files that the plan lists, in the view's order, found by a crew.
+pub(crate) fn listed<C: Crew>(
+    crew: &C,
     alloc: Global,
-    gate: &G,
-    workers: u32,
     plan: &Plan,
     view: &View,
 ) -> Result<Vec<u32>, AllocError>
-    requires { AreFew workers }
     ensures within { IfOk result (λ places. AreWithin view.now.records places.items) }
     ensures count { IfOk result (λ places. length places.items ≤ max_records) }
     ensures files { IfOk result (λ places. records_at view.now.records places.items
@@ -53,8 +33,7 @@ pub(crate) fn listed_workers<R: Threads + Sync, G: Gate + Sync>(
     view.len();
     positions_filter();
     positions_are_there();
-    let matching = matching_workers(rt, alloc, gate, workers, plan, view)?;
-    listed_places(alloc, plan, view, matching)
+    listed_places(alloc, plan, view, matching(crew, alloc, plan, view)?)
 }
 
 /// The places of the files that pass the plan's filter, even if the plan is to list nothing. `places`
@@ -79,29 +58,17 @@ fn listed_places(
 }
 
 /// The places of the candidates for which the program of the plan answers yes.
-fn matching(alloc: Global, plan: &Plan, view: &View) -> Result<Vec<u32>, AllocError>
-    ensures { IfOk result (λ places. places.items
-        ≡ positions_of (is_match (planned plan.now)) view.now.records) }
-{
-    let places = candidates_of(alloc, plan, view)?;
-    filter(alloc, &plan.program, view, &places)
-}
-
-/// The places that [`matching`] gives, found by up to so many threads.
-fn matching_workers<R: Threads + Sync, G: Gate + Sync>(
-    rt: &R,
+fn matching<C: Crew>(
+    crew: &C,
     alloc: Global,
-    gate: &G,
-    workers: u32,
     plan: &Plan,
     view: &View,
 ) -> Result<Vec<u32>, AllocError>
-    requires { AreFew workers }
     ensures { IfOk result (λ places. places.items
         ≡ positions_of (is_match (planned plan.now)) view.now.records) }
 {
     let places = candidates_of(alloc, plan, view)?;
-    evaluate(rt, alloc, gate, workers, &plan.program, view, &places)
+    crew.filter(alloc, &plan.program, view, &places)
 }
 
 /// The places of the plan's candidates.

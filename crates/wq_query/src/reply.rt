@@ -15,10 +15,10 @@ ghost use Rattle.wq_view.specs.Position.{records_at};
 ghost use Rattle.wq_query.specs.Reply.{field_data, file_data, reply_of};
 ghost use Rattle.wq_query.specs.Rows.{end_text, rows_data, start_text};
 
-use crate::evaluating::workers_for;
+use crate::crew::{Alone, Crew};
 use crate::field::Field;
 use crate::form::Form;
-use crate::listing::{is_new, listed, listed_workers};
+use crate::listing::{is_new, listed};
 use crate::printing::print_reply;
 use crate::query::Plan;
 use crate::room::{room_of, with_room};
@@ -29,7 +29,6 @@ use std::alloc::{AllocError, Global};
 use std::thread::Threads;
 use wq_base::{MAX_NUMBER, VERSION};
 use wq_clock::{Bound, Instance, print};
-use wq_eval::Gate;
 use wq_view::{Kind, Record, View};
 
 /// The reply to a query at a view: its clock, the listed files in the view's order, and whether the
@@ -43,7 +42,7 @@ pub fn answer(
     ensures { IfOk result (λ v. data_of v
         ≡ reply_of (planned plan.now) (instance_data instance.now) view.now) }
 {
-    let places = listed(alloc, plan, view)?;
+    let places = listed(&Alone {}, alloc, plan, view)?;
     let files = Value::Array(files(alloc, plan, instance, view, &places)?);
     let clock = print(instance, view.tick());
     json!(in alloc; {
@@ -54,8 +53,10 @@ pub fn answer(
     })
 }
 
-/// The text of the reply: compact JSON, with its keys in byte order and without a newline.
-pub fn answer_bytes(
+/// The text of the reply: compact JSON, with its keys in byte order and without a newline. A crew finds its files and
+/// prints it.
+pub fn answer_bytes<C: Crew>(
+    crew: &C,
     alloc: Global,
     plan: &Plan,
     instance: &Instance,
@@ -64,34 +65,12 @@ pub fn answer_bytes(
     ensures { IfOk result (λ text. text.items
         ≡ compact_text (reply_of (planned plan.now) (instance_data instance.now) view.now)) }
 {
-    let places = listed(alloc, plan, view)?;
-    text_of(alloc, plan, instance, view, &places)
-}
-
-/// The text that [`answer_bytes`] gives. Up to so many threads find its files: each takes
-/// pieces of 1,024 candidates, and calls the gate as it begins one.
-///
-/// If there are fewer than 16,384 candidates it starts no thread, and it never uses more threads than
-/// one for four pieces.
-pub fn answer_workers<R: Threads + Sync, G: Gate + Sync>(
-    rt: &R,
-    alloc: Global,
-    gate: &G,
-    workers: u32,
-    plan: &Plan,
-    instance: &Instance,
-    view: &View,
-) -> Result<Vec<u8>, AllocError>
-    requires { AreFew workers }
-    ensures { IfOk result (λ text. text.items
-        ≡ compact_text (reply_of (planned plan.now) (instance_data instance.now) view.now)) }
-{
-    let places = listed_workers(rt, alloc, gate, workers, plan, view)?;
-    text_of_workers(rt, alloc, workers, plan, instance, view, &places)
+    let places = listed(crew, alloc, plan, view)?;
+    crew.print(alloc, plan, instance, view, &places)
 }
 
 /// The text of the reply that lists the files at these places.
-fn text_of(
+pub(crate) fn text_of(
     alloc: Global,
     plan: &Plan,
     instance: &Instance,
@@ -112,17 +91,17 @@ fn text_of(
     Ok(text)
 }
 
-/// The text that [`text_of`] gives, printed by up to so many threads.
-fn text_of_workers<R: Threads + Sync>(
+/// The text that [`text_of`] gives, printed by so many threads.
+pub(crate) fn text_by_several<R: Threads>(
     rt: &R,
     alloc: Global,
-    workers: u32,
+    threads: u32,
     plan: &Plan,
     instance: &Instance,
     view: &View,
     places: &[u32],
 ) -> Result<Vec<u8>, AllocError>
-    requires workers { AreFew workers }
+    requires threads { AreFew threads }
     requires within { AreWithin view.now.records places.now }
     requires count { length places.now ≤ max_records }
     requires files { records_at view.now.records places.now
@@ -130,10 +109,6 @@ fn text_of_workers<R: Threads + Sync>(
     ensures { IfOk result (λ text. text.items
         ≡ compact_text (reply_of (planned plan.now) (instance_data instance.now) view.now)) }
 {
-    let pieces = workers_for(workers, places.len());
-    if pieces == 1 {
-        return text_of(alloc, plan, instance, view, places);
-    }
     let form = Form::of(alloc, &plan.query.fields)?;
     let rows = Rows {
         form: &form,
@@ -141,13 +116,13 @@ fn text_of_workers<R: Threads + Sync>(
         bound: plan.bound,
         view,
         places,
-        size: size_for(places, pieces),
+        size: size_for(places, threads),
     };
-    text_in_pieces(rt, alloc, pieces, &rows)
+    text_in_pieces(rt, alloc, threads, &rows)
 }
 
 /// The text of the reply with these rows, each piece of which is printed by a thread of its own.
-fn text_in_pieces<R: Threads + Sync>(
+fn text_in_pieces<R: Threads>(
     rt: &R,
     alloc: Global,
     pieces: u32,

@@ -17,8 +17,7 @@ use crate::printing::print_files;
 use crate::room::{room_of, with_room};
 use json::Writer;
 use std::alloc::{AllocError, Global};
-use std::thread;
-use std::thread::Threads;
+use std::thread::{Threads, join};
 use wq_clock::{Bound, Instance};
 use wq_eval::piece_of;
 use wq_view::View;
@@ -99,7 +98,7 @@ pub(crate) fn put_end(text: &mut Vec<u8>, fresh: bool) -> Result<(), AllocError>
 }
 
 /// Prints the list of the rows, in so many pieces, each by a thread of its own.
-pub(crate) fn put_list<R: Threads + Sync>(
+pub(crate) fn put_list<R: Threads>(
     text: &mut Vec<u8>,
     rt: &R,
     alloc: Global,
@@ -117,9 +116,10 @@ pub(crate) fn put_list<R: Threads + Sync>(
     put_brackets(text, start)
 }
 
-/// The pieces, each printed by a thread of its own. A piece is missing if memory ran out in its
-/// thread.
-fn print_pieces<R: Threads + Sync>(
+/// The first pieces, of which this thread prints the first and a thread of its own each other one. A piece is missing if
+/// memory ran out in its thread.
+#[cycle(threads)]
+fn print_pieces<R: Threads>(
     rt: &R,
     alloc: Global,
     rows: &Rows<'_>,
@@ -128,20 +128,22 @@ fn print_pieces<R: Threads + Sync>(
     requires { AreWithin rows.now.view.now.records rows.now.places.now }
     ensures { IfOk result (λ all. All (λ one. IfOk one (IsPrinted rows.now)) all.items) }
 {
-    thread::map_indices(
-        rt,
-        alloc,
-        pieces as usize,
-        &|number| { print_numbered(alloc, rows, number) },
-    )
-}
-
-/// Prints the piece of this number.
-fn print_numbered(alloc: Global, rows: &Rows<'_>, number: usize) -> Result<Printed, AllocError>
-    requires { AreWithin rows.now.view.now.records rows.now.places.now }
-    ensures { IfOk result (IsPrinted rows.now) }
-{
-    rows.print(alloc, u32::try_from(number).unwrap_or(u32::MAX))
+    if pieces <= 1 {
+        return Ok(vec![in alloc; rows.print(alloc, 0)]?);
+    }
+    let left = pieces - 1;
+    let other = || -> Result<Printed, AllocError>
+        requires { AreWithin rows.now.view.now.records rows.now.places.now }
+        ensures { IfOk result (IsPrinted rows.entry.now) }
+    { rows.print(alloc, left) };
+    let this = || -> Result<Vec<Result<Printed, AllocError>>, AllocError>
+        requires { AreWithin rows.now.view.now.records rows.now.places.now × 1 ≤ left }
+        ensures { IfOk result (λ all. All (λ one. IfOk one (IsPrinted rows.entry.now)) all.items) }
+    { print_pieces(rt, alloc, rows, left) };
+    let (last, first) = join(rt, other, this);
+    let mut all = first?;
+    all.push(last)?;
+    Ok(all)
 }
 
 /// Appends the rows of all pieces, in their order.

@@ -16,6 +16,7 @@ ghost use Rattle.wq_replay.specs.Gets.{kept};
 use crate::client::Client;
 use std::alloc::{AllocError, Global};
 use wq_follow::{Subscription, Trigger};
+use wq_query::Alone;
 use wq_registry::Shelf;
 use wq_session::{Ask, At, Out, Session};
 
@@ -35,7 +36,7 @@ pub(crate) fn answer(
 {
     clients.reserve(1)?;
     let mut session = take_out(clients, alloc, number);
-    let out = session.on(alloc, ask, at, shelf);
+    let out = session.on(&Alone {}, alloc, ask, at, shelf);
     if out.goes_on() {
         put_back(clients, number, session);
     }

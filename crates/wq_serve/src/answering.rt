@@ -16,7 +16,6 @@ ghost use Rattle.wq_session.specs.Prepared.{IsPrepared, asked, asked_at};
 ghost use Rattle.wq_session.specs.Work.{work_data};
 
 use crate::client::Client;
-use crate::crew::Crew;
 use crate::desk::Desk;
 use crate::looking::{SharedAt, look_for, number_for, share_for};
 use crate::turn::Turn;
@@ -24,13 +23,13 @@ use std::alloc::Global;
 use std::thread::Threads;
 use wq_clock::Instance;
 use wq_crawl::{CrawlFault, Roots};
-use wq_eval::OpenGate;
 use wq_live::{Named, Seat, Told};
+use wq_query::Several;
 use wq_session::{Ask, At, Need, Out, Prepared, Refusal, Work};
 
 /// Meets the need of an ask, and answers it.
-pub(crate) fn answer<T: Threads + Sync, N: Named, R: Roots<N>, D: Desk>(
-    crew: &Crew<'_, T>,
+pub(crate) fn answer<T: Threads, N: Named, R: Roots<N>, D: Desk>(
+    crew: &Several<'_, T>,
     client: &mut Client,
     ask: Ask,
     seat: Seat<N>,
@@ -70,8 +69,8 @@ fn watch<N: Named, R: Roots<N>>(roots: &mut R, root: &str) -> Result<Option<Told
 
 /// Answers an ask at a root, or at none. The shelf is held while the ask is taken, and not while it is finished.
 #[tactic(auto, using(crate::proofs::Held::held_finish))]
-fn hold<T: Threads + Sync, D: Desk>(
-    crew: &Crew<'_, T>,
+fn hold<T: Threads, D: Desk>(
+    crew: &Several<'_, T>,
     client: &mut Client,
     ask: Ask,
     at: Option<At<'_>>,
@@ -82,10 +81,7 @@ fn hold<T: Threads + Sync, D: Desk>(
     ensures run { client.new.run ≡ client.old.run }
 {
     let work = take(client.alloc, ask, at, desk);
-    let (gate, rt, count) = (OpenGate {}, crew.rt, crew.workers.count);
-    let mut out = client
-        .session
-        .finish_workers(rt, client.alloc, &gate, count, work, at);
+    let mut out = client.session.finish(crew, client.alloc, work, at);
     if let Some(cursor) = client.session.settle(&mut out) {
         desk.unset(cursor);
     }
@@ -124,8 +120,8 @@ fn prepare<'a, D: Desk>(alloc: Global, ask: Ask, at: Option<At<'a>>, desk: &mut 
 ///
 /// The look ends before the shelf is held. A share of the root's view outlives it, so that no publish waits while a
 /// reply is made. If there is no share, the look is open for as long as that takes.
-fn look_and_hold<T: Threads + Sync, N: Named, D: Desk>(
-    crew: &Crew<'_, T>,
+fn look_and_hold<T: Threads, N: Named, D: Desk>(
+    crew: &Several<'_, T>,
     client: &mut Client,
     ask: Ask,
     seat: Seat<N>,
@@ -151,8 +147,8 @@ fn look_and_hold<T: Threads + Sync, N: Named, D: Desk>(
 }
 
 /// Answers an ask at a root with a share of its view, or at none.
-fn hold_shared<T: Threads + Sync, D: Desk>(
-    crew: &Crew<'_, T>,
+fn hold_shared<T: Threads, D: Desk>(
+    crew: &Several<'_, T>,
     client: &mut Client,
     ask: Ask,
     shared: Option<SharedAt>,
@@ -169,8 +165,8 @@ fn hold_shared<T: Threads + Sync, D: Desk>(
 }
 
 /// Answers an ask after the roots told this.
-fn learn_and_hold<T: Threads + Sync, N: Named, D: Desk>(
-    crew: &Crew<'_, T>,
+fn learn_and_hold<T: Threads, N: Named, D: Desk>(
+    crew: &Several<'_, T>,
     client: &mut Client,
     ask: Ask,
     seat: Seat<N>,
@@ -191,8 +187,8 @@ fn learn_and_hold<T: Threads + Sync, N: Named, D: Desk>(
 }
 
 /// Unwatches the root that an ask needs, if it is shown, and answers the ask at its number.
-fn unwatch_and_hold<T: Threads + Sync, N: Named, R: Roots<N>, D: Desk>(
-    crew: &Crew<'_, T>,
+fn unwatch_and_hold<T: Threads, N: Named, R: Roots<N>, D: Desk>(
+    crew: &Several<'_, T>,
     client: &mut Client,
     ask: Ask,
     seat: Seat<N>,
@@ -216,8 +212,8 @@ fn unwatch_and_hold<T: Threads + Sync, N: Named, R: Roots<N>, D: Desk>(
 }
 
 /// Answers an ask at the number of a root, after its end was told.
-fn hold_at_end<T: Threads + Sync, N: Named, D: Desk>(
-    crew: &Crew<'_, T>,
+fn hold_at_end<T: Threads, N: Named, D: Desk>(
+    crew: &Several<'_, T>,
     client: &mut Client,
     ask: Ask,
     seat: Seat<N>,

@@ -8,7 +8,6 @@
 
 mod answering;
 mod client;
-mod crew;
 mod desk;
 mod idling;
 mod inbox;

@@ -8,7 +8,6 @@ ghost use Rattle.wq_stream.specs.declared.event.Event.{Event};
 
 use crate::answering::answer;
 use crate::client::Client;
-use crate::crew::Crew;
 use crate::desk::Desk;
 use crate::idling::idle;
 use crate::inbox::Inbox;
@@ -20,6 +19,7 @@ use wq_base::Workers;
 use wq_clock::Run;
 use wq_crawl::Roots;
 use wq_live::{Named, Seat};
+use wq_query::Several;
 use wq_session::{Ask, Out, Session};
 use wq_stream::Event;
 
@@ -52,7 +52,7 @@ pub struct Ended<N: Named> {
 /// the reply is made.
 ///
 /// It ends if the client has gone, after a line that ends a session, if the writer fails, and after 2^62 events.
-pub fn serve<T: Threads + Sync, N: Named, I: Inbox, W: Write, R: Roots<N>, D: Desk>(
+pub fn serve<T: Threads, N: Named, I: Inbox, W: Write, R: Roots<N>, D: Desk>(
     rt: &T,
     alloc: Global,
     run: Run,
@@ -70,7 +70,7 @@ pub fn serve<T: Threads + Sync, N: Named, I: Inbox, W: Write, R: Roots<N>, D: De
         (record { shut = result.shut; fault = result.fault }) }
 {
     let count = roots.workers();
-    let crew = Crew {
+    let crew = Several {
         rt,
         workers: Workers { count },
     };
@@ -107,8 +107,8 @@ pub fn serve<T: Threads + Sync, N: Named, I: Inbox, W: Write, R: Roots<N>, D: De
 }
 
 /// Takes the next event, and answers it.
-fn take_event<T: Threads + Sync, N: Named, I: Inbox, R: Roots<N>, D: Desk>(
-    crew: &Crew<'_, T>,
+fn take_event<T: Threads, N: Named, I: Inbox, R: Roots<N>, D: Desk>(
+    crew: &Several<'_, T>,
     client: &mut Client,
     inbox: &mut I,
     seat: Seat<N>,

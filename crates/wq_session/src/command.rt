@@ -33,7 +33,7 @@ use crate::root::RootText;
 use crate::work::Work;
 use clock::{ask_clock, begin_clock};
 use program::{ask_add, ask_delete, ask_names, begin_add, begin_delete, begin_names};
-pub(crate) use query::{listed, listed_workers};
+pub(crate) use query::listed;
 use query::{ask_query, begin_query};
 use serde_json::Value;
 use server::{ask_shutdown, ask_socket, ask_version, begin_socket};

@@ -1,7 +1,6 @@
 //! A session's step, in three parts: the first needs the state that all clients share, the second only the view and the
 //! session's own state. The third unsets a cursor if memory ran out in the second.
 ghost use Rattle.std.specs.Prelude.{◌≡◌, [], Some, map, option_map};
-ghost use Rattle.wq_base.specs.Limit.{AreFew};
 ghost use Rattle.wq_clock.specs.Instance.{instance_data};
 ghost use Rattle.wq_follow.specs.Followed.{subscription_data};
 ghost use Rattle.wq_query.specs.Query.{planned};
@@ -14,18 +13,16 @@ ghost use Rattle.wq_session.specs.Work.{evaluates, work_data};
 
 use crate::ask::Ask;
 use crate::at::At;
-use crate::command::{listed, listed_workers, tried};
+use crate::command::{listed, tried};
 use crate::cursor::Cursor;
 use crate::outcome::Out;
 use crate::prepared::Prepared;
 use crate::shelving::unset_cursor;
 use crate::work::Work;
 use std::alloc::Global;
-use std::thread::Threads;
 use wq_clock::Instance;
-use wq_eval::Gate;
 use wq_follow::{Subscription, Trigger};
-use wq_query::Plan;
+use wq_query::{Crew, Plan};
 use wq_registry::Shelf;
 use wq_view::View;
 
@@ -52,12 +49,18 @@ impl Session {
         self.subscriptions.as_slice()
     }
 
-    /// The part of an answer that does not hold the shelf: it lists the files and makes the text. The session keeps a
+    /// The part of an answer that does not hold the shelf: a crew lists the files and makes the text. The session keeps a
     /// subscription once its first list is made, or ends it. The root is the one that the ask was
     /// [prepared](crate::Ask::prepare) at.
     ///
     /// If memory runs out, the output says so, and the subscriptions stay.
-    pub fn finish(&mut self, alloc: Global, work: Work, at: Option<At<'_>>) -> Out
+    pub fn finish<C: Crew>(
+        &mut self,
+        crew: &C,
+        alloc: Global,
+        work: Work,
+        at: Option<At<'_>>,
+    ) -> Out
         requires { CanFinish (work_data work) (option_map at_data at) }
         ensures { Finishes (work_data work) (option_map at_data at.entry) (follows_of self.old)
             result (follows_of self.new) }
@@ -73,7 +76,7 @@ impl Session {
                         instance,
                         view: Some(view),
                     },
-                ) => self.list(alloc, &plan, cursor, &instance, view),
+                ) => self.list(crew, alloc, &plan, cursor, &instance, view),
                 _ => unreachable!(),
             },
             Work::Begins(subscription) => match at {
@@ -89,39 +92,10 @@ impl Session {
         }
     }
 
-    /// Finishes the work as [`finish`](Session::finish) does. If it lists files, up to so many threads find them, and each
-    /// calls the gate as it begins a piece of the candidates.
-    pub fn finish_workers<R: Threads + Sync, G: Gate + Sync>(
-        &mut self,
-        rt: &R,
-        alloc: Global,
-        gate: &G,
-        workers: u32,
-        work: Work,
-        at: Option<At<'_>>,
-    ) -> Out
-        requires workers { AreFew workers }
-        requires work { CanFinish (work_data work) (option_map at_data at) }
-        ensures { Finishes (work_data work) (option_map at_data at.entry) (follows_of self.old)
-            result (follows_of self.new) }
-    {
-        match work {
-            Work::Evaluates(plan, cursor) => match at {
-                Some(
-                    At {
-                        instance,
-                        view: Some(view),
-                    },
-                ) => self.list_workers(rt, alloc, gate, workers, &plan, cursor, &instance, view),
-                _ => unreachable!(),
-            },
-            work => self.finish(alloc, work, at),
-        }
-    }
-
-    /// The listing of the files of a plan, of a root with this view. The subscriptions stay.
-    fn list(
+    /// The listing of the files of a plan, of a root with this view, by a crew. The subscriptions stay.
+    fn list<C: Crew>(
         &self,
+        crew: &C,
         alloc: Global,
         plan: &Plan,
         cursor: Option<Cursor>,
@@ -132,27 +106,7 @@ impl Session {
             (Some (record { instance = instance_data instance.now; view = Some view.now }))
             (follows_of self.now) result (follows_of self.now) }
     {
-        listed(alloc, plan, cursor, instance, view)
-    }
-
-    /// Lists the files of a plan as [`list`](Session::list) does. Up to so many threads find them.
-    fn list_workers<R: Threads + Sync, G: Gate + Sync>(
-        &self,
-        rt: &R,
-        alloc: Global,
-        gate: &G,
-        workers: u32,
-        plan: &Plan,
-        cursor: Option<Cursor>,
-        instance: &Instance,
-        view: &View,
-    ) -> Out
-        requires { AreFew workers }
-        ensures { Finishes (evaluates (planned plan.now) cursor)
-            (Some (record { instance = instance_data instance.now; view = Some view.now }))
-            (follows_of self.now) result (follows_of self.now) }
-    {
-        listed_workers(rt, alloc, gate, workers, plan, cursor, instance, view)
+        listed(crew, alloc, plan, cursor, instance, view)
     }
 
     /// The cursor to unset on the shelf: memory ran out for its reply after it was moved. The caller unsets it before
@@ -167,8 +121,9 @@ impl Session {
     /// The whole answer: [`prepare`](Ask::prepare), [`take`](Prepared::take), [`finish`](Session::finish),
     /// [`settle`](Session::settle), and the unsetting of the cursor that it names.
     #[tactic(auto, using(crate::proofs::Finishing::can_finish))]
-    pub fn on(
+    pub fn on<C: Crew>(
         &mut self,
+        crew: &C,
         alloc: Global,
         ask: Ask,
         at: Option<At<'_>>,
@@ -178,7 +133,7 @@ impl Session {
             result (shelf_data shelf.new) (follows_of self.new) }
     {
         let work = prepare_and_take(alloc, ask, at, shelf);
-        let mut out = self.finish(alloc, work, at);
+        let mut out = self.finish(crew, alloc, work, at);
         if let Some(cursor) = self.settle(&mut out) {
             unset_cursor(shelf, cursor.root, cursor.name.as_str());
         }

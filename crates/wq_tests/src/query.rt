@@ -11,7 +11,7 @@ use wq_base::{MAX_NUMBER, MAX_SIGNED};
 use wq_clock::Bound::{self, Fresh, Second, Tick};
 use wq_clock::Instance;
 use wq_compile::compile;
-use wq_query::{Field, Plan, Query, answer, answer_bytes};
+use wq_query::{Alone, Field, Plan, Query, answer, answer_bytes};
 use wq_term::Expr;
 use wq_verify::Program;
 use wq_view::{Kind, View};
@@ -186,7 +186,7 @@ fn view_of_two(alloc: Global) -> Result<View, Fail> {
 /// Asserts the text of the reply by a plan.
 fn check_text(rt: &impl Abort, alloc: Global, plan: &Plan, want: &str) -> Result<(), Fail> {
     let view = view_of_two(alloc)?;
-    let bytes = answer_bytes(alloc, plan, &INSTANCE, &view)?;
+    let bytes = answer_bytes(&Alone {}, alloc, plan, &INSTANCE, &view)?;
     assert!(rt; bytes.as_slice() == want.as_bytes());
     Ok(())
 }

@@ -4,7 +4,6 @@ ghost use Rattle.std.specs.Prelude.{◌≡◌, List, Some, false, is_none, optio
 ghost use Rattle.serde_json.specs.Data.{Data};
 ghost use Rattle.serde_json.specs.View.{view as data_of, items_view};
 ghost use Rattle.wq_clock.specs.Instance.{instance_data};
-ghost use Rattle.wq_base.specs.Limit.{AreFew};
 ghost use Rattle.wq_follow.specs.Subscription.{SubscriptionData};
 ghost use Rattle.wq_query.specs.Query.{asked_of, planned};
 ghost use Rattle.wq_registry.specs.Root.{numbered};
@@ -33,12 +32,10 @@ use crate::work::Work;
 use serde_json::Value;
 use std::alloc::{AllocError, Global};
 use std::sync::Arc;
-use std::thread::Threads;
 use wq_base::Text;
 use wq_clock::{Bound, Instance};
-use wq_eval::Gate;
 use wq_follow::Trigger;
-use wq_query::{Plan, Query, answer_bytes, answer_workers};
+use wq_query::{Crew, Plan, Query, answer_bytes};
 use wq_registry::{Shelf, ShelfFault};
 use wq_term::whole_number;
 use wq_verify::Program;
@@ -207,8 +204,9 @@ fn move_cursor(
     }
 }
 
-/// The listing of the files of a plan, of a root with this view.
-pub(crate) fn listed(
+/// The listing of the files of a plan, of a root with this view, by a crew.
+pub(crate) fn listed<C: Crew>(
+    crew: &C,
     alloc: Global,
     plan: &Plan,
     cursor: Option<Cursor>,
@@ -219,27 +217,5 @@ pub(crate) fn listed(
         (Some (record { instance = instance_data instance.now; view = Some view.now }))
         follows result follows }
 {
-    Out::of_answer(answer_bytes(alloc, plan, instance, view), cursor)
-}
-
-/// The output of [`listed`], with the files that up to so many threads find.
-pub(crate) fn listed_workers<R: Threads + Sync, G: Gate + Sync>(
-    rt: &R,
-    alloc: Global,
-    gate: &G,
-    workers: u32,
-    plan: &Plan,
-    cursor: Option<Cursor>,
-    instance: &Instance,
-    view: &View,
-) -> Out
-    requires { AreFew workers }
-    ensures { (follows : List SubscriptionData) → Finishes (evaluates (planned plan.now) cursor)
-        (Some (record { instance = instance_data instance.now; view = Some view.now }))
-        follows result follows }
-{
-    Out::of_answer(
-        answer_workers(rt, alloc, gate, workers, plan, instance, view),
-        cursor,
-    )
+    Out::of_answer(answer_bytes(crew, alloc, plan, instance, view), cursor)
 }

@@ -9,7 +9,7 @@ use Rattle.wq_query.proofs.Places.{places_kept}
 use Rattle.wq_query.proofs.listing.matching.Goals as goal
 
 pub returns : goal.returns
-returns c =
+returns g c =
     let records = c.args.view.now.records in
     let plan = planned c.args.plan.now in
     let raw = c.args.plan.now.program.value in

@@ -6,16 +6,16 @@ use Rattle.wq_session.specs.Work.{work_data}
 use Rattle.wq_serve.proofs.Held.{held_finish, kept_answer, unset_answer}
 use Rattle.wq_serve.proofs.answering.hold.Goals as goal
 
-pub finish_workers-out-requires-clause-work : goal.finish_workers-out-requires-clause-work
-finish_workers-out-requires-clause-work g c κs within = held_finish _ _ c.args.ask (option_map at_data c.args.at) (work_data c.take-work.result) c.take-work.ensures
+pub finish-out-requires : goal.finish-out-requires
+finish-out-requires g c κs within = held_finish _ _ c.args.ask (option_map at_data c.args.at) (work_data c.take-work.result) c.take-work.ensures
 
 pub returns-in-Some-clause-answers : goal.returns-in-Some-clause-answers
 returns-in-Some-clause-answers g c =
-    unset_answer c.args.ask (option_map at_data c.args.at) (follows_of c.args.client.now.session) _ (work_data c.take-work.result) c.finish_workers-out.result
-    c.settle.new.out _ _ _ c.in-Some.cursor c.take-work.ensures c.finish_workers-out.ensures c.settle.ensures.taken (sym c.in-Some.ensures.named)
+    unset_answer c.args.ask (option_map at_data c.args.at) (follows_of c.args.client.now.session) _ (work_data c.take-work.result) c.finish-out.result
+    c.settle.new.out _ _ _ c.in-Some.cursor c.take-work.ensures c.finish-out.ensures c.settle.ensures.taken (sym c.in-Some.ensures.named)
     c.unset.ensures.unset
 
 pub returns-in_default-clause-answers : goal.returns-in_default-clause-answers
 returns-in_default-clause-answers g c =
-    kept_answer c.args.ask (option_map at_data c.args.at) (follows_of c.args.client.now.session) _ (work_data c.take-work.result) c.finish_workers-out.result
-    c.settle.new.out _ _ c.take-work.ensures c.finish_workers-out.ensures c.settle.ensures.taken (sym c.settle.ensures.named ∙ c.in_default.is)
+    kept_answer c.args.ask (option_map at_data c.args.at) (follows_of c.args.client.now.session) _ (work_data c.take-work.result) c.finish-out.result
+    c.settle.new.out _ _ c.take-work.ensures c.finish-out.ensures c.settle.ensures.taken (sym c.settle.ensures.named ∙ c.in_default.is)

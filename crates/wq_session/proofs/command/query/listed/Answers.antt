@@ -5,6 +5,6 @@ use Rattle.wq_session.proofs.Listing.{listed_finishes}
 use Rattle.wq_session.proofs.command.query.listed.Goals as goal
 
 pub returns : goal.returns
-returns c follows =
+returns g c follows =
     listed_finishes (λ text. text.items) (planned c.args.plan.now) c.args.cursor (instance_data c.args.instance.now) c.args.view.now
     c.answer_bytes.result c.of_answer.result follows c.answer_bytes.ensures c.of_answer.ensures

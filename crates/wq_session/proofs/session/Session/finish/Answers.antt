@@ -7,6 +7,6 @@ use Rattle.wq_session.specs.Work.{WorkData, work_data}
 use Rattle.wq_session.proofs.session.Session.finish.Goals as goal
 
 pub returns-in-Drops : goal.returns-in-Drops
-returns-in-Drops c =
+returns-in-Drops g c =
     subst (λ (w : WorkData). Finishes w (option_map at_data c.args.at) (follows_of c.args.self.now) c.drop_called.result
     (follows_of c.drop_called.new.self)) (sym (ap work_data c.in-Drops.is)) (c.drop_called.ensures (option_map at_data c.args.at))

@@ -10,19 +10,19 @@ use Rattle.wq_session.proofs.Finishing.{can_finish}
 use Rattle.wq_session.proofs.session.Session.on.Goals as goal
 
 pub returns-in-Some : goal.returns-in-Some
-returns-in-Some c =
+returns-in-Some g c =
     answered_with c.args.ask (option_map at_data c.args.at) (shelf_data c.args.shelf.now) (follows_of c.args.self.now) (work_data c.prepare_and_take-work.result)
     (shelf_data c.prepare_and_take-work.new.shelf) c.finish-out.result c.settle.new.out (follows_of c.finish-out.new.self) c.in-Some.cursor (shelf_data c.unset_cursor.new.shelf)
     c.prepare_and_take-work.ensures c.finish-out.ensures c.settle.ensures.taken (sym c.in-Some.ensures.named)
     (c.unset_cursor.ensures ∙ ap (λ name. cursor_unset c.in-Some.cursor.root name (shelf_data c.prepare_and_take-work.new.shelf)) c.as_str.ensures)
 
 pub finish-out-requires : goal.finish-out-requires
-finish-out-requires c =
+finish-out-requires g c =
     can_finish c.args.ask (option_map at_data c.args.at) (shelf_data c.args.shelf.now) (work_data c.prepare_and_take-work.result)
     (shelf_data c.prepare_and_take-work.new.shelf) c.prepare_and_take-work.ensures
 
 pub returns-in_default : goal.returns-in_default
-returns-in_default c =
+returns-in_default g c =
     let none : c.finish-out.result.unset ≡ None = search rules in
     answered_plain c.args.ask (option_map at_data c.args.at) (shelf_data c.args.shelf.now) (follows_of c.args.self.now) (work_data c.prepare_and_take-work.result)
     (shelf_data c.prepare_and_take-work.new.shelf) c.finish-out.result c.settle.new.out (follows_of c.finish-out.new.self)

@@ -5,7 +5,7 @@ use Rattle.wq_view.specs.Position.{records_at}
 use Rattle.wq_query.specs.Printing.{IsFormOf}
 use Rattle.wq_query.specs.Query.{planned}
 use Rattle.wq_query.proofs.RowTexts.{of-value, whole-reply}
-use Rattle.wq_query.proofs.reply.text_of_workers.Goals as goal
+use Rattle.wq_query.proofs.reply.text_by_several.Goals as goal
 
 pub returns : goal.returns
 returns g c =

@@ -1,0 +1,161 @@
+//! Who finds the files of a query and prints its reply: the thread that asks alone, or several threads.
+ghost use Rattle.std.specs.Prelude.{◌≡◌, ◌<◌, ◌≤◌, All, IfOk, filter, length};
+ghost use Rattle.serde_json.specs.Written.{compact_text};
+ghost use Rattle.wq_base.specs.Limit.{AreFew};
+ghost use Rattle.wq_clock.specs.Instance.{instance_data};
+ghost use Rattle.wq_eval.specs.Answer.{says_yes};
+ghost use Rattle.wq_query.specs.Listing.{AreWithin, files_of};
+ghost use Rattle.wq_query.specs.Query.{planned};
+ghost use Rattle.wq_query.specs.Reply.{reply_of};
+ghost use Rattle.wq_view.specs.Limit.{max_records};
+ghost use Rattle.wq_view.specs.Position.{passes_at, records_at};
+
+use crate::query::Plan;
+use crate::reply::{text_by_several, text_of};
+use std::alloc::{AllocError, Global};
+use std::thread::Threads;
+use wq_base::Workers;
+use wq_clock::Instance;
+use wq_eval::{OpenGate, filter, filter_workers};
+use wq_verify::Program;
+use wq_view::View;
+
+/// How many candidates a piece has.
+const PIECE: u32 = 1024;
+
+/// A query uses several threads only if there are so many candidates or more.
+const MIN_FOR_WORKERS: usize = 16384;
+
+/// Each thread of a query has at least so many candidates: four pieces.
+const MIN_FOR_WORKER: usize = 4096;
+
+/// Who finds the files of a query and prints its reply. No answer depends on it.
+pub trait Crew {
+    ghost use Rattle.std.specs.Prelude.{◌≡◌, ◌<◌, ◌≤◌, All, IfOk, filter, length};
+    ghost use Rattle.serde_json.specs.Written.{compact_text};
+    ghost use Rattle.wq_clock.specs.Instance.{instance_data};
+    ghost use Rattle.wq_eval.specs.Answer.{says_yes};
+    ghost use Rattle.wq_query.specs.Listing.{AreWithin, files_of};
+    ghost use Rattle.wq_query.specs.Query.{planned};
+    ghost use Rattle.wq_query.specs.Reply.{reply_of};
+    ghost use Rattle.wq_view.specs.Limit.{max_records};
+    ghost use Rattle.wq_view.specs.Position.{passes_at, records_at};
+
+    /// The positions of those files for which the program answers yes, in the order in which they are given.
+    fn filter(
+        &self,
+        alloc: Global,
+        program: &Program,
+        view: &View,
+        positions: &[u32],
+    ) -> Result<Vec<u32>, AllocError>
+        requires within { All (λ i. i < length view.now.records) positions.now }
+        requires count { length positions.now ≤ max_records }
+        ensures { IfOk result (λ kept. kept.items
+            ≡ filter (passes_at (says_yes program.now) view.now.records) positions.now) };
+
+    /// The text of the reply that lists the files at these places: compact JSON, with its keys in byte order and without
+    /// a newline.
+    fn print(
+        &self,
+        alloc: Global,
+        plan: &Plan,
+        instance: &Instance,
+        view: &View,
+        places: &[u32],
+    ) -> Result<Vec<u8>, AllocError>
+        requires within { AreWithin view.now.records places.now }
+        requires count { length places.now ≤ max_records }
+        requires files { records_at view.now.records places.now
+            ≡ files_of (planned plan.now) view.now.records }
+        ensures { IfOk result (λ text. text.items
+            ≡ compact_text (reply_of (planned plan.now) (instance_data instance.now) view.now)) };
+}
+
+/// The thread that asks, alone.
+#[derive(Drop)]
+pub struct Alone {}
+
+impl Crew for Alone {
+    fn filter(
+        &self,
+        alloc: Global,
+        program: &Program,
+        view: &View,
+        positions: &[u32],
+    ) -> Result<Vec<u32>, AllocError> {
+        filter(alloc, program, view, positions)
+    }
+
+    fn print(
+        &self,
+        alloc: Global,
+        plan: &Plan,
+        instance: &Instance,
+        view: &View,
+        places: &[u32],
+    ) -> Result<Vec<u8>, AllocError> {
+        text_of(alloc, plan, instance, view, places)
+    }
+}
+
+/// Several threads, if there is enough to do for each: they find files if there are 16,384 candidates or more, and print
+/// if as many files are to be listed. Each has at least 4,096 of them.
+#[derive(Drop)]
+pub struct Several<'a, R: Threads> {
+    /// The handle that starts the threads.
+    pub rt: &'a R,
+    /// How many there may be, the one that asks among them.
+    pub workers: Workers,
+}
+
+impl<R: Threads> Several<'_, R> {
+    /// How many of the threads a query uses for this number of candidates, or of files to list.
+    fn count_for(&self, files: usize) -> u32
+        ensures { AreFew result }
+    {
+        if files < MIN_FOR_WORKERS {
+            return 1;
+        }
+        let most = files / MIN_FOR_WORKER;
+        if most < self.workers.count as usize {
+            most as u32
+        } else {
+            self.workers.count
+        }
+    }
+}
+
+impl<R: Threads> Crew for Several<'_, R> {
+    fn filter(
+        &self,
+        alloc: Global,
+        program: &Program,
+        view: &View,
+        positions: &[u32],
+    ) -> Result<Vec<u32>, AllocError> {
+        let count = self.count_for(positions.len());
+        if count == 1 {
+            return filter(alloc, program, view, positions);
+        }
+        let gate = OpenGate {};
+        filter_workers(
+            self.rt, alloc, &gate, count, PIECE, program, view, positions,
+        )
+    }
+
+    fn print(
+        &self,
+        alloc: Global,
+        plan: &Plan,
+        instance: &Instance,
+        view: &View,
+        places: &[u32],
+    ) -> Result<Vec<u8>, AllocError> {
+        let count = self.count_for(places.len());
+        if count == 1 {
+            return text_of(alloc, plan, instance, view, places);
+        }
+        text_by_several(self.rt, alloc, count, plan, instance, view, places)
+    }
+}
