@@ -1,31 +1,62 @@
-"""Wrong bodies: edits of a crate's files, each with the functions that the prover has to refuse for it."""
+"""Wrong bodies: edits of a crate's files, each with the functions that the prover has to refuse for it.
+
+They are in `gate.edits` and `more.edits` of a crate, one after the other, with a blank line between:
+
+    # a-bound-is-one-too-low
+    refused: bound::Bound::second
+    file: src/bound.rt
+    old: if second <= MAX_NUMBER {
+    new: if second < MAX_NUMBER {
+
+CONTRIBUTING.md says what each line is.
+"""
 
 import re
 from pathlib import Path
 from typing import Dict, List, NamedTuple, Tuple
 
+TIERS = ("gate.edits", "more.edits")
+HEADLINE = re.compile(r"# ([a-z0-9-]+)")
+
+
+class Block(NamedTuple):
+    """An edit as its file has it: its name, and the lines below."""
+
+    name: str
+    lines: List[str]
+
 
 class Edit(NamedTuple):
     """A wrong body: what it puts in place of what, and the functions that have to be refused."""
 
-    path: Path
+    name: str
     pairs: List[Tuple[str, str, str]]
     refused: List[str]
-
-    @property
-    def name(self) -> str:
-        return self.path.stem
 
 
 class BadEdit(Exception):
     """An edit that cannot be tried, and why."""
 
 
-def read(path: Path) -> Edit:
-    """An edit from its file: lines `refused: FUNCTION`, `file: FILE`, and pairs of lines `old: TEXT` and `new: TEXT`."""
+def blocks_in(path: Path) -> List[Block]:
+    """The edits that a file has, in their order."""
+    blocks: List[Block] = []
+    for number, line in enumerate(path.read_text(encoding="utf-8").splitlines(), 1):
+        headline = HEADLINE.fullmatch(line)
+        if headline is not None:
+            blocks.append(Block(headline[1], []))
+        elif line and (line.startswith("#") or not blocks):
+            raise BadEdit(f"line {number} is no headline of an edit, such as `# a-name-in-words`")
+        elif line:
+            blocks[-1].lines.append(line)
+    return blocks
+
+
+def read(block: Block) -> Edit:
+    """An edit from its lines: `refused: FUNCTION`, `file: FILE`, and pairs of lines `old: TEXT` and `new: TEXT`."""
     file, old = "", ""
     pairs, refused = [], []
-    for line in path.read_text(encoding="utf-8").splitlines():
+    for line in block.lines:
         word, _, text = line.partition(": " if not line.startswith("new:") else ":")
         if word == "refused":
             refused.append(text.strip())
@@ -35,11 +66,11 @@ def read(path: Path) -> Edit:
             old = text
         elif word == "new":
             pairs.append((file, old, text[1:] if text.startswith(" ") else text))
-        elif line:
+        else:
             raise BadEdit(f"a line begins with no word that an edit has: {line}")
     if not refused or not pairs or not all(file and old for file, old, _ in pairs):
         raise BadEdit("it names no function that is refused, or has no pair of texts behind a file")
-    return Edit(path, pairs, refused)
+    return Edit(block.name, pairs, refused)
 
 
 def apply(edit: Edit, directory: Path, texts: Dict[str, str]) -> None:
