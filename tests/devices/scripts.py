@@ -4,6 +4,7 @@ from pathlib import Path
 from typing import List
 
 import built
+import example
 from injected import Fault, each_failing, has_strace, run
 
 SCRIPTS = Path(__file__).resolve().parent.parent / "scripts"
@@ -16,7 +17,7 @@ FILES = 4_000
 
 
 def scripts() -> List[bytes]:
-    return [*[(SCRIPTS / f"{name}.script").read_bytes() for name in NAMES], long_script()]
+    return [*[example.read(SCRIPTS / f"{name}{example.ENDING}").script for name in NAMES], long_script()]
 
 
 def long_script() -> bytes:
