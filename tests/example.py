@@ -9,9 +9,9 @@
     1 {"clock":"c:7:9:1:1","files":["a"],"is_fresh_instance":true,"version":"wq-1"}
 
 A script that is refused has two parts more: `== standard error`, and the line `== status 1`. Without them nothing is
-written there, and the status is 0. A script that does not end with a newline is below `== input without a last newline`.
-Each part goes up to the next line that begins with `== `, so no script and no reply has such a line. The file is read as
-bytes, since a script may have any.
+written there, and the status is 0. A script that does not end with a newline has the headline
+`== input without a last newline`. Each part goes up to the next line that begins with `== `, so no script and no reply
+has such a line. The file is read as bytes, since a script may have any.
 """
 
 import re
