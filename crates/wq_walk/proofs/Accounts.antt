@@ -7,33 +7,33 @@ use Rattle.wq_view.specs.Seen.{SeenData, Stat}
 use Rattle.wq_view.specs.declared.kind.Kind.TheVariants.{Dir}
 use Rattle.wq_walk.specs.declared.part.Part.{Part}
 use Rattle.wq_walk.specs.Part.{is_in}
-use Rattle.wq_walk.specs.Told.{Has, IsRead, Says}
+use Rattle.wq_walk.specs.Told.{GivesStat, Has, HasEntries}
 use Rattle.wq_walk.specs.Accounts.{AnyOf, IsAccountedFor, IsAmongRead, IsOneOf, IsRowOfPath, NamesAreAccountedFor, ReadData, RowsAreOfPaths, WasRead}
-use Rattle.wq_walk.specs.Walk.{DirectoryData, HasNoneBelow, IsDone, IsEntered, IsLooked, IsPassedOver, IsStep, Leads, WalkData, fresh, looked, name_of_path, row_of, rows_of_file}
+use Rattle.wq_walk.specs.Walk.{AreSteps, DirectoryData, HasNoneBelow, IsDone, IsEntered, IsLooked, IsPassedOver, IsStep, WalkData, after_look, fresh, name_of_path, row_with_stat, rows_of_file}
 
 -- the path of a directory begins with the root's
 abbrev pub Below : List ℕ → DirectoryData → Type 0
 Below root directory = (rest : List ℕ) × (directory.path ≡ root ++ rest)
 
 -- each directory of a walk is below the root, and each row so far is of its path
-abbrev pub Sound : Says → List ℕ → Part → WalkData → Type 0
+abbrev pub Sound : GivesStat → List ℕ → Part → WalkData → Type 0
 Sound says root part w =
     Below root w.here × All (Below root) w.above × All (IsRowOfPath says root part) w.rows
 
 -- the rows of a file are of its path
-file_rows : (says : Says) (root : List ℕ) (part : Part) (name : List ℕ) (stat : Stat)
+file_rows : (says : GivesStat) (root : List ℕ) (part : Part) (name : List ℕ) (stat : Stat)
     → says (root ++ name) (Some stat) → All (IsRowOfPath says root part) (rows_of_file part name stat)
 file_rows says root part name stat told = at (is_in part name) refl
   where
     at : (b : Bool) → is_in part name ≡ b
-        → All (IsRowOfPath says root part) (if b then row_of name stat ∷ [] else [])
+        → All (IsRowOfPath says root part) (if b then row_with_stat name stat ∷ [] else [])
     at true e =
-        All-cons (IsRowOfPath says root part) (row_of name stat) [] (stat, told, refl, e)
+        All-cons (IsRowOfPath says root part) (row_with_stat name stat) [] (stat, told, refl, e)
         (All-nil (IsRowOfPath says root part))
     at false e = All-nil (IsRowOfPath says root part)
 
 -- so are the rows of a look at a path below the root
-look_rows : (says : Says) (root : List ℕ) (part : Part) (rest path : List ℕ) (rows : List SeenData)
+look_rows : (says : GivesStat) (root : List ℕ) (part : Part) (rest path : List ℕ) (rows : List SeenData)
     (enters : Bool) → path ≡ root ++ rest → IsLooked says (length root) part path rows enters
     → All (IsRowOfPath says root part) rows
 look_rows says root part rest path rows enters is (inl (over, none, not)) =
@@ -45,7 +45,7 @@ look_rows says root part rest path rows enters is (inr (stat, told, are, entered
     (file_rows says root part rest stat (subst (λ p. says p (Some stat)) is told)))
 
 -- a step keeps that
-pub sound_step : (says : Says) (has : Has) (root : List ℕ) (part : Part) (before after : WalkData)
+pub sound_step : (says : GivesStat) (has : Has) (root : List ℕ) (part : Part) (before after : WalkData)
     → Sound says root part before → IsStep says has (length root) part before after
     → Sound says root part after
 sound_step says has root part before after (here, above, rows) (inl (name, left, added, enters, next, look, is)) =
@@ -71,16 +71,16 @@ sound_step says has root part before after (here, above, rows) (inr (inr (done, 
     (parts.1, parts.0, subst (All (IsRowOfPath says root part)) (sym same) rows)
 
 -- so do some steps
-sound_steps : (says : Says) (has : Has) (root : List ℕ) (part : Part) (n : ℕ) (before after : WalkData)
-    → Sound says root part before → Leads says has (length root) part n before after
+sound_steps : (says : GivesStat) (has : Has) (root : List ℕ) (part : Part) (n : ℕ) (before after : WalkData)
+    → Sound says root part before → AreSteps says has (length root) part n before after
     → Sound says root part after
-unfolding Leads
+unfolding AreSteps
 sound_steps says has root part zero before after sound is = subst (Sound says root part) (sym is) sound
 sound_steps says has root part (suc n) before after sound (mid, leads, one) =
     sound_step says has root part mid after (sound_steps says has root part n before mid sound leads) one
 
 -- each row of a walk is of the path of its name
-pub rows_are_of_paths : (says : Says) (has : Has) → RowsAreOfPaths says has
+pub rows_are_of_paths : (says : GivesStat) (has : Has) → RowsAreOfPaths says has
 rows_are_of_paths says has root part rows (names, told, once, (steps, last, leads, done)) =
     (sound_steps says has root part steps (record { above = []; here = fresh root names; rows = [] })
     (record { above = []; here = last; rows = rows })
@@ -142,16 +142,16 @@ Entered root_len part w read path =
     ⊎ (IsAmongRead read (path ++ (byte "/" ∷ [])) ⊎ Waits w path)
 
 -- what is known of a path in the midst of a walk
-abbrev Known : Says → ℕ → Part → WalkData → List ReadData → List ℕ → Type 0
+abbrev Known : GivesStat → ℕ → Part → WalkData → List ReadData → List ℕ → Type 0
 Known says root_len part w read path =
     Left w path ⊎ (IsPassedOver says part path (name_of_path root_len path)
     ⊎ ((stat : Stat) × says path (Some stat)
     × (IsTrue (is_in part (name_of_path root_len path))
-    → IsOneOf (row_of (name_of_path root_len path) stat) w.rows)
+    → IsOneOf (row_with_stat (name_of_path root_len path) stat) w.rows)
     × (stat.kind ≡ Dir → Entered root_len part w read path)))
 
 -- what was known of a path before a step, after it
-carry : (says : Says) (root_len : ℕ) (part : Part) (before after : WalkData) (read more : List ReadData)
+carry : (says : GivesStat) (root_len : ℕ) (part : Part) (before after : WalkData) (read more : List ReadData)
     (path : List ℕ) → (Left before path → Known says root_len part after more path)
     → (Waits before path → IsAmongRead more (path ++ (byte "/" ∷ [])) ⊎ Waits after path)
     → (IsAmongRead read (path ++ (byte "/" ∷ [])) → IsAmongRead more (path ++ (byte "/" ∷ [])))
@@ -168,7 +168,7 @@ carry says root_len part before after read more path left waits reads rows (inr 
     further (inr (inr wait)) = inr (waits wait)
 
 -- the directories that were read account for all names, as far as the walk has come
-abbrev Accounts : Says → Has → List ℕ → Part → WalkData → Type 0
+abbrev Accounts : GivesStat → Has → List ℕ → Part → WalkData → Type 0
 Accounts says has root part w =
     (read : List ReadData) × IsAmongRead read root
     × ((d : ReadData) → IsOneOf d read → WasRead has root d)
@@ -176,12 +176,12 @@ Accounts says has root part w =
     → Known says (length root) part w read (d.path ++ name))
 
 -- what is known of the path of a look
-look_known : (says : Says) (root_len : ℕ) (part : Part) (before : WalkData) (read : List ReadData)
+look_known : (says : GivesStat) (root_len : ℕ) (part : Part) (before : WalkData) (read : List ReadData)
     (name : List ℕ) (left : List (List ℕ)) (added : List SeenData) (enters : Bool)
     → IsLooked says root_len part (before.here.path ++ name) added enters
     → Known says root_len part (record {
       above = before.above;
-      here = looked before.here left name enters;
+      here = after_look before.here left name enters;
       rows = before.rows ++ added;
     }) read (before.here.path ++ name)
 look_known says root_len part before read name left added enters (inl (over, none, not)) = inr (inl over)
@@ -192,7 +192,7 @@ look_known says root_len part before read name left added enters (inr (stat, tol
     path = before.here.path ++ name
 
     row : SeenData
-    row = row_of (name_of_path root_len path) stat
+    row = row_with_stat (name_of_path root_len path) stat
 
     listed : IsTrue (is_in part (name_of_path root_len path)) → IsOneOf row (before.rows ++ added)
     listed within =
@@ -202,7 +202,7 @@ look_known says root_len part before read name left added enters (inr (stat, tol
     goes : (b : Bool) → IsEntered part (name_of_path root_len path) stat b → stat.kind ≡ Dir
         → Entered root_len part (record {
           above = before.above;
-          here = looked before.here left name b;
+          here = after_look before.here left name b;
           rows = before.rows ++ added;
         }) read path
     goes true entered kind =
@@ -212,7 +212,7 @@ look_known says root_len part before read name left added enters (inr (stat, tol
 -- a path that waited before a look still waits
 look_waits : (before : WalkData) (name : List ℕ) (left : List (List ℕ)) (rows : List SeenData) (enters : Bool)
     (path : List ℕ) → Waits before path
-    → Waits (record { above = before.above; here = looked before.here left name enters; rows = rows }) path
+    → Waits (record { above = before.above; here = after_look before.here left name enters; rows = rows }) path
 look_waits before name left rows true path (inl is) =
     inl (any_left (λ n. path ≡ before.here.path ++ n) before.here.waiting (name ∷ []) is)
 look_waits before name left rows false path (inl is) = inl is
@@ -220,14 +220,14 @@ look_waits before name left rows true path (inr is) = inr is
 look_waits before name left rows false path (inr is) = inr is
 
 -- a look accounts for its name
-account_look : (says : Says) (has : Has) (root : List ℕ) (part : Part) (before : WalkData) (name : List ℕ)
+account_look : (says : GivesStat) (has : Has) (root : List ℕ) (part : Part) (before : WalkData) (name : List ℕ)
     (left : List (List ℕ)) (added : List SeenData) (enters : Bool)
     → before.here.left ≡ left ++ (name ∷ [])
     → IsLooked says (length root) part (before.here.path ++ name) added enters
     → Accounts says has root part before
     → Accounts says has root part (record {
       above = before.above;
-      here = looked before.here left name enters;
+      here = after_look before.here left name enters;
       rows = before.rows ++ added;
     })
 account_look says has root part before name left added enters next look (read, top, was, known) = (
@@ -243,7 +243,7 @@ account_look says has root part before name left added enters next look (read, t
     after : WalkData
     after = record {
       above = before.above;
-      here = looked before.here left name enters;
+      here = after_look before.here left name enters;
       rows = before.rows ++ added;
     }
 
@@ -262,9 +262,9 @@ account_look says has root part before name left added enters next look (read, t
     from path (inr is) = inl (inr is)
 
 -- to enter a directory keeps all accounts
-account_enter : (says : Says) (has : Has) (root : List ℕ) (part : Part) (before : WalkData) (name : List ℕ)
+account_enter : (says : GivesStat) (has : Has) (root : List ℕ) (part : Part) (before : WalkData) (name : List ℕ)
     (waiting names : List (List ℕ)) → before.here.waiting ≡ waiting ++ (name ∷ [])
-    → IsRead has (before.here.path ++ name) names → Accounts says has root part before
+    → HasEntries has (before.here.path ++ name) names → Accounts says has root part before
     → Accounts says has root part (record {
       above = before.above ++ (record before.here { waiting = waiting } ∷ []);
       here = fresh (before.here.path ++ name ++ (byte "/" ∷ [])) names;
@@ -318,7 +318,7 @@ account_enter says has root part before name waiting names next told (read, top,
         (waits (d.path ++ n)) (λ is. (is.0, inr is.1)) (λ row is. is) (known d one n among)
 
 -- so does to leave one
-account_leave : (says : Says) (has : Has) (root : List ℕ) (part : Part) (before after : WalkData)
+account_leave : (says : GivesStat) (has : Has) (root : List ℕ) (part : Part) (before after : WalkData)
     → IsDone before.here → before.above ≡ after.above ++ (after.here ∷ []) → after.rows ≡ before.rows
     → Accounts says has root part before → Accounts says has root part after
 account_leave says has root part before after (none, still) up same (read, top, was, known) = (
@@ -348,7 +348,7 @@ account_leave says has root part before after (none, still) up same (read, top, 
         (subst (AnyOf (λ (d : DirectoryData). IsIn d.path d.waiting path)) up is))
 
 -- each step keeps all accounts
-account_step : (says : Says) (has : Has) (root : List ℕ) (part : Part) (before after : WalkData)
+account_step : (says : GivesStat) (has : Has) (root : List ℕ) (part : Part) (before after : WalkData)
     → Accounts says has root part before → IsStep says has (length root) part before after
     → Accounts says has root part after
 account_step says has root part before after all (inl (name, left, added, enters, next, look, is)) =
@@ -360,16 +360,16 @@ account_step says has root part before after all (inr (inl (name, waiting, names
 account_step says has root part before after all (inr (inr (done, up, same))) =
     account_leave says has root part before after done up same all
 
-account_steps : (says : Says) (has : Has) (root : List ℕ) (part : Part) (n : ℕ) (before after : WalkData)
-    → Accounts says has root part before → Leads says has (length root) part n before after
+account_steps : (says : GivesStat) (has : Has) (root : List ℕ) (part : Part) (n : ℕ) (before after : WalkData)
+    → Accounts says has root part before → AreSteps says has (length root) part n before after
     → Accounts says has root part after
-unfolding Leads
+unfolding AreSteps
 account_steps says has root part zero before after all is = subst (Accounts says has root part) (sym is) all
 account_steps says has root part (suc n) before after all (mid, leads, one) =
     account_step says has root part mid after (account_steps says has root part n before mid all leads) one
 
 -- at the end nothing is left and nothing waits
-account_end : (says : Says) (root_len : ℕ) (part : Part) (last : DirectoryData) (rows : List SeenData)
+account_end : (says : GivesStat) (root_len : ℕ) (part : Part) (last : DirectoryData) (rows : List SeenData)
     (read : List ReadData) (path : List ℕ) → IsDone last
     → Known says root_len part (record { above = []; here = last; rows = rows }) read path
     → IsAccountedFor says root_len part read rows path
@@ -388,7 +388,7 @@ account_end says root_len part last rows read path (none, still) (inr (inr (stat
     further (inr (inr (inr is))) = absurd is
 
 -- a walk accounts for each name of each directory that it read
-pub names_are_accounted_for : (says : Says) (has : Has) → NamesAreAccountedFor says has
+pub names_are_accounted_for : (says : GivesStat) (has : Has) → NamesAreAccountedFor says has
 names_are_accounted_for says has root part rows (names, told, once, (steps, last, leads, done)) =
     let all = account_steps says has root part steps (record { above = []; here = fresh root names; rows = [] })
     (record { above = []; here = last; rows = rows })

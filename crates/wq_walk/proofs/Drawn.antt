@@ -13,14 +13,14 @@ use Rattle.wq_walk.specs.declared.piece.Piece.{Piece}
 use Rattle.wq_walk.specs.declared.rows.Rows.{Rows}
 use Rattle.wq_walk.specs.declared.walks.Walked.{Walked}
 use Rattle.wq_walk.specs.Listed.{AreOfPieces, AreWalks, IsDrawn, IsWalkOfPiece}
-use Rattle.wq_walk.specs.Listed.{parts_of, walked_parts}
+use Rattle.wq_walk.specs.Listed.{piece_parts, walked_parts}
 use Rattle.wq_walk.specs.Walk.{IsWalk}
-use Rattle.wq_walk.specs.Told.{Has, Says}
+use Rattle.wq_walk.specs.Told.{GivesStat, Has}
 
 -- the part of the piece at a place
 pub part_at : (pieces : List Piece) (place : ℕ) (piece : Piece) (part : Part)
     → slice_get pieces place ≡ Some piece → part ≡ piece.part
-    → slice_get (parts_of pieces) place ≡ Some part
+    → slice_get (piece_parts pieces) place ≡ Some part
 part_at pieces place piece part is same =
     slice_get-map (λ (p : Piece). p.part) pieces place ∙ ap (option_map (λ (p : Piece). p.part)) is
     ∙ ap Some (sym same)
@@ -33,11 +33,11 @@ take_next xs n x is =
     ∙ ap (λ y. take n xs ++ (y ∷ [])) (get_or_from_slice_get xs n x x is)
 
 -- the rows of the first pieces, and those of the next one
-pub one_more : (says : Says) (has : Has) (root : List ℕ) (walked new : List Rows) (rows : Rows)
+pub one_more : (says : GivesStat) (has : Has) (root : List ℕ) (walked new : List Rows) (rows : Rows)
     (pieces : List Piece) (place : ℕ) → new ≡ walked ++ (rows ∷ [])
     → IsWalkOfPiece says has root pieces place rows
-    → AreWalks says has root walked × (walked_parts walked ≡ take place (parts_of pieces))
-    → AreWalks says has root new × (walked_parts new ≡ take (place + 1) (parts_of pieces))
+    → AreWalks says has root walked × (walked_parts walked ≡ take place (piece_parts pieces))
+    → AreWalks says has root new × (walked_parts new ≡ take (place + 1) (piece_parts pieces))
 unfolding IsWalkOfPiece
 one_more says has root walked new rows pieces place is walk (walks, parts) = (
   subst (λ all. AreWalks says has root all) (sym is)
@@ -45,29 +45,29 @@ one_more says has root walked new rows pieces place is walk (walks, parts) = (
   ap walked_parts is
       ∙ map-append (λ (r : Rows). r.part) walked (rows ∷ [])
       ∙ ap (λ all. all ++ (rows.part ∷ [])) parts
-      ∙ sym (take_next (parts_of pieces) place rows.part walk.1),
+      ∙ sym (take_next (piece_parts pieces) place rows.part walk.1),
 )
 
 -- the parts of all pieces
 pub whole : (walked : List Rows) (pieces : List Piece) (count : ℕ) → count ≡ length pieces
-    → walked_parts walked ≡ take count (parts_of pieces) → walked_parts walked ≡ parts_of pieces
+    → walked_parts walked ≡ take count (piece_parts pieces) → walked_parts walked ≡ piece_parts pieces
 whole walked pieces count is parts =
-    parts ∙ take_all count (parts_of pieces)
+    parts ∙ take_all count (piece_parts pieces)
     (omega (arith, is, length-map pieces (λ (p : Piece). p.part)))
 
 -- the rows are those of a walk of the piece at their place
-abbrev Is : Says → Has → List ℕ → List Piece → Walked → Type 0
+abbrev Is : GivesStat → Has → List ℕ → List Piece → Walked → Type 0
 Is says has root pieces walked = IsWalkOfPiece says has root pieces walked.place walked.rows
 
 -- no rows are those of their pieces
-pub none : (says : Says) (has : Has) (root : List ℕ) (pieces : List Piece) (list : List Walked)
+pub none : (says : GivesStat) (has : Has) (root : List ℕ) (pieces : List Piece) (list : List Walked)
     → list ≡ [] → AreOfPieces says has root pieces list
 unfolding AreOfPieces
 none says has root pieces list is =
     subst (λ l. All (Is says has root pieces) l) (sym is) (All-nil (Is says has root pieces))
 
 -- so are rows of theirs with one more
-pub pushed : (says : Says) (has : Has) (root : List ℕ) (pieces : List Piece) (list : List Walked)
+pub pushed : (says : GivesStat) (has : Has) (root : List ℕ) (pieces : List Piece) (list : List Walked)
     (walked : Walked) → AreOfPieces says has root pieces list
     → IsWalkOfPiece says has root pieces walked.place walked.rows
     → AreOfPieces says has root pieces (list ++ (walked ∷ []))
@@ -76,7 +76,7 @@ pushed says has root pieces list walked all one =
     All-push (Is says has root pieces) list walked all one
 
 -- two lists of them
-pub both : (says : Says) (has : Has) (root : List ℕ) (pieces : List Piece) (list rest : List Walked)
+pub both : (says : GivesStat) (has : Has) (root : List ℕ) (pieces : List Piece) (list rest : List Walked)
     → AreOfPieces says has root pieces list → AreOfPieces says has root pieces rest
     → AreOfPieces says has root pieces (list ++ rest)
 unfolding AreOfPieces
@@ -84,7 +84,7 @@ both says has root pieces list rest all more =
     All-append (Is says has root pieces) list rest all more
 
 -- and what is left of them without one
-pub without : (says : Says) (has : Has) (root : List ℕ) (pieces : List Piece) (list : List Walked)
+pub without : (says : GivesStat) (has : Has) (root : List ℕ) (pieces : List Piece) (list : List Walked)
     (at : ℕ) → AreOfPieces says has root pieces list
     → AreOfPieces says has root pieces (remove list at)
 unfolding AreOfPieces
@@ -94,7 +94,7 @@ without says has root pieces list at all =
     (All-drop (Is says has root pieces) (suc at) list all)
 
 -- one of them is of its piece
-pub walked_at : (says : Says) (has : Has) (root : List ℕ) (pieces : List Piece) (list : List Walked)
+pub walked_at : (says : GivesStat) (has : Has) (root : List ℕ) (pieces : List Piece) (list : List Walked)
     (at : ℕ) (walked : Walked) → at < length list → AreOfPieces says has root pieces list
     → IsWalkOfPiece says has root pieces (get_or list at walked).place (get_or list at walked).rows
 unfolding AreOfPieces
@@ -102,7 +102,7 @@ walked_at says has root pieces list at walked within all =
     All-get_or (Is says has root pieces) list at walked within all
 
 -- so are the pieces that a thread drew
-pub drawn_ok : (says : Says) (has : Has) (fails : List ℕ → Type 0) (root : List ℕ)
+pub drawn_ok : (says : GivesStat) (has : Has) (fails : List ℕ → Type 0) (root : List ℕ)
     (pieces : List Piece) (list : Vec Walked Global) → IsDrawn says has fails root pieces (Ok list)
     → AreOfPieces says has root pieces list.items
 unfolding IsDrawn

@@ -5,7 +5,7 @@ use Rattle.std.proofs.lemmas.List.{map-append}
 use Rattle.std.proofs.lemmas.List.Elements.{All-cons, All-head, All-map, All-nil, All-tail}
 use Rattle.wq_walk.specs.declared.names.Names.{Names}
 use Rattle.wq_walk.specs.declared.names.Place.{Place}
-use Rattle.wq_walk.specs.Directory.{left_of}
+use Rattle.wq_walk.specs.Directory.{names_left}
 use Rattle.wq_walk.specs.Entries.{AreEntries, is_entry}
 use Rattle.wq_walk.specs.Names.{name_at, names_at}
 use Rattle.wq_walk.specs.System.{has_here}
@@ -17,12 +17,12 @@ pub taken : (bytes : List ℕ) (old new : List Place) (place : Place) → old �
 taken bytes old new place is = ap (names_at bytes) is ∙ map-append (name_at bytes) new (place ∷ [])
 
 -- the names of a directory are those of entries, each once
-pub are_entries : (names : Names) → AreEntries (left_of names)
+pub are_entries : (names : Names) → AreEntries (names_left names)
 are_entries names =
     (All-map (λ name. IsTrue (is_entry name)) (name_at names.bytes.items) names.places.items names.entries, names.distinct)
 
 -- the names of a directory: those of its entries, or none because a call of the system failed
-pub told_here : {E : Type 0} (path : List ℕ) (result : Result (Option Names) E) → IfOk result (λ names. IfNone names HasMissed) → IfOk result (λ names. has_here path (option_map left_of names))
+pub told_here : {E : Type 0} (path : List ℕ) (result : Result (Option Names) E) → IfOk result (λ names. IfNone names HasMissed) → IfOk result (λ names. has_here path (option_map names_left names))
 told_here path (Ok None) missed = missed
 told_here path (Ok (Some names)) missed = are_entries names
 told_here path (Err fault) missed = tt

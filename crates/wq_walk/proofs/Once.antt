@@ -16,8 +16,8 @@ use Rattle.wq_walk.specs.Accounts.{IsRowOfPath}
 use Rattle.wq_walk.specs.Entries.{AreDistinct, AreEntries, has_no_slash, is_entry}
 use Rattle.wq_walk.specs.Once.{HaveOwnNames, ListingsListOnce, WalksListOnce}
 use Rattle.wq_walk.specs.Part.{is_in}
-use Rattle.wq_walk.specs.Told.{Has, IsRead, Says}
-use Rattle.wq_walk.specs.Walk.{DirectoryData, IsLooked, IsStep, IsWalk, Leads, WalkData, fresh, name_of_path, row_of}
+use Rattle.wq_walk.specs.Told.{GivesStat, Has, HasEntries}
+use Rattle.wq_walk.specs.Walk.{AreSteps, DirectoryData, IsLooked, IsStep, IsWalk, WalkData, fresh, name_of_path, row_with_stat}
 use Rattle.wq_walk.proofs.Accounts.{Below, Sound, rows_are_of_paths, sound_step}
 
 -- how often a test passes: once or never, and over a list
@@ -169,7 +169,7 @@ abbrev all_of : List ℕ → List ℕ → WalkData → ℕ
 all_of root q w = listed root q w.rows + (total (counted q) w.above + counted q w.here)
 
 -- a look at a path below the root adds no more than the path itself, and what is below it if the walk enters it
-look_adds : (says : Says) (root : List ℕ) (part : Part) (rest path q : List ℕ) (rows : List SeenData) (enters : Bool) → path ≡ root ++ rest → IsLooked says (length root) part path rows enters
+look_adds : (says : GivesStat) (root : List ℕ) (part : Part) (rest path q : List ℕ) (rows : List SeenData) (enters : Bool) → path ≡ root ++ rest → IsLooked says (length root) part path rows enters
     → listed root q rows + once (enters && below path q) ≤ once (reach path q)
 look_adds says root part rest path q rows enters is (inl (over, none, not)) =
     omega (arith, ap (listed root q) none, ap (λ b. once (b && below path q)) not)
@@ -183,12 +183,12 @@ look_adds says root part rest path q rows enters is (inr (stat, told, are, enter
     whole : root ++ name_of_path (length root) path ≡ path
     whole = ap (λ p. root ++ p) (front_rest path root rest is) ∙ sym is
 
-    file : (b : Bool) → listed root q (if b then row_of (name_of_path (length root) path) stat ∷ [] else []) ≤ once (same path q)
+    file : (b : Bool) → listed root q (if b then row_with_stat (name_of_path (length root) path) stat ∷ [] else []) ≤ once (same path q)
     file true = omega (arith, ap (λ p. once (same p q)) whole)
     file false = omega arith
 
 -- a step adds no path
-step_adds_none : (says : Says) (has : Has) (root : List ℕ) (part : Part) (before after : WalkData) → Sound says root part before → IsStep says has (length root) part before after → (q : List ℕ) → all_of root q after ≤ all_of root q before
+step_adds_none : (says : GivesStat) (has : Has) (root : List ℕ) (part : Part) (before after : WalkData) → Sound says root part before → IsStep says has (length root) part before after → (q : List ℕ) → all_of root q after ≤ all_of root q before
 step_adds_none says has root part before after (here, above, rows) (inl (name, left, added, enters, next, look, is)) q =
     subst (λ (w : WalkData). all_of root q w ≤ all_of root q before) (sym is)
     (omega (
@@ -215,7 +215,7 @@ step_adds_none says has root part before after sound (inr (inl (name, waiting, n
       few read,
     ))
   where
-    few : IsRead has (before.here.path ++ name) names
+    few : HasEntries has (before.here.path ++ name) names
         → count (λ n. reach (((before.here.path ++ name) ++ (byte "/" ∷ [])) ++ n) q) names ≤ once (below (before.here.path ++ name) q)
     few (inl (told, entries)) = under (before.here.path ++ name) q names (slashless names entries) entries.1
     few (inr (none, told)) = omega (arith, ap (count (λ n. reach (((before.here.path ++ name) ++ (byte "/" ∷ [])) ++ n) q)) none)
@@ -227,9 +227,9 @@ step_adds_none says has root part before after sound (inr (inr ((none, still), u
       total-append (counted q) after.above (after.here ∷ []),
     )
 
-steps_add_none : (says : Says) (has : Has) (root : List ℕ) (part : Part) (n : ℕ) (before after : WalkData) → Sound says root part before → Leads says has (length root) part n before after
+steps_add_none : (says : GivesStat) (has : Has) (root : List ℕ) (part : Part) (n : ℕ) (before after : WalkData) → Sound says root part before → AreSteps says has (length root) part n before after
     → Sound says root part after × ((q : List ℕ) → all_of root q after ≤ all_of root q before)
-unfolding Leads
+unfolding AreSteps
 steps_add_none says has root part zero before after sound is =
     (subst (Sound says root part) (sym is) sound, λ q. omega (arith, ap (all_of root q) is))
 steps_add_none says has root part (suc n) before after sound (mid, leads, one) =
@@ -237,7 +237,7 @@ steps_add_none says has root part (suc n) before after sound (mid, leads, one) =
     (sound_step says has root part mid after told.0 one, λ q. omega (arith, told.1 q, step_adds_none says has root part mid after told.0 one q))
 
 -- a walk lists each path at most once
-once_listed : (says : Says) (has : Has) (root : List ℕ) (part : Part) (rows : List SeenData) → IsWalk says has root part rows → (q : List ℕ) → listed root q rows ≤ 1
+once_listed : (says : GivesStat) (has : Has) (root : List ℕ) (part : Part) (rows : List SeenData) → IsWalk says has root part rows → (q : List ℕ) → listed root q rows ≤ 1
 once_listed says has root part rows (names, told, entries, (steps, last, leads, done)) q =
     let begin : WalkData = record { above = []; here = fresh root names; rows = [] } in
     let end : WalkData = record { above = []; here = last; rows = rows } in
@@ -264,7 +264,7 @@ own_names root (row ∷ rows) few = (
   own_names root rows (λ name. omega (arith, few name)),
 )
 
-pub walks_list_once : (says : Says) (has : Has) → WalksListOnce says has
+pub walks_list_once : (says : GivesStat) (has : Has) → WalksListOnce says has
 walks_list_once says has root part rows walk = own_names root rows (λ name. once_listed says has root part rows walk (root ++ name))
 
 same_is : (p q : List ℕ) → same p q ≡ true → p ≡ q
@@ -282,7 +282,7 @@ same_after [] a b is = same_is a b is
 same_after (c ∷ root) a b is = same_after root a b (and_parts (c == c) (same (root ++ a) (root ++ b)) is).1
 
 -- a walk lists no path of another part
-none_outside : (says : Says) (root name : List ℕ) (part : Part) → is_in part name ≡ false → (rows : List SeenData) → AllByRecursion (IsRowOfPath says root part) rows → listed root (root ++ name) rows ≡ 0
+none_outside : (says : GivesStat) (root name : List ℕ) (part : Part) → is_in part name ≡ false → (rows : List SeenData) → AllByRecursion (IsRowOfPath says root part) rows → listed root (root ++ name) rows ≡ 0
 none_outside says root name part not [] all = refl
 none_outside says root name part not (row ∷ rows) ((stat, told, is, within), all) =
     omega (arith, ap once (at (same (root ++ row.name) (root ++ name)) refl), none_outside says root name part not rows all)
@@ -291,7 +291,7 @@ none_outside says root name part not (row ∷ rows) ((stat, told, is, within), a
     at false is = is
     at true is = absurd (false≢true (sym not ∙ ap (is_in part) (sym (same_after root row.name name is)) ∙ within))
 
-within_part : (says : Says) (has : Has) (root : List ℕ) (part : Part) (rows : List SeenData) → IsWalk says has root part rows → (name : List ℕ) → listed root (root ++ name) rows ≤ once (is_in part name)
+within_part : (says : GivesStat) (has : Has) (root : List ℕ) (part : Part) (rows : List SeenData) → IsWalk says has root part rows → (name : List ℕ) → listed root (root ++ name) rows ≤ once (is_in part name)
 within_part says has root part rows walk name = at (is_in part name) refl
   where
     at : (b : Bool) → is_in part name ≡ b → listed root (root ++ name) rows ≤ once (is_in part name)
@@ -304,7 +304,7 @@ within_part says has root part rows walk name = at (is_in part name) refl
         )
 
 -- so the walks of several parts list a path as often as parts have its name, at most
-within_parts : (says : Says) (has : Has) (root name : List ℕ) (walked : List Rows) → AllByRecursion (λ (rows : Rows). IsWalk says has root rows.part rows.rows.items) walked
+within_parts : (says : GivesStat) (has : Has) (root name : List ℕ) (walked : List Rows) → AllByRecursion (λ (rows : Rows). IsWalk says has root rows.part rows.rows.items) walked
     → listed root (root ++ name) (flat_map (λ rows. rows.rows.items) walked) ≤ count (λ (rows : Rows). is_in rows.part name) walked
 within_parts says has root name [] all = omega arith
 within_parts says has root name (rows ∷ walked) (one, all) =
@@ -323,7 +323,7 @@ count_is : {X : Type 0} (test : X → Bool) (xs : List X) → count test xs ≡ 
 count_is test [] = refl
 count_is test (x ∷ xs) = ap (λ n. once (test x) + n) (count_is test xs) ∙ sym (sum_by-cons (λ y. cond (test y) 1 0) x xs)
 
-pub listings_list_once : (says : Says) (has : Has) → ListingsListOnce says has
+pub listings_list_once : (says : GivesStat) (has : Has) → ListingsListOnce says has
 listings_list_once says has root rows (path, pieces, of, shared, (walked, walks, parts, is)) =
     subst HaveOwnNames (sym is) (own_names path (flat_map (λ rows. rows.rows.items) walked) few)
   where

@@ -2,20 +2,20 @@
 use Rattle.std.proofs.Common.{ℕ, List, Result, Ok, Err, IfOk}
 use Rattle.wq_view.specs.Seen.{SeenData}
 use Rattle.wq_walk.specs.declared.piece.Piece.{Piece}
-use Rattle.wq_walk.specs.Listed.{IsListed, IsPathOf, IsRooted, IsWalked, parts_of}
+use Rattle.wq_walk.specs.Listed.{IsListed, IsPathOf, IsRooted, IsWalked, piece_parts}
 use Rattle.wq_walk.specs.Pieces.{IsSharedOut}
-use Rattle.wq_walk.specs.Told.{Has, IsThere, Says}
+use Rattle.wq_walk.specs.Told.{GivesStat, Has, HasStat}
 
 -- rows of pieces that share out all names, and were each walked once, are a listing
-pub listed : {A E : Type 0} (items : A → List SeenData) (says : Says) (has : Has) (root path : List ℕ) (pieces : List Piece) (result : Result A E)
-    → IsPathOf root path → IsSharedOut pieces → IfOk result (λ rows. IsWalked says has path (parts_of pieces) (items rows))
+pub listed : {A E : Type 0} (items : A → List SeenData) (says : GivesStat) (has : Has) (root path : List ℕ) (pieces : List Piece) (result : Result A E)
+    → IsPathOf root path → IsSharedOut pieces → IfOk result (λ rows. IsWalked says has path (piece_parts pieces) (items rows))
     → IfOk result (λ rows. IsListed says has root (items rows))
 listed items says has root path pieces (Ok rows) at shared walked = (path, pieces, at, shared, walked)
 listed items says has root path pieces (Err fault) at shared walked = tt
 
 -- the root of a listing was there, if a disk could look at its path
-pub rooted : {A E : Type 0} (says : Says) (root path : List ℕ) (result : Result A E)
-    → IsPathOf root path → IfOk result (λ _. IsThere says path)
+pub rooted : {A E : Type 0} (says : GivesStat) (root path : List ℕ) (result : Result A E)
+    → IsPathOf root path → IfOk result (λ _. HasStat says path)
     → IfOk result (λ _. IsRooted says root)
 rooted says root path (Ok rows) at there = (path, at, there)
 rooted says root path (Err fault) at there = tt

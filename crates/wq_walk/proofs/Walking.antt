@@ -4,8 +4,8 @@ use Rattle.std.proofs.lemmas.Option.{none-some}
 use Rattle.std.specs.Str.{byte}
 use Rattle.wq_view.specs.Seen.{SeenData}
 use Rattle.wq_walk.specs.declared.part.Part.{Part}
-use Rattle.wq_walk.specs.Told.{Has, IsRead, Says}
-use Rattle.wq_walk.specs.Walk.{DirectoryData, Ends, Enters, IsDone, IsLooked, IsPassedOver, IsStep, Leads, Looks, WalkData, fresh, looked, name_of_path}
+use Rattle.wq_walk.specs.Told.{GivesStat, Has, HasEntries}
+use Rattle.wq_walk.specs.Walk.{AreSteps, DirectoryData, Enters, IsDone, IsLooked, IsPassedOver, IsStep, LooksAtName, WalkData, WalkEnds, after_look, fresh, name_of_path}
 
 -- the place of a walk
 abbrev walk : List DirectoryData → DirectoryData → List SeenData → WalkData
@@ -21,13 +21,13 @@ unseen B None is at = at
 unseen B (Some x) is at = absurd (none-some x (sym is))
 
 -- a file that is passed over adds no row
-pub passed_over : (says : Says) (root_len : ℕ) (part : Part) (path : List ℕ) (rows : List SeenData)
+pub passed_over : (says : GivesStat) (root_len : ℕ) (part : Part) (path : List ℕ) (rows : List SeenData)
     → IsPassedOver says part path (name_of_path root_len path)
     → (added : List SeenData) × IsLooked says root_len part path added false × (rows ≡ rows ++ added)
 passed_over says root_len part path rows over = ([], inl (over, refl, refl), sym (append-nil rows))
 
 -- the result at a path is the result at an equal path
-pub found_at : (says : Says) (root_len root_len' : ℕ) (part : Part) (path path' : List ℕ) (enters enters' : Bool) (old new : List SeenData)
+pub found_at : (says : GivesStat) (root_len root_len' : ℕ) (part : Part) (path path' : List ℕ) (enters enters' : Bool) (old new : List SeenData)
     → root_len ≡ root_len' → path ≡ path' → enters ≡ enters'
     → ((rows : List SeenData) × IsLooked says root_len part path rows enters × (new ≡ old ++ rows))
     → (rows : List SeenData) × IsLooked says root_len' part path' rows enters' × (new ≡ old ++ rows)
@@ -37,15 +37,15 @@ found_at says root_len root_len' part path path' enters enters' old new a b c fo
     (subst (λ r. (rows : List SeenData) × IsLooked says r part path rows enters × (new ≡ old ++ rows)) a found))
 
 -- a directory was read at an equal path
-pub read_at : (has : Has) (path path' : List ℕ) (names : List (List ℕ)) → path ≡ path' → IsRead has path names → IsRead has path' names
-read_at has path path' names is read = subst (λ p. IsRead has p names) is read
+pub read_at : (has : Has) (path path' : List ℕ) (names : List (List ℕ)) → path ≡ path' → HasEntries has path names → HasEntries has path' names
+read_at has path path' names is read = subst (λ p. HasEntries has p names) is read
 
 -- a look at the next name of a directory is a step
-pub looks : (says : Says) (root_len : ℕ) (part : Part) (above above' : List DirectoryData) (first next last : DirectoryData) (name : List ℕ) (old new : List SeenData)
+pub looks : (says : GivesStat) (root_len : ℕ) (part : Part) (above above' : List DirectoryData) (first next last : DirectoryData) (name : List ℕ) (old new : List SeenData)
     → (first.left ≡ next.left ++ (name ∷ [])) × (first.path ≡ next.path) × (first.waiting ≡ next.waiting)
     → above' ≡ above
-    → ((rows : List SeenData) × (enters : Bool) × IsLooked says root_len part (next.path ++ name) rows enters × (new ≡ old ++ rows) × (last ≡ looked next next.left name enters))
-    → Looks says root_len part (record { above = above; here = first; rows = old }) (record { above = above'; here = last; rows = new })
+    → ((rows : List SeenData) × (enters : Bool) × IsLooked says root_len part (next.path ++ name) rows enters × (new ≡ old ++ rows) × (last ≡ after_look next next.left name enters))
+    → LooksAtName says root_len part (record { above = above; here = first; rows = old }) (record { above = above'; here = last; rows = new })
 looks says root_len part above above' first next last name old new (left, path, waiting) same (rows, enters, look, added, is) = (
   name,
   next.left,
@@ -56,21 +56,21 @@ looks says root_len part above above' first next last name old new (left, path, 
   λ i. record { above = same i; here = (is ∙ here) i; rows = added i },
 )
   where
-    here : looked next next.left name enters ≡ looked first next.left name enters
+    here : after_look next next.left name enters ≡ after_look first next.left name enters
     here = λ i. record { path = sym path i; left = next.left; waiting = if enters then sym waiting i ++ (name ∷ []) else sym waiting i }
 
 -- to enter the next directory that waits is a step
 pub enters : (has : Has) (above above' : List DirectoryData) (first next last : DirectoryData) (name : List ℕ) (old new : List SeenData)
     → (first.waiting ≡ next.waiting ++ (name ∷ [])) × (first.path ≡ next.path) × (first.left ≡ next.left)
     → above' ≡ above ++ (next ∷ []) → new ≡ old
-    → ((names : List (List ℕ)) × IsRead has (next.path ++ name) names × (last ≡ fresh (next.path ++ name ++ (byte "/" ∷ [])) names))
+    → ((names : List (List ℕ)) × HasEntries has (next.path ++ name) names × (last ≡ fresh (next.path ++ name ++ (byte "/" ∷ [])) names))
     → Enters has (record { above = above; here = first; rows = old }) (record { above = above'; here = last; rows = new })
 enters has above above' first next last name old new (waiting, path, left) pushed same (names, read, is) = (
   name,
   next.waiting,
   names,
   waiting,
-  subst (λ p. IsRead has (p ++ name) names) (sym path) read,
+  subst (λ p. HasEntries has (p ++ name) names) (sym path) read,
   λ i. record { above = (pushed ∙ kept) i; here = (is ∙ here) i; rows = same i },
 )
   where
@@ -81,24 +81,24 @@ enters has above above' first next last name old new (waiting, path, left) pushe
     here = λ i. fresh (sym path i ++ name ++ (byte "/" ∷ [])) names
 
 -- no steps lead from a walk to its own place
-pub begins : (says : Says) (has : Has) (root_len : ℕ) (part : Part) (before : WalkData) → (steps : ℕ) × Leads says has root_len part steps before before
-unfolding Leads
+pub begins : (says : GivesStat) (has : Has) (root_len : ℕ) (part : Part) (before : WalkData) → (steps : ℕ) × AreSteps says has root_len part steps before before
+unfolding AreSteps
 begins says has root_len part before = (0, refl)
 
 -- a walk without a next step has ended
-pub ended : (says : Says) (has : Has) (root_len : ℕ) (part : Part) (before now : WalkData) (above : List DirectoryData) (here : DirectoryData) (rows : List SeenData)
-    → ((steps : ℕ) × Leads says has root_len part steps before now)
+pub ended : (says : GivesStat) (has : Has) (root_len : ℕ) (part : Part) (before now : WalkData) (above : List DirectoryData) (here : DirectoryData) (rows : List SeenData)
+    → ((steps : ℕ) × AreSteps says has root_len part steps before now)
     → IsDone here × (walk above here rows ≡ now) × (above ≡ [])
-    → Ends says has root_len part before rows
+    → WalkEnds says has root_len part before rows
 ended says has root_len part before now above here rows (steps, leads) (done, same, none) =
-    (steps, here, subst (λ (w : WalkData). Leads says has root_len part steps before w) (sym same ∙ ap (λ above. walk above here rows) none) leads, done)
+    (steps, here, subst (λ (w : WalkData). AreSteps says has root_len part steps before w) (sym same ∙ ap (λ above. walk above here rows) none) leads, done)
 
 -- a walk with a next step
-pub further : (says : Says) (has : Has) (root_len root_len' : ℕ) (part part' : Part) (before mid after : WalkData)
+pub further : (says : GivesStat) (has : Has) (root_len root_len' : ℕ) (part part' : Part) (before mid after : WalkData)
     → root_len ≡ root_len' → part ≡ part'
-    → ((steps : ℕ) × Leads says has root_len' part' steps before mid)
+    → ((steps : ℕ) × AreSteps says has root_len' part' steps before mid)
     → IsStep says has root_len part mid after
-    → (steps : ℕ) × Leads says has root_len' part' steps before after
-unfolding Leads
+    → (steps : ℕ) × AreSteps says has root_len' part' steps before after
+unfolding AreSteps
 further says has root_len root_len' part part' before mid after a b (steps, leads) step =
     (suc steps, (mid, leads, subst (λ p. IsStep says has root_len' p mid after) b (subst (λ r. IsStep says has r part mid after) a step)))

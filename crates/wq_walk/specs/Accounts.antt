@@ -8,8 +8,8 @@ use Rattle.wq_view.specs.declared.kind.Kind.TheVariants.{Dir}
 use Rattle.wq_walk.specs.declared.part.Part.{Part}
 use Rattle.wq_walk.specs.Entries.{AreEntries}
 use Rattle.wq_walk.specs.Part.{is_in}
-use Rattle.wq_walk.specs.Told.{Has, IsRead, Says}
-use Rattle.wq_walk.specs.Walk.{HasNoneBelow, IsPassedOver, IsWalk, name_of_path, row_of}
+use Rattle.wq_walk.specs.Told.{GivesStat, Has, HasEntries}
+use Rattle.wq_walk.specs.Walk.{HasNoneBelow, IsPassedOver, IsWalk, name_of_path, row_with_stat}
 
 -- a fact holds of some item of a list
 abbrev pub AnyOf : {X : Type 0} → (X → Type 0) → List X → Type 0
@@ -22,13 +22,13 @@ IsOneOf x xs = AnyOf (λ y. y ≡ x) xs
 
 -- a row is of the path of its name: the disk gives its stat for that path, and its name is in the
 -- part
-abbrev pub IsRowOfPath : Says → List ℕ → Part → SeenData → Type 0
+abbrev pub IsRowOfPath : GivesStat → List ℕ → Part → SeenData → Type 0
 IsRowOfPath says root part row =
-    (stat : Stat) × says (root ++ row.name) (Some stat) × (row ≡ row_of row.name stat)
+    (stat : Stat) × says (root ++ row.name) (Some stat) × (row ≡ row_with_stat row.name stat)
     × IsTrue (is_in part row.name)
 
 -- each row of a walk is of the path of its name
-abbrev pub RowsAreOfPaths : Says → Has → Type 0
+abbrev pub RowsAreOfPaths : GivesStat → Has → Type 0
 RowsAreOfPaths says has =
     (root : List ℕ) (part : Part) (rows : List SeenData) → IsWalk says has root part rows
     → All (IsRowOfPath says root part) rows
@@ -43,7 +43,7 @@ abbrev pub WasRead : Has → List ℕ → ReadData → Type 0
 WasRead has root directory =
     ((directory.path ≡ root) × has root (Some directory.names) × AreEntries directory.names)
     ⊎ ((path : List ℕ) × (directory.path ≡ path ++ (byte "/" ∷ []))
-    × IsRead has path directory.names)
+    × HasEntries has path directory.names)
 
 -- the directory with this path, which ends in a slash, is one of those that were read
 abbrev pub IsAmongRead : List ReadData → List ℕ → Type 0
@@ -53,17 +53,17 @@ IsAmongRead read path =
 -- the walk accounts for the file of a path: it passes over the file; or the disk gives its stat,
 -- its row is listed if its name is in the part, and if it is a directory, then it was read, or no
 -- name below it is in the part
-abbrev pub IsAccountedFor : Says → ℕ → Part → List ReadData → List SeenData → List ℕ → Type 0
+abbrev pub IsAccountedFor : GivesStat → ℕ → Part → List ReadData → List SeenData → List ℕ → Type 0
 IsAccountedFor says root_len part read rows path =
     IsPassedOver says part path (name_of_path root_len path)
     ⊎ ((stat : Stat) × says path (Some stat)
     × (IsTrue (is_in part (name_of_path root_len path))
-    → IsOneOf (row_of (name_of_path root_len path) stat) rows)
+    → IsOneOf (row_with_stat (name_of_path root_len path) stat) rows)
     × (stat.kind ≡ Dir → HasNoneBelow part (name_of_path root_len path)
     ⊎ IsAmongRead read (path ++ (byte "/" ∷ []))))
 
 -- a walk read some directories, the root's among them, and accounts for each name in each of them
-abbrev pub NamesAreAccountedFor : Says → Has → Type 0
+abbrev pub NamesAreAccountedFor : GivesStat → Has → Type 0
 NamesAreAccountedFor says has =
     (root : List ℕ) (part : Part) (rows : List SeenData) → IsWalk says has root part rows
     → (read : List ReadData) × IsAmongRead read root

@@ -10,8 +10,8 @@ use Rattle.wq_walk.specs.Names.{name_at, names_at}
 use Rattle.wq_walk.specs.Walk.{DirectoryData, IsDone, WalkData}
 
 -- the names of a directory that were not taken yet, the next one last
-abbrev pub left_of : Names → List (List ℕ)
-left_of names = names_at names.bytes.items names.places.items
+abbrev pub names_left : Names → List (List ℕ)
+names_left names = names_at names.bytes.items names.places.items
 
 -- the name at a place in a directory
 abbrev pub entry_at : Directory → Place → List ℕ
@@ -21,7 +21,7 @@ entry_at directory place = name_at directory.names.bytes.items place
 abbrev pub data_of : Directory → DirectoryData
 data_of directory = record {
   path = directory.path.items;
-  left = left_of directory.names;
+  left = names_left directory.names;
   waiting = names_at directory.names.bytes.items directory.waiting.items;
 }
 
@@ -31,13 +31,13 @@ walk_of above here rows =
     record { above = map data_of above; here = data_of here; rows = rows.rows.items }
 
 -- this was the next step in a directory, and the directory after it
-abbrev pub IsNext : Directory → Step → Directory → Type 0
-IsNext before (Look place) after =
+abbrev pub IsNextStep : Directory → Step → Directory → Type 0
+IsNextStep before (Look place) after =
     ((data_of before).left ≡ (data_of after).left ++ (entry_at after place ∷ []))
     × ((data_of before).path ≡ (data_of after).path)
     × ((data_of before).waiting ≡ (data_of after).waiting)
-IsNext before (Enter place) after =
+IsNextStep before (Enter place) after =
     ((data_of before).waiting ≡ (data_of after).waiting ++ (entry_at after place ∷ []))
     × ((data_of before).path ≡ (data_of after).path)
     × ((data_of before).left ≡ (data_of after).left)
-IsNext before Leave after = (data_of after ≡ data_of before) × IsDone (data_of before)
+IsNextStep before Leave after = (data_of after ≡ data_of before) × IsDone (data_of before)

@@ -12,42 +12,42 @@ use Rattle.wq_walk.specs.declared.piece.Piece.{Piece}
 use Rattle.wq_walk.specs.declared.rows.Rows.{Rows}
 use Rattle.wq_walk.specs.declared.walks.Walked.{Walked}
 use Rattle.wq_walk.specs.Pieces.{IsSharedOut}
-use Rattle.wq_walk.specs.Told.{Has, IsHandleFault, IsRootFault, IsThere, IsUnreadable, Says}
+use Rattle.wq_walk.specs.Told.{GivesStat, Has, HasStat, IsHandleFault, IsRootFault, IsUnreadable}
 use Rattle.wq_walk.specs.Walk.{IsWalk}
 
 -- the parts of pieces
-abbrev pub parts_of : List Piece → List Part
-parts_of pieces = map (λ piece. piece.part) pieces
+abbrev pub piece_parts : List Piece → List Part
+piece_parts pieces = map (λ piece. piece.part) pieces
 
 -- the parts of these rows
 abbrev pub walked_parts : List Rows → List Part
 walked_parts walked = map (λ rows. rows.part) walked
 
 -- rows that are each those of a walk of their part
-abbrev pub AreWalks : Says → Has → List ℕ → List Rows → Type 0
+abbrev pub AreWalks : GivesStat → Has → List ℕ → List Rows → Type 0
 AreWalks says has root walked =
     All (λ rows. IsWalk says has root rows.part rows.rows.items) walked
 
 -- the rows of a walk of the piece at a place
-unfoldable pub IsWalkOfPiece : Says → Has → List ℕ → List Piece → ℕ → Rows → Type 0
+unfoldable pub IsWalkOfPiece : GivesStat → Has → List ℕ → List Piece → ℕ → Rows → Type 0
 IsWalkOfPiece says has root pieces place rows =
     IsWalk says has root rows.part rows.rows.items
-    × (slice_get (parts_of pieces) place ≡ Some rows.part)
+    × (slice_get (piece_parts pieces) place ≡ Some rows.part)
 
 -- rows that are each those of a walk of the piece at their place
-unfoldable pub AreOfPieces : Says → Has → List ℕ → List Piece → List Walked → Type 0
+unfoldable pub AreOfPieces : GivesStat → Has → List ℕ → List Piece → List Walked → Type 0
 AreOfPieces says has root pieces list =
     All (λ walked. IsWalkOfPiece says has root pieces walked.place walked.rows) list
 
 -- pieces that a thread drew were each walked, or a walk failed
-unfoldable pub IsDrawn : Says → Has → (List ℕ → Type 0) → List ℕ → List Piece
+unfoldable pub IsDrawn : GivesStat → Has → (List ℕ → Type 0) → List ℕ → List Piece
     → Result (Vec Walked Global) TreeFault → Type 0
 IsDrawn says has fails root pieces result =
     IfOk result (λ list. AreOfPieces says has root pieces list.items)
     × IfErr result (IsRootFault says has fails root)
 
 -- rows of a tree in which each of these parts was walked once, in this order
-abbrev pub IsWalked : Says → Has → List ℕ → List Part → List SeenData → Type 0
+abbrev pub IsWalked : GivesStat → Has → List ℕ → List Part → List SeenData → Type 0
 IsWalked says has root parts rows =
     (walked : List Rows) × AreWalks says has root walked × (walked_parts walked ≡ parts)
     × (rows ≡ flat_map (λ rows. rows.rows.items) walked)
@@ -57,18 +57,18 @@ abbrev pub IsPathOf : List ℕ → List ℕ → Type 0
 IsPathOf root path = (path ≡ root) ⊎ (path ≡ root ++ (byte "/" ∷ []))
 
 -- a listing of the tree below a root, from parts that share out all names and were each walked once
-abbrev pub IsListed : Says → Has → List ℕ → List SeenData → Type 0
+abbrev pub IsListed : GivesStat → Has → List ℕ → List SeenData → Type 0
 IsListed says has root rows =
     (path : List ℕ) × (pieces : List Piece) × IsPathOf root path × IsSharedOut pieces
-    × IsWalked says has path (parts_of pieces) rows
+    × IsWalked says has path (piece_parts pieces) rows
 
 -- the root of a listing was still there at a look after its walks
-abbrev pub IsRooted : Says → List ℕ → Type 0
-IsRooted says root = (path : List ℕ) × IsPathOf root path × IsThere says path
+abbrev pub IsRooted : GivesStat → List ℕ → Type 0
+IsRooted says root = (path : List ℕ) × IsPathOf root path × HasStat says path
 
 -- a fault of a listing: it says that the root cannot be read only if the root could not be read, and
 -- that no file handle is left only if a call of the system failed so
-abbrev pub IsUnread : Says → Has → (List ℕ → Type 0) → List ℕ → TreeFault → Type 0
+abbrev pub IsUnread : GivesStat → Has → (List ℕ → Type 0) → List ℕ → TreeFault → Type 0
 IsUnread says has fails root fault =
     (fault ≡ Unreadable → (path : List ℕ) × IsPathOf root path × IsUnreadable says has path)
     × IsHandleFault fails fault

@@ -4,7 +4,7 @@ use Rattle.wq_view.specs.Seen.{SeenData}
 use Rattle.wq_walk.specs.declared.part.Part.{Part}
 use Rattle.wq_walk.specs.Entries.{AreDistinct}
 use Rattle.wq_walk.specs.Listed.{IsListed}
-use Rattle.wq_walk.specs.Told.{Has, Says}
+use Rattle.wq_walk.specs.Told.{GivesStat, Has}
 use Rattle.wq_walk.specs.Walk.{IsWalk}
 
 -- rows of which no two have one name
@@ -12,12 +12,12 @@ abbrev pub HaveOwnNames : List SeenData → Type 0
 HaveOwnNames rows = AreDistinct (map (λ row. row.name) rows)
 
 -- no walk lists a path twice
-abbrev pub WalksListOnce : Says → Has → Type 0
+abbrev pub WalksListOnce : GivesStat → Has → Type 0
 WalksListOnce says has =
     (root : List ℕ) (part : Part) (rows : List SeenData) → IsWalk says has root part rows
     → HaveOwnNames rows
 
 -- no listing has a path twice
-abbrev pub ListingsListOnce : Says → Has → Type 0
+abbrev pub ListingsListOnce : GivesStat → Has → Type 0
 ListingsListOnce says has =
     (root : List ℕ) (rows : List SeenData) → IsListed says has root rows → HaveOwnNames rows

@@ -9,7 +9,7 @@ use Rattle.wq_view.specs.Seen.{SeenData, Stat}
 use Rattle.wq_walk.specs.Entries.{AreEntries}
 use Rattle.wq_walk.specs.Listed.{IsListed, IsUnread}
 use Rattle.wq_walk.specs.Stat.{kind_of_mode, milliseconds_of, nearest_size}
-use Rattle.wq_walk.specs.Told.{Has, Says}
+use Rattle.wq_walk.specs.Told.{GivesStat, Has}
 use Rattle.wq_walk.specs.Unseen.{HasFailed, HasMissed}
 
 -- a stat has the type, the size and the time that the system gives for some file
@@ -22,7 +22,7 @@ IsOfMetadata stat =
 
 -- the answers of this disk for a file: the system's metadata of some file, or nothing because a
 -- call of the system failed
-abbrev pub says_here : Says
+abbrev pub says_here : GivesStat
 says_here path told = MatchOption told HasMissed IsOfMetadata
 
 -- the names that this disk gives for a directory: those of entries, or nothing because a call of

@@ -8,8 +8,8 @@ use Rattle.wq_view.specs.Seen.{Stat}
 use Rattle.wq_walk.specs.Entries.{AreEntries}
 
 -- the stats that a disk may give for the file of a path: none if it cannot look at the file
-abbrev pub Says : Type 1
-Says = List ℕ → Option Stat → Type 0
+abbrev pub GivesStat : Type 1
+GivesStat = List ℕ → Option Stat → Type 0
 
 -- the names that a disk may give for the directory of a path: none if it cannot read the directory
 abbrev pub Has : Type 1
@@ -25,21 +25,21 @@ IsFailure fails fault = (fault ≡ Unreadable → ⊥) × IsHandleFault fails fa
 
 -- a directory of this path was read, and has these entries, each once; none if it cannot be read, or
 -- the path is no text
-abbrev pub IsRead : Has → List ℕ → List (List ℕ) → Type 0
-IsRead has path names =
+abbrev pub HasEntries : Has → List ℕ → List (List ℕ) → Type 0
+HasEntries has path names =
     (has path (Some names) × AreEntries names)
     ⊎ ((names ≡ []) × (has path None ⊎ (IsUtf8 path → ⊥)))
 
 -- a root cannot be read: the disk cannot read its directory, or cannot look at it
-abbrev pub IsUnreadable : Says → Has → List ℕ → Type 0
+abbrev pub IsUnreadable : GivesStat → Has → List ℕ → Type 0
 IsUnreadable says has root = has root None ⊎ says root None
 
 -- the disk could look at the file of a path
-abbrev pub IsThere : Says → List ℕ → Type 0
-IsThere says path = (stat : Stat) × says path (Some stat)
+abbrev pub HasStat : GivesStat → List ℕ → Type 0
+HasStat says path = (stat : Stat) × says path (Some stat)
 
 -- a fault says that a root cannot be read only if it cannot be read, and that no file handle is left
 -- only if a call of the system failed so
-abbrev pub IsRootFault : Says → Has → (List ℕ → Type 0) → List ℕ → TreeFault → Type 0
+abbrev pub IsRootFault : GivesStat → Has → (List ℕ → Type 0) → List ℕ → TreeFault → Type 0
 IsRootFault says has fails root fault =
     (fault ≡ Unreadable → IsUnreadable says has root) × IsHandleFault fails fault

@@ -9,7 +9,7 @@ use Rattle.wq_view.specs.declared.kind.Kind.TheVariants.{Dir}
 use Rattle.wq_walk.specs.declared.part.Part.{Part}
 use Rattle.wq_walk.specs.Entries.{AreEntries}
 use Rattle.wq_walk.specs.Part.{MayHaveBelow, is_in, name_below}
-use Rattle.wq_walk.specs.Told.{Has, IsRead, Says}
+use Rattle.wq_walk.specs.Told.{GivesStat, Has, HasEntries}
 
 -- a directory of a walk: its path with a slash at its end; the names in it that the walk has not
 -- looked at yet, the next one last; and the names of directories that it enters later, the next one
@@ -31,13 +31,13 @@ abbrev pub name_of_path : ℕ → List ℕ → List ℕ
 name_of_path root_len path = drop root_len path
 
 -- the row of a file with this stat
-abbrev pub row_of : List ℕ → Stat → SeenData
-row_of name stat =
+abbrev pub row_with_stat : List ℕ → Stat → SeenData
+row_with_stat name stat =
     record { name = name; kind = stat.kind; size = stat.size; mtime_ms = stat.mtime_ms }
 
 -- the rows of a file with this stat: one, if its name is in the part
 abbrev pub rows_of_file : Part → List ℕ → Stat → List SeenData
-rows_of_file part name stat = if is_in part name then row_of name stat ∷ [] else []
+rows_of_file part name stat = if is_in part name then row_with_stat name stat ∷ [] else []
 
 -- no name below the directory of a name is in a part
 abbrev pub HasNoneBelow : Part → List ℕ → Type 0
@@ -45,7 +45,7 @@ HasNoneBelow part name = (rest : List ℕ) → IsTrue (is_in part (name_below na
 
 -- a walk passes over a file: neither its name nor one below it is in the part; or no pass takes its
 -- name, its path is no text, or the disk cannot look at it
-abbrev pub IsPassedOver : Says → Part → List ℕ → List ℕ → Type 0
+abbrev pub IsPassedOver : GivesStat → Part → List ℕ → List ℕ → Type 0
 IsPassedOver says part path name =
     ((is_in part name ≡ false) × HasNoneBelow part name)
     ⊎ ((is_valid_name name ≡ false) ⊎ ((IsUtf8 path → ⊥) ⊎ says path None))
@@ -57,7 +57,7 @@ IsEntered part name stat true = (stat.kind ≡ Dir) × MayHaveBelow part name
 IsEntered part name stat false = stat.kind ≡ Dir → HasNoneBelow part name
 
 -- the walk looked at a file: it lists these rows, and enters the file later or not
-abbrev pub IsLooked : Says → ℕ → Part → List ℕ → List SeenData → Bool → Type 0
+abbrev pub IsLooked : GivesStat → ℕ → Part → List ℕ → List SeenData → Bool → Type 0
 IsLooked says root_len part path rows enters =
     (IsPassedOver says part path (name_of_path root_len path) × (rows ≡ []) × (enters ≡ false))
     ⊎ ((stat : Stat) × says path (Some stat)
@@ -73,22 +73,22 @@ abbrev pub IsDone : DirectoryData → Type 0
 IsDone directory = (directory.left ≡ []) × (directory.waiting ≡ [])
 
 -- the rest of a directory after the walk looked at a name, which it enters later or not
-abbrev pub looked : DirectoryData → List (List ℕ) → List ℕ → Bool → DirectoryData
-looked directory left name enters = record {
+abbrev pub after_look : DirectoryData → List (List ℕ) → List ℕ → Bool → DirectoryData
+after_look directory left name enters = record {
   path = directory.path;
   left = left;
   waiting = if enters then directory.waiting ++ (name ∷ []) else directory.waiting;
 }
 
 -- the walk looked at the next name of the directory in which it is
-abbrev pub Looks : Says → ℕ → Part → WalkData → WalkData → Type 0
-Looks says root_len part before after =
+abbrev pub LooksAtName : GivesStat → ℕ → Part → WalkData → WalkData → Type 0
+LooksAtName says root_len part before after =
     (name : List ℕ) × (left : List (List ℕ)) × (rows : List SeenData) × (enters : Bool)
     × (before.here.left ≡ left ++ (name ∷ []))
     × IsLooked says root_len part (before.here.path ++ name) rows enters
     × (after ≡ record {
       above = before.above;
-      here = looked before.here left name enters;
+      here = after_look before.here left name enters;
       rows = before.rows ++ rows;
     })
 
@@ -98,7 +98,7 @@ abbrev pub Enters : Has → WalkData → WalkData → Type 0
 Enters has before after =
     (name : List ℕ) × (waiting : List (List ℕ)) × (names : List (List ℕ))
     × (before.here.waiting ≡ waiting ++ (name ∷ []))
-    × IsRead has (before.here.path ++ name) names
+    × HasEntries has (before.here.path ++ name) names
     × (after ≡ record {
       above = before.above ++ (record before.here { waiting = waiting } ∷ []);
       here = fresh (before.here.path ++ name ++ (byte "/" ∷ [])) names;
@@ -112,28 +112,28 @@ Leaves before after =
     × (after.rows ≡ before.rows)
 
 -- a step of a walk: it looks at a name, enters a directory or leaves one
-abbrev pub IsStep : Says → Has → ℕ → Part → WalkData → WalkData → Type 0
+abbrev pub IsStep : GivesStat → Has → ℕ → Part → WalkData → WalkData → Type 0
 IsStep says has root_len part before after =
-    Looks says root_len part before after ⊎ (Enters has before after ⊎ Leaves before after)
+    LooksAtName says root_len part before after ⊎ (Enters has before after ⊎ Leaves before after)
 
 -- so many steps of a walk lead from here to there
-unfoldable pub Leads : Says → Has → ℕ → Part → ℕ → WalkData → WalkData → Type 0
-Leads says has root_len part zero before after = after ≡ before
-Leads says has root_len part (suc n) before after =
-    (mid : WalkData) × Leads says has root_len part n before mid
+unfoldable pub AreSteps : GivesStat → Has → ℕ → Part → ℕ → WalkData → WalkData → Type 0
+AreSteps says has root_len part zero before after = after ≡ before
+AreSteps says has root_len part (suc n) before after =
+    (mid : WalkData) × AreSteps says has root_len part n before mid
     × IsStep says has root_len part mid after
 
 -- a walk ended after some steps, in a directory in which no step is left and with none above it
-abbrev pub Ends : Says → Has → ℕ → Part → WalkData → List SeenData → Type 0
-Ends says has root_len part before rows =
+abbrev pub WalkEnds : GivesStat → Has → ℕ → Part → WalkData → List SeenData → Type 0
+WalkEnds says has root_len part before rows =
     (steps : ℕ) × (last : DirectoryData)
-    × Leads says has root_len part steps before (record { above = []; here = last; rows = rows })
+    × AreSteps says has root_len part steps before (record { above = []; here = last; rows = rows })
     × IsDone last
 
 -- a walk of a part of the tree below a root lists these rows: it begins in the root's directory,
 -- and ends when no step is left
-abbrev pub IsWalk : Says → Has → List ℕ → Part → List SeenData → Type 0
+abbrev pub IsWalk : GivesStat → Has → List ℕ → Part → List SeenData → Type 0
 IsWalk says has root part rows =
     (names : List (List ℕ)) × has root (Some names) × AreEntries names
-    × Ends says has (length root) part
+    × WalkEnds says has (length root) part
     (record { above = []; here = fresh root names; rows = [] }) rows

@@ -2,7 +2,7 @@
 //! rise as `a`, `a-b`, `a/x`, `a0`: between a directory and the names below it there may be names beside it. Another
 //! module reads the disk.
 ghost use Rattle.std.specs.Prelude.{◌≡◌, ◌++◌, ◌∷◌, [], IfNone, IfOk, IfSome, IsTrue, OnOk};
-ghost use Rattle.wq_walk.specs.Directory.{IsNext, data_of, entry_at, left_of};
+ghost use Rattle.wq_walk.specs.Directory.{IsNextStep, data_of, entry_at, names_left};
 ghost use Rattle.wq_walk.specs.Walk.{fresh};
 
 use crate::names::{Names, Place};
@@ -37,7 +37,7 @@ pub(crate) enum Step {
 impl Directory {
     /// A directory with this path, which ends in a slash. The walk has not looked at any of these names yet.
     pub(crate) fn new(alloc: Global, path: Vec<u8>, names: Names) -> Directory
-        ensures { data_of result ≡ fresh path.items (left_of names) }
+        ensures { data_of result ≡ fresh path.items (names_left names) }
     {
         Directory {
             path,
@@ -96,7 +96,7 @@ impl Directory {
     /// Takes the next step.
     #[tactic(auto, using(crate::proofs::Entries::taken))]
     pub(crate) fn step(&mut self) -> Step
-        ensures { IsNext self.old result self.new }
+        ensures { IsNextStep self.old result self.new }
     {
         if let Some(directory) = self.take_entered() {
             return Step::Enter(directory);

@@ -2,7 +2,7 @@
 //! may ask at once.
 ghost use Rattle.std.specs.Prelude.{IfErr, IfOk};
 ghost use Rattle.std.specs.Option.{option_map};
-ghost use Rattle.wq_walk.specs.Directory.{left_of};
+ghost use Rattle.wq_walk.specs.Directory.{names_left};
 ghost use Rattle.wq_walk.specs.Told.{IsFailure};
 
 use crate::names::{Block, Names, names_in};
@@ -29,7 +29,7 @@ pub trait Disk {
     /// The names in the directory of this path, each once, or nothing if the directory cannot be read. If a path ends
     /// in a slash, the disk may follow a link there. A path without that slash is not read if it ends in a link.
     fn names_in(&self, block: &mut Block, path: &str) -> Result<Option<Names>, TreeFault>
-        ensures told { IfOk result (λ names. has self.now path.now (option_map left_of names)) }
+        ensures told { IfOk result (λ names. has self.now path.now (option_map names_left names)) }
         ensures fault { IfErr result (IsFailure (fails self.now)) };
 
     /// The stat of the file of this path, or nothing if the disk cannot look at it. A link is not followed.

@@ -5,8 +5,8 @@ ghost use Rattle.wq_crawl.specs.declared.tree.TreeFault.TheVariants.{TooManyRows
 ghost use Rattle.wq_crawl.specs.Tree.{is_of_device};
 ghost use Rattle.wq_view.specs.Limit.{max_listing_rows};
 ghost use Rattle.wq_view.specs.Seen.{is_lawful_row};
-ghost use Rattle.wq_walk.specs.Listed.{IsListed, IsRooted, IsUnread, IsWalked, parts_of};
-ghost use Rattle.wq_walk.specs.Told.{IsRootFault, IsThere};
+ghost use Rattle.wq_walk.specs.Listed.{IsListed, IsRooted, IsUnread, IsWalked, piece_parts};
+ghost use Rattle.wq_walk.specs.Told.{HasStat, IsRootFault};
 
 use crate::disk::Disk;
 use crate::guess::names_at_top;
@@ -81,8 +81,8 @@ fn rows_of<T: Threads, D: Disk + Sync>(
     ensures lawful { IfOk result (λ rows. IsTrue (list_all is_lawful_row rows.items)) }
     ensures few { IfOk result (λ rows. length rows.items ≤ max_listing_rows) }
     ensures walked { IfOk result (λ rows.
-        IsWalked (D.says disk.now) (D.has disk.now) root.now (parts_of pieces.now) rows.items) }
-    ensures rooted { IfOk result (λ _. IsThere (D.says disk.now) root.now) }
+        IsWalked (D.says disk.now) (D.has disk.now) root.now (piece_parts pieces.now) rows.items) }
+    ensures rooted { IfOk result (λ _. HasStat (D.says disk.now) root.now) }
     ensures fault { IfErr result
         (IsRootFault (D.says disk.now) (D.has disk.now) (D.fails disk.now) root.now) }
 {

@@ -5,11 +5,11 @@ ghost use Rattle.std.specs.Str.{IsUtf8, byte};
 ghost use Rattle.wq_crawl.specs.Tree.{is_of_device};
 ghost use Rattle.wq_view.specs.Name.{is_valid_name};
 ghost use Rattle.wq_view.specs.Seen.{SeenData, is_lawful_row};
-ghost use Rattle.wq_walk.specs.Directory.{data_of, entry_at, left_of, walk_of};
+ghost use Rattle.wq_walk.specs.Directory.{data_of, entry_at, names_left, walk_of};
 ghost use Rattle.wq_walk.specs.Entries.{AreEntries};
-ghost use Rattle.wq_walk.specs.Told.{IsFailure, IsRead, IsRootFault};
-ghost use Rattle.wq_walk.specs.Walk.{Ends, IsDone, IsLooked, IsStep, IsWalk};
-ghost use Rattle.wq_walk.specs.Walk.{fresh, looked, name_of_path, row_of, rows_of_file};
+ghost use Rattle.wq_walk.specs.Told.{HasEntries, IsFailure, IsRootFault};
+ghost use Rattle.wq_walk.specs.Walk.{IsDone, IsLooked, IsStep, IsWalk, WalkEnds};
+ghost use Rattle.wq_walk.specs.Walk.{after_look, fresh, name_of_path, row_with_stat, rows_of_file};
 
 use crate::directory::{Directory, Step};
 use crate::disk::Disk;
@@ -99,8 +99,9 @@ impl Walk<'_, '_> {
     /// Continues from a directory to the end.
     fn run<D: Disk>(&mut self, disk: &D, mut here: Directory) -> Result<(), TreeFault>
         ensures part { self.new.rows.part ≡ self.old.rows.part }
-        ensures ends { OnOk result (Ends (D.says disk.now) (D.has disk.now) self.old.path.root_len
-            self.old.rows.part (walk_of self.old.above.items here self.old.rows)
+        ensures ends { OnOk result (WalkEnds (D.says disk.now) (D.has disk.now)
+            self.old.path.root_len self.old.rows.part
+            (walk_of self.old.above.items here self.old.rows)
             self.new.rows.rows.items) }
         ensures fault { IfErr result (IsFailure (D.fails disk.now)) }
     {
@@ -152,8 +153,8 @@ impl Walk<'_, '_> {
             × IsLooked (D.says disk.now) self.old.path.root_len self.old.rows.part
             ((data_of here.old).path ++ entry_at here.old name) rows enters
             × (self.new.rows.rows.items ≡ self.old.rows.rows.items ++ rows)
-            × (data_of here.new
-            ≡ looked (data_of here.old) (data_of here.old).left (entry_at here.old name) enters)) }
+            × (data_of here.new ≡ after_look (data_of here.old) (data_of here.old).left
+            (entry_at here.old name) enters)) }
         ensures fault { IfErr result (IsFailure (D.fails disk.now)) }
     {
         self.path.set(here.path(), here.name(name))?;
@@ -203,7 +204,7 @@ impl Walk<'_, '_> {
         ensures fault { IfErr result (λ fault. is_of_device fault ≡ false) }
     {
         if self.rows.part().has(name.as_slice()) {
-            self.rows.add(row_of(name, stat))?;
+            self.rows.add(row_with_stat(name, stat))?;
             self.progress.count(&self.rows)?;
         }
         Ok(())
@@ -221,7 +222,7 @@ impl Walk<'_, '_> {
         ensures rows { self.new.rows ≡ self.old.rows }
         ensures above { OnOk result (self.new.above.items ≡ self.old.above.items ++ (here.old ∷ [])) }
         ensures read { OnOk result ((names : List (List ℕ))
-            × IsRead (D.has disk.now) ((data_of here.old).path ++ entry_at here.old name) names
+            × HasEntries (D.has disk.now) ((data_of here.old).path ++ entry_at here.old name) names
             × (data_of here.new ≡ fresh
             ((data_of here.old).path ++ entry_at here.old name ++ (byte "/" ∷ [])) names)) }
         ensures fault { IfErr result (IsFailure (D.fails disk.now)) }
@@ -282,7 +283,7 @@ fn names_at<D: Disk>(
     path: &TreePath,
 ) -> Result<Names, TreeFault>
     ensures read { IfOk result (λ names.
-        IsRead (D.has disk.now) path.now.bytes.items (left_of names)) }
+        HasEntries (D.has disk.now) path.now.bytes.items (names_left names)) }
     ensures fault { IfErr result (IsFailure (D.fails disk.now)) }
 {
     let Some(text) = path.text() else {
@@ -295,10 +296,10 @@ fn names_at<D: Disk>(
 }
 
 /// The row of a file.
-fn row_of(name: SharedBytes, stat: &Stat) -> Seen
+fn row_with_stat(name: SharedBytes, stat: &Stat) -> Seen
     requires { IsTrue (is_valid_name name) }
     ensures lawful { IsTrue (is_lawful_row result) }
-    ensures row { result ≡ row_of name stat.now }
+    ensures row { result ≡ row_with_stat name stat.now }
 {
     Seen {
         name,

@@ -3,7 +3,7 @@ ghost use Rattle.std.specs.Prelude.{◌≡◌, ◌<◌, ◌≤◌, IfErr, IfOk, 
 ghost use Rattle.std.specs.Thread.{IsSync};
 ghost use Rattle.wq_walk.specs.declared.walks.Walked.{Walked};
 ghost use Rattle.wq_walk.specs.Listed.{AreOfPieces, AreWalks, IsDrawn, IsWalkOfPiece};
-ghost use Rattle.wq_walk.specs.Listed.{parts_of, walked_parts};
+ghost use Rattle.wq_walk.specs.Listed.{piece_parts, walked_parts};
 ghost use Rattle.wq_walk.specs.Told.{IsRootFault};
 
 use crate::disk::Disk;
@@ -48,7 +48,7 @@ impl<'a, D: Disk + Sync> Walks<'a, '_, D> {
             AreWalks (D.says self.now.disk.now) (D.has self.now.disk.now) self.now.root.now
             walked.items) }
         ensures parts { IfOk result (λ walked.
-            walked_parts walked.items ≡ parts_of self.now.pieces.now) }
+            walked_parts walked.items ≡ piece_parts self.now.pieces.now) }
         ensures fault { IfErr result (IsRootFault (D.says self.now.disk.now)
             (D.has self.now.disk.now) (D.fails self.now.disk.now) self.now.root.now) }
     {
@@ -148,7 +148,7 @@ impl<'a, D: Disk> Walks<'a, '_, D> {
             AreWalks (D.says self.now.disk.now) (D.has self.now.disk.now) self.now.root.now
             walked.items) }
         ensures parts { IfOk result (λ walked.
-            walked_parts walked.items ≡ parts_of self.now.pieces.now) }
+            walked_parts walked.items ≡ piece_parts self.now.pieces.now) }
         ensures fault { IfErr result (IsRootFault (D.says self.now.disk.now)
             (D.has self.now.disk.now) (D.fails self.now.disk.now) self.now.root.now) }
     {
