@@ -1,9 +1,18 @@
-//! A follower of a root, as it is kept. Its functions are in `polling`.
-ghost use Rattle.std.specs.Prelude.{◌≤◌, IfSome};
+//! A follower of a root, and its batches.
+ghost use Rattle.std.specs.Prelude.{◌≤◌, IfSome, ◌≡◌, IfErr, IfOk, List, false};
 ghost use Rattle.std.proofs.Props.{props};
 ghost use Rattle.wq_base.specs.Limit.{max_number};
+ghost use Rattle.wq_view.specs.RecordData.{RecordData};
+ghost use Rattle.wq_query.specs.Query.{planned};
+ghost use Rattle.wq_follow.specs.Batch.{untold, is_told, last_or, listing, nothing, polled};
+ghost use Rattle.wq_follow.specs.Batch.{told_up_to};
+ghost use Rattle.wq_follow.specs.Followed.{follower_data};
+ghost use Rattle.wq_follow.specs.Follower.{IsBatch};
 
+use crate::batch::Batch;
+use std::alloc::{AllocError, Global};
 use wq_query::Plan;
+use wq_view::View;
 
 /// A plan that is used again and again, each time from the tick up to which it told changes.
 #[derive(Drop)]
@@ -11,4 +20,109 @@ pub struct Follower {
     pub(crate) plan: Plan,
     pub(crate) last: Option<u64>,
     ghost reached: { IfSome last (λ tick. tick ≤ max_number) } by { Prim.hlevel props },
+}
+
+impl Follower {
+    /// A follower that was told nothing yet. Its first batch is the list of the plan.
+    pub fn new(plan: Plan) -> Follower
+        ensures { follower_data result ≡ untold (planned plan) }
+    {
+        Follower { plan, last: None }
+    }
+
+    /// The plan.
+    pub fn plan(&self) -> &Plan
+        ensures { planned result.now ≡ (follower_data self.now).plan }
+    {
+        &self.plan
+    }
+
+    /// The tick at which the last batch ended, if there was one.
+    pub fn last(&self) -> Option<u64>
+        ensures { result ≡ (follower_data self.now).last }
+    {
+        self.last
+    }
+
+    /// The next batch, at a view. The follower does not move: see [`commit`](Follower::commit).
+    ///
+    /// At a view that is no newer than the last batch it takes no memory, and no time that grows
+    /// with the view.
+    pub fn poll(&self, alloc: Global, view: &View) -> Result<Batch, AllocError>
+        ensures batch { IfOk result (IsBatch view.now.records
+            (polled (follower_data self.now) view.now)) }
+        ensures tick { IfOk result (λ batch. batch.tick ≤ max_number) }
+        ensures from { IfOk result (λ batch. batch.from ≡ ((follower_data self.now).plan).bound) }
+        ensures wants { IfErr result (λ _.
+            is_told (follower_data self.now).last view.now.tick ≡ false) }
+    {
+        let tick = view.tick();
+        if self.is_told(tick) {
+            return Ok(self.nothing(alloc, tick));
+        }
+        self.listing(alloc, view)
+    }
+
+    /// The batch was told: the next one begins at its end. It takes no memory.
+    pub fn commit(&mut self, batch: &Batch)
+        requires { batch.now.tick ≤ max_number }
+        ensures { follower_data self.new ≡ told_up_to batch.now.tick (follower_data self.old) }
+    {
+        self.plan.tell_from(batch.tick);
+        self.last = Some(batch.tick);
+    }
+
+    /// Whether the last batch ended at this tick or a later one.
+    fn is_told(&self, tick: u64) -> bool
+        ensures { result ≡ is_told (follower_data self.now).last tick }
+    {
+        match self.last {
+            Some(last) => tick <= last,
+            None => false,
+        }
+    }
+
+    /// The batch without files that ends at the tick of the last one.
+    fn nothing(&self, alloc: Global, tick: u64) -> Batch
+        requires { tick ≤ max_number }
+        ensures batch { (records : List RecordData) → IsBatch records
+            (nothing (follower_data self.now).plan (last_or tick (follower_data self.now).last))
+            result }
+        ensures tick { result.tick ≤ max_number }
+        ensures from { result.from ≡ ((follower_data self.now).plan).bound }
+    {
+        Batch {
+            fresh: self.plan.bound().is_fresh(),
+            from: self.plan.bound(),
+            tick: self.last_or(tick),
+            files: Vec::new(alloc),
+        }
+    }
+
+    /// The tick of the last batch; this one if there was none.
+    fn last_or(&self, tick: u64) -> u64
+        requires { tick ≤ max_number }
+        ensures value { result ≡ last_or tick (follower_data self.now).last }
+        ensures bound { result ≤ max_number }
+    {
+        match self.last {
+            Some(last) => last,
+            None => tick,
+        }
+    }
+
+    /// The batch of the plan's list.
+    fn listing(&self, alloc: Global, view: &View) -> Result<Batch, AllocError>
+        ensures batch { IfOk result (IsBatch view.now.records
+            (listing (follower_data self.now).plan view.now)) }
+        ensures tick { IfOk result (λ batch. batch.tick ≤ max_number) }
+        ensures from { IfOk result (λ batch. batch.from ≡ ((follower_data self.now).plan).bound) }
+    {
+        Ok(Batch {
+            fresh: self.plan.bound().is_fresh(),
+            from: self.plan.bound(),
+            tick: view.tick(),
+            files: self.plan.files(alloc, view)?,
+        })
+    }
 }

@@ -4,19 +4,15 @@
 
 mod batch;
 mod copy;
-mod defining;
 mod definition;
 mod fault;
-mod firing;
 mod follower;
 mod launch;
 mod law;
 mod order;
-mod polling;
 mod shape;
 mod starting;
 mod subscription;
-mod telling;
 mod trigger;
 
 pub use batch::Batch;

@@ -1,14 +1,30 @@
-//! A command that is started when files changed, as it is kept. Its functions are in `defining`
-//! and in `firing`.
-ghost use Rattle.std.specs.Prelude.{◌≡◌, false};
+//! A command that is started when files changed: its making, and its turn in a round.
+ghost use Rattle.std.specs.Prelude.{◌≡◌, false, None, option_map, is_err};
 ghost use Rattle.serde_json.specs.View.{view as data_of};
 ghost use Rattle.serde_json.specs.Written.{has_float};
-ghost use Rattle.wq_query.specs.Query.{planned};
-ghost use Rattle.wq_follow.specs.Started.{IsClocked};
+ghost use Rattle.wq_query.specs.Query.{planned, asked_of};
+ghost use Rattle.wq_follow.specs.Started.{IsClocked, order_data};
+ghost use Rattle.wq_compile.specs.Meaning.{AnswersMeaning};
+ghost use Rattle.wq_follow.specs.Defined.{definition_data, shape_data};
+ghost use Rattle.wq_follow.specs.Defining.{order_of, triggered};
+ghost use Rattle.wq_follow.specs.Followed.{trigger_data};
+ghost use Rattle.wq_clock.specs.Instance.{instance_data};
+ghost use Rattle.wq_follow.specs.Launcher.{AsksRun};
+ghost use Rattle.wq_follow.specs.Round.{Agrees, CountsFailure, FiredData, Fires, is_short};
 
+use crate::definition::Definition;
 use crate::follower::Follower;
+use crate::launch::Launch;
 use crate::order::Order;
+use crate::shape::Shape;
+use crate::starting::start_of;
 use serde_json::Value;
+use std::alloc::{AllocError, Global};
+use std::sync::Arc;
+use wq_base::Text;
+use wq_clock::{Bound, Instance};
+use wq_verify::Program;
+use wq_view::View;
 
 /// A command that is started when files changed.
 #[derive(Drop)]
@@ -20,4 +36,115 @@ pub struct Trigger {
     pub(crate) running: Option<u32>,
     ghost plain: { has_float (data_of object) ≡ false },
     ghost clocked: { IsClocked (planned follower.plan).bound },
+}
+
+impl Trigger {
+    /// The trigger of a definition, for the root with this text. It was told nothing yet.
+    ///
+    /// The program is the one that is kept under the name that the query has for one. Without a
+    /// name, it answers the meaning of the query's expression on every record. A trigger that
+    /// replaces another takes over the run of its command.
+    pub fn new(
+        definition: Definition,
+        root: Text,
+        program: Arc<Program>,
+        running: Option<u32>,
+    ) -> Trigger
+        requires { ((definition_data definition).query).program ≡ None
+            → AnswersMeaning program.value ((definition_data definition).query).expression }
+        ensures { trigger_data result ≡ triggered (definition_data definition) root
+            (option_map (λ _. program.value) ((definition_data definition).query).program)
+            running }
+    {
+        let plan = definition.query.plan(Bound::Fresh, program);
+        Trigger {
+            order: order(definition.shape, root),
+            follower: Follower::new(plan),
+            object: definition.object,
+            running,
+        }
+    }
+
+    /// The name.
+    pub fn name(&self) -> &str
+        ensures { result.now ≡ ((trigger_data self.now).order).name }
+    {
+        self.order.name.as_str()
+    }
+
+    /// The object of its definition, with the known keys. It has no float.
+    pub fn object(&self) -> &Value
+        ensures object { data_of result.now ≡ (trigger_data self.now).object }
+        ensures floats { has_float (data_of result.now) ≡ false }
+    {
+        &self.object
+    }
+
+    /// The run of its command, if that was started and no round found that it ended.
+    pub fn running(&self) -> Option<u32>
+        ensures { result ≡ (trigger_data self.now).running }
+    {
+        self.running
+    }
+
+    /// A round: starts the command at a view of its root, if it does not run and files changed.
+    ///
+    /// If want of memory keeps it from that, it gives an error.
+    pub fn fire<L: Launch>(
+        &mut self,
+        alloc: Global,
+        instance: &Instance,
+        view: &View,
+        launcher: &mut L,
+    ) -> Result<(), AllocError>
+        ensures { (fired : FiredData)
+            × Fires (instance_data instance.now) view.now
+            (trigger_data self.old) fired (trigger_data self.new)
+            × Agrees fired self.old.running (L.shown launcher.old) (L.shown launcher.new)
+            × (is_short fired ≡ is_err result)
+            × CountsFailure fired (L.failures_of launcher.old) (L.failures_of launcher.new) }
+    {
+        if !self.is_free(launcher) {
+            return Ok(());
+        }
+        self.running = None;
+        let batch = self.follower.poll(alloc, view)?;
+        if batch.files.is_empty() {
+            self.follower.commit(&batch);
+            return Ok(());
+        }
+        let start = start_of(alloc, &self.order, instance, view, &batch)?;
+        let Ok(run) = launcher.start(start) else {
+            return Ok(());
+        };
+        self.follower.commit(&batch);
+        self.running = Some(run);
+        Ok(())
+    }
+
+    /// Whether its command does not run.
+    fn is_free<L: Launch>(&self, launcher: &mut L) -> bool
+        ensures asked { AsksRun self.now.running result (L.shown launcher.old)
+            (L.shown launcher.new) }
+        ensures counted { L.failures_of launcher.new ≡ L.failures_of launcher.old }
+    {
+        match self.running {
+            Some(run) => launcher.ended(run),
+            None => true,
+        }
+    }
+}
+
+/// How a trigger of the root with this text starts its command.
+fn order(shape: Shape, root: Text) -> Order
+    ensures { order_data result ≡ order_of (shape_data shape) root }
+{
+    Order {
+        name: shape.name,
+        root,
+        command: shape.command,
+        appends: shape.appends,
+        input: shape.input,
+        limit: shape.limit,
+    }
 }

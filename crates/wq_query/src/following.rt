@@ -1,22 +1,19 @@
-//! A plan that is used again and again, each time from the tick up to which it told changes.
-//! Two texts tell its files outside a reply: a subscription's list, and the input of a command.
+//! The two texts that tell the files of a plan outside a reply: a subscription's list, and the
+//! input of a command.
 ghost use Rattle.std.specs.Prelude.{◌≡◌, ◌∷◌, [], codes, true, IfOk};
 ghost use Rattle.json.specs.Token.{end_object, key};
 ghost use Rattle.json.specs.Token.{boolean as boolean_token, string as string_token};
 ghost use Rattle.serde_json.specs.Written.{compact_text};
 ghost use Rattle.wq_base.specs.Version.{version};
 ghost use Rattle.wq_clock.specs.Instance.{instance_data};
-ghost use Rattle.wq_clock.specs.declared.bound.Bound.TheVariants.{Tick};
 ghost use Rattle.wq_view.specs.Position.{records_at};
-ghost use Rattle.wq_query.specs.Following.{files_data, list_data, with_bound};
-ghost use Rattle.wq_query.specs.Listing.{AreWithin, files_of};
+ghost use Rattle.wq_query.specs.Following.{files_data, list_data};
+ghost use Rattle.wq_query.specs.Listing.{AreWithin};
 ghost use Rattle.wq_query.specs.Printing.{Appends, IsFormOf, Prints};
 ghost use Rattle.wq_query.specs.Query.{planned};
 
-use crate::crew::Alone;
 use crate::field::Field;
 use crate::form::Form;
-use crate::listing::listed;
 use crate::printing::{print_files, print_flag, print_start, print_text};
 use crate::query::Plan;
 use json::Writer;
@@ -24,33 +21,6 @@ use std::alloc::{AllocError, Global};
 use wq_base::VERSION;
 use wq_clock::{Bound, Instance, print};
 use wq_view::View;
-
-impl Plan {
-    /// The bound from which the plan tells changes.
-    pub fn bound(&self) -> Bound
-        ensures { result ≡ (planned self.now).bound }
-    {
-        self.bound
-    }
-
-    /// From now on the plan tells the changes after this tick. It takes no memory.
-    pub fn tell_from(&mut self, tick: u64)
-        ensures { planned self.new ≡ with_bound (Tick tick) (planned self.old) }
-    {
-        let bound = Bound::Tick(tick);
-        self.query.generators.since = Some(bound);
-        self.bound = bound;
-    }
-
-    /// The places of the files that the plan lists, in the view's order.
-    pub fn files(&self, alloc: Global, view: &View) -> Result<Vec<u32>, AllocError>
-        ensures within { IfOk result (λ places. AreWithin view.now.records places.items) }
-        ensures files { IfOk result (λ places. records_at view.now.records places.items
-            ≡ files_of (planned self.now) view.now.records) }
-    {
-        listed(&Alone {}, alloc, self, view)
-    }
-}
 
 /// How many bytes are taken for a list before any is printed.
 const ROOM: usize = 256;

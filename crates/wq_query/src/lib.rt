@@ -11,14 +11,12 @@ mod generating;
 mod globbing;
 mod law;
 mod listing;
-mod planning;
 mod printing;
 mod query;
 mod reading;
 mod reply;
 mod room;
 mod rows;
-mod subscribing;
 
 pub use crew::{Alone, Crew, Several};
 pub use fault::QueryFault;

@@ -1,16 +1,37 @@
-//! A query and the plan of answering it, as they are kept. `planning` has their functions.
-ghost use Rattle.std.specs.Prelude.{◌≡◌, IsTrue, Some, None};
+//! A query, read of a JSON object or of that of a subscription, and the plan of its answer.
+ghost use Rattle.std.specs.Prelude.{◌≡◌, IsTrue, Some, None, option_map, IfOk, Err, Ok};
 ghost use Rattle.wq_term.specs.Expr.{term_of};
 ghost use Rattle.wq_term.specs.Fits.{expr_fits};
 ghost use Rattle.wq_query.specs.Meaning.{SaysMeaning};
+ghost use Rattle.serde_json.specs.View.{view as data_of};
+ghost use Rattle.wq_clock.specs.Instance.{instance_data};
+ghost use Rattle.wq_compile.specs.Meaning.{AnswersMeaning};
+ghost use Rattle.wq_query.specs.Outcome.{GivesQuery};
+ghost use Rattle.wq_query.specs.Query.{asked_of, since_bound, since_cursor, planned};
+ghost use Rattle.wq_query.specs.Reading.{asks};
+ghost use Rattle.wq_clock.specs.declared.bound.Bound.TheVariants.{Tick};
+ghost use Rattle.wq_view.specs.Position.{records_at};
+ghost use Rattle.wq_query.specs.Following.{with_bound};
+ghost use Rattle.wq_query.specs.Listing.{AreWithin, files_of};
+ghost use Rattle.wq_query.specs.Subscribed.{comes_first, has_cursor, has_generator, subscribes};
+ghost use Rattle.wq_query.specs.Subscribed.{without_generators};
 
+use crate::crew::Alone;
+use crate::fault::QueryFault;
 use crate::field::Field;
+use crate::listing::listed;
+use crate::reading::cursor;
+use crate::{generating, globbing, reading};
+use serde_json::Value;
+use std::alloc::{AllocError, Global};
 use std::sync::Arc;
 use wq_base::Text;
-use wq_clock::Bound;
+use wq_clock::{Bound, Instance};
+use wq_eval::answers_are_said;
 use wq_gen::Generators;
 use wq_term::Expr;
 use wq_verify::Program;
+use wq_view::View;
 
 /// The point from which a query asks for changes.
 #[derive(Drop)]
@@ -46,4 +67,217 @@ pub struct Plan {
     pub(crate) program: Arc<Program>,
     ghost since: { (query.generators).since ≡ Some bound },
     ghost meaning: { query.program ≡ None → SaysMeaning program.value (term_of query.expr) },
+}
+
+impl Query {
+    /// The query that a JSON object asks, at this instance of the server. The first fault refuses
+    /// it: see [`QueryFault`].
+    ///
+    /// Keys that are not known are ignored, and so are `dedup_results`, `defer` and `drop`. The
+    /// value of `sync_timeout` is tested here, and the caller that crawls uses it. A value that is
+    /// no object has no keys.
+    pub fn read(alloc: Global, value: &Value, instance: &Instance) -> Result<Query, QueryFault>
+        ensures { GivesQuery result (asks (instance_data instance.now) (data_of value.now)) }
+    {
+        if reading::has_left_out_key(value) {
+            return Err(QueryFault::LeftOutKey);
+        }
+        if reading::has_both(value) {
+            return Err(QueryFault::ExpressionAndProgram);
+        }
+        let expr = reading::expression(alloc, value.get("expression"), instance)?;
+        let fields = reading::fields(alloc, value.get("fields"))?;
+        let suffix = generating::suffixes(alloc, value.get("suffix"))?;
+        let path = generating::paths(alloc, value.get("path"))?;
+        let flags = globbing::glob_flags(value.get("glob_includedotfiles"));
+        let glob = globbing::globs(alloc, value.get("glob"), flags)?;
+        let since = reading::since(alloc, value.get("since"), instance)?;
+        let program = reading::program(alloc, value.get("program"))?;
+        let Some(empty_on_fresh_instance) = reading::last_values(value) else {
+            return Err(QueryFault::WrongValue);
+        };
+        Ok(Query {
+            expr,
+            program,
+            fields,
+            since,
+            generators: Generators {
+                since: None,
+                suffix,
+                path,
+                glob,
+            },
+            empty_on_fresh_instance,
+        })
+    }
+
+    /// The query that the object of a subscription asks, without generators and without a cursor.
+    ///
+    /// A key of a generator is [`QueryFault::BadGenerator`], whatever its value is, and a cursor is
+    /// [`QueryFault::BadClockSpec`]. All other faults come in the order of [`Query::read`].
+    pub fn read_subscription(
+        alloc: Global,
+        value: &Value,
+        instance: &Instance,
+    ) -> Result<Query, QueryFault>
+        ensures { GivesQuery result (subscribes (instance_data instance.now) (data_of value.now)) }
+    {
+        match Query::read(alloc, value, instance) {
+            Ok(query) => without_generators(value, query),
+            Err(fault) => Err(first_fault(value, fault)),
+        }
+    }
+
+    /// The expression that the files match; that of every file if the query names a program.
+    pub fn expr(&self) -> &Expr
+        ensures value { term_of result.now ≡ (asked_of self.now).expression }
+        ensures limits { IsTrue (expr_fits (term_of result.now)) }
+    {
+        &self.expr
+    }
+
+    /// The name of the program that says which files match, in place of the expression.
+    pub fn program(&self) -> Option<&str>
+        ensures { option_map (λ name. name.now) result ≡ (asked_of self.now).program }
+    {
+        match &self.program {
+            None => None,
+            Some(name) => Some(name.as_str()),
+        }
+    }
+
+    /// The bound that the query sets: fresh if it has no `since`, and none if that is a cursor.
+    pub fn bound(&self) -> Option<Bound>
+        ensures { result ≡ since_bound (asked_of self.now).since }
+    {
+        match &self.since {
+            Since::Bound(bound) => Some(*bound),
+            Since::Cursor(_) => None,
+        }
+    }
+
+    /// The name of the cursor from whose tick the query asks for changes, of 1 to 255 bytes.
+    pub fn cursor(&self) -> Option<&str>
+        ensures { option_map (λ name. name.now) result ≡ since_cursor (asked_of self.now).since }
+    {
+        match &self.since {
+            Since::Bound(_) => None,
+            Since::Cursor(name) => Some(name.as_str()),
+        }
+    }
+
+    /// The plan of answering the query with this bound, whichever the query sets.
+    ///
+    /// The program is the one that is kept under the name that the query has for one. Without a
+    /// name, it answers the meaning of the query's expression on every record.
+    pub fn plan(mut self, bound: Bound, program: Arc<Program>) -> Plan
+        requires { (asked_of self).program ≡ None
+            → AnswersMeaning program.value (asked_of self).expression }
+        ensures { planned result ≡ record {
+          query = asked_of self;
+          bound = bound;
+          program = option_map (λ _. program.value) (asked_of self).program;
+        } }
+    {
+        answers_are_said();
+        program.raw();
+        self.generators.since = Some(bound);
+        Plan {
+            query: self,
+            bound,
+            program,
+        }
+    }
+}
+
+impl Plan {
+    /// The bound from which the plan tells changes.
+    pub fn bound(&self) -> Bound
+        ensures { result ≡ (planned self.now).bound }
+    {
+        self.bound
+    }
+
+    /// From now on the plan tells the changes after this tick. It takes no memory.
+    pub fn tell_from(&mut self, tick: u64)
+        ensures { planned self.new ≡ with_bound (Tick tick) (planned self.old) }
+    {
+        let bound = Bound::Tick(tick);
+        self.query.generators.since = Some(bound);
+        self.bound = bound;
+    }
+
+    /// The places of the files that the plan lists, in the view's order.
+    pub fn files(&self, alloc: Global, view: &View) -> Result<Vec<u32>, AllocError>
+        ensures within { IfOk result (λ places. AreWithin view.now.records places.items) }
+        ensures files { IfOk result (λ places. records_at view.now.records places.items
+            ≡ files_of (planned self.now) view.now.records) }
+    {
+        listed(&Alone {}, alloc, self, view)
+    }
+}
+
+/// The query of an object, unless that has a generator or a cursor.
+fn without_generators(value: &Value, query: Query) -> Result<Query, QueryFault>
+    ensures { GivesQuery result (without_generators (Ok (asked_of query))
+        (has_generator (data_of value.now)) (has_cursor (data_of value.now))) }
+{
+    if has_generator(value) {
+        return Err(QueryFault::BadGenerator);
+    }
+    if has_cursor(value) {
+        return Err(QueryFault::BadClockSpec);
+    }
+    Ok(query)
+}
+
+/// The fault of an object as a subscription, which has this one as a query.
+fn first_fault(value: &Value, fault: QueryFault) -> QueryFault
+    ensures { without_generators (Err fault) (has_generator (data_of value.now))
+        (has_cursor (data_of value.now)) ≡ Err result }
+{
+    if comes_first(fault) {
+        return fault;
+    }
+    if has_generator(value) {
+        return QueryFault::BadGenerator;
+    }
+    if has_cursor(value) {
+        return QueryFault::BadClockSpec;
+    }
+    fault
+}
+
+/// Whether a fault of a query is told before a generator is.
+fn comes_first(fault: QueryFault) -> bool
+    ensures { result ≡ comes_first fault }
+{
+    match fault {
+        QueryFault::LeftOutKey
+        | QueryFault::ExpressionAndProgram
+        | QueryFault::Expression(_)
+        | QueryFault::UnknownField
+        | QueryFault::NoMemory => true,
+        QueryFault::BadGenerator
+        | QueryFault::PatternTooLong
+        | QueryFault::BadClockSpec
+        | QueryFault::WrongValue => false,
+    }
+}
+
+/// Whether an object has a key of a generator, whatever its value is.
+fn has_generator(value: &Value) -> bool
+    ensures { result ≡ has_generator (data_of value.now) }
+{
+    value.get("suffix").is_some() || value.get("path").is_some() || value.get("glob").is_some()
+}
+
+/// Whether `since` says a cursor.
+fn has_cursor(value: &Value) -> bool
+    ensures { result ≡ has_cursor (data_of value.now) }
+{
+    match value.get("since") {
+        Some(since) => cursor(since).is_some(),
+        None => false,
+    }
 }

@@ -1,6 +1,6 @@
 //! The happenings that a line of a script brings. An ask brings the crawl or the watching that it needs, and
-//! then itself. Other lines bring idle moments, a round of triggers, or the end of a run. `playing` and `rounds`
-//! let them happen.
+//! then itself. Other lines bring idle moments, a round of triggers, or the end of a run. `world` lets
+//! them happen.
 ghost use Rattle.std.specs.Prelude.{◌≡◌, ◌++◌, ◌∷◌, [], IfOk, map, option_to_list};
 ghost use Rattle.wq_session.specs.Need.{need_of};
 ghost use Rattle.wq_session.specs.Needed.{need_data};
@@ -9,7 +9,7 @@ ghost use Rattle.wq_replay.specs.Stands.{crawl_data, happening_data};
 ghost use Rattle.wq_replay.specs.World.{asked, idle};
 
 use crate::happening::Happening;
-use crate::playing::ROOT;
+use crate::world::ROOT;
 use std::alloc::{AllocError, Global};
 use wq_base::Text;
 use wq_crawl::CrawlFault;

@@ -1,8 +1,7 @@
 //! The stage of a script: the world, the listing that a crawl of `/r` would give, and the listing
 //! that is open.
 
-use crate::playing::no_files;
-use crate::world::World;
+use crate::world::{World, no_files};
 use std::alloc::{AllocError, Global};
 use wq_clock::Run;
 use wq_view::{Pass, Seen};

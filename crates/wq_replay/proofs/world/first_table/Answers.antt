@@ -2,7 +2,7 @@
 use Rattle.std.proofs.Common.{[], ap, subst}
 use Rattle.wq_live.specs.Table.{TableData, IsTableOf}
 use Rattle.wq_replay.proofs.Tables.{first_events}
-use Rattle.wq_replay.proofs.playing.first_table.Goals as goal
+use Rattle.wq_replay.proofs.world.first_table.Goals as goal
 
 pub returns-in-Ok : goal.returns-in-Ok
 returns-in-Ok c =
