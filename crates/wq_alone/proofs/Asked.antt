@@ -4,7 +4,7 @@ use Rattle.std.proofs.lemmas.Bool.Decides.{Decides-int_eq}
 use Rattle.wq_clock.specs.Run.{run_data}
 use Rattle.wq_clock.specs.declared.run.Run.{Run}
 use Rattle.wq_crawl.specs.declared.fault.CrawlFault.{CrawlFault}
-use Rattle.wq_crawl.specs.declared.fault.CrawlFault.TheVariants.{NoHandle, Unreadable, TooManyFiles, TooManyRoots, TicksSpent, NoMemory}
+use Rattle.wq_crawl.specs.declared.fault.CrawlFault.TheVariants.{NoHandle, Unreadable, TooManyFiles, TooManyRoots, TicksSpent, GaveWay, NoMemory}
 use Rattle.wq_follow.specs.Subscription.{SubscriptionData}
 use Rattle.wq_live.specs.Table.{IsTableOf, TableData}
 use Rattle.wq_live.specs.declared.event.RootEvent.TheVariants.{Ended}
@@ -58,6 +58,7 @@ goes_on_after NoHandle out (inl is) = ap (λ (o : OutData). o.goes_on) is
 goes_on_after TooManyFiles out (inl is) = ap (λ (o : OutData). o.goes_on) is
 goes_on_after TooManyRoots out (inl is) = ap (λ (o : OutData). o.goes_on) is
 goes_on_after TicksSpent out (inl is) = ap (λ (o : OutData). o.goes_on) is
+goes_on_after GaveWay out (inl is) = ap (λ (o : OutData). o.goes_on) is
 goes_on_after NoMemory out (inl is) = ap (λ (o : OutData). o.goes_on) is
 
 -- an ask leads to a world that the ends then show

@@ -18,9 +18,10 @@ use Rattle.wq_crawl.specs.declared.tree.TreeFault.{TreeFault}
 use Rattle.wq_crawl.specs.declared.tree.TreeFault.TheVariants.{Unreadable as UnreadableTree}
 use Rattle.wq_crawl.specs.declared.tree.TreeFault.TheVariants.{TooManyRows as TooManyTreeRows}
 use Rattle.wq_crawl.specs.declared.tree.TreeFault.TheVariants.{NoHandle as NoTreeHandle, NoMemory as NoTreeMemory}
+use Rattle.wq_crawl.specs.declared.tree.TreeFault.TheVariants.{GaveWay as TreeGaveWay}
 use Rattle.wq_crawl.specs.declared.fault.CrawlFault.{CrawlFault}
 use Rattle.wq_crawl.specs.declared.fault.CrawlFault.TheVariants.{Unreadable, TooManyFiles}
-use Rattle.wq_crawl.specs.declared.fault.CrawlFault.TheVariants.{NoHandle, TooManyRoots, NoMemory}
+use Rattle.wq_crawl.specs.declared.fault.CrawlFault.TheVariants.{GaveWay, NoHandle, TooManyRoots, NoMemory}
 use Rattle.wq_crawl.specs.declared.place.Place.{Place}
 use Rattle.wq_crawl.specs.declared.place.Place.TheVariants.{Shown, Full, Free}
 
@@ -53,6 +54,7 @@ abbrev pub not_listed : TreeFault → CrawlFault
 not_listed UnreadableTree = Unreadable
 not_listed NoTreeHandle = NoHandle
 not_listed TooManyTreeRows = TooManyFiles
+not_listed TreeGaveWay = GaveWay
 not_listed NoTreeMemory = NoMemory
 
 -- the fault of a root whose rows, each of them lawful, make no pass: they are too many, or a name

@@ -26,6 +26,9 @@ pub enum CrawlFault {
     /// The root was crawled 2^62 times with changes.
     #[error("the ticks are spent")]
     TicksSpent,
+    /// The crawl ended before its time, because a client waits and none waited for this crawl. No session meets it.
+    #[error("the crawl gave way")]
+    GaveWay,
     /// Memory ran out.
     #[error("no memory")]
     NoMemory,
@@ -39,6 +42,7 @@ pub(crate) fn not_listed(fault: TreeFault) -> CrawlFault
         TreeFault::Unreadable => CrawlFault::Unreadable,
         TreeFault::NoHandle => CrawlFault::NoHandle,
         TreeFault::TooManyRows => CrawlFault::TooManyFiles,
+        TreeFault::GaveWay => CrawlFault::GaveWay,
         TreeFault::NoMemory => CrawlFault::NoMemory,
     }
 }

@@ -22,5 +22,5 @@ pub use memory_roots::MemoryRoots;
 pub use place::{Place, place_for};
 pub use roots::Roots;
 pub use seconds::Seconds;
-pub use shared_crawler::SharedCrawler;
+pub use shared_crawler::{Asked, SharedCrawler};
 pub use tree::{Tree, TreeFault};

@@ -19,6 +19,12 @@ use std::sync::{Mutex, Wait};
 use wq_base::MAX_ROOTS;
 use wq_live::{Named, Told};
 
+/// The moment at which somebody asked for crawls: the number of crawls that had begun then.
+#[derive(Clone, Copy, Drop)]
+pub struct Asked {
+    begun: u64,
+}
+
 /// A crawler that threads share. Each call waits until it has the crawler for itself.
 #[derive(Drop)]
 pub struct SharedCrawler<N: Named, R: Wait + Drop, T: Tree + Drop, S: Seconds + Drop> {
@@ -56,6 +62,26 @@ impl<N: Named, R: Wait + Drop, T: Tree + Drop, S: Seconds + Drop> SharedCrawler<
         ensures { RootsGive None (passing root.now) result None }
     {
         crawl_for(&self.begun, &self.crawls, rt, root)
+    }
+
+    /// This moment, for [`SharedCrawler::crawl_since`].
+    pub fn ask(&self) -> Asked {
+        Asked {
+            begun: self.begun.read(),
+        }
+    }
+
+    /// Crawls the root of this text, as [`SharedCrawler::crawl`] does, for a caller that asked at an earlier moment. A
+    /// crawl that began after that moment serves it too.
+    pub fn crawl_since(
+        &self,
+        rt: &R,
+        asked: Asked,
+        root: &str,
+    ) -> Result<Option<Told<N>>, CrawlFault>
+        ensures { RootsGive None (passing root.now) result None }
+    {
+        crawl_since(&self.begun, &self.crawls, rt, asked.begun, root)
     }
 
     /// Finds the root of this text, or lists it and starts it, and returns the list of events.
@@ -170,6 +196,26 @@ where
 {
     // The thread reads the count before it waits for the lock.
     let asked = begun.read();
+    crawl_since(begun, crawls, rt, asked, root)
+}
+
+/// Crawls a root for a thread that read this count, by the crawler under the lock.
+fn crawl_since<C, N, R, T, S>(
+    begun: &C,
+    crawls: &Mutex<LastCrawls<N, R, T, S>>,
+    rt: &R,
+    asked: u64,
+    root: &str,
+) -> Result<Option<Told<N>>, CrawlFault>
+where
+    C: Counts,
+    N: Named,
+    R: Wait + Drop,
+    T: Tree + Drop,
+    S: Seconds + Drop,
+    requires asked { C.read asked }
+    ensures { RootsGive None (passing root.now) result None }
+{
     crawls.lock(rt).crawl(begun, asked, root)
 }
 

@@ -15,7 +15,6 @@ use std::time::Clock;
 use wq_base::Workers;
 use wq_clock::Run;
 use wq_crawl::{Crawler, Seconds, Tree};
-use wq_follow::Trigger;
 use wq_launch::Spawn;
 use wq_live::{Blank, Named};
 use wq_registry::Cache;
@@ -81,24 +80,5 @@ where
         parts.workers,
         parts.waiting,
     )?;
-    run_host(rt, alloc, listening, host, parts.pace)
-}
-
-/// Runs a host on the threads of the server.
-fn run_host<N, R, T, S, O, P>(
-    rt: R,
-    alloc: Global,
-    listening: &Listening,
-    host: LockHost<N, R, T, S, O, P, Trigger>,
-    pace: Pace,
-) -> io::Result<()>
-where
-    N: Named + Send + Sync + 'static,
-    R: Threads + Wait + Clock + Copy + Drop + Send + Sync + 'static,
-    T: Tree + Drop + Send + 'static,
-    S: Seconds + Drop + Send + 'static,
-    O: Notices + Drop + Send + Sync + 'static,
-    P: Spawn + Drop + Send + 'static,
-{
-    run(rt, alloc, listening, host, pace)
+    run(rt, alloc, listening, host, parts.pace)
 }

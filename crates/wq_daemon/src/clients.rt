@@ -54,6 +54,7 @@ impl Clients {
         H: Host + Drop + Send + Sync + 'static,
     {
         self.forget_ended(&rt);
+        server.links.forget_over(&rt);
         if self.clients.len() >= MAX_SESSIONS {
             refuse(&mut &stream, Refusal::TooManySessions);
             return;
@@ -128,11 +129,17 @@ where
     H: Host + Drop + Send + Sync + 'static,
 {
     let stream = Arc::new(alloc, stream)?;
-    let link = Link::new(alloc, stream.clone()?, server.pulse.clone()?)?;
-    let link = Arc::new(alloc, link)?;
+    let link = Arc::new(alloc, Link::new(alloc, stream.clone()?)?)?;
+    server.links.add(&rt, link.clone()?)?;
     let (theirs, server) = (link.clone()?, server.clone()?);
     let session = thread::spawn(&rt, move || {
         run_client(rt, alloc, theirs, stream, &server)
-    })?;
-    Ok(Client { link, session })
+    });
+    if session.is_err() {
+        link.set_over(&rt);
+    }
+    Ok(Client {
+        link,
+        session: session?,
+    })
 }

@@ -3,14 +3,16 @@
 ghost use Rattle.std.specs.Thread.{IsSync};
 
 use crate::moments::RootNumbers;
+use crate::stop::Stop;
 use std::io::Write;
 use std::sync::Arc;
 use std::thread::Threads;
+use std::time::Duration;
 use wq_launch::{Run, Runs};
 use wq_serve::Inbox;
 
 /// Serves clients, crawls roots and starts the commands of triggers, from many threads at once.
-pub trait Host {
+pub(crate) trait Host {
     /// Tells the operator that clients are served from now on.
     fn greet(&self);
 
@@ -24,11 +26,17 @@ pub trait Host {
     ) -> bool
         requires { IsSync T.row };
 
-    /// Begins a round of crawls, and gives the roots that are watched; none if memory runs out for them.
-    fn roots(&self) -> Option<Vec<String>>;
+    /// The roots that are shown now; none if memory runs out for them.
+    fn numbers(&self) -> Option<RootNumbers>;
 
-    /// Crawls a root once, and then has a round of its triggers. The caller then takes the commands that were started.
-    fn crawl(&self, root: &str);
+    /// Begins a round of crawls.
+    fn begin_round(&self);
+
+    /// Crawls the root of this number, if it is shown, and then has a round of its triggers. The caller then takes the
+    /// commands that were started. Returns how long it worked: waiting for clients is no work.
+    ///
+    /// The crawl gives way to clients that wait for one. If the server is to end, it does no more.
+    fn crawl(&self, number: u64, stop: &Stop) -> Duration;
 
     /// Takes the first command that was started and that nobody attends yet.
     fn take_run(&self) -> Option<Run>;
@@ -38,9 +46,6 @@ pub trait Host {
 
     /// The commands that run.
     fn runs(&self) -> &Arc<Runs>;
-
-    /// The roots that are shown now; none if memory runs out for them.
-    fn numbers(&self) -> Option<RootNumbers>;
 }
 
 /// Tells the operator of the server about faults.

@@ -3,12 +3,14 @@
 #![tactic(auto)]
 
 mod assembly;
+mod callers;
 mod client;
 mod clients;
 mod failing;
 mod host;
 mod link;
 mod link_inbox;
+mod links;
 mod lock_host;
 mod moments;
 mod pace;
@@ -25,9 +27,6 @@ mod waiting_roots;
 
 pub use assembly::{Parts, SEATS, serve_clients};
 pub use clients::MAX_SESSIONS;
-pub use host::{Host, Notices};
-pub use lock_host::LockHost;
-pub use moments::RootNumbers;
+pub use host::Notices;
 pub use pace::{Pace, Share};
-pub use running::run;
 pub use socket::{Listening, listen, remove};

@@ -1,6 +1,5 @@
 //! The link to a client, which its threads share.
 
-use crate::pulse::Pulse;
 use crate::queue::Queue;
 use std::alloc::{AllocError, Global};
 use std::net::Shutdown;
@@ -12,8 +11,6 @@ use std::sync::{Arc, Mutex, Wait};
 #[derive(Drop)]
 pub(crate) struct Link {
     pub(crate) queue: Queue,
-    /// The pulse of the server.
-    pub(crate) pulse: Arc<Pulse>,
     /// The stream, until the session is over. The last share of it gives its handle back.
     stream: Mutex<Option<Arc<UnixStream>>>,
     is_over: AtomicBool,
@@ -21,29 +18,18 @@ pub(crate) struct Link {
 
 impl Link {
     /// The link to a client from which nothing has come.
-    pub(crate) fn new(
-        alloc: Global,
-        stream: Arc<UnixStream>,
-        pulse: Arc<Pulse>,
-    ) -> Result<Link, AllocError> {
+    pub(crate) fn new(alloc: Global, stream: Arc<UnixStream>) -> Result<Link, AllocError> {
         Ok(Link {
             queue: Queue::new(alloc)?,
-            pulse,
             stream: Mutex::new(Some(stream)),
             is_over: AtomicBool::new(false),
         })
     }
 
-    /// Lets the session take no more events, and tells the threads that bring them.
-    pub(crate) fn close<R: Wait>(&self, rt: &R) {
-        self.queue.close(rt);
-        self.pulse.wake(rt);
-    }
-
     /// Ends the session, and the reads and writes for it. Bytes that were written before still
     /// reach the client.
     pub(crate) fn end<R: Wait>(&self, rt: &R) {
-        self.close(rt);
+        self.queue.close(rt);
         if let Some(stream) = &*self.stream.lock(rt) {
             // A client that has gone already leaves a stream that cannot be shut down.
             let _ = stream.shutdown(Shutdown::Both);

@@ -1,48 +1,55 @@
 //! The parts that the threads of the server share: the shelf, the seats, the launcher, and the crawler. Each is under a
 //! lock of its own. A look at files takes no lock, and neither does a listing of them.
 
+use crate::callers::Callers;
 use crate::clients::MAX_SESSIONS;
 use crate::failing::Failing;
 use crate::host::{Host, Notices};
 use crate::moments::RootNumbers;
 use crate::refusal::refuse;
 use crate::rounds::Rounds;
+use crate::stop::Stop;
 use crate::waiting_roots::WaitingRoots;
 use serde_json::Value;
 use std::alloc::{AllocError, Global};
-use std::io::Write;
+use std::io::{self, Write};
 use std::sync::atomic::AtomicU64;
 use std::sync::{Arc, Mutex, Wait};
 use std::thread::Threads;
+use std::time::{Clock, Duration, Instant};
 use wq_base::Workers;
 use wq_clock::Run;
-use wq_crawl::{CrawlFault, Crawler, LockRoots, Seconds, SharedCrawler, Tree};
-use wq_follow::Trigger;
+use wq_crawl::{Asked, CrawlFault, Crawler, LockRoots, Seconds, SharedCrawler, Tree};
 use wq_launch::{MAX_RUNS, Run as StartedRun, Runs, Spawn};
 use wq_live::{Named, RootTable, Seat};
-use wq_serve::{Inbox, Kept, LockDesk, ReachedShelf, SharedShelf, serve};
+use wq_serve::{Inbox, LockDesk, SharedShelf, serve};
 use wq_session::Refusal;
+
+/// How many walks of a root a round gives up, before it waits for the crawler as a client does.
+const MOST_GIVEN_UP: usize = 4;
+
+/// How many seconds a round waits at most for clients before a walk.
+const PATIENCE: u64 = 1;
 
 /// The parts of a server. It serves a client for each free seat.
 #[derive(Drop)]
-pub struct LockHost<N, R, T, S, O, P, K>
+pub(crate) struct LockHost<N, R, T, S, O, P>
 where
     N: Named,
-    R: Wait + Copy + Drop,
+    R: Wait + Clock + Copy + Drop,
     T: Tree + Drop,
     S: Seconds + Drop,
     O: Notices + Drop,
     P: Spawn + Drop,
-    K: Kept + Drop,
 {
     rt: R,
     alloc: Global,
     run: Run,
     seats: Mutex<Vec<Seat<N>>>,
-    /// The seat of idle moments. It is there whenever it is not locked.
+    /// The seat for looks at the roots that are shown. It is there whenever it is not locked.
     idle_seat: Mutex<Option<Seat<N>>>,
     crawler: Arc<SharedCrawler<N, R, T, S>>,
-    shelf: Arc<Mutex<ReachedShelf<K>>>,
+    shelf: Arc<Mutex<SharedShelf>>,
     rounds: Rounds<N, P, R>,
     failing: Mutex<Failing>,
     /// The line to the operator when the server begins to serve clients.
@@ -50,8 +57,8 @@ where
     notices: O,
     /// How many threads may look for the files of a query.
     workers: Workers,
-    /// How many calls of all sessions wait for a crawl.
-    waiting: Arc<AtomicU64>,
+    /// The calls of all sessions that wait for a crawl.
+    callers: Arc<Callers>,
 }
 
 /// The seats of a server.
@@ -65,10 +72,10 @@ struct Seats<N: Named> {
     rounds: Seat<N>,
 }
 
-impl<N, R, T, S, O, P> LockHost<N, R, T, S, O, P, Trigger>
+impl<N, R, T, S, O, P> LockHost<N, R, T, S, O, P>
 where
     N: Named,
-    R: Wait + Copy + Drop,
+    R: Wait + Clock + Copy + Drop,
     T: Tree + Drop,
     S: Seconds + Drop,
     O: Notices + Drop,
@@ -77,7 +84,7 @@ where
     /// A server over this crawler and this shelf. It has a seat for each session that may be, one for idle moments and
     /// one for rounds of triggers. `spawn` starts commands, and so many threads may look for the files of a query. The
     /// last parameter counts the calls of sessions that wait for a crawl.
-    pub fn new(
+    pub(crate) fn new(
         rt: R,
         alloc: Global,
         run: Run,
@@ -87,7 +94,7 @@ where
         spawn: P,
         workers: Workers,
         waiting: Arc<AtomicU64>,
-    ) -> Result<LockHost<N, R, T, S, O, P, Trigger>, AllocError> {
+    ) -> Result<LockHost<N, R, T, S, O, P>, AllocError> {
         let greeting = format!(in alloc; "listening on {}", shelf.sockname())?;
         let shelf = Arc::new(alloc, Mutex::new(shelf))?;
         let (seats, crawler) = shared(alloc, crawler)?;
@@ -104,15 +111,16 @@ where
             greeting,
             notices,
             workers,
-            waiting,
+            callers: Arc::new(alloc, Callers::new(waiting))?,
         })
     }
 
     /// The roots, for a session.
     fn waiting_roots(&self) -> Result<WaitingRoots<N, R, T, S>, AllocError> {
         Ok(WaitingRoots {
+            rt: self.rt,
             roots: LockRoots::new(self.crawler.clone()?, self.rt, self.workers),
-            waiting: self.waiting.clone()?,
+            callers: self.callers.clone()?,
         })
     }
 
@@ -132,21 +140,55 @@ where
         let _ = self.seats.lock(&self.rt).push(seat);
     }
 
-    /// The texts of the roots that are watched.
-    fn root_texts(&self) -> Result<Vec<String>, AllocError> {
-        let mut texts = Vec::new(self.alloc);
-        for root in self.shelf.lock(&self.rt).roots() {
-            texts.push(String::from_str(self.alloc, root.text())?)?;
-        }
-        Ok(texts)
+    /// The text of the root of this number, if it is shown. There is none if memory runs out for it.
+    fn text(&self, number: u64) -> Option<String> {
+        let mut place = self.idle_seat.lock(&self.rt);
+        let (seat, text) = look_at_text(place.take()?, self.alloc, number);
+        *place = Some(seat);
+        text
     }
 
-    /// Crawls a root, and tells the operator if it can no longer be crawled.
-    fn crawl_root(&self, root: &str) {
-        if let Err(fault) = self.crawler.crawl(&self.rt, root) {
-            self.tell_once(root, fault);
-            self.failing.lock(&self.rt).add(root, fault);
+    /// Crawls a root in a round, and returns for how long it worked, and the fault if it was not crawled.
+    ///
+    /// It begins when no client waits for a crawl, and gives way to one that comes. If that one's crawl was of this root,
+    /// it serves the round too. After so many walks that it gave up, or if clients wait all the time, the round waits for
+    /// the crawler as a client does. So clients of one root do not keep another root from being crawled.
+    fn crawl_in_round(&self, root: &str, stop: &Stop) -> (Duration, Result<(), CrawlFault>) {
+        let asked = self.crawler.ask();
+        let mut worked = Duration::ZERO;
+        for _ in 0..MOST_GIVEN_UP {
+            if !self
+                .callers
+                .wait_for_none(&self.rt, Duration::from_secs(PATIENCE))
+            {
+                break;
+            }
+            if stop.is_asked(&self.rt) {
+                return (worked, Err(CrawlFault::GaveWay));
+            }
+            let (took, crawled) = self.crawl_since(asked, root);
+            worked = worked.saturating_add(took);
+            if crawled != Err(CrawlFault::GaveWay) {
+                return (worked, crawled);
+            }
         }
+        self.callers.enter();
+        let (took, crawled) = self.crawl_since(asked, root);
+        self.callers.leave(&self.rt);
+        (worked.saturating_add(took), crawled)
+    }
+
+    /// Crawls a root for a round that asked at this moment, and returns how long that took.
+    fn crawl_since(&self, asked: Asked, root: &str) -> (Duration, Result<(), CrawlFault>) {
+        let began = Instant::now(&self.rt);
+        let crawled = self.crawler.crawl_since(&self.rt, asked, root);
+        (time_since(&self.rt, began), crawled.map(|_| ()))
+    }
+
+    /// Tells the operator if a root can no longer be crawled.
+    fn note(&self, root: &str, fault: CrawlFault) {
+        self.tell_once(root, fault);
+        self.failing.lock(&self.rt).add(root, fault);
     }
 
     /// Tells the operator that a root cannot be crawled, unless that was so in the last round already.
@@ -215,6 +257,31 @@ where
     Ok(seats)
 }
 
+/// How long it is since a reading of the clock. It is no time if the clock cannot be read.
+fn time_since<R: Clock>(rt: &R, began: io::Result<Instant>) -> Duration {
+    match began {
+        Ok(began) => began.elapsed(rt).unwrap_or(Duration::ZERO),
+        Err(_) => Duration::ZERO,
+    }
+}
+
+/// The text of the root of this number, if a seat sees it, and the seat. There is none if memory runs out for it, or if
+/// the look is refused.
+fn look_at_text<N: Named>(seat: Seat<N>, alloc: Global, number: u64) -> (Seat<N>, Option<String>) {
+    match seat.look() {
+        Ok(look) => {
+            let text = text_in(look.table(), alloc, number);
+            (look.leave(), text)
+        }
+        Err(blind) => (blind.seat(), None),
+    }
+}
+
+/// The text of the root of this number in a table.
+fn text_in(table: &RootTable, alloc: Global, number: u64) -> Option<String> {
+    String::from_str(alloc, table.text(number)?).ok()
+}
+
 /// The roots that a seat sees, and the seat. There are none if memory runs out for them, or if the look is refused.
 fn look_at_numbers<N: Named>(seat: Seat<N>) -> (Seat<N>, Option<RootNumbers>) {
     match seat.look() {
@@ -234,10 +301,10 @@ fn numbers_in(table: &RootTable) -> Option<RootNumbers> {
     })
 }
 
-impl<N, R, T, S, O, P> Host for LockHost<N, R, T, S, O, P, Trigger>
+impl<N, R, T, S, O, P> Host for LockHost<N, R, T, S, O, P>
 where
     N: Named,
-    R: Wait + Copy + Drop,
+    R: Wait + Clock + Copy + Drop,
     T: Tree + Drop,
     S: Seconds + Drop,
     O: Notices + Drop,
@@ -269,18 +336,35 @@ where
         ended.shut
     }
 
-    fn roots(&self) -> Option<Vec<String>> {
-        // The view of a root that is no longer watched stays in memory until this call.
-        self.crawler.let_go(&self.rt);
-        let roots = self.root_texts().ok()?;
-        self.failing.lock(&self.rt).begin_round();
-        Some(roots)
+    fn numbers(&self) -> Option<RootNumbers> {
+        let mut place = self.idle_seat.lock(&self.rt);
+        let (seat, numbers) = look_at_numbers(place.take()?);
+        *place = Some(seat);
+        numbers
     }
 
-    fn crawl(&self, root: &str) {
-        self.crawl_root(root);
-        self.rounds.fire(root, &*self.shelf);
+    fn begin_round(&self) {
+        // The view of a root that is no longer watched stays in memory until this call.
+        self.crawler.let_go(&self.rt);
+        self.failing.lock(&self.rt).begin_round();
+    }
+
+    fn crawl(&self, number: u64, stop: &Stop) -> Duration {
+        // If memory runs out for the text, the root is crawled in the next round.
+        let Some(root) = self.text(number) else {
+            return Duration::ZERO;
+        };
+        let (worked, crawled) = self.crawl_in_round(&root, stop);
+        match crawled {
+            Ok(()) => {}
+            // The server ends.
+            Err(CrawlFault::GaveWay) => return worked,
+            Err(fault) => self.note(&root, fault),
+        }
+        let began = Instant::now(&self.rt);
+        self.rounds.fire(number, &*self.shelf);
         self.tell_of_starts();
+        worked.saturating_add(time_since(&self.rt, began))
     }
 
     fn take_run(&self) -> Option<StartedRun> {
@@ -293,12 +377,5 @@ where
 
     fn runs(&self) -> &Arc<Runs> {
         self.rounds.runs()
-    }
-
-    fn numbers(&self) -> Option<RootNumbers> {
-        let mut place = self.idle_seat.lock(&self.rt);
-        let (seat, numbers) = look_at_numbers(place.take()?);
-        *place = Some(seat);
-        numbers
     }
 }

@@ -1,6 +1,6 @@
 //! The pulse of a server: it beats after each round of crawls, and wakes the threads that wait for that.
 
-use crate::queue::Queue;
+use crate::stop::Stop;
 use std::sync::{Condvar, Mutex, Wait};
 use std::time::{Clock, Duration};
 
@@ -33,25 +33,25 @@ impl Pulse {
         self.changed.notify_all();
     }
 
-    /// Lets the waiting threads look at their queues, one of which was closed.
+    /// Lets the waiting threads see that the server ends.
     pub(crate) fn wake<R: Wait>(&self, rt: &R) {
         // A thread that waits either looks after this, or is waiting by now.
         drop(self.beats.lock(rt));
         self.changed.notify_all();
     }
 
-    /// Waits for a beat after so many, but no longer than this, and no longer than the queue is open. Gives the number
+    /// Waits for a beat after so many, but no longer than this, and no longer than the server goes on. Gives the number
     /// of beats.
     pub(crate) fn wait<R: Wait + Clock>(
         &self,
         rt: &R,
-        queue: &Queue,
+        stop: &Stop,
         count: u64,
         time: Duration,
     ) -> u64 {
         let lock = self.beats.lock(rt);
         let (beats, _) = self.changed.wait_timeout_while(rt, lock, time, |beats| {
-            *beats == count && !queue.is_closed(rt)
+            *beats == count && !stop.is_asked(rt)
         });
         *beats
     }

@@ -1,7 +1,8 @@
-//! The bounded queue between the threads that bring events and the session that takes them. No
+//! The queue from which a session takes its events. Threads put events in and wait for it. No
 //! contract promises that an event arrives.
 
 use std::alloc::{AllocError, Global};
+use std::collections::VecDeque;
 use std::sync::{Condvar, Mutex, Wait};
 use std::time::{Clock, Duration};
 use wq_stream::{Event, Waiting};
@@ -9,61 +10,114 @@ use wq_stream::{Event, Waiting};
 /// A queue that threads share.
 #[derive(Drop)]
 pub(crate) struct Queue {
-    waiting: Mutex<Waiting>,
+    coming: Mutex<Coming>,
     changed: Condvar,
     /// Wakes the threads that wait for the end alone. No event is to wake these.
     closed: Condvar,
 }
 
+/// The events that come to a session. A client's events and idle moments come in turn, as long as there are both. So
+/// neither holds up the other.
+#[derive(Drop)]
+struct Coming {
+    /// The events of the client.
+    waiting: Waiting,
+    /// The numbers of the roots of which an idle moment is due, each once.
+    due: VecDeque<u64>,
+    /// Whether an idle moment came last.
+    was_moment: bool,
+}
+
+impl Coming {
+    /// Whether a thread that takes an event has to wait.
+    fn is_idle(&self) -> bool {
+        self.waiting.is_idle() && self.due.is_empty()
+    }
+
+    /// Takes the next event.
+    fn take(&mut self) -> Option<Event> {
+        if self.is_moment_next()
+            && let Some(number) = self.due.pop_front()
+        {
+            self.was_moment = true;
+            return Some(Event::Idle(number));
+        }
+        self.was_moment = false;
+        self.waiting.take()
+    }
+
+    /// Whether an idle moment comes next, if one is due.
+    fn is_moment_next(&self) -> bool {
+        !self.waiting.is_closed() && (!self.was_moment || self.waiting.is_idle())
+    }
+
+    /// Makes an idle moment of each of these roots due.
+    fn put_moments(&mut self, numbers: &[u64]) -> Result<(), AllocError> {
+        for number in numbers {
+            if !self.due.contains(number) {
+                self.due.push_back(*number)?;
+            }
+        }
+        Ok(())
+    }
+}
+
 impl Queue {
-    /// An empty queue. It takes all of its memory now.
+    /// An empty queue. It takes the memory for a client's events now.
     pub(crate) fn new(alloc: Global) -> Result<Queue, AllocError> {
         Ok(Queue {
-            waiting: Mutex::new(Waiting::new(alloc)?),
+            coming: Mutex::new(Coming {
+                waiting: Waiting::new(alloc)?,
+                due: VecDeque::new(alloc),
+                was_moment: false,
+            }),
             changed: Condvar::new(),
             closed: Condvar::new(),
         })
     }
 
-    /// Puts an event after the others as soon as there is room, and says whether it did. If it did
-    /// not, the queue is closed.
+    /// Puts an event of the client after the others as soon as there is room, and says whether it did.
+    /// If it did not, the queue is closed.
     pub(crate) fn put<R: Wait>(&self, rt: &R, event: Event) -> bool {
-        let lock = self.waiting.lock(rt);
-        let mut waiting = self.changed.wait_while(rt, lock, |it| it.is_full());
-        let is_there = waiting.put(event);
-        drop(waiting);
+        let lock = self.coming.lock(rt);
+        let mut coming = self.changed.wait_while(rt, lock, |it| it.waiting.is_full());
+        let is_there = coming.waiting.put(event);
+        drop(coming);
         self.changed.notify_all();
         is_there
     }
 
-    /// Takes the first event as soon as there is one, or the end if the queue is closed.
+    /// Makes an idle moment of each of these roots due, and says whether memory sufficed. It waits for
+    /// no session. A root of which one is due already has no second one.
+    pub(crate) fn put_moments<R: Wait>(&self, rt: &R, numbers: &[u64]) -> bool {
+        let put = self.coming.lock(rt).put_moments(numbers);
+        self.changed.notify_all();
+        put.is_ok()
+    }
+
+    /// Takes the next event as soon as there is one, or the end if the queue is closed.
     pub(crate) fn take<R: Wait>(&self, rt: &R) -> Event {
-        let lock = self.waiting.lock(rt);
-        let mut waiting = self.changed.wait_while(rt, lock, |it| it.is_idle());
-        let event = waiting.take();
-        drop(waiting);
+        let lock = self.coming.lock(rt);
+        let mut coming = self.changed.wait_while(rt, lock, |it| it.is_idle());
+        let event = coming.take();
+        drop(coming);
         self.changed.notify_all();
         event.unwrap_or(Event::End)
     }
 
     /// Closes the queue: it takes in no more events, and whoever takes one gets the end.
     pub(crate) fn close<R: Wait>(&self, rt: &R) {
-        self.waiting.lock(rt).close();
+        self.coming.lock(rt).waiting.close();
         self.changed.notify_all();
         self.closed.notify_all();
     }
 
-    /// Whether the queue is closed.
-    pub(crate) fn is_closed<R: Wait>(&self, rt: &R) -> bool {
-        self.waiting.lock(rt).is_closed()
-    }
-
     /// Waits so long, but no longer than the queue is open. Says whether it is closed.
     pub(crate) fn pause<R: Wait + Clock>(&self, rt: &R, time: Duration) -> bool {
-        let lock = self.waiting.lock(rt);
-        let (waiting, _) = self
+        let lock = self.coming.lock(rt);
+        let (coming, _) = self
             .closed
-            .wait_timeout_while(rt, lock, time, |it| !it.is_closed());
-        waiting.is_closed()
+            .wait_timeout_while(rt, lock, time, |it| !it.waiting.is_closed());
+        coming.waiting.is_closed()
     }
 }

@@ -80,12 +80,12 @@ where
         self.launcher.lock(&self.rt).next_line().ok()?
     }
 
-    /// Has a round of the triggers of a root on this shelf. It does not look at a root without triggers.
-    pub(crate) fn fire(&self, root: &str, shelf: &Mutex<SharedShelf>) {
-        let number = number_with_triggers(&*shelf.lock(&self.rt), root);
-        let Some(number) = number else {
+    /// Has a round of the triggers of the root of this number on this shelf. It does not look at a root without
+    /// triggers.
+    pub(crate) fn fire(&self, number: u64, shelf: &Mutex<SharedShelf>) {
+        if !has_triggers(&*shelf.lock(&self.rt), number) {
             return;
-        };
+        }
         let mut place = self.seat.lock(&self.rt);
         let Some(seat) = place.take() else {
             return;
@@ -147,12 +147,10 @@ where
     }
 }
 
-/// The number of the root of this text, if it is on the shelf and has triggers.
-fn number_with_triggers(shelf: &SharedShelf, text: &str) -> Option<u64> {
-    for root in shelf.roots() {
-        if root.text() == text && root.trigger_count() > 0 {
-            return Some(root.number());
-        }
-    }
-    None
+/// Whether the root of this number is on the shelf and has triggers.
+fn has_triggers(shelf: &SharedShelf, number: u64) -> bool {
+    shelf
+        .roots()
+        .iter()
+        .any(|root| root.number() == number && root.trigger_count() > 0)
 }

@@ -3,6 +3,8 @@
 
 use crate::clients::Clients;
 use crate::host::Host;
+use crate::links::Links;
+use crate::moments::bring_moments;
 use crate::pace::Pace;
 use crate::pulse::Pulse;
 use crate::server::Server;
@@ -12,7 +14,7 @@ use std::alloc::Global;
 use std::io;
 use std::sync::{Arc, Wait};
 use std::thread::{self, JoinHandle, Threads};
-use std::time::{Clock, Duration, Instant};
+use std::time::{Clock, Duration};
 use wq_launch::{MAX_RUNS, attend};
 
 /// How many milliseconds the server waits after a connection that it could not accept.
@@ -25,7 +27,13 @@ const PAUSE: u64 = 100;
 ///
 /// # Errors
 /// The server could not make a part that it needs, and served nobody.
-pub fn run<R, H>(rt: R, alloc: Global, listening: &Listening, host: H, pace: Pace) -> io::Result<()>
+pub(crate) fn run<R, H>(
+    rt: R,
+    alloc: Global,
+    listening: &Listening,
+    host: H,
+    pace: Pace,
+) -> io::Result<()>
 where
     R: Threads + Wait + Clock + Copy + Drop + Send + Sync + 'static,
     H: Host + Drop + Send + Sync + 'static,
@@ -37,11 +45,17 @@ where
             host,
             stop,
             pace,
-            pulse: Arc::new(alloc, Pulse::new())?,
+            pulse: Pulse::new(),
+            links: Links::new(alloc)?,
         },
     )?;
     let mut clients = Clients::new(alloc)?;
     let crawling = begin_crawling(rt, alloc, &server)?;
+    let Ok(idling) = begin_idling(rt, alloc, &server) else {
+        server.end(&rt);
+        crawling.join(&rt);
+        return Err(io::Error::from(io::ErrorKind::OutOfMemory));
+    };
     server.host.greet();
     for stream in &listening.listener {
         if server.stop.is_asked(&rt) {
@@ -57,6 +71,7 @@ where
     server.end(&rt);
     clients.end_all(&rt);
     crawling.join(&rt);
+    idling.join(&rt);
     Ok(())
 }
 
@@ -70,6 +85,16 @@ where
     Ok(thread::spawn(&rt, move || { crawl_always(rt, alloc, &*server) })?)
 }
 
+/// Starts the thread that brings idle moments.
+fn begin_idling<R, H>(rt: R, alloc: Global, server: &Arc<Server<H>>) -> io::Result<JoinHandle<()>>
+where
+    R: Threads + Wait + Clock + Copy + Drop + Send + Sync + 'static,
+    H: Host + Drop + Send + Sync + 'static,
+{
+    let server = server.clone()?;
+    Ok(thread::spawn(&rt, move || { bring_moments(&rt, alloc, &*server) })?)
+}
+
 /// Crawls, and has commands of triggers started and attended, until the server ends.
 fn crawl_always<R, H>(rt: R, alloc: Global, server: &Server<H>)
 where
@@ -77,43 +102,38 @@ where
     H: Host + Drop,
 {
     for _ in rt.forever() {
-        let began = Instant::now(&rt);
-        crawl_all(rt, alloc, server);
+        let worked = crawl_all(rt, alloc, server);
         server.pulse.beat(&rt);
-        let pause = server.pace.pause_after(time_since(&rt, began));
+        let pause = server.pace.pause_after(worked);
         if server.stop.wait(&rt, pause) {
             return;
         }
     }
 }
 
-/// How long it is since a reading of the clock. It is no time if the clock cannot be read.
-fn time_since<R: Clock>(rt: &R, began: io::Result<Instant>) -> Duration {
-    match began {
-        Ok(began) => began.elapsed(rt).unwrap_or(Duration::ZERO),
-        Err(_) => Duration::ZERO,
-    }
-}
-
-/// Crawls each root that is watched, with a round of its triggers after it. It stops if the server is to end.
-fn crawl_all<R, H>(rt: R, alloc: Global, server: &Server<H>)
+/// Crawls each root that is shown, with a round of its triggers after it. It stops if the server is to end. Returns how
+/// long it worked.
+fn crawl_all<R, H>(rt: R, alloc: Global, server: &Server<H>) -> Duration
 where
     R: Threads + Wait + Copy + Drop + Send + Sync + 'static,
     H: Host + Drop,
 {
     // Commands that could not be attended before are tried again, whether or not a root is watched.
     attend_all(rt, alloc, &server.host);
+    server.host.begin_round();
+    let mut worked = Duration::ZERO;
     // If memory runs out for the roots, they are crawled in the next round.
-    let Some(roots) = server.host.roots() else {
-        return;
+    let Some(roots) = server.host.numbers() else {
+        return worked;
     };
-    for root in roots {
+    for number in roots.shown {
         if server.stop.is_asked(&rt) {
-            return;
+            break;
         }
-        server.host.crawl(&root);
+        worked = worked.saturating_add(server.host.crawl(number, &server.stop));
         attend_all(rt, alloc, &server.host);
     }
+    worked
 }
 
 /// Starts a thread for each command that was started, which attends it. If no thread can be made, the commands wait.

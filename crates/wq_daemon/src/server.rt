@@ -1,10 +1,11 @@
 //! The state that the threads of a server share.
 
 use crate::host::Host;
+use crate::links::Links;
 use crate::pace::Pace;
 use crate::pulse::Pulse;
 use crate::stop::Stop;
-use std::sync::{Arc, Wait};
+use std::sync::Wait;
 
 /// A running server.
 #[derive(Drop)]
@@ -14,12 +15,15 @@ pub(crate) struct Server<H: Host + Drop> {
     /// How long the server waits between two rounds of crawls.
     pub(crate) pace: Pace,
     /// The pulse, which beats after each round. Sessions get their idle moments then.
-    pub(crate) pulse: Arc<Pulse>,
+    pub(crate) pulse: Pulse,
+    /// The links to the clients.
+    pub(crate) links: Links,
 }
 
 impl<H: Host + Drop> Server<H> {
     /// Ends the server: it crawls no more roots and accepts no more connections.
     pub(crate) fn end<R: Wait>(&self, rt: &R) {
         self.stop.ask(rt);
+        self.pulse.wake(rt);
     }
 }

@@ -15,7 +15,8 @@ impl From<CrawlFault> for Refusal {
             CrawlFault::TooManyFiles => Refusal::TooManyFiles,
             CrawlFault::TooManyRoots => Refusal::TooManyRoots,
             CrawlFault::TicksSpent => Refusal::TicksSpent,
-            CrawlFault::NoMemory => Refusal::NoMemory,
+            // No crawl for a session gives way.
+            CrawlFault::GaveWay | CrawlFault::NoMemory => Refusal::NoMemory,
         }
     }
 }

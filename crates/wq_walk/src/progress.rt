@@ -1,10 +1,10 @@
 //! The progress of the threads that walk one tree. Another module walks the pieces.
 ghost use Rattle.std.specs.Prelude.{◌≡◌, IfErr};
-ghost use Rattle.wq_crawl.specs.declared.tree.TreeFault.TheVariants.{TooManyRows};
+ghost use Rattle.wq_crawl.specs.declared.tree.TreeFault.TheVariants.{GaveWay, TooManyRows};
 
 use crate::piece::MOST_PIECES;
 use crate::rows::Rows;
-use std::sync::atomic::{AtomicUsize, Ordering};
+use std::sync::atomic::{AtomicU64, AtomicUsize, Ordering};
 use wq_crawl::TreeFault;
 use wq_view::MAX_LISTING_ROWS;
 
@@ -13,22 +13,43 @@ use wq_view::MAX_LISTING_ROWS;
 /// each piece.
 const BATCH: usize = 1024;
 
+/// Whether a walk goes on to its end.
+#[derive(Clone, Copy)]
+pub(crate) enum Way<'a> {
+    /// It goes on.
+    Keeps,
+    /// Nobody waits for it, so it ends as soon as this count of callers that wait is not 0.
+    Gives(&'a AtomicU64),
+}
+
 /// The progress of the threads that walk one tree.
 #[derive(Drop)]
-pub(crate) struct Progress {
+pub(crate) struct Progress<'a> {
     /// The place of the piece that is drawn next. If no piece is left, it is the number of all pieces, or more.
     next: AtomicUsize,
     /// The number of rows of all pieces that were counted. Names of different pieces are different, so these are rows
     /// of the tree.
     counted: AtomicUsize,
+    way: Way<'a>,
 }
 
-impl Progress {
-    /// The progress before the first piece is drawn.
-    pub(crate) fn new() -> Progress {
+impl<'a> Progress<'a> {
+    /// The progress before the first piece is drawn, of a walk that may give way.
+    pub(crate) fn new(way: Way<'a>) -> Progress<'a> {
         Progress {
             next: AtomicUsize::new(0),
             counted: AtomicUsize::new(0),
+            way,
+        }
+    }
+
+    /// Fails if the walk gives way now.
+    pub(crate) fn keep_on(&self) -> Result<(), TreeFault>
+        ensures { IfErr result (λ fault. fault ≡ GaveWay) }
+    {
+        match self.way {
+            Way::Gives(waiting) if waiting.load(Ordering::SeqCst) > 0 => Err(TreeFault::GaveWay),
+            _ => Ok(()),
         }
     }
 

@@ -34,7 +34,7 @@ struct Walk<'a, 'p> {
     above: Vec<Directory>,
     rows: Rows<'a>,
     known: Known<'a>,
-    progress: &'p Progress,
+    progress: &'p Progress<'p>,
 }
 
 /// The rows of the files below a root whose names are in a piece's part. A pass takes each row. The rows share the
@@ -46,13 +46,14 @@ struct Walk<'a, 'p> {
 /// be opened, the error says nothing of the directory, and the walk fails. The walk does not read directories below
 /// which no name is in the part.
 ///
-/// The walk also fails as soon as more rows of the whole tree were counted than a pass takes.
+/// The walk also fails as soon as more rows of the whole tree were counted than a pass takes, and before the next name
+/// if it gives way.
 pub(crate) fn rows_in<'a, D: Disk>(
     disk: &D,
     alloc: Global,
     root: &str,
     piece: Piece<'a>,
-    progress: &Progress,
+    progress: &Progress<'_>,
 ) -> Result<Rows<'a>, TreeFault>
     ensures part { IfOk result (λ rows. rows.part ≡ piece.entry.part) }
     ensures walk { IfOk result (λ rows.
@@ -128,6 +129,7 @@ impl Walk<'_, '_> {
             × (self.new.above.items ≡ [])) }
         ensures fault { IfErr result (IsFailure (D.fails disk.now)) }
     {
+        self.progress.keep_on()?;
         match here.step() {
             Step::Look(name) => self.look(disk, here, name)?,
             Step::Enter(name) => self.enter(disk, here, name)?,

@@ -9,6 +9,7 @@ ghost use Rattle.wq_walk.specs.System.{IsListedHere, IsUnreadHere};
 
 use crate::disk::{Disk, FileDisk};
 use crate::listing::{first_rows, rows_again};
+use crate::progress::Way;
 use std::alloc::Global;
 use std::sync::Arc;
 use std::sync::atomic::{AtomicU64, Ordering};
@@ -18,7 +19,8 @@ use wq_crawl::{Tree, TreeFault};
 use wq_view::{Seen, View};
 
 /// Walks the trees of a disk, and counts how often a root could not be read or no file handle was left. Several threads
-/// walk a large tree if somebody waits for its listing.
+/// walk a large tree if somebody waits for its listing. A listing for which nobody waited gives way as soon as somebody
+/// waits.
 #[derive(Drop)]
 pub struct Walker<T: Threads + Drop, D: Disk + Drop> {
     disk: D,
@@ -33,7 +35,8 @@ pub struct Walker<T: Threads + Drop, D: Disk + Drop> {
 
 impl<T: Threads + Drop, D: Disk + Drop> Walker<T, D> {
     /// A walker of the trees of a disk that has listed nothing and counted no failure. Up to so many threads walk a
-    /// tree, or one if this count of callers that wait for a listing is 0. The call takes no memory.
+    /// tree. If this count of callers that wait for a listing is 0, one thread walks, and the listing of a tree that was
+    /// listed before gives way as soon as it is not 0. The call takes no memory.
     pub fn new(
         disk: D,
         alloc: Global,
@@ -54,12 +57,12 @@ impl<T: Threads + Drop, D: Disk + Drop> Walker<T, D> {
         }
     }
 
-    /// How many threads may walk a tree now.
-    fn walkers_now(&self) -> Workers {
+    /// How many threads may walk a tree now, and whether they give way.
+    fn walkers_now(&self) -> (Workers, Way<'_>) {
         if self.waiting.load(Ordering::SeqCst) > 0 {
-            self.walkers
+            (self.walkers, Way::Keeps)
         } else {
-            Workers { count: 1 }
+            (Workers { count: 1 }, Way::Gives(&self.waiting))
         }
     }
 }
@@ -89,7 +92,7 @@ impl<T: Threads + Drop, D: Disk + Sync + Drop> Walker<T, D> {
             IsListed (D.says self.old.disk) (D.has self.old.disk) root.now rows.items) }
         ensures rooted { IfOk result (λ _. IsRooted (D.says self.old.disk) root.now) }
     {
-        let walkers = self.walkers_now();
+        let (walkers, _) = self.walkers_now();
         let listed = first_rows(&self.threads, walkers, &self.disk, self.alloc, root);
         self.failures = failures_after(self.failures, &listed);
         listed
@@ -107,8 +110,9 @@ impl<T: Threads + Drop, D: Disk + Sync + Drop> Walker<T, D> {
             IsListed (D.says self.old.disk) (D.has self.old.disk) root.now rows.items) }
         ensures rooted { IfOk result (λ _. IsRooted (D.says self.old.disk) root.now) }
     {
-        let walkers = self.walkers_now();
-        let listed = rows_again(&self.threads, walkers, &self.disk, self.alloc, root, last);
+        let (walkers, way) = self.walkers_now();
+        let threads = &self.threads;
+        let listed = rows_again(threads, walkers, way, &self.disk, self.alloc, root, last);
         self.failures = failures_after(self.failures, &listed);
         listed
     }

@@ -24,7 +24,7 @@ pub(crate) struct Walks<'a, 'p, D: Disk> {
     /// The path of the root, which ends in a slash.
     pub(crate) root: &'p str,
     pub(crate) pieces: &'p [Piece<'a>],
-    pub(crate) progress: &'p Progress,
+    pub(crate) progress: &'p Progress<'p>,
 }
 
 /// The rows of the piece at a place among the pieces.

@@ -3,7 +3,7 @@ use denote.Param.Send.{sendable}
 use Rattle.std.proofs.Crossing.{crosses}
 use Rattle.std.proofs.MapsCrossing.{crosses as maps}
 use Rattle.wq_daemon.proofs.Sharing.{trigger_send}
-use Rattle.wq_daemon.proofs.assembly.run_host.Goals as goal
+use Rattle.wq_daemon.proofs.assembly.serve_clients.Goals as goal
 use Rattle.wq_daemon.proofs.lock_host.LockHost.TheSendSync as LockHost
 
 pub run-requires-send-H : goal.run-requires-send-H
