@@ -1,13 +1,7 @@
 //! A follower of a root, and its batches.
-ghost use Rattle.std.specs.Prelude.{◌≤◌, IfSome, ◌≡◌, IfErr, IfOk, List, false};
+ghost use Rattle.std.specs.Prelude.{◌≤◌, IfSome};
 ghost use Rattle.std.proofs.Props.{props};
 ghost use Rattle.wq_base.specs.Limit.{max_number};
-ghost use Rattle.wq_view.specs.RecordData.{RecordData};
-ghost use Rattle.wq_query.specs.Query.{planned};
-ghost use Rattle.wq_follow.specs.Batch.{untold, is_told, last_or, listing, nothing, polled};
-ghost use Rattle.wq_follow.specs.Batch.{told_up_to};
-ghost use Rattle.wq_follow.specs.Followed.{follower_data};
-ghost use Rattle.wq_follow.specs.Follower.{IsBatch};
 
 use crate::batch::Batch;
 use std::alloc::{AllocError, Global};
@@ -23,6 +17,14 @@ pub struct Follower {
 }
 
 impl Follower {
+    ghost use Rattle.std.specs.Prelude.{◌≡◌, IfErr, IfOk, List, false};
+    ghost use Rattle.wq_view.specs.RecordData.{RecordData};
+    ghost use Rattle.wq_query.specs.Query.{planned};
+    ghost use Rattle.wq_follow.specs.Batch.{untold, is_told, last_or, listing, nothing, polled};
+    ghost use Rattle.wq_follow.specs.Batch.{told_up_to};
+    ghost use Rattle.wq_follow.specs.Followed.{follower_data};
+    ghost use Rattle.wq_follow.specs.Follower.{IsBatch};
+
     /// A follower that was told nothing yet. Its first batch is the list of the plan.
     pub fn new(plan: Plan) -> Follower
         ensures { follower_data result ≡ untold (planned plan) }

@@ -1,22 +1,14 @@
 //! A command that is started when files changed: its making, and its turn in a round.
-ghost use Rattle.std.specs.Prelude.{◌≡◌, false, None, option_map, is_err};
+ghost use Rattle.std.specs.Prelude.{◌≡◌, false};
 ghost use Rattle.serde_json.specs.View.{view as data_of};
 ghost use Rattle.serde_json.specs.Written.{has_float};
-ghost use Rattle.wq_query.specs.Query.{planned, asked_of};
-ghost use Rattle.wq_follow.specs.Started.{IsClocked, order_data};
-ghost use Rattle.wq_compile.specs.Meaning.{AnswersMeaning};
-ghost use Rattle.wq_follow.specs.Defined.{definition_data, shape_data};
-ghost use Rattle.wq_follow.specs.Defining.{order_of, triggered};
-ghost use Rattle.wq_follow.specs.Followed.{trigger_data};
-ghost use Rattle.wq_clock.specs.Instance.{instance_data};
-ghost use Rattle.wq_follow.specs.Launcher.{AsksRun};
-ghost use Rattle.wq_follow.specs.Round.{Agrees, CountsFailure, FiredData, Fires, is_short};
+ghost use Rattle.wq_query.specs.Query.{planned};
+ghost use Rattle.wq_follow.specs.Started.{IsClocked};
 
 use crate::definition::Definition;
 use crate::follower::Follower;
 use crate::launch::Launch;
 use crate::order::Order;
-use crate::shape::Shape;
 use crate::starting::start_of;
 use serde_json::Value;
 use std::alloc::{AllocError, Global};
@@ -39,6 +31,16 @@ pub struct Trigger {
 }
 
 impl Trigger {
+    ghost use Rattle.std.specs.Prelude.{None, is_err, option_map};
+    ghost use Rattle.wq_clock.specs.Instance.{instance_data};
+    ghost use Rattle.wq_compile.specs.Meaning.{AnswersMeaning};
+    ghost use Rattle.wq_query.specs.Query.{asked_of};
+    ghost use Rattle.wq_follow.specs.Defined.{definition_data};
+    ghost use Rattle.wq_follow.specs.Defining.{triggered};
+    ghost use Rattle.wq_follow.specs.Followed.{trigger_data};
+    ghost use Rattle.wq_follow.specs.Launcher.{AsksRun};
+    ghost use Rattle.wq_follow.specs.Round.{Agrees, CountsFailure, FiredData, Fires, is_short};
+
     /// The trigger of a definition, for the root with this text. It was told nothing yet.
     ///
     /// The program is the one that is kept under the name that the query has for one. Without a
@@ -58,7 +60,7 @@ impl Trigger {
     {
         let plan = definition.query.plan(Bound::Fresh, program);
         Trigger {
-            order: order(definition.shape, root),
+            order: Order::of(definition.shape, root),
             follower: Follower::new(plan),
             object: definition.object,
             running,
@@ -132,19 +134,5 @@ impl Trigger {
             Some(run) => launcher.ended(run),
             None => true,
         }
-    }
-}
-
-/// How a trigger of the root with this text starts its command.
-fn order(shape: Shape, root: Text) -> Order
-    ensures { order_data result ≡ order_of (shape_data shape) root }
-{
-    Order {
-        name: shape.name,
-        root,
-        command: shape.command,
-        appends: shape.appends,
-        input: shape.input,
-        limit: shape.limit,
     }
 }

@@ -17,6 +17,7 @@ mod reading;
 mod reply;
 mod room;
 mod rows;
+mod subscription;
 
 pub use crew::{Alone, Crew, Several};
 pub use fault::QueryFault;

@@ -1,27 +1,14 @@
 //! A query, read of a JSON object or of that of a subscription, and the plan of its answer.
-ghost use Rattle.std.specs.Prelude.{◌≡◌, IsTrue, Some, None, option_map, IfOk, Err, Ok};
+ghost use Rattle.std.specs.Prelude.{◌≡◌, IsTrue, Some, None};
 ghost use Rattle.wq_term.specs.Expr.{term_of};
 ghost use Rattle.wq_term.specs.Fits.{expr_fits};
 ghost use Rattle.wq_query.specs.Meaning.{SaysMeaning};
-ghost use Rattle.serde_json.specs.View.{view as data_of};
-ghost use Rattle.wq_clock.specs.Instance.{instance_data};
-ghost use Rattle.wq_compile.specs.Meaning.{AnswersMeaning};
-ghost use Rattle.wq_query.specs.Outcome.{GivesQuery};
-ghost use Rattle.wq_query.specs.Query.{asked_of, since_bound, since_cursor, planned};
-ghost use Rattle.wq_query.specs.Reading.{asks};
-ghost use Rattle.wq_clock.specs.declared.bound.Bound.TheVariants.{Tick};
-ghost use Rattle.wq_view.specs.Position.{records_at};
-ghost use Rattle.wq_query.specs.Following.{with_bound};
-ghost use Rattle.wq_query.specs.Listing.{AreWithin, files_of};
-ghost use Rattle.wq_query.specs.Subscribed.{comes_first, has_cursor, has_generator, subscribes};
-ghost use Rattle.wq_query.specs.Subscribed.{without_generators};
 
 use crate::crew::Alone;
 use crate::fault::QueryFault;
 use crate::field::Field;
 use crate::listing::listed;
-use crate::reading::cursor;
-use crate::{generating, globbing, reading};
+use crate::{generating, globbing, reading, subscription};
 use serde_json::Value;
 use std::alloc::{AllocError, Global};
 use std::sync::Arc;
@@ -70,6 +57,15 @@ pub struct Plan {
 }
 
 impl Query {
+    ghost use Rattle.std.specs.Prelude.{option_map};
+    ghost use Rattle.serde_json.specs.View.{view as data_of};
+    ghost use Rattle.wq_clock.specs.Instance.{instance_data};
+    ghost use Rattle.wq_compile.specs.Meaning.{AnswersMeaning};
+    ghost use Rattle.wq_query.specs.Outcome.{GivesQuery};
+    ghost use Rattle.wq_query.specs.Query.{asked_of, since_bound, since_cursor, planned};
+    ghost use Rattle.wq_query.specs.Reading.{asks};
+    ghost use Rattle.wq_query.specs.Subscribed.{subscribes};
+
     /// The query that a JSON object asks, at this instance of the server. The first fault refuses
     /// it: see [`QueryFault`].
     ///
@@ -123,8 +119,8 @@ impl Query {
         ensures { GivesQuery result (subscribes (instance_data instance.now) (data_of value.now)) }
     {
         match Query::read(alloc, value, instance) {
-            Ok(query) => without_generators(value, query),
-            Err(fault) => Err(first_fault(value, fault)),
+            Ok(query) => subscription::without_generators(value, query),
+            Err(fault) => Err(subscription::first_fault(value, fault)),
         }
     }
 
@@ -191,6 +187,13 @@ impl Query {
 }
 
 impl Plan {
+    ghost use Rattle.std.specs.Prelude.{IfOk};
+    ghost use Rattle.wq_clock.specs.declared.bound.Bound.TheVariants.{Tick};
+    ghost use Rattle.wq_view.specs.Position.{records_at};
+    ghost use Rattle.wq_query.specs.Following.{with_bound};
+    ghost use Rattle.wq_query.specs.Listing.{AreWithin, files_of};
+    ghost use Rattle.wq_query.specs.Query.{planned};
+
     /// The bound from which the plan tells changes.
     pub fn bound(&self) -> Bound
         ensures { result ≡ (planned self.now).bound }
@@ -214,70 +217,5 @@ impl Plan {
             ≡ files_of (planned self.now) view.now.records) }
     {
         listed(&Alone {}, alloc, self, view)
-    }
-}
-
-/// The query of an object, unless that has a generator or a cursor.
-fn without_generators(value: &Value, query: Query) -> Result<Query, QueryFault>
-    ensures { GivesQuery result (without_generators (Ok (asked_of query))
-        (has_generator (data_of value.now)) (has_cursor (data_of value.now))) }
-{
-    if has_generator(value) {
-        return Err(QueryFault::BadGenerator);
-    }
-    if has_cursor(value) {
-        return Err(QueryFault::BadClockSpec);
-    }
-    Ok(query)
-}
-
-/// The fault of an object as a subscription, which has this one as a query.
-fn first_fault(value: &Value, fault: QueryFault) -> QueryFault
-    ensures { without_generators (Err fault) (has_generator (data_of value.now))
-        (has_cursor (data_of value.now)) ≡ Err result }
-{
-    if comes_first(fault) {
-        return fault;
-    }
-    if has_generator(value) {
-        return QueryFault::BadGenerator;
-    }
-    if has_cursor(value) {
-        return QueryFault::BadClockSpec;
-    }
-    fault
-}
-
-/// Whether a fault of a query is told before a generator is.
-fn comes_first(fault: QueryFault) -> bool
-    ensures { result ≡ comes_first fault }
-{
-    match fault {
-        QueryFault::LeftOutKey
-        | QueryFault::ExpressionAndProgram
-        | QueryFault::Expression(_)
-        | QueryFault::UnknownField
-        | QueryFault::NoMemory => true,
-        QueryFault::BadGenerator
-        | QueryFault::PatternTooLong
-        | QueryFault::BadClockSpec
-        | QueryFault::WrongValue => false,
-    }
-}
-
-/// Whether an object has a key of a generator, whatever its value is.
-fn has_generator(value: &Value) -> bool
-    ensures { result ≡ has_generator (data_of value.now) }
-{
-    value.get("suffix").is_some() || value.get("path").is_some() || value.get("glob").is_some()
-}
-
-/// Whether `since` says a cursor.
-fn has_cursor(value: &Value) -> bool
-    ensures { result ≡ has_cursor (data_of value.now) }
-{
-    match value.get("since") {
-        Some(since) => cursor(since).is_some(),
-        None => false,
     }
 }
