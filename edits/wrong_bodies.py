@@ -1,8 +1,10 @@
 """Wrong bodies: edits of a crate's files, each with the functions that the prover has to refuse for it.
 
-They are in `gate.edits` and `more.edits` of a crate, one after the other, with a blank line between:
+Those of a crate are in one file, one after the other below the headline of their tier, which is `gate` or `more`:
 
-    # a-bound-is-one-too-low
+    # gate
+
+    ## a-second-at-the-limit-is-none
     refused: bound::Bound::second
     file: src/bound.rt
     old: if second <= MAX_NUMBER {
@@ -15,13 +17,15 @@ import re
 from pathlib import Path
 from typing import Dict, List, NamedTuple, Tuple
 
-TIERS = ("gate.edits", "more.edits")
-HEADLINE = re.compile(r"# ([a-z0-9-]+)")
+TIERS = ("gate", "more")
+TIER = re.compile(r"# (%s)" % "|".join(TIERS))
+HEADLINE = re.compile(r"## ([a-z0-9-]+)")
 
 
 class Block(NamedTuple):
-    """An edit as its file has it: its name, and the lines below."""
+    """An edit as its file has it: its tier, if it is below one, its name, and the lines below."""
 
+    tier: str
     name: str
     lines: List[str]
 
@@ -41,12 +45,15 @@ class BadEdit(Exception):
 def blocks_in(path: Path) -> List[Block]:
     """The edits that a file has, in their order."""
     blocks: List[Block] = []
+    tier = ""
     for number, line in enumerate(path.read_text(encoding="utf-8").splitlines(), 1):
-        headline = HEADLINE.fullmatch(line)
-        if headline is not None:
-            blocks.append(Block(headline[1], []))
+        of_tier, headline = TIER.fullmatch(line), HEADLINE.fullmatch(line)
+        if of_tier is not None:
+            tier = of_tier[1]
+        elif headline is not None:
+            blocks.append(Block(tier, headline[1], []))
         elif line and (line.startswith("#") or not blocks):
-            raise BadEdit(f"line {number} is no headline of an edit, such as `# a-name-in-words`")
+            raise BadEdit(f"line {number} is no headline of a tier or of an edit, such as `## a-name-in-words`")
         elif line:
             blocks[-1].lines.append(line)
     return blocks
