@@ -38,6 +38,9 @@ pub(crate) trait Host {
     /// The crawl gives way to clients that wait for one. If the server is to end, it does no more.
     fn crawl(&self, number: u64, stop: &Stop) -> Duration;
 
+    /// Has the walk of a round end before its time, since the server ends.
+    fn end_walk(&self);
+
     /// Takes the first command that was started and that nobody attends yet.
     fn take_run(&self) -> Option<Run>;
 
@@ -46,10 +49,4 @@ pub(crate) trait Host {
 
     /// The commands that run.
     fn runs(&self) -> &Arc<Runs>;
-}
-
-/// Tells the operator of the server about faults.
-pub trait Notices {
-    /// Tells a line.
-    fn tell(&self, line: &str);
 }

@@ -4,15 +4,16 @@
 use crate::callers::Callers;
 use crate::clients::MAX_SESSIONS;
 use crate::failing::Failing;
-use crate::host::{Host, Notices};
+use crate::host::Host;
+use crate::lines::{back_line, fault_line};
 use crate::moments::RootNumbers;
 use crate::refusal::refuse;
 use crate::rounds::Rounds;
 use crate::stop::Stop;
+use crate::timing::time_since;
 use crate::waiting_roots::WaitingRoots;
-use serde_json::Value;
 use std::alloc::{AllocError, Global};
-use std::io::{self, Write};
+use std::io::Write;
 use std::sync::atomic::AtomicU64;
 use std::sync::{Arc, Mutex, Wait};
 use std::thread::Threads;
@@ -20,7 +21,7 @@ use std::time::{Clock, Duration, Instant};
 use wq_base::Workers;
 use wq_clock::Run;
 use wq_crawl::{Asked, CrawlFault, Crawler, LockRoots, Seconds, SharedCrawler, Tree};
-use wq_launch::{MAX_RUNS, Run as StartedRun, Runs, Spawn};
+use wq_launch::{MAX_RUNS, Notices, Run as StartedRun, Runs, Spawn};
 use wq_live::{Named, RootTable, Seat};
 use wq_serve::{Inbox, LockDesk, SharedShelf, serve};
 use wq_session::Refusal;
@@ -54,7 +55,7 @@ where
     failing: Mutex<Failing>,
     /// The line to the operator when the server begins to serve clients.
     greeting: String,
-    notices: O,
+    notices: Arc<O>,
     /// How many threads may look for the files of a query.
     workers: Workers,
     /// The calls of all sessions that wait for a crawl.
@@ -90,7 +91,7 @@ where
         run: Run,
         crawler: Crawler<N, R, T, S>,
         shelf: SharedShelf,
-        notices: O,
+        notices: Arc<O>,
         spawn: P,
         workers: Workers,
         waiting: Arc<AtomicU64>,
@@ -157,20 +158,23 @@ where
         let asked = self.crawler.ask();
         let mut worked = Duration::ZERO;
         for _ in 0..MOST_GIVEN_UP {
+            if stop.is_asked(&self.rt) {
+                return (worked, Err(CrawlFault::GaveWay));
+            }
             if !self
                 .callers
                 .wait_for_none(&self.rt, Duration::from_secs(PATIENCE))
             {
                 break;
             }
-            if stop.is_asked(&self.rt) {
-                return (worked, Err(CrawlFault::GaveWay));
-            }
             let (took, crawled) = self.crawl_since(asked, root);
             worked = worked.saturating_add(took);
             if crawled != Err(CrawlFault::GaveWay) {
                 return (worked, crawled);
             }
+        }
+        if stop.is_asked(&self.rt) {
+            return (worked, Err(CrawlFault::GaveWay));
         }
         self.callers.enter();
         let (took, crawled) = self.crawl_since(asked, root);
@@ -189,6 +193,15 @@ where
     fn note(&self, root: &str, fault: CrawlFault) {
         self.tell_once(root, fault);
         self.failing.lock(&self.rt).add(root, fault);
+    }
+
+    /// Tells the operator that a root is crawled again, if it could not be crawled in the last round.
+    fn tell_if_back(&self, root: &str) {
+        if self.failing.lock(&self.rt).had_any(root)
+            && let Ok(line) = back_line(self.alloc, root)
+        {
+            self.notices.tell(&line);
+        }
     }
 
     /// Tells the operator that a root cannot be crawled, unless that was so in the last round already.
@@ -210,13 +223,6 @@ where
             self.notices.tell(line.as_str());
         }
     }
-}
-
-/// The line to the operator about a root's fault. The root is in it as JSON, so it stays one line whatever the root's
-/// bytes are.
-fn fault_line(alloc: Global, root: &str, fault: CrawlFault) -> Result<String, AllocError> {
-    let root = Value::try_from_str(alloc, root)?.to_string(alloc)?;
-    Ok(format!(in alloc; "{root}: {fault}")?)
 }
 
 /// The seats of a server, and the crawler that threads share.
@@ -255,14 +261,6 @@ where
         seats.push(crawler.seat()?).map_err(AllocError::from)?;
     }
     Ok(seats)
-}
-
-/// How long it is since a reading of the clock. It is no time if the clock cannot be read.
-fn time_since<R: Clock>(rt: &R, began: io::Result<Instant>) -> Duration {
-    match began {
-        Ok(began) => began.elapsed(rt).unwrap_or(Duration::ZERO),
-        Err(_) => Duration::ZERO,
-    }
 }
 
 /// The text of the root of this number, if a seat sees it, and the seat. There is none if memory runs out for it, or if
@@ -356,7 +354,7 @@ where
         };
         let (worked, crawled) = self.crawl_in_round(&root, stop);
         match crawled {
-            Ok(()) => {}
+            Ok(()) => self.tell_if_back(&root),
             // The server ends.
             Err(CrawlFault::GaveWay) => return worked,
             Err(fault) => self.note(&root, fault),
@@ -365,6 +363,11 @@ where
         self.rounds.fire(number, &*self.shelf);
         self.tell_of_starts();
         worked.saturating_add(time_since(&self.rt, began))
+    }
+
+    fn end_walk(&self) {
+        // As for a client that waits. Nobody leaves again, since the server ends.
+        self.callers.enter();
     }
 
     fn take_run(&self) -> Option<StartedRun> {

@@ -1,5 +1,5 @@
-//! Rounds of triggers: a round looks at the root, and then holds the shelf while it starts the commands of the
-//! triggers.
+//! Rounds of triggers: a round looks at the root, and then holds the shelf while it makes the batches of the triggers and
+//! starts their commands.
 
 use std::alloc::{AllocError, Global};
 use std::sync::{Arc, Mutex, Wait};
