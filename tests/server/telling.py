@@ -42,7 +42,8 @@ def check_what_walks_leave_out(tally: built.Tally, room: Path) -> None:
         tally.check("nothing is left out any more", server.says(left_out(root, 0, 0)), [repr(server.errors())])
         same(tally, "the end of a server that left out names", server.shut_down(client), 0)
         lines = server.errors().splitlines()
-        tally.check("no line comes twice in a row", all(one != next_one for one, next_one in zip(lines, lines[1:])), [repr(lines)])
+        is_new = all(before != after for before, after in zip(lines, lines[1:]))
+        tally.check("no line comes twice in a row", is_new, [repr(lines)])
         same(tally, "the last line", server.errors().endswith(ENDED), True)
 
 

@@ -20,7 +20,8 @@ pub enum TreeFault {
     /// The listing has over 1,000,000 rows.
     #[error("too many files")]
     TooManyRows,
-    /// Somebody waits for the tree, and nobody waited for this listing. So nothing is known of the root.
+    /// Somebody waits for the tree, and nobody waited for this listing. So nothing is known of the
+    /// root.
     #[error("the listing gave way")]
     GaveWay,
     /// Memory ran out.

@@ -32,8 +32,9 @@ pub(crate) trait Host {
     /// Begins a round of crawls.
     fn begin_round(&self);
 
-    /// Crawls the root of this number, if it is shown, and then has a round of its triggers. The caller then takes the
-    /// commands that were started. Returns how long it worked: waiting for clients is no work.
+    /// Crawls the root of this number, if it is shown, and then has a round of its triggers. The
+    /// caller then takes the commands that were started. Returns how long it worked: waiting for
+    /// clients is no work.
     ///
     /// The crawl gives way to clients that wait for one. If the server is to end, it does no more.
     fn crawl(&self, number: u64, stop: &Stop) -> Duration;

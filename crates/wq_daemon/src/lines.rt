@@ -1,5 +1,5 @@
-//! The lines to the operator about a root. The root is in each of them as JSON, so it stays one line whatever the root's
-//! bytes are.
+//! The lines to the operator about a root. The root is in each of them as JSON, so it stays one
+//! line whatever the root's bytes are.
 
 use serde_json::Value;
 use std::alloc::{AllocError, Global};

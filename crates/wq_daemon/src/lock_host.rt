@@ -141,7 +141,8 @@ where
         let _ = self.seats.lock(&self.rt).push(seat);
     }
 
-    /// The text of the root of this number, if it is shown. There is none if memory runs out for it.
+    /// The text of the root of this number, if it is shown. There is none if memory runs out for
+    /// it.
     fn text(&self, number: u64) -> Option<String> {
         let mut place = self.idle_seat.lock(&self.rt);
         let (seat, text) = look_at_text(place.take()?, self.alloc, number);
@@ -149,11 +150,13 @@ where
         text
     }
 
-    /// Crawls a root in a round, and returns for how long it worked, and the fault if it was not crawled.
+    /// Crawls a root in a round, and returns for how long it worked, and the fault if it was not
+    /// crawled.
     ///
-    /// It begins when no client waits for a crawl, and gives way to one that comes. If that one's crawl was of this root,
-    /// it serves the round too. After so many walks that it gave up, or if clients wait all the time, the round waits for
-    /// the crawler as a client does. So clients of one root do not keep another root from being crawled.
+    /// It begins when no client waits for a crawl, and gives way to one that comes. If that one's
+    /// crawl was of this root, it serves the round too. After four walks that it gave up, or if
+    /// clients wait all the time, the round waits for the crawler as a client does. So clients of
+    /// one root do not keep another root from being crawled.
     fn crawl_in_round(&self, root: &str, stop: &Stop) -> (Duration, Result<(), CrawlFault>) {
         let asked = self.crawler.ask();
         let mut worked = Duration::ZERO;
@@ -195,7 +198,8 @@ where
         self.failing.lock(&self.rt).add(root, fault);
     }
 
-    /// Tells the operator that a root is crawled again, if it could not be crawled in the last round.
+    /// Tells the operator that a root is crawled again, if it could not be crawled in the last
+    /// round.
     fn tell_if_back(&self, root: &str) {
         if self.failing.lock(&self.rt).had_any(root)
             && let Ok(line) = back_line(self.alloc, root)
@@ -263,8 +267,8 @@ where
     Ok(seats)
 }
 
-/// The text of the root of this number, if a seat sees it, and the seat. There is none if memory runs out for it, or if
-/// the look is refused.
+/// The text of the root of this number, if a seat sees it, and the seat. There is none if memory
+/// runs out for it, or if the look is refused.
 fn look_at_text<N: Named>(seat: Seat<N>, alloc: Global, number: u64) -> (Seat<N>, Option<String>) {
     match seat.look() {
         Ok(look) => {

@@ -122,8 +122,8 @@ where
     }
 }
 
-/// Crawls each root that is shown, with a round of its triggers after it. It stops if the server is to end. Returns how
-/// long it worked.
+/// Crawls each root that is shown, with a round of its triggers after it. It stops if the server is
+/// to end. Returns how long it worked.
 fn crawl_all<R, H, O>(rt: R, alloc: Global, server: &Server<H>, notices: &Arc<O>) -> Duration
 where
     R: Threads + Wait + Copy + Drop + Send + Sync + 'static,

@@ -1,4 +1,5 @@
-//! The tree of a server, which tells the operator of its listings: what they leave out, and which took long.
+//! The tree of a server, which tells the operator of its listings: what they leave out, and which
+//! took long.
 ghost use Rattle.std.specs.Prelude.{◌≡◌};
 
 use crate::lines::{left_out_line, slow_line};
@@ -79,8 +80,8 @@ where
         }
     }
 
-    /// Tells the operator what a listing of a root left out. If memory runs out for that, the operator hears of it after
-    /// the next listing.
+    /// Tells the operator what a listing of a root left out. If memory runs out for that, the
+    /// operator hears of it after the next listing.
     fn tell_left_out(&mut self, root: &str, left_out: LeftOut)
         ensures { self.new.tree ≡ self.old.tree }
     {

@@ -1,6 +1,6 @@
-//! The thread that attends a command: it writes its input, waits for its end, and tells the operator
-//! of one that failed. It is made before the command is handed to it, so that no command is lost if no
-//! thread can be made.
+//! The thread that attends a command: it writes its input, waits for its end, and tells the
+//! operator of one that failed. It is made before the command is handed to it, so that no command
+//! is lost if no thread can be made.
 ghost use Rattle.std.specs.Prelude.{◌≡◌, IfSome};
 
 use crate::failing::quoted;
@@ -102,7 +102,8 @@ fn see_through<R: Wait, O: Notices>(rt: &R, alloc: Global, post: &Post, runs: &R
     }
 }
 
-/// Writes the input of a command, as far as it takes it, and waits for its end. Gives a line if it failed.
+/// Writes the input of a command, as far as it takes it, and waits for its end. Gives a line if it
+/// failed.
 fn wait_for(alloc: Global, run: Run) -> Option<String> {
     let Run {
         number: _,

@@ -46,8 +46,8 @@ struct Walk<'a, 'p> {
 /// be opened, the error says nothing of the directory, and the walk fails. The walk does not read directories below
 /// which no name is in the part.
 ///
-/// The walk also fails as soon as more rows of the whole tree were counted than a pass takes, and before the next name
-/// if it gives way.
+/// The walk also fails as soon as more rows of the whole tree were counted than a pass takes, and
+/// before the next name if it gives way.
 pub(crate) fn rows_in<'a, D: Disk>(
     disk: &D,
     alloc: Global,
@@ -202,7 +202,8 @@ impl<'p> Walk<'_, 'p> {
         }
     }
 
-    /// The progress, if a directory at the path counts as one of this part. Walks of other parts may read it too.
+    /// The progress, if a directory at the path counts as one of this part. Walks of other parts
+    /// may read it too.
     fn counts_directories(&self) -> Option<&'p Progress<'p>> {
         if self.rows.part().has(self.path.name()) {
             Some(self.progress)
@@ -293,7 +294,8 @@ fn stat_at<D: Disk>(disk: &D, path: &TreePath) -> Result<Option<Stat>, TreeFault
     }
 }
 
-/// The names in the directory of a path, or none if it cannot be read. That is counted here, if the directory counts.
+/// The names in the directory of a path, or none if it cannot be read. That is counted here, if the
+/// directory counts.
 #[tactic(auto, using(crate::proofs::Entries::are_entries))]
 fn names_at<D: Disk>(
     disk: &D,

@@ -18,9 +18,9 @@ use wq_base::Workers;
 use wq_crawl::{LeftOut, Tree, TreeFault};
 use wq_view::{Seen, View};
 
-/// Walks the trees of a disk, and counts how often a root could not be read or no file handle was left. Several threads
-/// walk a large tree if somebody waits for its listing. A listing for which nobody waited gives way as soon as somebody
-/// waits.
+/// Walks the trees of a disk, and counts how often a root could not be read or no file handle was
+/// left. Several threads walk a large tree if somebody waits for its listing. A listing for which
+/// nobody waited gives way as soon as somebody waits.
 #[derive(Drop)]
 pub struct Walker<T: Threads + Drop, D: Disk + Drop> {
     disk: D,
@@ -36,9 +36,10 @@ pub struct Walker<T: Threads + Drop, D: Disk + Drop> {
 }
 
 impl<T: Threads + Drop, D: Disk + Drop> Walker<T, D> {
-    /// A walker of the trees of a disk that has listed nothing and counted no failure. Up to so many threads walk a
-    /// tree. If this count of callers that wait for a listing is 0, one thread walks, and the listing of a tree that was
-    /// listed before gives way as soon as it is not 0. The call takes no memory.
+    /// A walker of the trees of a disk that has listed nothing and counted no failure. Up to so
+    /// many threads walk a tree. If this count of callers that wait for a listing is 0, one thread
+    /// walks, and the listing of a tree that was listed before gives way as soon as it is not 0.
+    /// The call takes no memory.
     pub fn new(
         disk: D,
         alloc: Global,
