@@ -30,6 +30,8 @@ mod waiting_roots;
 
 pub use assembly::{Parts, SEATS, serve_clients};
 pub use clients::MAX_SESSIONS;
+pub use lock_host::LockHost;
 pub use pace::{Pace, Share};
 pub use socket::{Listening, listen, remove};
+pub use told_tree::ToldTree;
 pub use wq_launch::Notices;

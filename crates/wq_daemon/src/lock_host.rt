@@ -21,9 +21,10 @@ use std::time::{Clock, Duration, Instant};
 use wq_base::Workers;
 use wq_clock::Run;
 use wq_crawl::{Asked, CrawlFault, Crawler, LockRoots, Seconds, SharedCrawler, Tree};
+use wq_follow::Trigger;
 use wq_launch::{MAX_RUNS, Notices, Run as StartedRun, Runs, Spawn};
 use wq_live::{Named, RootTable, Seat};
-use wq_serve::{Inbox, LockDesk, SharedShelf, serve};
+use wq_serve::{Inbox, Kept, LockDesk, ReachedShelf, SharedShelf, serve};
 use wq_session::Refusal;
 
 /// How many walks of a root a round gives up, before it waits for the crawler as a client does.
@@ -34,7 +35,7 @@ const PATIENCE: u64 = 1;
 
 /// The parts of a server. It serves a client for each free seat.
 #[derive(Drop)]
-pub(crate) struct LockHost<N, R, T, S, O, P>
+pub struct LockHost<N, R, T, S, O, P, K>
 where
     N: Named,
     R: Wait + Clock + Copy + Drop,
@@ -42,6 +43,7 @@ where
     S: Seconds + Drop,
     O: Notices + Drop,
     P: Spawn + Drop,
+    K: Kept + Drop,
 {
     rt: R,
     alloc: Global,
@@ -50,7 +52,7 @@ where
     /// The seat for looks at the roots that are shown. It is there whenever it is not locked.
     idle_seat: Mutex<Option<Seat<N>>>,
     crawler: Arc<SharedCrawler<N, R, T, S>>,
-    shelf: Arc<Mutex<SharedShelf>>,
+    shelf: Arc<Mutex<ReachedShelf<K>>>,
     rounds: Rounds<N, P, R>,
     failing: Mutex<Failing>,
     /// The line to the operator when the server begins to serve clients.
@@ -73,7 +75,7 @@ struct Seats<N: Named> {
     rounds: Seat<N>,
 }
 
-impl<N, R, T, S, O, P> LockHost<N, R, T, S, O, P>
+impl<N, R, T, S, O, P> LockHost<N, R, T, S, O, P, Trigger>
 where
     N: Named,
     R: Wait + Clock + Copy + Drop,
@@ -95,7 +97,7 @@ where
         spawn: P,
         workers: Workers,
         waiting: Arc<AtomicU64>,
-    ) -> Result<LockHost<N, R, T, S, O, P>, AllocError> {
+    ) -> Result<LockHost<N, R, T, S, O, P, Trigger>, AllocError> {
         let greeting = format!(in alloc; "listening on {}", shelf.sockname())?;
         let shelf = Arc::new(alloc, Mutex::new(shelf))?;
         let (seats, crawler) = shared(alloc, crawler)?;
@@ -303,7 +305,7 @@ fn numbers_in(table: &RootTable) -> Option<RootNumbers> {
     })
 }
 
-impl<N, R, T, S, O, P> Host for LockHost<N, R, T, S, O, P>
+impl<N, R, T, S, O, P> Host for LockHost<N, R, T, S, O, P, Trigger>
 where
     N: Named,
     R: Wait + Clock + Copy + Drop,

@@ -25,7 +25,7 @@ struct Known {
 
 /// A tree that tells the operator of its listings.
 #[derive(Drop)]
-pub(crate) struct ToldTree<R, T, O>
+pub struct ToldTree<R, T, O>
 where
     R: Clock + Drop,
     T: Tree + Drop,
