@@ -6,7 +6,7 @@ import time
 from pathlib import Path
 
 import built
-from client import A_HOUR, VERSION, Client, Server, query_of_names, same
+from client import A_HOUR, ENDED, VERSION, Client, Server, query_of_names, same
 
 UNREADABLE = {"error": "E11: root cannot be read", **VERSION}
 NOT_WATCHED = {"error": "E14: root is not watched", **VERSION}
@@ -21,7 +21,7 @@ def check_roots_that_go(tally: built.Tally, room: Path) -> None:
     with Server(room, interval=20) as server, server.client() as client:
         client.ask("watch", str(root))
         shutil.move(root, away)
-        line = told_of(root)
+        line, back = told_of(root), told(root, "the root is crawled again")
         said = f"listening on {server.sockname}\n".encode() + line
         tally.check("it is told of", server.says(said))
         shutil.move(away, root)
@@ -30,11 +30,12 @@ def check_roots_that_go(tally: built.Tally, room: Path) -> None:
         (root / "c").touch()
         seen = client.ask_until("query", str(root), {"sync_timeout": 0}, lambda reply: len(reply["files"]) == 3)
         same(tally, "a root that is back, seen by the crawler", len(seen["files"]), 3)
+        tally.check("it is told that it is back", server.says(said + back))
         shutil.rmtree(root)
-        tally.check("it is told of anew", server.says(said + line))
+        tally.check("it is told of anew", server.says(said + back + line))
         check_its_end(tally, client, root)
         same(tally, "the end of a server that told of a root", server.shut_down(client), 0)
-        same(tally, "what is told, once each time", server.errors(), said + line)
+        same(tally, "what is told, once each time", server.errors(), said + back + line + ENDED)
 
 
 def check_a_root_that_went(tally: built.Tally, room: Path) -> None:

@@ -8,7 +8,7 @@ from pathlib import Path
 from typing import Callable
 
 import built
-from client import A_HOUR, LOOKS, PATIENCE, Client, Server, query_of_names, same
+from client import A_HOUR, ENDED, LOOKS, PATIENCE, Client, Server, query_of_names, same
 from gone import UNREADABLE, fill_directory, told
 
 DIRECTORIES = 100
@@ -72,17 +72,20 @@ def check_no_handles_are_told(tally: built.Tally, room: Path) -> None:
     with Server(room, interval=20) as server, server.client() as client:
         client.ask("watch", str(root))
         line, scarcity = told(root, "no file handle is left"), Scarcity(server.process.pid)
+        back = told(root, "the root is crawled again")
         said = f"listening on {server.sockname}\n".encode()
         for turn in (1, 2):
             scarcity.allow(scarcity.least)
-            tally.check(f"want of handles is told by its name, {turn}", server.says(said + turn * line), [repr(server.errors())])
+            tally.check(f"want of handles is told by its name, {turn}", server.says(said + line), [repr(server.errors())])
             same(tally, f"a crawl without handles, {turn}", client.ask("query", str(root), query_of_names()), UNREADABLE)
             scarcity.allow(scarcity.most)
             (root / f"after{turn}").touch()
             seen = client.ask_until("query", str(root), {"sync_timeout": 0}, lambda reply: len(reply["files"]) == 1 + turn)
             same(tally, f"a crawl with handles again, {turn}", len(seen["files"]), 1 + turn)
+            said += line + back
+            tally.check(f"it is told that the root is back, {turn}", server.says(said), [repr(server.errors())])
         same(tally, "the end of a server that wanted for handles", server.shut_down(client), 0)
-        same(tally, "what is told, once each time", server.errors(), said + 2 * line)
+        same(tally, "what is told, once each time", server.errors(), said + ENDED)
 
 
 def check_clients_that_went(tally: built.Tally, room: Path) -> None:

@@ -15,7 +15,7 @@ LONGEST_PART = 0.2
 
 
 def check_a_round_gives_way(tally: built.Tally, room: Path) -> None:
-    """Rounds walk a large root nearly all the time. Queries of a small root do not wait for that, and both roots are crawled."""
+    """Rounds walk a large root nearly all the time. Queries of a small root do not wait, and both roots are crawled."""
     large, small = room / "large", room / "small"
     fill(large)
     small.mkdir()
@@ -27,8 +27,10 @@ def check_a_round_gives_way(tally: built.Tally, room: Path) -> None:
         lines = [f"{taken:.4f} seconds at the median, and a walk of the large root {walk:.4f}"]
         tally.check("a query of a small root beside rounds of a large one", taken < LONGEST_PART * walk, lines)
         (large / "new").touch()
-        tally.check("the large root is crawled beside the queries", sees(client, large, small), server.errors().splitlines())
-        tally.check("no walk that was given up is told of", server.errors().count(b"\n") == 1, server.errors().splitlines())
+        is_seen = sees(client, large, small)
+        lines = [repr(server.errors())]
+        tally.check("the large root is crawled beside the queries", is_seen, lines)
+        tally.check("no walk that was given up is told of", server.errors().count(b"\n") == 1, lines)
 
 
 def fill(root: Path) -> None:
@@ -48,7 +50,7 @@ def seconds_of_a_query(client: Client, root: Path, pause: float = 0.0) -> float:
 
 
 def sees(client: Client, large: Path, small: Path) -> bool:
-    """Whether a new file in the large root is seen without a crawl, while the client has the small root crawled all the time."""
+    """Whether a new file in the large root is seen without a crawl, while the small root is crawled all the time."""
     query = {**query_of_names(), "expression": ["name", "new"], "sync_timeout": 0}
     end = time.monotonic() + 60
     while time.monotonic() < end:

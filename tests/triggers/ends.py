@@ -1,5 +1,6 @@
 """How commands end: by a signal, after a stop, after the server, and with a child of theirs that keeps their input."""
 
+import json
 import os
 import signal
 import time
@@ -26,6 +27,20 @@ def check_a_command_that_ends_by_a_signal(tally: built.Tally, room: Path) -> Non
         tally.check("the second start", scene.has_lines(2))
         same(tally, "the starts", scene.lines(), ["ran a", "ran b"])
         tally.check("nobody is left to be waited for", wait_until(lambda: not scene.children()))
+
+
+def check_how_commands_ended(tally: built.Tally, room: Path) -> None:
+    """The operator is told of each command that ended otherwise than with status 0, with its trigger."""
+    with Scene(room) as scene:
+        scene.make("a")
+        for name, script in (("fine", "exit 0"), ("fails", "exit 3"), ('a "signal"', "kill -9 $$")):
+            scene.trigger(name, f"{scene.log('ran')}; {script}")
+        for name, end in (("fails", "with status 3"), ('a "signal"', "by signal 9")):
+            line = f"{json.dumps(str(scene.root))}: trigger {json.dumps(name)} ended {end}\n".encode()
+            tally.check(f"the operator is told of {name}", wait_until(lambda: line in scene.server.errors()))
+            same(tally, f"how often the operator is told of {name}", scene.server.errors().count(line), 1)
+        tally.check("all have run", scene.has_lines(3))
+        tally.check("nobody is told of status 0", b'"fine"' not in scene.server.errors())
 
 
 def check_a_command_that_is_stopped(tally: built.Tally, room: Path) -> None:

@@ -26,7 +26,8 @@ pub enum CrawlFault {
     /// The root was crawled 2^62 times with changes.
     #[error("the ticks are spent")]
     TicksSpent,
-    /// The crawl ended before its time, because a client waits and none waited for this crawl. No session meets it.
+    /// The crawl ended before its time, because a client waits and none waited for this crawl. No
+    /// session meets it.
     #[error("the crawl gave way")]
     GaveWay,
     /// Memory ran out.

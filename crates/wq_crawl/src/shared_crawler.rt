@@ -71,8 +71,8 @@ impl<N: Named, R: Wait + Drop, T: Tree + Drop, S: Seconds + Drop> SharedCrawler<
         }
     }
 
-    /// Crawls the root of this text, as [`SharedCrawler::crawl`] does, for a caller that asked at an earlier moment. A
-    /// crawl that began after that moment serves it too.
+    /// Crawls the root of this text, as [`SharedCrawler::crawl`] does, for a caller that asked at
+    /// an earlier moment. A crawl that began after that moment serves it too.
     pub fn crawl_since(
         &self,
         rt: &R,

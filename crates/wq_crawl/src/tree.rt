@@ -20,7 +20,8 @@ pub enum TreeFault {
     /// The listing has over 1,000,000 rows.
     #[error("too many files")]
     TooManyRows,
-    /// Somebody waits for the tree, and nobody waited for this listing. So nothing is known of the root.
+    /// Somebody waits for the tree, and nobody waited for this listing. So nothing is known of the
+    /// root.
     #[error("the listing gave way")]
     GaveWay,
     /// Memory ran out.
@@ -36,6 +37,25 @@ impl From<AllocError> for TreeFault {
 
     fn from(_error: AllocError) -> TreeFault {
         TreeFault::NoMemory
+    }
+}
+
+/// The number of files that a listing left out, though they are there.
+#[derive(Clone, Copy, Debug, PartialEq, Eq, Drop)]
+pub struct LeftOut {
+    /// The names that are not UTF-8. What is below them is not counted.
+    pub names: u64,
+    /// The directories that could not be read. Their own rows are listed.
+    pub directories: u64,
+}
+
+impl LeftOut {
+    /// Nothing is left out.
+    pub fn nothing() -> LeftOut {
+        LeftOut {
+            names: 0,
+            directories: 0,
+        }
     }
 }
 
@@ -74,4 +94,9 @@ pub trait Tree {
     /// The number of failures of a device so far.
     fn failures(&self) -> u64
         ensures { result ≡ failed self.now };
+
+    /// What the last listing left out, if the source counts that. No contract speaks of it.
+    fn left_out(&self) -> LeftOut {
+        LeftOut::nothing()
+    }
 }

@@ -1,11 +1,11 @@
 //! The whole server: puts its parts together, and runs them.
 ghost use Rattle.std.specs.Prelude.{◌≡◌};
 
-use crate::host::Notices;
 use crate::lock_host::LockHost;
 use crate::pace::Pace;
 use crate::running::run;
 use crate::socket::Listening;
+use crate::told_tree::ToldTree;
 use std::alloc::Global;
 use std::io;
 use std::sync::atomic::AtomicU64;
@@ -15,7 +15,7 @@ use std::time::Clock;
 use wq_base::Workers;
 use wq_clock::Run;
 use wq_crawl::{Crawler, Seconds, Tree};
-use wq_launch::Spawn;
+use wq_launch::{Notices, Spawn};
 use wq_live::{Blank, Named};
 use wq_registry::Cache;
 use wq_serve::SharedShelf;
@@ -66,7 +66,10 @@ where
     P: Spawn + Drop + Send + 'static,
     requires { blank.book ≡ N.book }
 {
-    let crawler = Crawler::new(blank.open::<N, R>(rt), parts.tree, parts.seconds);
+    let publisher = blank.open::<N, R>(rt);
+    let notices = Arc::new(alloc, parts.notices)?;
+    let tree = ToldTree::new(rt, alloc, parts.tree, notices.clone()?);
+    let crawler = Crawler::new(publisher, tree, parts.seconds);
     let cache = Cache::new(alloc, parts.run.start, parts.run.pid)?;
     let shelf = SharedShelf::new(alloc, cache, parts.sockname);
     let host = LockHost::new(
@@ -75,10 +78,10 @@ where
         parts.run,
         crawler,
         shelf,
-        parts.notices,
+        notices.clone()?,
         parts.spawn,
         parts.workers,
         parts.waiting,
     )?;
-    run(rt, alloc, listening, host, parts.pace)
+    run(rt, alloc, listening, host, &notices, parts.pace)
 }

@@ -4,8 +4,8 @@ use std::sync::atomic::{AtomicU64, Ordering};
 use std::sync::{Arc, Condvar, Mutex, Wait};
 use std::time::{Clock, Duration};
 
-/// The number of calls that wait for a crawl. The tree looks at it, so that it can tell a crawl for which somebody waits
-/// from one of a round. Threads share it.
+/// The number of calls that wait for a crawl. The tree looks at it, so that it can tell a crawl for
+/// which somebody waits from one of a round. Threads share it.
 #[derive(Drop)]
 pub(crate) struct Callers {
     count: Arc<AtomicU64>,

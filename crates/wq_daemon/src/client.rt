@@ -13,8 +13,9 @@ use std::thread::{self, JoinHandle, Threads};
 use std::time::Clock;
 use wq_session::Refusal;
 
-/// Runs a client's session to its end, with a thread that reads its stream. If the session asked for it,
-/// the server ends. The handle of the client's stream is given back when the session has ended.
+/// Runs a client's session to its end, with a thread that reads its stream. If the session asked
+/// for it, the server ends. The handle of the client's stream is given back when the session has
+/// ended.
 ///
 /// If no thread can be made, the client is told so and the session ends at once.
 pub(crate) fn run_client<R, H>(

@@ -45,6 +45,11 @@ impl Failing {
         }
     }
 
+    /// Whether a root could not be crawled in the round before.
+    pub(crate) fn had_any(&self, root: &str) -> bool {
+        self.before.iter().any(|it| it.root.as_str() == root)
+    }
+
     /// Whether a root had this fault in the round before.
     pub(crate) fn had(&self, root: &str, fault: CrawlFault) -> bool {
         self.before

@@ -32,11 +32,15 @@ pub(crate) trait Host {
     /// Begins a round of crawls.
     fn begin_round(&self);
 
-    /// Crawls the root of this number, if it is shown, and then has a round of its triggers. The caller then takes the
-    /// commands that were started. Returns how long it worked: waiting for clients is no work.
+    /// Crawls the root of this number, if it is shown, and then has a round of its triggers. The
+    /// caller then takes the commands that were started. Returns how long it worked: waiting for
+    /// clients is no work.
     ///
     /// The crawl gives way to clients that wait for one. If the server is to end, it does no more.
     fn crawl(&self, number: u64, stop: &Stop) -> Duration;
+
+    /// Has the walk of a round end before its time, since the server ends.
+    fn end_walk(&self);
 
     /// Takes the first command that was started and that nobody attends yet.
     fn take_run(&self) -> Option<Run>;
@@ -46,10 +50,4 @@ pub(crate) trait Host {
 
     /// The commands that run.
     fn runs(&self) -> &Arc<Runs>;
-}
-
-/// Tells the operator of the server about faults.
-pub trait Notices {
-    /// Tells a line.
-    fn tell(&self, line: &str);
 }

@@ -30,7 +30,8 @@ impl Links {
         self.links.lock(rt).retain(|it| !it.is_over());
     }
 
-    /// Makes an idle moment of each of these roots due in all sessions, and says whether memory sufficed.
+    /// Makes an idle moment of each of these roots due in all sessions, and says whether memory
+    /// sufficed.
     pub(crate) fn put_moments<R: Wait>(&self, rt: &R, numbers: &[u64]) -> bool {
         let mut is_all = true;
         for link in &*self.links.lock(rt) {

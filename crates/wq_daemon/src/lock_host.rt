@@ -4,15 +4,16 @@
 use crate::callers::Callers;
 use crate::clients::MAX_SESSIONS;
 use crate::failing::Failing;
-use crate::host::{Host, Notices};
+use crate::host::Host;
+use crate::lines::{back_line, fault_line};
 use crate::moments::RootNumbers;
 use crate::refusal::refuse;
 use crate::rounds::Rounds;
 use crate::stop::Stop;
+use crate::timing::time_since;
 use crate::waiting_roots::WaitingRoots;
-use serde_json::Value;
 use std::alloc::{AllocError, Global};
-use std::io::{self, Write};
+use std::io::Write;
 use std::sync::atomic::AtomicU64;
 use std::sync::{Arc, Mutex, Wait};
 use std::thread::Threads;
@@ -20,9 +21,10 @@ use std::time::{Clock, Duration, Instant};
 use wq_base::Workers;
 use wq_clock::Run;
 use wq_crawl::{Asked, CrawlFault, Crawler, LockRoots, Seconds, SharedCrawler, Tree};
-use wq_launch::{MAX_RUNS, Run as StartedRun, Runs, Spawn};
+use wq_follow::Trigger;
+use wq_launch::{MAX_RUNS, Notices, Run as StartedRun, Runs, Spawn};
 use wq_live::{Named, RootTable, Seat};
-use wq_serve::{Inbox, LockDesk, SharedShelf, serve};
+use wq_serve::{Inbox, Kept, LockDesk, ReachedShelf, SharedShelf, serve};
 use wq_session::Refusal;
 
 /// How many walks of a root a round gives up, before it waits for the crawler as a client does.
@@ -33,7 +35,7 @@ const PATIENCE: u64 = 1;
 
 /// The parts of a server. It serves a client for each free seat.
 #[derive(Drop)]
-pub(crate) struct LockHost<N, R, T, S, O, P>
+pub struct LockHost<N, R, T, S, O, P, K>
 where
     N: Named,
     R: Wait + Clock + Copy + Drop,
@@ -41,6 +43,7 @@ where
     S: Seconds + Drop,
     O: Notices + Drop,
     P: Spawn + Drop,
+    K: Kept + Drop,
 {
     rt: R,
     alloc: Global,
@@ -49,12 +52,12 @@ where
     /// The seat for looks at the roots that are shown. It is there whenever it is not locked.
     idle_seat: Mutex<Option<Seat<N>>>,
     crawler: Arc<SharedCrawler<N, R, T, S>>,
-    shelf: Arc<Mutex<SharedShelf>>,
+    shelf: Arc<Mutex<ReachedShelf<K>>>,
     rounds: Rounds<N, P, R>,
     failing: Mutex<Failing>,
     /// The line to the operator when the server begins to serve clients.
     greeting: String,
-    notices: O,
+    notices: Arc<O>,
     /// How many threads may look for the files of a query.
     workers: Workers,
     /// The calls of all sessions that wait for a crawl.
@@ -72,7 +75,7 @@ struct Seats<N: Named> {
     rounds: Seat<N>,
 }
 
-impl<N, R, T, S, O, P> LockHost<N, R, T, S, O, P>
+impl<N, R, T, S, O, P> LockHost<N, R, T, S, O, P, Trigger>
 where
     N: Named,
     R: Wait + Clock + Copy + Drop,
@@ -90,11 +93,11 @@ where
         run: Run,
         crawler: Crawler<N, R, T, S>,
         shelf: SharedShelf,
-        notices: O,
+        notices: Arc<O>,
         spawn: P,
         workers: Workers,
         waiting: Arc<AtomicU64>,
-    ) -> Result<LockHost<N, R, T, S, O, P>, AllocError> {
+    ) -> Result<LockHost<N, R, T, S, O, P, Trigger>, AllocError> {
         let greeting = format!(in alloc; "listening on {}", shelf.sockname())?;
         let shelf = Arc::new(alloc, Mutex::new(shelf))?;
         let (seats, crawler) = shared(alloc, crawler)?;
@@ -140,7 +143,8 @@ where
         let _ = self.seats.lock(&self.rt).push(seat);
     }
 
-    /// The text of the root of this number, if it is shown. There is none if memory runs out for it.
+    /// The text of the root of this number, if it is shown. There is none if memory runs out for
+    /// it.
     fn text(&self, number: u64) -> Option<String> {
         let mut place = self.idle_seat.lock(&self.rt);
         let (seat, text) = look_at_text(place.take()?, self.alloc, number);
@@ -148,29 +152,34 @@ where
         text
     }
 
-    /// Crawls a root in a round, and returns for how long it worked, and the fault if it was not crawled.
+    /// Crawls a root in a round, and returns for how long it worked, and the fault if it was not
+    /// crawled.
     ///
-    /// It begins when no client waits for a crawl, and gives way to one that comes. If that one's crawl was of this root,
-    /// it serves the round too. After so many walks that it gave up, or if clients wait all the time, the round waits for
-    /// the crawler as a client does. So clients of one root do not keep another root from being crawled.
+    /// It begins when no client waits for a crawl, and gives way to one that comes. If that one's
+    /// crawl was of this root, it serves the round too. After four walks that it gave up, or if
+    /// clients wait all the time, the round waits for the crawler as a client does. So clients of
+    /// one root do not keep another root from being crawled.
     fn crawl_in_round(&self, root: &str, stop: &Stop) -> (Duration, Result<(), CrawlFault>) {
         let asked = self.crawler.ask();
         let mut worked = Duration::ZERO;
         for _ in 0..MOST_GIVEN_UP {
+            if stop.is_asked(&self.rt) {
+                return (worked, Err(CrawlFault::GaveWay));
+            }
             if !self
                 .callers
                 .wait_for_none(&self.rt, Duration::from_secs(PATIENCE))
             {
                 break;
             }
-            if stop.is_asked(&self.rt) {
-                return (worked, Err(CrawlFault::GaveWay));
-            }
             let (took, crawled) = self.crawl_since(asked, root);
             worked = worked.saturating_add(took);
             if crawled != Err(CrawlFault::GaveWay) {
                 return (worked, crawled);
             }
+        }
+        if stop.is_asked(&self.rt) {
+            return (worked, Err(CrawlFault::GaveWay));
         }
         self.callers.enter();
         let (took, crawled) = self.crawl_since(asked, root);
@@ -189,6 +198,16 @@ where
     fn note(&self, root: &str, fault: CrawlFault) {
         self.tell_once(root, fault);
         self.failing.lock(&self.rt).add(root, fault);
+    }
+
+    /// Tells the operator that a root is crawled again, if it could not be crawled in the last
+    /// round.
+    fn tell_if_back(&self, root: &str) {
+        if self.failing.lock(&self.rt).had_any(root)
+            && let Ok(line) = back_line(self.alloc, root)
+        {
+            self.notices.tell(&line);
+        }
     }
 
     /// Tells the operator that a root cannot be crawled, unless that was so in the last round already.
@@ -210,13 +229,6 @@ where
             self.notices.tell(line.as_str());
         }
     }
-}
-
-/// The line to the operator about a root's fault. The root is in it as JSON, so it stays one line whatever the root's
-/// bytes are.
-fn fault_line(alloc: Global, root: &str, fault: CrawlFault) -> Result<String, AllocError> {
-    let root = Value::try_from_str(alloc, root)?.to_string(alloc)?;
-    Ok(format!(in alloc; "{root}: {fault}")?)
 }
 
 /// The seats of a server, and the crawler that threads share.
@@ -257,16 +269,8 @@ where
     Ok(seats)
 }
 
-/// How long it is since a reading of the clock. It is no time if the clock cannot be read.
-fn time_since<R: Clock>(rt: &R, began: io::Result<Instant>) -> Duration {
-    match began {
-        Ok(began) => began.elapsed(rt).unwrap_or(Duration::ZERO),
-        Err(_) => Duration::ZERO,
-    }
-}
-
-/// The text of the root of this number, if a seat sees it, and the seat. There is none if memory runs out for it, or if
-/// the look is refused.
+/// The text of the root of this number, if a seat sees it, and the seat. There is none if memory
+/// runs out for it, or if the look is refused.
 fn look_at_text<N: Named>(seat: Seat<N>, alloc: Global, number: u64) -> (Seat<N>, Option<String>) {
     match seat.look() {
         Ok(look) => {
@@ -301,7 +305,7 @@ fn numbers_in(table: &RootTable) -> Option<RootNumbers> {
     })
 }
 
-impl<N, R, T, S, O, P> Host for LockHost<N, R, T, S, O, P>
+impl<N, R, T, S, O, P> Host for LockHost<N, R, T, S, O, P, Trigger>
 where
     N: Named,
     R: Wait + Clock + Copy + Drop,
@@ -356,7 +360,7 @@ where
         };
         let (worked, crawled) = self.crawl_in_round(&root, stop);
         match crawled {
-            Ok(()) => {}
+            Ok(()) => self.tell_if_back(&root),
             // The server ends.
             Err(CrawlFault::GaveWay) => return worked,
             Err(fault) => self.note(&root, fault),
@@ -365,6 +369,11 @@ where
         self.rounds.fire(number, &*self.shelf);
         self.tell_of_starts();
         worked.saturating_add(time_since(&self.rt, began))
+    }
+
+    fn end_walk(&self) {
+        // As for a client that waits. Nobody leaves again, since the server ends.
+        self.callers.enter();
     }
 
     fn take_run(&self) -> Option<StartedRun> {

@@ -42,9 +42,9 @@ impl RootNumbers {
     }
 }
 
-/// After each round of crawls, puts an idle moment for each due root into the queue of each session,
-/// until the server ends. If a round takes longer than an interval, there is a moment before it
-/// ends.
+/// After each round of crawls, puts an idle moment for each due root into the queue of each
+/// session, until the server ends. If a round takes longer than an interval, there is a moment
+/// before it ends.
 ///
 /// If memory runs out for the roots, their moments are due a round later.
 pub(crate) fn bring_moments<R, H>(rt: &R, alloc: Global, server: &Server<H>)

@@ -40,8 +40,8 @@ impl Pulse {
         self.changed.notify_all();
     }
 
-    /// Waits for a beat after so many, but no longer than this, and no longer than the server goes on. Gives the number
-    /// of beats.
+    /// Waits for a beat after so many, but no longer than this, and no longer than the server goes
+    /// on. Gives the number of beats.
     pub(crate) fn wait<R: Wait + Clock>(
         &self,
         rt: &R,

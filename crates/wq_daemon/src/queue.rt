@@ -16,8 +16,8 @@ pub(crate) struct Queue {
     closed: Condvar,
 }
 
-/// The events that come to a session. A client's events and idle moments come in turn, as long as there are both. So
-/// neither holds up the other.
+/// The events that come to a session. A client's events and idle moments come in turn, as long as
+/// there are both. So neither holds up the other.
 #[derive(Drop)]
 struct Coming {
     /// The events of the client.
@@ -51,8 +51,11 @@ impl Coming {
         !self.waiting.is_closed() && (!self.was_moment || self.waiting.is_idle())
     }
 
-    /// Makes an idle moment of each of these roots due.
+    /// Makes an idle moment of each of these roots due, unless the queue is closed.
     fn put_moments(&mut self, numbers: &[u64]) -> Result<(), AllocError> {
+        if self.waiting.is_closed() {
+            return Ok(());
+        }
         for number in numbers {
             if !self.due.contains(number) {
                 self.due.push_back(*number)?;
@@ -76,8 +79,8 @@ impl Queue {
         })
     }
 
-    /// Puts an event of the client after the others as soon as there is room, and says whether it did.
-    /// If it did not, the queue is closed.
+    /// Puts an event of the client after the others as soon as there is room, and says whether it
+    /// did. If it did not, the queue is closed.
     pub(crate) fn put<R: Wait>(&self, rt: &R, event: Event) -> bool {
         let lock = self.coming.lock(rt);
         let mut coming = self.changed.wait_while(rt, lock, |it| it.waiting.is_full());
@@ -87,8 +90,8 @@ impl Queue {
         is_there
     }
 
-    /// Makes an idle moment of each of these roots due, and says whether memory sufficed. It waits for
-    /// no session. A root of which one is due already has no second one.
+    /// Makes an idle moment of each of these roots due, and says whether memory sufficed. It waits
+    /// for no session. A root of which one is due already has no second one.
     pub(crate) fn put_moments<R: Wait>(&self, rt: &R, numbers: &[u64]) -> bool {
         let put = self.coming.lock(rt).put_moments(numbers);
         self.changed.notify_all();

@@ -1,5 +1,5 @@
-//! Rounds of triggers: a round looks at the root, and then holds the shelf while it starts the commands of the
-//! triggers.
+//! Rounds of triggers: a round looks at the root, and then holds the shelf while it makes the
+//! batches of the triggers and starts their commands.
 
 use std::alloc::{AllocError, Global};
 use std::sync::{Arc, Mutex, Wait};
@@ -80,8 +80,8 @@ where
         self.launcher.lock(&self.rt).next_line().ok()?
     }
 
-    /// Has a round of the triggers of the root of this number on this shelf. It does not look at a root without
-    /// triggers.
+    /// Has a round of the triggers of the root of this number on this shelf. It does not look at a
+    /// root without triggers.
     pub(crate) fn fire(&self, number: u64, shelf: &Mutex<SharedShelf>) {
         if !has_triggers(&*shelf.lock(&self.rt), number) {
             return;

@@ -5,8 +5,8 @@ use std::sync::{Arc, Wait};
 use wq_crawl::{CrawlFault, LockRoots, Roots, Seconds, Tree};
 use wq_live::{Named, Told};
 
-/// Roots over a crawler that threads share. Each call is counted as long as it waits for the crawler, so that a round
-/// gives way to it. They show no crawler.
+/// Roots over a crawler that threads share. Each call is counted as long as it waits for the
+/// crawler, so that a round gives way to it. They show no crawler.
 #[derive(Drop)]
 pub(crate) struct WaitingRoots<N, R, T, S>
 where

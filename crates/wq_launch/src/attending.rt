@@ -1,12 +1,17 @@
-//! The thread that attends a command: it writes its input, and waits for its end. It is made before
-//! the command is handed to it, so that no command is lost if no thread can be made.
+//! The thread that attends a command: it writes its input, waits for its end, and tells the
+//! operator of one that failed. It is made before the command is handed to it, so that no command
+//! is lost if no thread can be made.
 ghost use Rattle.std.specs.Prelude.{◌≡◌, IfSome};
 
+use crate::failing::quoted;
+use crate::notices::Notices;
 use crate::run::Run;
 use crate::runs::Runs;
-use std::alloc::Global;
+use std::alloc::{AllocError, Global};
 use std::io::Write;
 use std::mem;
+use std::os::unix::process::ExitStatusExt;
+use std::process::ExitStatus;
 use std::sync::{Arc, Condvar, Mutex, Wait};
 use std::thread::{self, Threads};
 
@@ -41,16 +46,24 @@ impl Post {
 }
 
 /// Has a thread of its own attend a command: it writes the input and waits for the end, which it
-/// tells to the runs.
+/// tells to the runs. If the command ended by a signal or with another status than 0, it tells the
+/// operator.
 ///
 /// If no thread can be made, it gives the command back. Only its thread waits for a command, and
 /// ends with it.
-pub fn attend<R>(rt: R, alloc: Global, runs: &Arc<Runs>, run: Run) -> Option<Run>
+pub fn attend<R, O>(
+    rt: R,
+    alloc: Global,
+    runs: &Arc<Runs>,
+    notices: &Arc<O>,
+    run: Run,
+) -> Option<Run>
 where
     R: Threads + Wait + Copy + Drop + Send + Sync + 'static,
+    O: Notices + Drop + Send + Sync + 'static,
     ensures { IfSome result (λ it. it ≡ run) }
 {
-    match begin(rt, alloc, runs) {
+    match begin(rt, alloc, runs, notices) {
         Some(post) => {
             post.put(&rt, run);
             None
@@ -60,13 +73,17 @@ where
 }
 
 /// Makes a thread that attends the command which it is handed.
-fn begin<R>(rt: R, alloc: Global, runs: &Arc<Runs>) -> Option<Arc<Post>>
+fn begin<R, O>(rt: R, alloc: Global, runs: &Arc<Runs>, notices: &Arc<O>) -> Option<Arc<Post>>
 where
     R: Threads + Wait + Copy + Drop + Send + Sync + 'static,
+    O: Notices + Drop + Send + Sync + 'static,
 {
     let post = Arc::new(alloc, Post::new()).ok()?;
     let (theirs, runs) = (post.clone().ok()?, runs.clone().ok()?);
-    match thread::spawn(&rt, move || see_through(&rt, &*theirs, &*runs)) {
+    let notices = notices.clone().ok()?;
+    match thread::spawn(&rt, move || {
+        see_through(&rt, alloc, &*theirs, &*runs, &*notices)
+    }) {
         // Nobody joins it: it ends by itself, once its command has.
         Ok(_) => Some(post),
         Err(_) => None,
@@ -74,20 +91,26 @@ where
 }
 
 /// Takes a command, and attends it until it has ended.
-fn see_through<R: Wait>(rt: &R, post: &Post, runs: &Runs) {
+fn see_through<R: Wait, O: Notices>(rt: &R, alloc: Global, post: &Post, runs: &Runs, notices: &O) {
     if let Some(run) = post.take(rt) {
         let number = run.number;
-        wait_for(run);
+        let line = wait_for(alloc, run);
         runs.end(rt, number);
+        if let Some(line) = line {
+            notices.tell(&line);
+        }
     }
 }
 
-/// Writes the input of a command, as far as it takes it, and waits for its end.
-fn wait_for(run: Run) {
+/// Writes the input of a command, as far as it takes it, and waits for its end. Gives a line if it
+/// failed.
+fn wait_for(alloc: Global, run: Run) -> Option<String> {
     let Run {
         number: _,
         mut child,
         input,
+        root,
+        trigger,
     } = run;
     if let Some(mut pipe) = child.stdin.take() {
         // A command that reads no further has closed its input, or has ended.
@@ -95,5 +118,26 @@ fn wait_for(run: Run) {
     }
     drop(input);
     // A command that cannot be waited for has no end that could be told.
-    let _ = child.wait();
+    let status = child.wait().ok()?;
+    if status.success() {
+        return None;
+    }
+    end_line(alloc, root.as_str(), trigger.as_str(), status).ok()
+}
+
+/// The line that tells how the command of a trigger ended.
+fn end_line(
+    alloc: Global,
+    root: &str,
+    trigger: &str,
+    status: ExitStatus,
+) -> Result<String, AllocError> {
+    let (root, trigger) = (quoted(alloc, root)?, quoted(alloc, trigger)?);
+    match status.code() {
+        Some(code) => Ok(format!(in alloc; "{root}: trigger {trigger} ended with status {code}")?),
+        None => {
+            let signal = status.signal().unwrap_or(0);
+            Ok(format!(in alloc; "{root}: trigger {trigger} ended by signal {signal}")?)
+        }
+    }
 }

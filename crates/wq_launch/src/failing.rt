@@ -55,7 +55,7 @@ impl FailedStart {
 
 /// A text as a JSON string.
 #[tactic(auto, unfolding(crate::specs::Failing::quoted))]
-fn quoted(alloc: Global, text: &str) -> Result<String, AllocError>
+pub(crate) fn quoted(alloc: Global, text: &str) -> Result<String, AllocError>
     ensures { IfOk result (λ s. string_bytes s ≡ quoted text.now) }
 {
     Value::try_from_str(alloc, text)?.to_string(alloc)

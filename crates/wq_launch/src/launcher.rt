@@ -183,6 +183,8 @@ impl<S: Spawn + Drop, R: Wait + Drop> Launch for Launcher<S, R> {
                     number,
                     child,
                     input,
+                    root: env.root,
+                    trigger: env.trigger,
                 });
                 Ok(number)
             }

@@ -3,7 +3,7 @@ ghost use Rattle.std.specs.Prelude.{◌≡◌};
 
 use std::marker::Model;
 use std::process::Child;
-use wq_base::Table;
+use wq_base::{Table, Text};
 
 /// A command that was started, and that nobody attends yet. Contracts see the number that its start
 /// gave, and its input.
@@ -12,6 +12,8 @@ pub struct Run {
     pub(crate) number: u32,
     pub(crate) child: Child,
     pub(crate) input: Table<u8>,
+    pub(crate) root: Text,
+    pub(crate) trigger: Text,
 }
 
 impl Model for Run {

@@ -12,7 +12,7 @@ use crate::disk::Disk;
 use crate::guess::names_at_top;
 use crate::path::with_slash;
 use crate::piece::{Piece, first_pieces, pieces_of};
-use crate::progress::{Progress, Way};
+use crate::progress::Progress;
 use crate::rows::Rows;
 use crate::walks::Walks;
 use std::alloc::{AllocError, Global};
@@ -25,6 +25,7 @@ use wq_view::{MAX_LISTING_ROWS, Seen, View};
 pub(crate) fn first_rows<T: Threads, D: Disk + Sync>(
     threads: &T,
     walkers: Workers,
+    progress: &Progress<'_>,
     disk: &D,
     alloc: Global,
     root: &str,
@@ -40,15 +41,14 @@ pub(crate) fn first_rows<T: Threads, D: Disk + Sync>(
     let path = with_slash(alloc, root)?;
     let names = names_at_top(disk, alloc, &path)?;
     let pieces = first_pieces(alloc, walkers, &names)?;
-    rows_of(threads, walkers, Way::Keeps, disk, alloc, &path, &pieces)
+    rows_of(threads, walkers, progress, disk, alloc, &path, &pieces)
 }
 
-/// The rows of the files below a root with this last view. The rows share the names of its records. The walk may give
-/// way.
+/// The rows of the files below a root with this last view. The rows share the names of its records.
 pub(crate) fn rows_again<T: Threads, D: Disk + Sync>(
     threads: &T,
     walkers: Workers,
-    way: Way<'_>,
+    progress: &Progress<'_>,
     disk: &D,
     alloc: Global,
     root: &str,
@@ -64,7 +64,7 @@ pub(crate) fn rows_again<T: Threads, D: Disk + Sync>(
 {
     let path = with_slash(alloc, root)?;
     let pieces = pieces_of(alloc, walkers, last)?;
-    rows_of(threads, walkers, way, disk, alloc, &path, &pieces)
+    rows_of(threads, walkers, progress, disk, alloc, &path, &pieces)
 }
 
 /// The rows of the files below a root, from these pieces of its tree. They share the names of the pieces' records. The
@@ -75,7 +75,7 @@ pub(crate) fn rows_again<T: Threads, D: Disk + Sync>(
 fn rows_of<T: Threads, D: Disk + Sync>(
     threads: &T,
     walkers: Workers,
-    way: Way<'_>,
+    progress: &Progress<'_>,
     disk: &D,
     alloc: Global,
     root: &str,
@@ -89,13 +89,12 @@ fn rows_of<T: Threads, D: Disk + Sync>(
     ensures fault { IfErr result
         (IsRootFault (D.says disk.now) (D.has disk.now) (D.fails disk.now) root.now) }
 {
-    let progress = Progress::new(way);
     let walks = Walks {
         disk,
         alloc,
         root,
         pieces,
-        progress: &progress,
+        progress,
     };
     let rows = joined(alloc, walks.all(threads, walkers)?)?;
     match disk.stat(root)? {

@@ -5,7 +5,7 @@ ghost use Rattle.wq_crawl.specs.declared.tree.TreeFault.TheVariants.{GaveWay, To
 use crate::piece::MOST_PIECES;
 use crate::rows::Rows;
 use std::sync::atomic::{AtomicU64, AtomicUsize, Ordering};
-use wq_crawl::TreeFault;
+use wq_crawl::{LeftOut, TreeFault};
 use wq_view::MAX_LISTING_ROWS;
 
 /// The number of rows of a piece that are counted at once. So no single row costs a write to memory that other
@@ -31,6 +31,10 @@ pub(crate) struct Progress<'a> {
     /// of the tree.
     counted: AtomicUsize,
     way: Way<'a>,
+    /// The number of names that are not UTF-8.
+    names: AtomicU64,
+    /// The number of directories that could not be read.
+    directories: AtomicU64,
 }
 
 impl<'a> Progress<'a> {
@@ -40,7 +44,27 @@ impl<'a> Progress<'a> {
             next: AtomicUsize::new(0),
             counted: AtomicUsize::new(0),
             way,
+            names: AtomicU64::new(0),
+            directories: AtomicU64::new(0),
         }
+    }
+
+    /// What the walk left out so far.
+    pub(crate) fn left_out(&self) -> LeftOut {
+        LeftOut {
+            names: self.names.load(Ordering::SeqCst),
+            directories: self.directories.load(Ordering::SeqCst),
+        }
+    }
+
+    /// Counts a name that is not UTF-8.
+    pub(crate) fn leave_out_name(&self) {
+        self.names.fetch_add(1, Ordering::SeqCst);
+    }
+
+    /// Counts a directory that cannot be read.
+    pub(crate) fn leave_out_directory(&self) {
+        self.directories.fetch_add(1, Ordering::SeqCst);
     }
 
     /// Fails if the walk gives way now.

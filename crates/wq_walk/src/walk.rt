@@ -46,8 +46,8 @@ struct Walk<'a, 'p> {
 /// be opened, the error says nothing of the directory, and the walk fails. The walk does not read directories below
 /// which no name is in the part.
 ///
-/// The walk also fails as soon as more rows of the whole tree were counted than a pass takes, and before the next name
-/// if it gives way.
+/// The walk also fails as soon as more rows of the whole tree were counted than a pass takes, and
+/// before the next name if it gives way.
 pub(crate) fn rows_in<'a, D: Disk>(
     disk: &D,
     alloc: Global,
@@ -96,7 +96,7 @@ fn top<D: Disk>(
     Ok(Directory::new(alloc, path, names))
 }
 
-impl Walk<'_, '_> {
+impl<'p> Walk<'_, 'p> {
     /// Continues from a directory to the end.
     fn run<D: Disk>(&mut self, disk: &D, mut here: Directory) -> Result<(), TreeFault>
         ensures part { self.new.rows.part ≡ self.old.rows.part }
@@ -186,6 +186,7 @@ impl Walk<'_, '_> {
             return Ok(false);
         }
         let Some(name) = shared_name(self.alloc, &mut self.known, &self.path, here)? else {
+            self.count_name();
             return Ok(false);
         };
         let Some(stat) = stat_at(disk, &self.path)? else {
@@ -193,6 +194,23 @@ impl Walk<'_, '_> {
         };
         self.add(name, &stat)?;
         Ok(reaches && stat.is_directory())
+    }
+
+    /// Counts the name at the path, which no pass takes, if it is in the part and not UTF-8.
+    fn count_name(&self) {
+        if self.path.text().is_none() && self.rows.part().has(self.path.name()) {
+            self.progress.leave_out_name();
+        }
+    }
+
+    /// The progress, if a directory at the path counts as one of this part. Walks of other parts
+    /// may read it too.
+    fn counts_directories(&self) -> Option<&'p Progress<'p>> {
+        if self.rows.part().has(self.path.name()) {
+            Some(self.progress)
+        } else {
+            None
+        }
     }
 
     /// Adds the row of the file of this name, if the name is in the part, and counts it.
@@ -230,7 +248,8 @@ impl Walk<'_, '_> {
         ensures fault { IfErr result (IsFailure (D.fails disk.now)) }
     {
         self.path.set(here.path(), here.name(name))?;
-        let names = names_at(disk, self.alloc, &mut self.block, &self.path)?;
+        let counted = self.counts_directories();
+        let names = names_at(disk, self.alloc, &mut self.block, &self.path, counted)?;
         let below = Directory::new(self.alloc, self.path.directory(self.alloc)?, names);
         let above = mem::replace(here, below);
         self.above.push(above).map_err(AllocError::from)?;
@@ -276,13 +295,15 @@ fn stat_at<D: Disk>(disk: &D, path: &TreePath) -> Result<Option<Stat>, TreeFault
     }
 }
 
-/// The names in the directory of a path, or none if it cannot be read.
+/// The names in the directory of a path, or none if it cannot be read. That is counted here, if the
+/// directory counts.
 #[tactic(auto, using(crate::proofs::Entries::are_entries))]
 fn names_at<D: Disk>(
     disk: &D,
     alloc: Global,
     block: &mut Block,
     path: &TreePath,
+    counted: Option<&Progress<'_>>,
 ) -> Result<Names, TreeFault>
     ensures read { IfOk result (λ names.
         HasEntries (D.has disk.now) path.now.bytes.items (names_left names)) }
@@ -293,7 +314,12 @@ fn names_at<D: Disk>(
     };
     match disk.names_in(block, text)? {
         Some(names) => Ok(names),
-        None => Ok(Names::new(alloc)),
+        None => {
+            if let Some(progress) = counted {
+                progress.leave_out_directory();
+            }
+            Ok(Names::new(alloc))
+        }
     }
 }
 

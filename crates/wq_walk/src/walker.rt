@@ -9,18 +9,18 @@ ghost use Rattle.wq_walk.specs.System.{IsListedHere, IsUnreadHere};
 
 use crate::disk::{Disk, FileDisk};
 use crate::listing::{first_rows, rows_again};
-use crate::progress::Way;
+use crate::progress::{Progress, Way};
 use std::alloc::Global;
 use std::sync::Arc;
 use std::sync::atomic::{AtomicU64, Ordering};
 use std::thread::Threads;
 use wq_base::Workers;
-use wq_crawl::{Tree, TreeFault};
+use wq_crawl::{LeftOut, Tree, TreeFault};
 use wq_view::{Seen, View};
 
-/// Walks the trees of a disk, and counts how often a root could not be read or no file handle was left. Several threads
-/// walk a large tree if somebody waits for its listing. A listing for which nobody waited gives way as soon as somebody
-/// waits.
+/// Walks the trees of a disk, and counts how often a root could not be read or no file handle was
+/// left. Several threads walk a large tree if somebody waits for its listing. A listing for which
+/// nobody waited gives way as soon as somebody waits.
 #[derive(Drop)]
 pub struct Walker<T: Threads + Drop, D: Disk + Drop> {
     disk: D,
@@ -31,12 +31,15 @@ pub struct Walker<T: Threads + Drop, D: Disk + Drop> {
     /// How many callers wait for a listing.
     waiting: Arc<AtomicU64>,
     failures: u64,
+    /// What the last listing left out.
+    left_out: LeftOut,
 }
 
 impl<T: Threads + Drop, D: Disk + Drop> Walker<T, D> {
-    /// A walker of the trees of a disk that has listed nothing and counted no failure. Up to so many threads walk a
-    /// tree. If this count of callers that wait for a listing is 0, one thread walks, and the listing of a tree that was
-    /// listed before gives way as soon as it is not 0. The call takes no memory.
+    /// A walker of the trees of a disk that has listed nothing and counted no failure. Up to so
+    /// many threads walk a tree. If this count of callers that wait for a listing is 0, one thread
+    /// walks, and the listing of a tree that was listed before gives way as soon as it is not 0.
+    /// The call takes no memory.
     pub fn new(
         disk: D,
         alloc: Global,
@@ -54,6 +57,7 @@ impl<T: Threads + Drop, D: Disk + Drop> Walker<T, D> {
             walkers,
             waiting,
             failures: 0,
+            left_out: LeftOut::nothing(),
         }
     }
 
@@ -93,7 +97,10 @@ impl<T: Threads + Drop, D: Disk + Sync + Drop> Walker<T, D> {
         ensures rooted { IfOk result (λ _. IsRooted (D.says self.old.disk) root.now) }
     {
         let (walkers, _) = self.walkers_now();
-        let listed = first_rows(&self.threads, walkers, &self.disk, self.alloc, root);
+        let progress = Progress::new(Way::Keeps);
+        let threads = &self.threads;
+        let listed = first_rows(threads, walkers, &progress, &self.disk, self.alloc, root);
+        self.left_out = progress.left_out();
         self.failures = failures_after(self.failures, &listed);
         listed
     }
@@ -111,8 +118,14 @@ impl<T: Threads + Drop, D: Disk + Sync + Drop> Walker<T, D> {
         ensures rooted { IfOk result (λ _. IsRooted (D.says self.old.disk) root.now) }
     {
         let (walkers, way) = self.walkers_now();
+        let progress = Progress::new(way);
         let threads = &self.threads;
-        let listed = rows_again(threads, walkers, way, &self.disk, self.alloc, root, last);
+        let listed = rows_again(
+            threads, walkers, &progress, &self.disk, self.alloc, root, last,
+        );
+        let left_out = progress.left_out();
+        drop(progress);
+        self.left_out = left_out;
         self.failures = failures_after(self.failures, &listed);
         listed
     }
@@ -145,5 +158,9 @@ impl<T: Threads + Drop> Tree for Walker<T, FileDisk> {
 
     fn failures(&self) -> u64 {
         self.failures
+    }
+
+    fn left_out(&self) -> LeftOut {
+        self.left_out
     }
 }

@@ -1,0 +1,75 @@
+"""What a server tells its operator of its walks."""
+
+import json
+import os
+import re
+import signal
+import time
+from pathlib import Path
+
+import built
+from client import A_HOUR, ENDED, Server, query_of_names, same
+from gone import fill_directory
+from locked import lock
+
+NAMES = (b"\xff", b"b\xfe", b"directory/\xfd")
+FILES = 60_000
+# A walk of so many files goes on after this time, in seconds.
+WITHIN = 0.02
+MINUTE = 61.0
+
+
+def check_what_walks_leave_out(tally: built.Tally, room: Path) -> None:
+    """Names that are not UTF-8 and directories that cannot be read are counted in a line, once for each change."""
+    root = room / "tree"
+    for name in ("directory", "locked", "shut/below"):
+        (root / name).mkdir(parents=True)
+    paths = [os.path.join(os.fsencode(root), name) for name in NAMES]
+    for path in paths:
+        open(path, "wb").close()
+    with Server(room, interval=20, is_plain=True) as server, server.client() as client:
+        said = f"listening on {server.sockname}\n".encode()
+        with lock(root / "locked"), lock(root / "shut"):
+            client.ask("watch", str(root))
+            said += left_out(root, 3, 2)
+            tally.check("what a first walk leaves out", server.says(said), [repr(server.errors())])
+            os.remove(paths[2])
+            said += left_out(root, 2, 2)
+            tally.check("a name less", server.says(said), [repr(server.errors())])
+        said += told_after_both(server, root, said)
+        os.remove(paths[0])
+        os.remove(paths[1])
+        tally.check("nothing is left out any more", server.says(left_out(root, 0, 0)), [repr(server.errors())])
+        same(tally, "the end of a server that left out names", server.shut_down(client), 0)
+        lines = server.errors().splitlines()
+        is_new = all(before != after for before, after in zip(lines, lines[1:]))
+        tally.check("no line comes twice in a row", is_new, [repr(lines)])
+        same(tally, "the last line", server.errors().endswith(ENDED), True)
+
+
+def told_after_both(server: Server, root: Path, said: bytes) -> bytes:
+    """What is said when both directories can be read again. A walk may come between the two."""
+    server.says(left_out(root, 2, 0))
+    return server.errors()[len(said):]
+
+
+def left_out(root: Path, names: int, directories: int) -> bytes:
+    """The line by which the operator is told what a walk left out."""
+    text = json.dumps(str(root))
+    return f"{text}: names that are not UTF-8: {names}, directories that cannot be read: {directories}\n".encode()
+
+
+def check_a_walk_of_a_minute(tally: built.Tally, room: Path) -> None:
+    """A walk that takes over a minute, since the server is stopped meanwhile, is told with its seconds."""
+    root = room / "tree"
+    fill_directory(root, FILES)
+    with Server(room, interval=A_HOUR) as server, server.client() as client:
+        client.ask("watch", str(root))
+        client.send("query", str(root), {**query_of_names(), "expression": ["name", "none"]})
+        time.sleep(WITHIN)
+        server.process.send_signal(signal.SIGSTOP)
+        time.sleep(MINUTE)
+        server.process.send_signal(signal.SIGCONT)
+        same(tally, "a reply after a minute", client.reply()["files"], [])
+        line = re.compile(re.escape(json.dumps(str(root)).encode()) + rb": a walk took 6[0-9] seconds\n")
+        tally.check("a walk of a minute is told", len(line.findall(server.errors())) == 1, [repr(server.errors())])
