@@ -12,7 +12,7 @@ use Rattle.wq_replay.specs.Gets.{answered, at_end, ending, fault_for, kept, look
 use Rattle.wq_replay.specs.Playing.{Does, Runs, sent_to}
 use Rattle.wq_replay.specs.World.{HappeningData, WorldData, asked, at_events, shows, unrefused}
 use Rattle.wq_alone.proofs.Worlds.{gets_ended, gets_looked, gets_refused, runs_one}
-use Rattle.wq_serve.specs.Desk.{AnswersShelf}
+use Rattle.wq_session.specs.Desk.{AnswersShelf}
 use Rattle.wq_serve.specs.Serving.{PlaceData}
 use Rattle.wq_session.specs.Answer.{AnswersAsk, MayRefuse}
 use Rattle.wq_session.specs.At.{AtData, ShelfNow}

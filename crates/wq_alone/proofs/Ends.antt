@@ -16,7 +16,7 @@ use Rattle.wq_live.specs.declared.event.RootEvent.TheVariants.{Ended}
 use Rattle.wq_replay.specs.Gets.{at_root, ending, fault_for, looked}
 use Rattle.wq_replay.specs.World.{WorldData}
 use Rattle.wq_serve.specs.Basis.{Basis}
-use Rattle.wq_serve.specs.Desk.{AnswersAt, StandData}
+use Rattle.wq_session.specs.Desk.{AnswersAt, StandData}
 use Rattle.wq_serve.specs.Ready.{KnownData, Learns, Looks, ReadyData, Unwatches, ended, ended_by}
 use Rattle.wq_serve.specs.Run.{ShowsAt}
 use Rattle.wq_serve.specs.Serving.{PlaceData, Replies, stand_at}

@@ -17,7 +17,7 @@ use Rattle.wq_replay.specs.Gets.{at_root, ending, fault_for, looked, refused_fau
 use Rattle.wq_replay.specs.Playing.{Does, Runs, sent_to}
 use Rattle.wq_replay.specs.World.{HappeningData, Watches, WorldData, asked, at_events, crawl as crawls_root, watching, refusing, unrefused}
 use Rattle.wq_serve.specs.Basis.{Basis}
-use Rattle.wq_serve.specs.Desk.{AnswersAt, StandData}
+use Rattle.wq_session.specs.Desk.{AnswersAt, StandData}
 use Rattle.wq_serve.specs.Ready.{KnownData, Looks, LooksAfter, ReadyData}
 use Rattle.wq_serve.specs.Run.{ShowsAt}
 use Rattle.wq_serve.specs.Serving.{PlaceData, Replies, stand_at}

@@ -6,16 +6,9 @@ use std::sync::{Arc, Mutex, Wait};
 use wq_base::Text;
 use wq_clock::{Instance, Run};
 use wq_launch::{Launcher, Run as StartedRun, Runs, Spawn};
-use wq_live::{Look, Named, Seat};
+use wq_live::{Named, Seat};
 use wq_serve::SharedShelf;
 use wq_view::View;
-
-/// A root that a round has looked at, with a share of its view. So no look is open while the triggers hear of it.
-#[derive(Drop)]
-struct RoundAt {
-    instance: Instance,
-    view: Arc<View>,
-}
 
 /// The parts for rounds of triggers. A round takes their locks while it holds the shelf, and never the other way round.
 #[derive(Drop)]
@@ -93,49 +86,21 @@ where
         *place = Some(self.look_and_fire(seat, number, shelf));
     }
 
-    /// Looks at the root of this number, and has a round of its triggers. If the look is refused, there is no round.
+    /// Looks at the root of this number, and has a round of its triggers. If the look is refused, or there is no share
+    /// of the view, there is no round.
     ///
-    /// It leaves the look first, so no publish waits for the round. If it can get no share of the view, the look is
-    /// open for as long as the round takes.
+    /// It leaves the look first, so no publish waits for the round.
     fn look_and_fire(&self, seat: Seat<N>, number: u64, shelf: &Mutex<SharedShelf>) -> Seat<N> {
         match seat.look() {
-            Ok(look) => match self.share(number, &look) {
-                Ok(shared) => {
-                    let seat = look.leave();
-                    self.fire_shared(shared, shelf);
-                    seat
+            Ok(look) => {
+                let shared = look.share_of(number);
+                let seat = look.leave();
+                if let Ok(Some(view)) = shared {
+                    self.fire_at(&self.run.instance(number), &view, shelf);
                 }
-                Err(_) => {
-                    self.fire_lent(number, &look, shelf);
-                    look.leave()
-                }
-            },
+                seat
+            }
             Err(blind) => blind.seat(),
-        }
-    }
-
-    /// The root of this number with a share of its view, if it is shown. It is refused if there is no share.
-    fn share(&self, number: u64, look: &Look<N>) -> Result<Option<RoundAt>, AllocError> {
-        match look.share_of(number)? {
-            Some(view) => Ok(Some(RoundAt {
-                instance: self.run.instance(number),
-                view,
-            })),
-            None => Ok(None),
-        }
-    }
-
-    /// Has a round of the triggers of a root with a share of its view, if there is one.
-    fn fire_shared(&self, shared: Option<RoundAt>, shelf: &Mutex<SharedShelf>) {
-        if let Some(at) = shared {
-            self.fire_at(&at.instance, &at.view, shelf);
-        }
-    }
-
-    /// Has a round of the triggers of the root of this number, at the view that a look lends, if it lends one.
-    fn fire_lent(&self, number: u64, look: &Look<N>, shelf: &Mutex<SharedShelf>) {
-        if let Some(view) = look.view(number) {
-            self.fire_at(&self.run.instance(number), view, shelf);
         }
     }
 

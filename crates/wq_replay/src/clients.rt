@@ -36,7 +36,7 @@ pub(crate) fn answer(
 {
     clients.reserve(1)?;
     let mut session = take_out(clients, alloc, number);
-    let out = session.on(&Alone {}, alloc, ask, at, shelf);
+    let out = session.answer_at(&Alone {}, alloc, ask, at, shelf);
     if out.goes_on() {
         put_back(clients, number, session);
     }

@@ -8,7 +8,7 @@ use Rattle.wq_session.specs.At.{AtData}
 use Rattle.wq_session.specs.declared.ask.Ask.{Ask}
 use Rattle.wq_crawl.specs.declared.fault.CrawlFault.{CrawlFault}
 use Rattle.wq_serve.specs.Answering.{AnswersAfter, AnswersEnd, IfUnwatches, SeesNeeded, SeesFirst, SeesNumber, known}
-use Rattle.wq_serve.specs.Desk.{AnswersAt, StandData}
+use Rattle.wq_session.specs.Desk.{AnswersAt, StandData}
 use Rattle.wq_serve.specs.Ready.{HearsFirst, KnownData, ReadyData, Readies, ended_by}
 use Rattle.wq_crawl.specs.Crawl.{CrawlerData, tells}
 use Rattle.wq_crawl.specs.Roots.{RootRequestData, RootsGive, passing, showing, ending}

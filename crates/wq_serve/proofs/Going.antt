@@ -8,7 +8,7 @@ use Rattle.wq_serve.specs.Limit.{max_events}
 use Rattle.wq_stream.specs.declared.event.Event.TheVariants.{Line, Long, Binary, Idle, End, Fault}
 use Rattle.wq_session.specs.Reading.{Asks}
 use Rattle.wq_session.specs.declared.ask.Ask.{Ask}
-use Rattle.wq_serve.specs.Desk.{StandData}
+use Rattle.wq_session.specs.Desk.{StandData}
 use Rattle.wq_serve.specs.Ready.{KnownData}
 use Rattle.wq_serve.specs.Serving.{Does, GoesOn, IsAnswered, IsServed, PlaceData, Serves, written_for}
 use Rattle.wq_base.specs.Writing.{WritesFront}

@@ -1,7 +1,7 @@
 mod Beginnings
 mod Shown
-mod Held
 mod Reaching
+mod Short
 mod Staying
 mod Getting
 mod Going

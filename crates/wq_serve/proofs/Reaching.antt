@@ -11,9 +11,9 @@ use Rattle.wq_view.specs.View.{ViewData}
 use Rattle.wq_session.specs.Work.{WorkData}
 use Rattle.wq_session.specs.At.{AtData, ShelfNow}
 use Rattle.wq_session.specs.declared.ask.Ask.{Ask}
-use Rattle.wq_serve.specs.Reached.{TurnData, takes, unsets, rounds, Turns, LeadsToShelf, IsReached, ReachedByCalls}
+use Rattle.wq_session.specs.Reached.{TurnData, takes, unsets, rounds, Turns, LeadsToShelf, IsReached, ReachedByCalls}
 use Rattle.wq_session.proofs.Ending.{none_named}
-use Rattle.wq_serve.proofs.Held.{none_unset}
+use Rattle.wq_session.proofs.Held.{none_unset}
 
 -- an empty shelf
 pub blank_reached : (sockname : List ℕ) → IsReached (blank sockname)

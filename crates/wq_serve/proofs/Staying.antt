@@ -9,7 +9,7 @@ use Rattle.wq_session.specs.Reading.{Asks}
 use Rattle.wq_session.specs.declared.ask.Ask.{Ask}
 use Rattle.wq_stream.specs.declared.event.Event.{Event}
 use Rattle.wq_stream.specs.declared.event.Event.TheVariants.{Line, Long, Binary, Idle, End, Fault}
-use Rattle.wq_serve.specs.Desk.{AnswersAt, AnswersShelf, StandData}
+use Rattle.wq_session.specs.Desk.{AnswersAt, AnswersShelf, StandData}
 use Rattle.wq_serve.specs.Ready.{ReadyData}
 use Rattle.wq_serve.specs.Serving.{GoesOn, PlaceData, Replies, Serves}
 use Rattle.wq_serve.specs.Stays.{AcceptedStays, AreOfEvent, AreOfEvents}

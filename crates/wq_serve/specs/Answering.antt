@@ -13,7 +13,7 @@ use Rattle.wq_session.specs.Followed.{follows_of}
 use Rattle.wq_session.specs.declared.ask.Ask.{Ask}
 use Rattle.wq_crawl.specs.declared.fault.CrawlFault.{CrawlFault}
 use Rattle.wq_serve.specs.Basis.{Basis}
-use Rattle.wq_serve.specs.Desk.{AnswersAt, StandData}
+use Rattle.wq_session.specs.Desk.{AnswersAt, StandData}
 use Rattle.wq_serve.specs.Ready.{KnownData, Learns, ended}
 use Rattle.wq_crawl.specs.Crawl.{CrawlerData}
 use Rattle.wq_serve.specs.Run.{ShowsAt}

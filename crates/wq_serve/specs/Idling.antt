@@ -9,7 +9,7 @@ use Rattle.wq_follow.specs.Subscription.{SubscriptionData}
 use Rattle.wq_session.specs.At.{AtData}
 use Rattle.wq_session.specs.Moment.{Idles}
 use Rattle.wq_session.specs.Out.{OutData, silence}
-use Rattle.wq_serve.specs.Desk.{StandData}
+use Rattle.wq_session.specs.Desk.{StandData}
 use Rattle.wq_serve.specs.Basis.{Basis}
 use Rattle.wq_serve.specs.Ready.{KnownData}
 use Rattle.wq_serve.specs.Run.{ShowsNumber}

@@ -1,6 +1,4 @@
 pub mod Inbox
-pub mod Reached
-pub mod Desk
 pub mod Run
 pub mod Basis
 pub mod Ready

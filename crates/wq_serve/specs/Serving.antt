@@ -18,7 +18,7 @@ use Rattle.wq_session.specs.Reading.{Asks}
 use Rattle.wq_session.specs.declared.ask.Ask.{Ask}
 use Rattle.wq_live.specs.declared.event.RootEvent.{RootEvent}
 use Rattle.wq_serve.specs.Answering.{known}
-use Rattle.wq_serve.specs.Desk.{AnswersAt, StandData}
+use Rattle.wq_session.specs.Desk.{AnswersAt, StandData}
 use Rattle.wq_serve.specs.Idling.{IsIdled}
 use Rattle.wq_serve.specs.Inbox.{Hands}
 use Rattle.wq_serve.specs.Limit.{max_events}

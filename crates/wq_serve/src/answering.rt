@@ -1,31 +1,26 @@
-//! The answer to an ask: the session does what the ask needs, looks at its root, and holds the shelf.
+//! The answer to an ask: the session does what the ask needs, looks at its root, and answers the
+//! ask at a desk.
 ghost use Rattle.std.specs.Prelude.{◌≡◌, Ok, Some, option_map};
 ghost use Rattle.wq_clock.specs.Instance.{instance_data};
 ghost use Rattle.wq_serve.specs.Answering.{AnswersAfter, AnswersEnd, IfUnwatches, SeesFirst};
 ghost use Rattle.wq_serve.specs.Answering.{known, shared_data, stand_of};
-ghost use Rattle.wq_serve.specs.Desk.{AnswersAt, HoldsShelf};
 ghost use Rattle.wq_serve.specs.Basis.{basis_of};
 ghost use Rattle.wq_serve.specs.Ready.{Learns};
 ghost use Rattle.wq_crawl.specs.Roots.{RootsGive, showing};
 ghost use Rattle.wq_serve.specs.Serving.{IsAnswered};
 ghost use Rattle.wq_session.specs.Answer.{MayRefuse};
 ghost use Rattle.wq_session.specs.Crawl.{crawl_refusal};
+ghost use Rattle.wq_session.specs.Desk.{AnswersAt};
 ghost use Rattle.wq_session.specs.Need.{need_of};
-ghost use Rattle.wq_session.specs.At.{at_data};
-ghost use Rattle.wq_session.specs.Prepared.{IsPrepared, asked, asked_at};
-ghost use Rattle.wq_session.specs.Work.{work_data};
 
 use crate::client::Client;
-use crate::desk::Desk;
-use crate::looking::{SharedAt, look_for, number_for, share_for};
-use crate::turn::Turn;
-use std::alloc::Global;
+use crate::looking::{SharedAt, number_for, share_for};
 use std::thread::Threads;
 use wq_clock::Instance;
 use wq_crawl::{CrawlFault, Roots};
 use wq_live::{Named, Seat, Told};
 use wq_query::Several;
-use wq_session::{Ask, At, Need, Out, Prepared, Refusal, Work};
+use wq_session::{Ask, At, Desk, Need, Out, Refusal};
 
 /// Meets the need of an ask, and answers it.
 pub(crate) fn answer<T: Threads, N: Named, R: Roots<N>, D: Desk>(
@@ -43,17 +38,17 @@ pub(crate) fn answer<T: Threads, N: Named, R: Roots<N>, D: Desk>(
     ensures run { client.new.run ≡ client.old.run }
 {
     match ask.need() {
-        Need::None => (seat, hold(crew, client, ask, None, desk)),
-        Need::Look(_) => look_and_hold(crew, client, ask, seat, desk),
+        Need::None => (seat, answer_shared(crew, client, ask, None, desk)),
+        Need::Look(_) => look_and_answer(crew, client, ask, seat, desk),
         Need::Crawl(root) => {
             let told = roots.crawl(root);
-            learn_and_hold(crew, client, ask, seat, told, desk)
+            learn_and_answer(crew, client, ask, seat, told, desk)
         }
         Need::Watch(root) => {
             let told = watch(roots, root);
-            learn_and_hold(crew, client, ask, seat, told, desk)
+            learn_and_answer(crew, client, ask, seat, told, desk)
         }
-        Need::Unwatch(_) => unwatch_and_hold(crew, client, ask, seat, roots, desk),
+        Need::Unwatch(_) => unwatch_and_answer(crew, client, ask, seat, roots, desk),
     }
 }
 
@@ -67,60 +62,12 @@ fn watch<N: Named, R: Roots<N>>(roots: &mut R, root: &str) -> Result<Option<Told
     }
 }
 
-/// Answers an ask at a root, or at none. The shelf is held while the ask is taken, and not while it is finished.
-#[tactic(auto, using(crate::proofs::Held::held_finish))]
-fn hold<T: Threads, D: Desk>(
-    crew: &Several<'_, T>,
-    client: &mut Client,
-    ask: Ask,
-    at: Option<At<'_>>,
-    desk: &mut D,
-) -> Out
-    ensures answers { AnswersAt (stand_of (D.shelf desk.old) client.old) ask
-        (option_map at_data at.entry) result (stand_of (D.shelf desk.new) client.new) }
-    ensures run { client.new.run ≡ client.old.run }
-{
-    let work = take(client.alloc, ask, at, desk);
-    let mut out = client.session.finish(crew, client.alloc, work, at);
-    if let Some(cursor) = client.session.settle(&mut out) {
-        desk.unset(cursor);
-    }
-    out
-}
-
-/// Takes an ask at a root, or at none, at the shelf.
-fn take<D: Desk>(alloc: Global, ask: Ask, at: Option<At<'_>>, desk: &mut D) -> Work
-    ensures { HoldsShelf (D.shelf desk.old) ask (option_map at_data at.entry) (work_data result)
-        (D.shelf desk.new) }
-{
-    let prepared = prepare(alloc, ask, at, desk);
-    desk.hold(Turn::new(alloc, prepared))
-}
-
-/// An ask with its query read. The program of the query is found at the desk, or compiled and kept there.
-fn prepare<'a, D: Desk>(alloc: Global, ask: Ask, at: Option<At<'a>>, desk: &mut D) -> Prepared<'a>
-    ensures prepared { IsPrepared result }
-    ensures ask { asked result ≡ ask }
-    ensures at { asked_at result ≡ option_map at_data at.entry }
-    ensures same { D.shelf desk.new ≡ D.shelf desk.old }
-{
-    let prepared = ask.prepare(alloc, at);
-    let found = match prepared.key() {
-        Some(key) => desk.find(key),
-        None => None,
-    };
-    let (prepared, compiled) = prepared.compiled(alloc, found);
-    if let Some(compiled) = compiled {
-        desk.keep(compiled);
-    }
-    prepared
-}
-
 /// Looks at the root that an ask needs, and answers it.
 ///
-/// The look ends before the shelf is held. A share of the root's view outlives it, so that no publish waits while a
-/// reply is made. If there is no share, the look is open for as long as that takes.
-fn look_and_hold<T: Threads, N: Named, D: Desk>(
+/// The look ends before the ask is answered. A share of the root's view outlives it, so that no
+/// publish waits while a reply is made. If there is no share, the line is answered that memory ran
+/// out, and nothing changes.
+fn look_and_answer<T: Threads, N: Named, D: Desk>(
     crew: &Several<'_, T>,
     client: &mut Client,
     ask: Ask,
@@ -134,20 +81,20 @@ fn look_and_hold<T: Threads, N: Named, D: Desk>(
     ensures run { client.new.run ≡ client.old.run }
 {
     match seat.look() {
-        Ok(look) => match share_for(client.run, &ask, &look) {
-            Ok(shared) => (look.leave(), hold_shared(crew, client, ask, shared, desk)),
-            Err(_) => {
-                let at = look_for(client.run, &ask, &look);
-                let out = hold(crew, client, ask, at, desk);
-                (look.leave(), out)
+        Ok(look) => {
+            let shared = share_for(client.run, &ask, &look);
+            let seat = look.leave();
+            match shared {
+                Ok(shared) => (seat, answer_shared(crew, client, ask, shared, desk)),
+                Err(_) => (seat, Out::refused(client.alloc, Refusal::NoMemory)),
             }
-        },
-        Err(blind) => (blind.seat(), hold(crew, client, ask, None, desk)),
+        }
+        Err(blind) => (blind.seat(), answer_shared(crew, client, ask, None, desk)),
     }
 }
 
 /// Answers an ask at a root with a share of its view, or at none.
-fn hold_shared<T: Threads, D: Desk>(
+fn answer_shared<T: Threads, D: Desk>(
     crew: &Several<'_, T>,
     client: &mut Client,
     ask: Ask,
@@ -159,13 +106,18 @@ fn hold_shared<T: Threads, D: Desk>(
     ensures run { client.new.run ≡ client.old.run }
 {
     match &shared {
-        Some(shared) => hold(crew, client, ask, Some(shared.at()), desk),
-        None => hold(crew, client, ask, None, desk),
+        Some(shared) => {
+            let at = Some(shared.at());
+            client.session.answer_at(crew, client.alloc, ask, at, desk)
+        }
+        None => client
+            .session
+            .answer_at(crew, client.alloc, ask, None, desk),
     }
 }
 
 /// Answers an ask after the roots told this.
-fn learn_and_hold<T: Threads, N: Named, D: Desk>(
+fn learn_and_answer<T: Threads, N: Named, D: Desk>(
     crew: &Several<'_, T>,
     client: &mut Client,
     ask: Ask,
@@ -180,14 +132,14 @@ fn learn_and_hold<T: Threads, N: Named, D: Desk>(
     ensures run { client.new.run ≡ client.old.run }
 {
     match told {
-        Ok(None) => look_and_hold(crew, client, ask, seat, desk),
-        Ok(Some(told)) => look_and_hold(crew, client, ask, seat.learn(told), desk),
+        Ok(None) => look_and_answer(crew, client, ask, seat, desk),
+        Ok(Some(told)) => look_and_answer(crew, client, ask, seat.learn(told), desk),
         Err(fault) => (seat, refuse(client, fault)),
     }
 }
 
 /// Unwatches the root that an ask needs, if it is shown, and answers the ask at its number.
-fn unwatch_and_hold<T: Threads, N: Named, R: Roots<N>, D: Desk>(
+fn unwatch_and_answer<T: Threads, N: Named, R: Roots<N>, D: Desk>(
     crew: &Several<'_, T>,
     client: &mut Client,
     ask: Ask,
@@ -203,16 +155,16 @@ fn unwatch_and_hold<T: Threads, N: Named, R: Roots<N>, D: Desk>(
 {
     let (seat, instance) = number_for(client.run, &ask, seat);
     match instance {
-        None => (seat, hold(crew, client, ask, None, desk)),
+        None => (seat, answer_shared(crew, client, ask, None, desk)),
         Some(instance) => {
             let told = roots.unwatch(instance.root);
-            hold_at_end(crew, client, ask, seat, instance, told, desk)
+            answer_at_end(crew, client, ask, seat, instance, told, desk)
         }
     }
 }
 
 /// Answers an ask at the number of a root, after its end was told.
-fn hold_at_end<T: Threads, N: Named, D: Desk>(
+fn answer_at_end<T: Threads, N: Named, D: Desk>(
     crew: &Several<'_, T>,
     client: &mut Client,
     ask: Ask,
@@ -232,7 +184,9 @@ fn hold_at_end<T: Threads, N: Named, D: Desk>(
                 instance,
                 view: None,
             };
-            let out = hold(crew, client, ask, Some(at), desk);
+            let out = client
+                .session
+                .answer_at(crew, client.alloc, ask, Some(at), desk);
             (learn_and_leave(seat, told), out)
         }
         Err(fault) => (seat, refuse(client, fault)),

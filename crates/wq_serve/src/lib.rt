@@ -8,27 +8,19 @@
 
 mod answering;
 mod client;
-mod desk;
 mod idling;
 mod inbox;
 mod kept;
 mod law;
 mod lock_desk;
 mod looking;
-mod memory_desk;
 mod serving;
 mod shared_shelf;
-mod turn;
-mod unset;
 mod writing;
 
-pub use desk::Desk;
 pub use inbox::{Inbox, MemoryInbox};
 pub use kept::Kept;
 pub use law::accepted_stays;
 pub use lock_desk::LockDesk;
-pub use memory_desk::MemoryDesk;
 pub use serving::{Ended, MAX_EVENTS, serve};
 pub use shared_shelf::{ReachedShelf, SharedShelf, reached_by_calls};
-pub use turn::Turn;
-pub use unset::Unset;

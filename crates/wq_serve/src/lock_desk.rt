@@ -1,13 +1,10 @@
 //! A shelf that many sessions share.
 ghost use Rattle.std.specs.Prelude.{◌≡◌};
 
-use crate::desk::Desk;
 use crate::shared_shelf::SharedShelf;
-use crate::turn::Turn;
-use crate::unset::Unset;
 use std::sync::{Arc, Mutex, Wait};
 use wq_registry::{CacheKey, Compiled};
-use wq_session::{Cursor, Work};
+use wq_session::{Cursor, Desk, Turn, Unset, Work};
 use wq_verify::Program;
 
 /// A desk over a shelf that threads share. It shows no shelf, and keeps none.

@@ -1,5 +1,5 @@
 //! The root that a session looks at for an ask, and for an idle moment.
-ghost use Rattle.std.specs.Prelude.{◌≡◌, IfOk, Option, Some, option_map};
+ghost use Rattle.std.specs.Prelude.{◌≡◌, IfErr, IfOk, Option, Some, option_map};
 ghost use Rattle.wq_serve.specs.Answering.{SeesNumber, ShowsNeeded, shared_data};
 ghost use Rattle.wq_serve.specs.Basis.{basis_of};
 ghost use Rattle.wq_serve.specs.Run.{ShowsAt, ShowsNumber};
@@ -34,61 +34,22 @@ impl SharedAt {
     }
 }
 
-/// The root that an ask needs, as a look shows it, if it does.
-pub(crate) fn look_for<'a, N: Named>(run: Run, ask: &Ask, look: &'a Look<N>) -> Option<At<'a>>
-    ensures { ShowsNeeded run (need_of ask.now) look.now (option_map at_data result) }
-{
-    match ask.need() {
-        Need::None => None,
-        Need::Look(root) | Need::Crawl(root) | Need::Watch(root) | Need::Unwatch(root) => {
-            root_at(run, root, look)
-        }
-    }
-}
-
-/// The same with a share of the root's view. It is refused if there is no share.
+/// The root that an ask needs with a share of its view, as a look shows it, if it does. It is
+/// refused if there is no share of the view of a root that is shown.
 pub(crate) fn share_for<N: Named>(
     run: Run,
     ask: &Ask,
     look: &Look<N>,
 ) -> Result<Option<SharedAt>, AllocError>
-    ensures { IfOk result (λ at.
+    ensures shared { IfOk result (λ at.
         ShowsNeeded run (need_of ask.now) look.now (option_map shared_data at)) }
+    ensures short { IfErr result (λ _. (at : AtData)
+        × ShowsNeeded run (need_of ask.now) look.now (Some at)) }
 {
-    match ask.need() {
-        Need::None => Ok(None),
-        Need::Look(root) | Need::Crawl(root) | Need::Watch(root) | Need::Unwatch(root) => {
-            share_of_root(run, root, look)
-        }
-    }
-}
-
-/// The root of this text with a share of its view, as a look shows it, if it does.
-fn share_of_root<N: Named>(
-    run: Run,
-    root: &str,
-    look: &Look<N>,
-) -> Result<Option<SharedAt>, AllocError>
-    ensures { IfOk result (λ at. ShowsAt run root.now look.now (option_map shared_data at)) }
-{
-    match look.share(root)? {
+    match number_in(run, ask, look) {
+        Some(instance) => share_of_number(run, instance.root, look),
         None => Ok(None),
-        Some((number, view)) => Ok(Some(SharedAt {
-            instance: run.instance(number),
-            view,
-        })),
     }
-}
-
-/// The root of this text, as a look shows it, if it does.
-pub(crate) fn root_at<'a, N: Named>(run: Run, root: &str, look: &'a Look<N>) -> Option<At<'a>>
-    ensures { ShowsAt run root.now look.now (option_map at_data result) }
-{
-    let (number, view) = look.root(root)?;
-    Some(At {
-        instance: run.instance(number),
-        view: Some(view),
-    })
 }
 
 /// The root of this number with a share of its view, as a look shows it, if it does. It is refused if there is no
@@ -143,6 +104,21 @@ fn number_in<N: Named>(run: Run, ask: &Ask, look: &Look<N>) -> Option<Instance>
     ensures { (at : Option AtData) × ShowsNeeded run (need_of ask.now) look.now at
         × (option_map instance_data result ≡ option_map (λ at. at.instance) at) }
 {
-    let at = look_for(run, ask, look)?;
-    Some(at.instance)
+    match ask.need() {
+        Need::None => None,
+        Need::Look(root) | Need::Crawl(root) | Need::Watch(root) | Need::Unwatch(root) => {
+            number_of(run, root, look)
+        }
+    }
+}
+
+/// The number of the root of this text, as a look shows it, if it does.
+fn number_of<N: Named>(run: Run, root: &str, look: &Look<N>) -> Option<Instance>
+    ensures { (at : Option AtData) × ShowsAt run root.now look.now at
+        × (option_map instance_data result ≡ option_map (λ at. at.instance) at) }
+{
+    match look.root(root) {
+        Some((number, _)) => Some(run.instance(number)),
+        None => None,
+    }
 }

@@ -8,7 +8,6 @@ ghost use Rattle.wq_stream.specs.declared.event.Event.{Event};
 
 use crate::answering::answer;
 use crate::client::Client;
-use crate::desk::Desk;
 use crate::idling::idle;
 use crate::inbox::Inbox;
 use crate::writing::write_out;
@@ -20,7 +19,7 @@ use wq_clock::Run;
 use wq_crawl::Roots;
 use wq_live::{Named, Seat};
 use wq_query::Several;
-use wq_session::{Ask, Out, Session};
+use wq_session::{Ask, Desk, Out, Session};
 use wq_stream::Event;
 
 /// The most events that a session takes, 2^62.
@@ -40,13 +39,15 @@ pub struct Ended<N: Named> {
 /// Serves one client: takes its events one after the other, and writes a line for each reply, and for each list of a
 /// subscription.
 ///
-/// For each line it first does what the line needs: it asks the roots, and learns what they told. Then it looks at the
-/// root. Then it holds the shelf while the line is taken. No look is open while it asks the roots. None is open
-/// while it makes and writes a reply, unless memory runs out for a share of the root's view. If a look is refused, the
-/// line is answered as if its root were not watched.
+/// For each line it first does what the line needs: it asks the roots, and learns what they told.
+/// Then it looks at the root. Then it holds the shelf while the line is taken. No look is open while
+/// it asks the roots, makes a reply or writes it. If a look is refused, the line is answered as if
+/// its root were not watched. If there is no share of the root's view, the line is answered that
+/// memory ran out.
 ///
-/// At an idle moment of a root it looks at the root, and tells the client the changes since the last lists of its
-/// subscriptions. If the look is refused, it tells them at a later moment.
+/// At an idle moment of a root it looks at the root, and tells the client the changes since the last
+/// lists of its subscriptions. If the look is refused, it tells them at a later moment. The look is
+/// open while it makes them only if there is no share of the root's view.
 ///
 /// As many threads as the roots allow may look for the files of a query. The handle starts them, and they end before
 /// the reply is made.

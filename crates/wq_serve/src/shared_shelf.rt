@@ -3,7 +3,7 @@ ghost use Rattle.std.specs.Prelude.{◌≡◌, IfSome, string_bytes};
 ghost use Rattle.wq_clock.specs.Instance.{instance_data};
 ghost use Rattle.wq_registry.specs.Kept.{StandsFor};
 ghost use Rattle.wq_registry.specs.Shelf.{blank, cursor_unset};
-ghost use Rattle.wq_serve.specs.Reached.{IsReached, ReachedByCalls};
+ghost use Rattle.wq_session.specs.Reached.{IsReached, ReachedByCalls};
 ghost use Rattle.wq_session.specs.Answer.{TakesAsk};
 ghost use Rattle.wq_session.specs.Prepared.{IsPrepared, asked, asked_at};
 ghost use Rattle.wq_session.specs.Round.{IsCountedRound};
@@ -11,15 +11,13 @@ ghost use Rattle.wq_session.specs.Shelved.{shelf_data};
 ghost use Rattle.wq_session.specs.Work.{work_data};
 
 use crate::kept::Kept;
-use crate::turn::Turn;
-use crate::unset::Unset;
 use std::alloc::Global;
 use std::marker::Model;
 use std::sync::Arc;
 use wq_clock::Instance;
 use wq_follow::{Launch, Trigger};
 use wq_registry::{Cache, CacheKey, Compiled, Root, Shelf};
-use wq_session::{Cursor, Work, answers_are_calls, round, rounds_are_calls};
+use wq_session::{Cursor, Turn, Unset, Work, answers_are_calls, round, rounds_are_calls};
 use wq_verify::Program;
 use wq_view::View;
 
@@ -35,7 +33,7 @@ pub type SharedShelf = ReachedShelf<Trigger>;
 
 impl<K: Kept + Drop> Model for ReachedShelf<K> {
     ghost use Rattle.wq_registry.specs.Shelf.{ShelfData};
-    ghost use Rattle.wq_serve.specs.Reached.{IsReached};
+    ghost use Rattle.wq_session.specs.Reached.{IsReached};
     ghost use Rattle.wq_session.specs.Shelved.{shelf_with};
 
     ghost Value = { ShelfData K };

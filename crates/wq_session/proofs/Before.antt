@@ -24,7 +24,6 @@ use Rattle.wq_follow.specs.declared.fault.TriggerFault.TheVariants.{BadName as B
 use Rattle.wq_term.specs.Expr.{ExprData, always}
 use Rattle.wq_term.specs.declared.fault.TermFault.{TermFault}
 use Rattle.wq_view.specs.View.{ViewData}
-use Rattle.wq_session.specs.Answer.{TakesAsk}
 use Rattle.wq_session.specs.At.{AtData, ShelfNow, is_watched, watched}
 use Rattle.wq_session.specs.Prepared.{AreRead, GivesRead, IsRead, IsReadAt, IsReadBy, IsReadFor, IsReadOf}
 use Rattle.wq_session.specs.Prepared.{IsSubscribedAt, Reads}
@@ -33,7 +32,7 @@ use Rattle.wq_session.specs.Trigger.{begun_trigger, defined_by, try_trigger}
 use Rattle.wq_session.specs.Program.{is_name}
 use Rattle.wq_session.specs.Query.{begun_query, try_query}
 use Rattle.wq_session.specs.Subscribe.{begun_subscription, try_subscribe}
-use Rattle.wq_session.specs.Work.{BegunData, Begins, WorkData}
+use Rattle.wq_session.specs.Work.{BegunData, Begins}
 use Rattle.wq_session.specs.declared.ask.Ask.{Ask}
 use Rattle.wq_session.specs.declared.ask.Ask.TheVariants.{Refused, Watch, ListRoots, Unwatch}
 use Rattle.wq_session.specs.declared.ask.Ask.TheVariants.{Query as AsksQuery, Clock, Version}
@@ -345,14 +344,6 @@ pub plain_read : (instance : InstanceData) (d : Data) (query : Result Query Quer
     → IfOk query (λ query. queries instance d ≡ Ok (asked_of query))
 plain_read instance d (Ok query) is = asked_plain instance d (asked_of query) is
 plain_read instance d (Err fault) is = tt
-
--- taking a prepared ask takes that ask
-pub taken_as : (ask asked : Ask) (at asked_at : Option AtData) (shelf same : ShelfNow) (work : WorkData) (after : ShelfNow) → asked ≡ ask
-    → asked_at ≡ at → same ≡ shelf → TakesAsk asked asked_at same work after → TakesAsk ask at shelf work after
-taken_as ask asked at asked_at shelf same work after is_ask is_at is_shelf takes =
-    subst (λ (a : Ask). TakesAsk a at shelf work after) is_ask
-    (subst (λ (a : Option AtData). TakesAsk asked a shelf work after) is_at
-    (subst (λ (s : ShelfNow). TakesAsk asked asked_at s work after) is_shelf takes))
 
 -- the expression of a query that was read
 expression_in : Result QueryData QueryFault → Result ExprData TermFault

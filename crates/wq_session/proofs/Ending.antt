@@ -137,12 +137,3 @@ module _ (ask : Ask) (at : Option AtData) (shelf : ShelfNow) (follows : List Sub
       let same : kept ≡ without_cursor out.unset after = unset ∙ ap (λ c. without_cursor c after) (sym named) in
       subst (λ (o : OutData). AnswersAsk ask at shelf follows o kept left) (sym is)
       (subst (λ (s : ShelfNow). AnswersAsk ask at shelf follows (settled out) s left) (sym same) (answered work after out left takes done))
-
-  -- and if none is named, nothing is unset
-  pub answered_plain : (work : WorkData) (after : ShelfNow) (out given : OutData) (left : List SubscriptionData)
-      → TakesAsk ask at shelf work after → Finishes work at follows out left → given ≡ settled out → out.unset ≡ None
-      → AnswersAsk ask at shelf follows given after left
-  answered_plain work after out given left takes done is none =
-      subst (λ (o : OutData). AnswersAsk ask at shelf follows o after left) (sym is)
-      (subst (λ (s : ShelfNow). AnswersAsk ask at shelf follows (settled out) s left) (nothing_more out after none)
-      (answered work after out left takes done))

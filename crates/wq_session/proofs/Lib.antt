@@ -13,6 +13,7 @@ pub mod Adding
 mod HandingIn
 mod Newlines
 pub mod Finishing
+pub mod Held
 mod Programs
 mod Before
 mod Follows

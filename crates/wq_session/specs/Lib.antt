@@ -33,3 +33,5 @@ pub mod Law
 pub mod Accepted
 pub mod HandedIn
 pub mod Prepared
+pub mod Reached
+pub mod Desk

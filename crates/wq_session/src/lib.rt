@@ -1,6 +1,7 @@
-//! Sessions of clients: the ask of an event, its needs before the answer, and the answer. An answer is from a view of
-//! the root that the ask names, and from the state that all clients share. Other crates say how a stream becomes
-//! events, and where views come from.
+//! Sessions of clients: the ask of an event, its needs before the answer, and the answer. An answer
+//! is from a view of the root that the ask names, and from the state that all clients share, which
+//! is held at a desk. Other crates say how a stream becomes events, where views come from, and how
+//! threads share a desk.
 #![tactic(auto)]
 
 mod ask;
@@ -8,6 +9,7 @@ mod at;
 mod command;
 mod crawl;
 mod cursor;
+mod desk;
 mod fixed;
 mod followed;
 mod giving;
@@ -26,13 +28,16 @@ mod reply;
 mod root;
 mod session;
 mod shelving;
+mod turn;
 mod turns;
+mod unset;
 mod words;
 mod work;
 
 pub use ask::Ask;
 pub use at::At;
 pub use cursor::Cursor;
+pub use desk::Desk;
 pub use followed::MAX_SUBSCRIPTIONS;
 pub use law::{
     added_are_asked, answers_are_calls, asks_hand_in_valid, failed_starts_are_counted,
@@ -45,5 +50,7 @@ pub use prepared::Prepared;
 pub use refusal::Refusal;
 pub use root::{MAX_ROOT, RootText};
 pub use session::Session;
+pub use turn::Turn;
 pub use turns::round;
+pub use unset::Unset;
 pub use work::Work;

@@ -1,11 +1,12 @@
-//! A session's step, in three parts: the first needs the state that all clients share, the second only the view and the
-//! session's own state. The third unsets a cursor if memory ran out in the second.
+//! A session's answer to an ask. It prepares the ask, takes it at the shelf of a desk, finishes it
+//! with the view and its own state alone, and unsets a cursor if memory ran out then.
 ghost use Rattle.std.specs.Prelude.{◌≡◌, [], Some, map, option_map};
 ghost use Rattle.wq_clock.specs.Instance.{instance_data};
 ghost use Rattle.wq_follow.specs.Followed.{subscription_data};
 ghost use Rattle.wq_query.specs.Query.{planned};
-ghost use Rattle.wq_session.specs.Answer.{AnswersAsk, CanFinish, Finishes, TakesAsk, settled};
+ghost use Rattle.wq_session.specs.Answer.{CanFinish, Finishes, TakesAsk, settled};
 ghost use Rattle.wq_session.specs.At.{at_data};
+ghost use Rattle.wq_session.specs.Desk.{AnswersShelf, HoldsShelf};
 ghost use Rattle.wq_session.specs.Followed.{follows_of};
 ghost use Rattle.wq_session.specs.Prepared.{IsPrepared, asked, asked_at};
 ghost use Rattle.wq_session.specs.Shelved.{shelf_data};
@@ -15,9 +16,10 @@ use crate::ask::Ask;
 use crate::at::At;
 use crate::command::{listed, tried};
 use crate::cursor::Cursor;
+use crate::desk::Desk;
 use crate::outcome::Out;
 use crate::prepared::Prepared;
-use crate::shelving::unset_cursor;
+use crate::turn::Turn;
 use crate::work::Work;
 use std::alloc::Global;
 use wq_clock::Instance;
@@ -118,24 +120,26 @@ impl Session {
         out.unset.take()
     }
 
-    /// The whole answer: [`prepare`](Ask::prepare), [`take`](Prepared::take), [`finish`](Session::finish),
-    /// [`settle`](Session::settle), and the unsetting of the cursor that it names.
-    #[tactic(auto, using(crate::proofs::Finishing::can_finish))]
-    pub fn on<C: Crew>(
+    /// The whole answer to an ask, at a root or at none, at the shelf of a desk:
+    /// [`prepare`](Ask::prepare), [`take`](Prepared::take), [`finish`](Session::finish),
+    /// [`settle`](Session::settle), and the unsetting of the cursor that it names. The desk holds
+    /// the shelf while the ask is taken, and not while it is finished.
+    #[tactic(auto, using(crate::proofs::Held::held_finish))]
+    pub fn answer_at<C: Crew, D: Desk>(
         &mut self,
         crew: &C,
         alloc: Global,
         ask: Ask,
         at: Option<At<'_>>,
-        shelf: &mut Shelf<Trigger>,
+        desk: &mut D,
     ) -> Out
-        ensures { AnswersAsk ask (option_map at_data at.entry) (shelf_data shelf.old) (follows_of self.old)
-            result (shelf_data shelf.new) (follows_of self.new) }
+        ensures { AnswersShelf (D.shelf desk.old) (follows_of self.old) ask
+            (option_map at_data at.entry) result (D.shelf desk.new) (follows_of self.new) }
     {
-        let work = prepare_and_take(alloc, ask, at, shelf);
+        let work = take_at(alloc, ask, at, desk);
         let mut out = self.finish(crew, alloc, work, at);
         if let Some(cursor) = self.settle(&mut out) {
-            unset_cursor(shelf, cursor.root, cursor.name.as_str());
+            desk.unset(cursor);
         }
         out
     }
@@ -166,35 +170,36 @@ impl Prepared<'_> {
     }
 }
 
-/// The work of an ask, which is prepared first.
-fn prepare_and_take(alloc: Global, ask: Ask, at: Option<At<'_>>, shelf: &mut Shelf<Trigger>) -> Work
-    ensures { TakesAsk ask (option_map at_data at.entry) (shelf_data shelf.old) (work_data result)
-        (shelf_data shelf.new) }
+/// The work of an ask, which is prepared first, and taken at the shelf of a desk.
+fn take_at<D: Desk>(alloc: Global, ask: Ask, at: Option<At<'_>>, desk: &mut D) -> Work
+    ensures { HoldsShelf (D.shelf desk.old) ask (option_map at_data at.entry) (work_data result)
+        (D.shelf desk.new) }
 {
-    let prepared = prepare(alloc, ask, at, shelf);
-    prepared.take(alloc, shelf)
+    let prepared = prepare_at(alloc, ask, at, desk);
+    desk.hold(Turn::new(alloc, prepared))
 }
 
-/// An ask with its query read. The program of the query is found in the cache of a shelf, or compiled and kept there.
-fn prepare<'a>(
+/// An ask with its query read. The program of the query is found at the desk, or compiled and kept
+/// there.
+fn prepare_at<'a, D: Desk>(
     alloc: Global,
     ask: Ask,
     at: Option<At<'a>>,
-    shelf: &mut Shelf<Trigger>,
+    desk: &mut D,
 ) -> Prepared<'a>
     ensures prepared { IsPrepared result }
     ensures ask { asked result ≡ ask }
     ensures at { asked_at result ≡ option_map at_data at.entry }
-    ensures same { shelf.new ≡ shelf.old }
+    ensures same { D.shelf desk.new ≡ D.shelf desk.old }
 {
     let prepared = ask.prepare(alloc, at);
     let found = match prepared.key() {
-        Some(key) => shelf.cache().get(key),
+        Some(key) => desk.find(key),
         None => None,
     };
     let (prepared, compiled) = prepared.compiled(alloc, found);
     if let Some(compiled) = compiled {
-        shelf.cache().keep(compiled);
+        desk.keep(compiled);
     }
     prepared
 }

@@ -5,7 +5,7 @@ ghost use Rattle.wq_registry.specs.ByName.{has_no_place, under};
 ghost use Rattle.wq_registry.specs.Limit.{max_cursors};
 ghost use Rattle.wq_registry.specs.Refusal.{Refuses};
 ghost use Rattle.wq_registry.specs.Root.{numbered};
-ghost use Rattle.wq_registry.specs.Shelf.{cursor_unset, cursor_used, cursors_of, root_added, root_has_no_place};
+ghost use Rattle.wq_registry.specs.Shelf.{cursor_used, cursors_of, root_added, root_has_no_place};
 ghost use Rattle.wq_registry.specs.Shelf.{root_removed, trigger_added, trigger_removed};
 ghost use Rattle.wq_session.specs.Shelved.{shelf_data};
 ghost use Rattle.wq_session.specs.Trigger.{has_no_trigger_place, run_in, trigger_called};
@@ -51,13 +51,6 @@ pub(crate) fn swap_cursor(
         (has_no_place max_cursors name.now (cursors_of root (shelf_data shelf.old))) result }
 {
     shelf.swap_cursor(root, name, tick)
-}
-
-/// Takes out a cursor of a root ([`Shelf::unset_cursor`]).
-pub(crate) fn unset_cursor(shelf: &mut Shelf<Trigger>, root: u64, name: &str)
-    ensures { shelf_data shelf.new ≡ cursor_unset root name.now (shelf_data shelf.old) }
-{
-    shelf.unset_cursor(root, name);
 }
 
 /// Puts a trigger of a root under a name ([`Shelf::add_trigger`]).

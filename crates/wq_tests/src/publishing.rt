@@ -15,8 +15,8 @@ use wq_clock::Run;
 use wq_crawl::{CrawlFault, Crawler, LockRoots, Roots, SharedCrawler};
 use wq_live::{Blank, Named, Told};
 use wq_registry::{Cache, CacheKey, Compiled};
-use wq_serve::{Desk, LockDesk, MemoryInbox, SharedShelf, Turn, Unset, serve};
-use wq_session::{Cursor, Work};
+use wq_serve::{LockDesk, MemoryInbox, SharedShelf, serve};
+use wq_session::{Cursor, Desk, Turn, Unset, Work};
 use wq_stream::Splitter;
 use wq_verify::Program;
 

@@ -6,8 +6,8 @@ ghost use Rattle.wq_view.specs.Seen.{is_lawful_row};
 
 use std::alloc::{AllocError, Global};
 use wq_crawl::{Seconds, Tree, TreeFault};
+use wq_follow::Trigger;
 use wq_registry::{Cache, Shelf};
-use wq_serve::MemoryDesk;
 use wq_view::{Kind, Seen, SharedBytes, is_valid_name};
 
 /// The names of the files of a tree.
@@ -102,11 +102,9 @@ impl Seconds for Still {
     }
 }
 
-/// A desk over the shelf of a server at its start; none if memory ran out.
-pub(crate) fn new_desk(alloc: Global) -> Option<MemoryDesk> {
+/// The shelf of a server at its start, which is a desk; none if memory ran out.
+pub(crate) fn new_desk(alloc: Global) -> Option<Shelf<Trigger>> {
     let sockname = String::from_str(alloc, "s").ok()?;
     let cache = Cache::new(alloc, 7, 9).ok()?;
-    Some(MemoryDesk {
-        shelf: Shelf::new(alloc, cache, sockname),
-    })
+    Some(Shelf::new(alloc, cache, sockname))
 }

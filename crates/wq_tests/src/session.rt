@@ -10,8 +10,10 @@ use std::test::Fail;
 use std::thread::Threads;
 use wq_clock::Run;
 use wq_crawl::{Crawler, MemoryRoots, Roots};
+use wq_follow::Trigger;
 use wq_live::{Blank, Named, Seat};
-use wq_serve::{MemoryDesk, MemoryInbox, serve};
+use wq_registry::Shelf;
+use wq_serve::{MemoryInbox, serve};
 use wq_stream::Splitter;
 
 /// The lines of one client, and the lines that are written to it.
@@ -44,7 +46,7 @@ fn talk_at<N: Named, R: Threads + Wait + Drop + Sync>(
     rt: &R,
     alloc: Global,
     ends: Ends<N, R>,
-    desk: &mut MemoryDesk,
+    desk: &mut Shelf<Trigger>,
     talk: &Talk,
 ) -> Option<(Ends<N, R>, bool)> {
     let Ends { seat, mut roots } = ends;

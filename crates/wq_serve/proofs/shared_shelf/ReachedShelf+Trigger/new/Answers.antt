@@ -1,7 +1,7 @@
 -- Nothing has to be done for an empty shelf.
 use Rattle.std.proofs.Common.{ap, sym, subst}
 use Rattle.wq_session.specs.Shelved.{shelf_data}
-use Rattle.wq_serve.specs.Reached.{IsReached}
+use Rattle.wq_session.specs.Reached.{IsReached}
 use Rattle.wq_serve.proofs.Reaching.{blank_reached}
 use Rattle.wq_serve.proofs.shared_shelf.ReachedShelf+Trigger.new.Goals as goal
 

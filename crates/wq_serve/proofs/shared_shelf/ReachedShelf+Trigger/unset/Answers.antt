@@ -1,7 +1,7 @@
 -- The shelf without a cursor is reached.
 use Rattle.std.proofs.Common.{sym, subst}
 use Rattle.wq_session.specs.Shelved.{shelf_data}
-use Rattle.wq_serve.specs.Reached.{IsReached}
+use Rattle.wq_session.specs.Reached.{IsReached}
 use Rattle.wq_serve.proofs.Reaching.{unset_reached}
 use Rattle.wq_serve.proofs.shared_shelf.ReachedShelf+Trigger.unset.Goals as goal
 

@@ -1,15 +1,17 @@
 //! The desk: a session finds the shelf there.
 ghost use Rattle.std.specs.Prelude.{◌≡◌, IfSome};
 ghost use Rattle.wq_registry.specs.Kept.{StandsFor};
-ghost use Rattle.wq_serve.specs.Desk.{HoldsShelf, Unsets};
+ghost use Rattle.wq_session.specs.Desk.{HoldsShelf, Unsets};
 ghost use Rattle.wq_session.specs.Prepared.{IsPrepared, asked, asked_at};
 ghost use Rattle.wq_session.specs.Work.{work_data};
 
+use crate::cursor::Cursor;
 use crate::turn::Turn;
 use crate::unset::Unset;
+use crate::work::Work;
 use std::sync::Arc;
+use wq_follow::Trigger;
 use wq_registry::{CacheKey, Compiled, Shelf};
-use wq_session::{Cursor, Work};
 use wq_verify::Program;
 
 /// A session's way to the shelf. It is held for an ask, to unset a cursor, and to find a program in the cache or keep
@@ -43,4 +45,28 @@ pub trait Desk {
     fn unset(&mut self, cursor: Cursor) -> Unset
         ensures unset { Unsets (shelf self.old) cursor (shelf self.new) }
         ensures named { result ≡ cursor };
+}
+
+/// A shelf that this session has alone is a desk, which shows the shelf.
+impl Desk for Shelf<Trigger> {
+    ghost use Rattle.std.specs.Prelude.{Some};
+    ghost use Rattle.wq_session.specs.Shelved.{shelf_data};
+
+    ghost shelf = { λ s. Some (shelf_data s) };
+
+    fn find(&mut self, key: &CacheKey) -> Option<Arc<Program>> {
+        self.cache().get(key)
+    }
+
+    fn keep(&mut self, compiled: Compiled) {
+        self.cache().keep(compiled);
+    }
+
+    fn hold(&mut self, turn: Turn<'_>) -> Work {
+        turn.take(self)
+    }
+
+    fn unset(&mut self, cursor: Cursor) -> Unset {
+        Unset::on(self, cursor)
+    }
 }

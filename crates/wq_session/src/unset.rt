@@ -3,10 +3,10 @@ ghost use Rattle.std.specs.Prelude.{◌≡◌};
 ghost use Rattle.wq_registry.specs.Shelf.{cursor_unset};
 ghost use Rattle.wq_session.specs.Shelved.{shelf_data};
 
+use crate::cursor::Cursor;
 use std::marker::Model;
 use wq_follow::Trigger;
 use wq_registry::Shelf;
-use wq_session::Cursor;
 
 /// The receipt for unsetting a cursor on a shelf. Only unsetting makes one, so a desk that never comes to a shelf has
 /// none to give.

@@ -10,7 +10,7 @@ use Rattle.wq_session.specs.declared.ask.Ask.{Ask}
 use Rattle.wq_session.specs.declared.cursor.Cursor.{Cursor}
 use Rattle.wq_session.proofs.Ending.{answered, answered_with}
 use Rattle.wq_session.proofs.Finishing.{can_finish}
-use Rattle.wq_serve.specs.Desk.{AnswersShelf, HoldsShelf, Unsets}
+use Rattle.wq_session.specs.Desk.{AnswersShelf, HoldsShelf, Unsets}
 
 module _ (ask : Ask) (at : Option AtData) (follows left : List SubscriptionData) (work : WorkData) (out given : OutData) where
   -- if no cursor is named, nothing more is done
@@ -44,6 +44,12 @@ module _ (ask : Ask) (at : Option AtData) (follows left : List SubscriptionData)
     answered_with ask at shelf follows work next out given left cursor (cursor_unset cursor.root cursor.name next) takes done is named refl,
     unsets ∙ ap (option_map (cursor_unset cursor.root cursor.name)) shown,
   )
+
+-- at a shelf that is shown, that is an answer at this shelf
+pub shown_answer : (ask : Ask) (at : Option AtData) (follows left : List SubscriptionData) (out : OutData) (shelf next : ShelfNow)
+    → AnswersShelf (Some shelf) follows ask at out (Some next) left → AnswersAsk ask at shelf follows out next left
+shown_answer ask at follows left out shelf next (after, answers, is) =
+    subst (λ (s : ShelfNow). AnswersAsk ask at shelf follows out s left) (sym (cc is)) answers
 
 -- work that was taken can be finished
 pub held_finish : (old mid : Option ShelfNow) (ask : Ask) (at : Option AtData) (work : WorkData) → HoldsShelf old ask at work mid

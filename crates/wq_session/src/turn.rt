@@ -5,10 +5,11 @@ ghost use Rattle.wq_session.specs.Prepared.{IsPrepared, asked, asked_at};
 ghost use Rattle.wq_session.specs.Shelved.{shelf_data};
 ghost use Rattle.wq_session.specs.Work.{work_data};
 
+use crate::prepared::Prepared;
+use crate::work::Work;
 use std::alloc::Global;
 use wq_follow::Trigger;
 use wq_registry::Shelf;
-use wq_session::{Prepared, Work};
 
 /// A session's turn at the shelf: a prepared ask, and the allocator of the work that it becomes there.
 ///

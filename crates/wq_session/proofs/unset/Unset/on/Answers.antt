@@ -3,7 +3,7 @@ use Rattle.std.proofs.Common.{ap, sym, ◌∙◌}
 use Rattle.wq_registry.specs.Shelf.{cursor_unset}
 use Rattle.wq_session.proofs.Shelves.{unset_now}
 use Rattle.wq_session.specs.Shelved.{shelf_data}
-use Rattle.wq_serve.proofs.unset.Unset.on.Goals as goal
+use Rattle.wq_session.proofs.unset.Unset.on.Goals as goal
 
 pub returns-clause-unset : goal.returns-clause-unset
 returns-clause-unset c =

@@ -9,7 +9,7 @@ use Rattle.wq_session.specs.Out.{OutData}
 use Rattle.wq_session.specs.At.{AtData, ShelfNow}
 use Rattle.wq_session.specs.declared.ask.Ask.{Ask}
 use Rattle.wq_session.specs.declared.cursor.Cursor.{Cursor}
-use Rattle.wq_serve.specs.Reached.{IsReached}
+use Rattle.wq_session.specs.Reached.{IsReached}
 
 -- an ask is taken at a shelf. If a shelf is shown, that one is used, and the result is then shown.
 -- If none is shown, it is some shelf that the acts of sessions lead to
