@@ -1,9 +1,8 @@
 -- The beginning of `query`, of a query that was read before.
 use Rattle.std.proofs.Common.{◌≡◌, ℕ, Bool, true, false, List, Option, Some, None, Result, Ok, Err, IfOk, if◌then◌else◌, refl, sym, ap, subst, ◌∙◌}
-use Rattle.std.specs.Prelude.{codes, not}
+use Rattle.std.specs.Prelude.{codes, not, option_map}
 use Rattle.serde_json.specs.Data.{Data, null}
 use Rattle.serde_json.specs.Find.{get}
-use Rattle.serde_json.specs.View.{view as data_of}
 use Rattle.wq_base.specs.Fault.{or_fault, or_its_fault, or_own_fault, unless_fault}
 use Rattle.wq_clock.specs.Instance.{InstanceData}
 use Rattle.wq_query.specs.Generator.{suffixes_of, paths_of}
@@ -25,19 +24,18 @@ use Rattle.wq_term.specs.Expr.{ExprData, always}
 use Rattle.wq_term.specs.declared.fault.TermFault.{TermFault}
 use Rattle.wq_view.specs.View.{ViewData}
 use Rattle.wq_session.specs.At.{AtData, ShelfNow, is_watched, watched}
-use Rattle.wq_session.specs.Prepared.{AreRead, GivesRead, IsRead, IsReadAt, IsReadBy, IsReadFor, IsReadOf}
-use Rattle.wq_session.specs.Prepared.{IsSubscribedAt, Reads}
-use Rattle.wq_session.specs.Prepared.{AreDefined, GivesDefined, IsDefinedAt, IsDefinedFor, IsDefinedOf, IsReadTrigger}
+use Rattle.wq_session.specs.Moment.{Shown, shown_in}
+use Rattle.wq_session.specs.Prepared.{AreRead, GivesDefined, GivesDefinedObject, GivesRead, GivesReadObject, IsReadAgain, IsReadAt, IsReadShown}
+use Rattle.wq_session.specs.Prepared.{IsReadThere, ObjectData, asks_query, asks_subscription, asks_trigger, asks_nothing}
 use Rattle.wq_session.specs.Trigger.{begun_trigger, defined_by, try_trigger}
 use Rattle.wq_session.specs.Program.{is_name}
 use Rattle.wq_session.specs.Query.{begun_query, try_query}
 use Rattle.wq_session.specs.Subscribe.{begun_subscription, try_subscribe}
 use Rattle.wq_session.specs.Work.{BegunData, Begins}
 use Rattle.wq_session.specs.declared.ask.Ask.{Ask}
-use Rattle.wq_session.specs.declared.ask.Ask.TheVariants.{Refused, Watch, ListRoots, Unwatch}
-use Rattle.wq_session.specs.declared.ask.Ask.TheVariants.{Query as AsksQuery, Clock, Version}
-use Rattle.wq_session.specs.declared.ask.Ask.TheVariants.{SocketName, ShutDown, AddProgram, ListPrograms}
-use Rattle.wq_session.specs.declared.ask.Ask.TheVariants.{DeleteProgram, Leave, Nothing, Subscribe, Unsubscribe, AddTrigger, ListTriggers, DeleteTrigger}
+use Rattle.wq_session.specs.declared.read_object.ReadObject.{ReadObject}
+use Rattle.wq_session.specs.declared.read_object.ReadObject.TheVariants.{None as Unread, Query as QueryRead, Trigger as TriggerRead}
+use Rattle.wq_session.specs.declared.read_object.ReadObject.TheVariants.{Refused as ObjectRefused}
 use Rattle.wq_session.specs.declared.read_query.ReadQuery.{ReadQuery}
 use Rattle.wq_session.specs.declared.read_trigger.ReadTrigger.{ReadTrigger}
 use Rattle.wq_session.specs.declared.refusal.Refusal.{Refusal}
@@ -47,83 +45,81 @@ use Rattle.wq_session.specs.declared.refusal.Refusal.TheVariants.{WrongArguments
 use Rattle.wq_session.specs.declared.refusal.Refusal.TheVariants.{UnreadableRoot, TooManyFiles, TicksSpent, NoSuchProgram}
 use Rattle.wq_session.specs.declared.refusal.Refusal.TheVariants.{ProgramTooLarge, TooManySubscriptions, NotBase64, ShelfFull, BadTrigger, TooManyTriggers}
 use Rattle.wq_session.specs.declared.refusal.Refusal.TheVariants.{WrongFile, WrongProgram}
-use Rattle.wq_session.specs.declared.work.Work.{Work}
+use Rattle.wq_session.specs.declared.work.Rest.{Rest}
 
 -- an object that was read is known
-pub are_read : (reads : Reads) (d : Data) (at : Option AtData) (read : Option (Result ReadQuery Refusal))
-    → IsReadBy reads d at read → AreRead read
-are_read reads d (Some at) (Some (Ok read)) is = of at.view is
-  where
-    of : (view : Option ViewData) → IsReadOf reads d at.instance view (Some (Ok read)) → IsRead read
-    of (Some view) is = is.1
-    of None is = elim is [ ]
-are_read reads d None (Some (Ok read)) is = elim is [ ]
-are_read reads d at (Some (Err refusal)) is = tt
-are_read reads d at None is = tt
+module _ (instance : InstanceData) where
+  query_known : (said : Result QueryData QueryFault) (read : ReadObject) → GivesReadObject said read → AreRead read
+  query_known said (QueryRead read) is = is.1
+  query_known said (ObjectRefused refusal) is = tt
+  query_known said Unread is = elim is [ ]
+  query_known said (TriggerRead read) is = elim is [ ]
 
--- if none was read, nothing has to be known
-none_read : (read : Option (Result ReadQuery Refusal)) → read ≡ None → AreRead read
-none_read None is = tt
-none_read (Some read) is = absurd cc
+  trigger_known : (said : Result DefinitionData Refusal) (read : ReadObject) → GivesDefinedObject said read → AreRead read
+  trigger_known said (TriggerRead read) is = is.1
+  trigger_known said (ObjectRefused refusal) is = tt
+  trigger_known said Unread is = elim is [ ]
+  trigger_known said (QueryRead read) is = elim is [ ]
 
--- the query of an ask that was read is known
-pub asked_read : (ask : Ask) (at : Option AtData) (read : Option (Result ReadQuery Refusal)) → IsReadFor ask at read → AreRead read
-asked_read (AsksQuery root crawl q) at read is = are_read queries (data_of q) at read is
-asked_read (Subscribe root name q) at read is = are_read subscribes (data_of q) at read is
-asked_read (Unsubscribe root name) at read is = none_read read is
-asked_read (Refused refusal) at read is = none_read read is
-asked_read (Watch root) at read is = none_read read is
-asked_read ListRoots at read is = none_read read is
-asked_read (Unwatch root) at read is = none_read read is
-asked_read (Clock root crawl) at read is = none_read read is
-asked_read Version at read is = none_read read is
-asked_read SocketName at read is = none_read read is
-asked_read ShutDown at read is = none_read read is
-asked_read (AddProgram name program) at read is = none_read read is
-asked_read ListPrograms at read is = none_read read is
-asked_read (DeleteProgram name) at read is = none_read read is
-asked_read (AddTrigger root t) at read is = none_read read is
-asked_read (ListTriggers root) at read is = none_read read is
-asked_read (DeleteTrigger root name) at read is = none_read read is
-asked_read Leave at read is = none_read read is
-asked_read Nothing at read is = none_read read is
+  known_there : (object : ObjectData) (read : ReadObject) → IsReadThere object instance read → AreRead read
+  known_there asks_nothing read is = subst AreRead (sym is) tt
+  known_there (asks_query d) read is = query_known (queries instance d) read is
+  known_there (asks_subscription d) read is = query_known (subscribes instance d) read is
+  known_there (asks_trigger d) read is = trigger_known (defined_by instance d) read is
 
--- the object of a trigger that was read is known
-pub are_defined : (d : Data) (at : Option AtData) (read : Option (Result ReadTrigger Refusal)) → IsDefinedAt d at read → AreDefined read
-are_defined d (Some at) (Some (Ok read)) is = of at.view is
-  where
-    of : (view : Option ViewData) → IsDefinedOf d at.instance view (Some (Ok read)) → IsReadTrigger read
-    of (Some view) is = is.1
-    of None is = elim is [ ]
-are_defined d None (Some (Ok read)) is = elim is [ ]
-are_defined d at (Some (Err refusal)) is = tt
-are_defined d at None is = tt
+known_shown : (object : ObjectData) (shown : Shown) (read : ReadObject) → IsReadShown object shown read → AreRead read
+known_shown object None read is = subst AreRead (sym is) tt
+known_shown object (Some (instance, view)) read is = known_there instance object read is
 
-none_defined : (read : Option (Result ReadTrigger Refusal)) → read ≡ None → AreDefined read
-none_defined None is = tt
-none_defined (Some read) is = absurd cc
+pub are_read : (object : ObjectData) (at : Option AtData) (read : ReadObject) → IsReadAt object at read → AreRead read
+unfolding IsReadAt
+are_read object at read is = known_shown object (shown_in at) read is
 
--- the trigger of an ask that was read is known
-pub asked_defined : (ask : Ask) (at : Option AtData) (read : Option (Result ReadTrigger Refusal)) → IsDefinedFor ask at read → AreDefined read
-asked_defined (AddTrigger root t) at read is = are_defined (data_of t) at read is
-asked_defined (AsksQuery root crawl q) at read is = none_defined read is
-asked_defined (Subscribe root name q) at read is = none_defined read is
-asked_defined (Unsubscribe root name) at read is = none_defined read is
-asked_defined (Refused refusal) at read is = none_defined read is
-asked_defined (Watch root) at read is = none_defined read is
-asked_defined ListRoots at read is = none_defined read is
-asked_defined (Unwatch root) at read is = none_defined read is
-asked_defined (Clock root crawl) at read is = none_defined read is
-asked_defined Version at read is = none_defined read is
-asked_defined SocketName at read is = none_defined read is
-asked_defined ShutDown at read is = none_defined read is
-asked_defined (AddProgram name program) at read is = none_defined read is
-asked_defined ListPrograms at read is = none_defined read is
-asked_defined (DeleteProgram name) at read is = none_defined read is
-asked_defined (ListTriggers root) at read is = none_defined read is
-asked_defined (DeleteTrigger root name) at read is = none_defined read is
-asked_defined Leave at read is = none_defined read is
-asked_defined Nothing at read is = none_defined read is
+-- nothing stays nothing
+still_unread : (read after : ReadObject) → read ≡ Unread → IsReadAgain read after → after ≡ Unread
+still_unread Unread after is again = again
+still_unread (QueryRead read) after is again = absurd cc
+still_unread (TriggerRead read) after is again = absurd cc
+still_unread (ObjectRefused refusal) after is again = absurd cc
+
+-- it stays read when more becomes known of its program
+module _ (instance : InstanceData) where
+  query_again : (said : Result QueryData QueryFault) (read after : ReadObject) → GivesReadObject said read → IsReadAgain read after
+      → GivesReadObject said after
+  query_again said (QueryRead read) (QueryRead after) is again = (is.0 ∙ ap Ok (sym again.0), again.1)
+  query_again said (QueryRead read) Unread is again = elim again [ ]
+  query_again said (QueryRead read) (TriggerRead after) is again = elim again [ ]
+  query_again said (QueryRead read) (ObjectRefused refusal) is again = elim again [ ]
+  query_again said (ObjectRefused refusal) after is again = subst (GivesReadObject said) (sym again) is
+  query_again said Unread after is again = elim is [ ]
+  query_again said (TriggerRead read) after is again = elim is [ ]
+
+  trigger_again : (said : Result DefinitionData Refusal) (read after : ReadObject) → GivesDefinedObject said read → IsReadAgain read after
+      → GivesDefinedObject said after
+  trigger_again said (TriggerRead read) (TriggerRead after) is again = (is.0 ∙ ap Ok (sym again.0), again.1)
+  trigger_again said (TriggerRead read) Unread is again = elim again [ ]
+  trigger_again said (TriggerRead read) (QueryRead after) is again = elim again [ ]
+  trigger_again said (TriggerRead read) (ObjectRefused refusal) is again = elim again [ ]
+  trigger_again said (ObjectRefused refusal) after is again = subst (GivesDefinedObject said) (sym again) is
+  trigger_again said Unread after is again = elim is [ ]
+  trigger_again said (QueryRead read) after is again = elim is [ ]
+
+  there_again : (object : ObjectData) (read after : ReadObject) → IsReadThere object instance read → IsReadAgain read after
+      → IsReadThere object instance after
+  there_again asks_nothing read after is again = still_unread read after is again
+  there_again (asks_query d) read after is again = query_again (queries instance d) read after is again
+  there_again (asks_subscription d) read after is again = query_again (subscribes instance d) read after is again
+  there_again (asks_trigger d) read after is again = trigger_again (defined_by instance d) read after is again
+
+shown_again : (object : ObjectData) (shown : Shown) (read after : ReadObject) → IsReadShown object shown read → IsReadAgain read after
+    → IsReadShown object shown after
+shown_again object None read after is again = still_unread read after is again
+shown_again object (Some (instance, view)) read after is again = there_again instance object read after is again
+
+pub read_again : (object : ObjectData) (at : Option AtData) (read after : ReadObject) → IsReadAt object at read → IsReadAgain read after
+    → IsReadAt object at after
+unfolding IsReadAt
+read_again object at read after is again = shown_again object (shown_in at) read after is again
 
 -- the watched root is the one that is looked at
 there : (root : List ℕ) (at : Option AtData) (shelf : ShelfNow) (a : AtData) → watched root at shelf ≡ Some a → at ≡ Some a
@@ -133,6 +129,19 @@ there root (Some at) shelf a is = picked (is_watched root at shelf) is
     picked true is = is
     picked false is = absurd cc
 there root None shelf a is = is
+
+-- the root that is looked at, if it is the watched one and shows a view
+shown_there : (root : List ℕ) (at : Option AtData) (shelf : ShelfNow) (a : AtData) (view : ViewData) → watched root at shelf ≡ Some a
+    → a.view ≡ Some view → shown_in at ≡ Some (a.instance, view)
+shown_there root at shelf a view is shown =
+    ap shown_in (there root at shelf a is) ∙ ap (option_map (λ (view : ViewData). (a.instance, view))) shown
+
+-- an object was read there
+pub object_there : (object : ObjectData) (root : List ℕ) (at : Option AtData) (shelf : ShelfNow) (a : AtData) (view : ViewData)
+    → watched root at shelf ≡ Some a → a.view ≡ Some view → (read : ReadObject) → IsReadAt object at read → IsReadThere object a.instance read
+unfolding IsReadAt
+object_there object root at shelf a view is shown read said =
+    subst (λ (s : Shown). IsReadShown object s read) (shown_there root at shelf a view is shown) said
 
 module _ (root : List ℕ) (d : Data) (at : Option AtData) (shelf : ShelfNow) (a : AtData) (is : watched root at shelf ≡ Some a) where
   -- the query of an object at a root that is shown
@@ -144,21 +153,15 @@ module _ (root : List ℕ) (d : Data) (at : Option AtData) (shelf : ShelfNow) (a
       ∙ ap (λ v. or_fault NotWatched v (λ (view : ViewData).
       or_its_fault BadQuery (queries a.instance d) (λ q. begun_query (a.instance).root view.tick q shelf))) shown
 
-  -- it was read there
-  pub read_there : (view : ViewData) → a.view ≡ Some view → (read : Option (Result ReadQuery Refusal)) → IsReadAt d at read
-      → IsReadOf queries d a.instance (Some view) read
-  read_there view shown read said =
-      subst (λ v. IsReadOf queries d a.instance v read) shown (subst (λ at. IsReadAt d at read) (there root at shelf a is) said)
-
   -- so the query that was read begins as `query` does
-  pub begins_read : (view : ViewData) → a.view ≡ Some view → (read : ReadQuery) → IsReadAt d at (Some (Ok read))
-      → (tick : ℕ) → tick ≡ view.tick → (result : Result Work Refusal) (after : ShelfNow)
+  pub begins_read : (view : ViewData) → a.view ≡ Some view → (read : ReadQuery) → IsReadAt (asks_query d) at (QueryRead read)
+      → (tick : ℕ) → tick ≡ view.tick → (result : Result Rest Refusal) (after : ShelfNow)
       → Begins (begun_query (a.instance).root tick (asked_of read.query) shelf) shelf result after
       → Begins (try_query root d at shelf) shelf result after
   begins_read view shown read said tick told result after begins =
       subst (λ b. Begins b shelf result after)
       (sym (at_view view shown
-      ∙ ap (λ r. or_its_fault BadQuery r (λ q. begun_query (a.instance).root view.tick q shelf)) (read_there view shown (Some (Ok read)) said).0
+      ∙ ap (λ r. or_its_fault BadQuery r (λ q. begun_query (a.instance).root view.tick q shelf)) (object_there (asks_query d) root at shelf a view is shown (QueryRead read) said).0
       ∙ ap (λ t. begun_query (a.instance).root t (asked_of read.query) shelf) (sym told)))
       begins
 
@@ -191,6 +194,15 @@ refused_for asked next shelf ShelfFull said = elim said [ ]
 refused_for asked next shelf (WrongFile fault) said = elim said [ ]
 refused_for asked next shelf (WrongProgram fault place) said = elim said [ ]
 
+-- so the fault of a query that was read is the reason to refuse `query`
+pub refuses_read : (root : List ℕ) (d : Data) (at : Option AtData) (shelf : ShelfNow) (a : AtData) (view : ViewData)
+    → watched root at shelf ≡ Some a → a.view ≡ Some view → (refusal : Refusal) → IsReadAt (asks_query d) at (ObjectRefused refusal)
+    → Begins (try_query root d at shelf) shelf (Err refusal) shelf
+refuses_read root d at shelf a view is shown refusal said =
+    subst (λ b. Begins b shelf (Err refusal) shelf) (sym (at_view root d at shelf a is view shown))
+    (refused_for (queries a.instance d) (λ q. begun_query (a.instance).root view.tick q shelf) shelf refusal
+    (object_there (asks_query d) root at shelf a view is shown (ObjectRefused refusal) said))
+
 module _ (root name : List ℕ) (d : Data) (at : Option AtData) (shelf : ShelfNow) (a : AtData) (is : watched root at shelf ≡ Some a)
     (named : is_name name ≡ true) where
   -- the beginning of `subscribe` at a root that is shown
@@ -205,31 +217,25 @@ module _ (root name : List ℕ) (d : Data) (at : Option AtData) (shelf : ShelfNo
       ∙ ap (λ t. unless_fault BadName t (
       or_its_fault BadQuery (subscribes a.instance d) (λ q. begun_subscription root name (a.instance).root q shelf))) named
 
-  -- its object was read there
-  object_there : (view : ViewData) → a.view ≡ Some view → (read : Option (Result ReadQuery Refusal)) → IsSubscribedAt d at read
-      → IsReadOf subscribes d a.instance (Some view) read
-  object_there view shown read said =
-      subst (λ v. IsReadOf subscribes d a.instance v read) shown (subst (λ at. IsSubscribedAt d at read) (there root at shelf a is) said)
-
   -- the query of a subscription that was read begins as `subscribe` does
-  pub begins_subscribed : (view : ViewData) → a.view ≡ Some view → (read : ReadQuery) → IsSubscribedAt d at (Some (Ok read))
-      → (result : Result Work Refusal)
+  pub begins_subscribed : (view : ViewData) → a.view ≡ Some view → (read : ReadQuery) → IsReadAt (asks_subscription d) at (QueryRead read)
+      → (result : Result Rest Refusal)
       → Begins (begun_subscription root name (a.instance).root (asked_of read.query) shelf) shelf result shelf
       → Begins (try_subscribe root name d at shelf) shelf result shelf
   begins_subscribed view shown read said result begins =
       subst (λ b. Begins b shelf result shelf)
       (sym (subscribed_at view shown
       ∙ ap (λ r. or_its_fault BadQuery r (λ q. begun_subscription root name (a.instance).root q shelf))
-      (object_there view shown (Some (Ok read)) said).0))
+      (object_there (asks_subscription d) root at shelf a view is shown (QueryRead read) said).0))
       begins
 
   -- and its fault is the reason to refuse `subscribe`
-  pub refuses_subscribed : (view : ViewData) → a.view ≡ Some view → (refusal : Refusal) → IsSubscribedAt d at (Some (Err refusal))
+  pub refuses_subscribed : (view : ViewData) → a.view ≡ Some view → (refusal : Refusal) → IsReadAt (asks_subscription d) at (ObjectRefused refusal)
       → Begins (try_subscribe root name d at shelf) shelf (Err refusal) shelf
   refuses_subscribed view shown refusal said =
       subst (λ b. Begins b shelf (Err refusal) shelf) (sym (subscribed_at view shown))
       (refused_for (subscribes a.instance d) (λ q. begun_subscription root name (a.instance).root q shelf) shelf refusal
-      (object_there view shown (Some (Err refusal)) said))
+      (object_there (asks_subscription d) root at shelf a view is shown (ObjectRefused refusal) said))
 
 -- the fault of a trigger that was read is the reason to refuse a line
 refused_defined : (said : Result DefinitionData Refusal) (next : DefinitionData → Result BegunData Refusal) (shelf : ShelfNow) (refusal : Refusal)
@@ -270,31 +276,25 @@ module _ (root : List ℕ) (d : Data) (at : Option AtData) (shelf : ShelfNow) (a
       ∙ ap (λ v. or_fault NotWatched v (λ (view : ViewData).
       or_own_fault (defined_by a.instance d) (λ definition. begun_trigger root (a.instance).root definition shelf))) shown
 
-  -- its object was read there
-  trigger_there : (view : ViewData) → a.view ≡ Some view → (read : Option (Result ReadTrigger Refusal)) → IsDefinedAt d at read
-      → IsDefinedOf d a.instance (Some view) read
-  trigger_there view shown read said =
-      subst (λ v. IsDefinedOf d a.instance v read) shown (subst (λ at. IsDefinedAt d at read) (there root at shelf a is) said)
-
   -- the trigger that was read begins as `trigger` does
-  pub begins_defined : (view : ViewData) → a.view ≡ Some view → (read : ReadTrigger) → IsDefinedAt d at (Some (Ok read))
-      → (result : Result Work Refusal) (after : ShelfNow)
+  pub begins_defined : (view : ViewData) → a.view ≡ Some view → (read : ReadTrigger) → IsReadAt (asks_trigger d) at (TriggerRead read)
+      → (result : Result Rest Refusal) (after : ShelfNow)
       → Begins (begun_trigger root (a.instance).root (definition_data read.definition) shelf) shelf result after
       → Begins (try_trigger root d at shelf) shelf result after
   begins_defined view shown read said result after begins =
       subst (λ b. Begins b shelf result after)
       (sym (triggered_at view shown
       ∙ ap (λ r. or_own_fault r (λ definition. begun_trigger root (a.instance).root definition shelf))
-      (trigger_there view shown (Some (Ok read)) said).0))
+      (object_there (asks_trigger d) root at shelf a view is shown (TriggerRead read) said).0))
       begins
 
   -- and its fault is the reason to refuse `trigger`
-  pub refuses_defined : (view : ViewData) → a.view ≡ Some view → (refusal : Refusal) → IsDefinedAt d at (Some (Err refusal))
+  pub refuses_defined : (view : ViewData) → a.view ≡ Some view → (refusal : Refusal) → IsReadAt (asks_trigger d) at (ObjectRefused refusal)
       → Begins (try_trigger root d at shelf) shelf (Err refusal) shelf
   refuses_defined view shown refusal said =
       subst (λ b. Begins b shelf (Err refusal) shelf) (sym (triggered_at view shown))
       (refused_defined (defined_by a.instance d) (λ definition. begun_trigger root (a.instance).root definition shelf) shelf refusal
-      (trigger_there view shown (Some (Err refusal)) said))
+      (object_there (asks_trigger d) root at shelf a view is shown (ObjectRefused refusal) said))
 
 -- the object of a definition, and its query
 abbrev object_in : Result DefinitionData TriggerFault → Data

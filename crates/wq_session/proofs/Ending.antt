@@ -14,7 +14,7 @@ use Rattle.wq_session.specs.declared.refusal.Refusal.TheVariants.{TooManySubscri
 use Rattle.wq_session.specs.At.{AtData, ShelfNow}
 use Rattle.wq_session.specs.Begun.{begun, takes_memory}
 use Rattle.wq_session.specs.Out.{OutData, refuses, replies, runs_out, silence}
-use Rattle.wq_session.specs.Work.{BegunData, WorkData, says, evaluates, begins, drops}
+use Rattle.wq_session.specs.Work.{BegunData, WorkData, says, prints, evaluates, begins, drops}
 use Rattle.wq_session.specs.declared.ask.Ask.{Ask}
 use Rattle.wq_session.specs.declared.cursor.Cursor.{Cursor}
 
@@ -46,6 +46,7 @@ none_begun s at follows = by (has_no_room s.number s.name follows) at
 -- the output of finished work names no cursor
 pub none_named : (work : WorkData) (at : Option AtData) (follows : List SubscriptionData) → (finished work at follows).out.unset ≡ None
 none_named (says out) at follows = refl
+none_named (prints d) at follows = refl
 none_named (evaluates plan cursor) at follows = none_listed plan at
 none_named (begins s) at follows = none_begun s at follows
 none_named (drops number name) at follows = refl
@@ -88,7 +89,7 @@ module _ (ask : Ask) (at : Option AtData) (shelf : ShelfNow) (follows : List Sub
     refl,
   ))
 
-  -- or when a subscription began or ended, for which the shelf stays
+  -- or when a reply was printed, or a subscription began or ended, for which the shelf stays
   unkept : (work : WorkData) (after : ShelfNow) → is_followed work ≡ true
       → begun ask at shelf ≡ record { work = work; shelf = after }
       → AnswersAsk ask at shelf follows (runs_out None) after follows
@@ -100,6 +101,7 @@ module _ (ask : Ask) (at : Option AtData) (shelf : ShelfNow) (follows : List Sub
   unmade_work : (work : WorkData) (after : ShelfNow) → begun ask at shelf ≡ record { work = work; shelf = after }
       → AnswersAsk ask at shelf follows (settled (unmade work)) (without_cursor (unmade work).unset after) follows
   unmade_work (says out) after is = whole (says out) after (settled out) follows is refl
+  unmade_work (prints d) after is = unkept (prints d) after refl is
   unmade_work (evaluates plan cursor) after is = unlisted plan cursor after is
   unmade_work (begins s) after is = unkept (begins s) after refl is
   unmade_work (drops number name) after is = unkept (drops number name) after refl is

@@ -1,4 +1,4 @@
--- Work that begins or ends a subscription leaves the shelf.
+-- Work that prints a reply, or begins or ends a subscription, leaves the shelf.
 use Rattle.std.proofs.Common.{◌≡◌, ℕ, Bool, true, false, not, if◌then◌else◌, List, Option, Some, None, Result, Ok, Err, refl}
 use mathlib.Core.Bool.{false≢true}
 use Rattle.serde_json.specs.Data.{Data}
@@ -24,7 +24,7 @@ use Rattle.wq_session.specs.Out.{OutData, replies}
 use Rattle.wq_session.specs.Program.{is_name}
 use Rattle.wq_session.specs.Query.{begun_query, has_place, moved_cursor, plan_at, program_for, used_at}
 use Rattle.wq_session.specs.Subscribe.{begun_subscription, first_plan}
-use Rattle.wq_session.specs.Work.{BegunData, WorkData, begins, drops, evaluates, says, saying}
+use Rattle.wq_session.specs.Work.{BegunData, WorkData, begins, drops, evaluates, prints, says, saying}
 use Rattle.wq_session.specs.declared.ask.Ask.{Ask}
 use Rattle.wq_session.specs.declared.ask.Ask.TheVariants.{Refused, Watch, ListRoots, Unwatch}
 use Rattle.wq_session.specs.declared.ask.Ask.TheVariants.{Query as AsksQuery, Clock, Version}
@@ -33,9 +33,10 @@ use Rattle.wq_session.specs.declared.ask.Ask.TheVariants.{DeleteProgram, Leave, 
 use Rattle.wq_session.specs.declared.refusal.Refusal.{Refusal}
 use Rattle.wq_session.specs.declared.refusal.Refusal.TheVariants.{NotWatched, Query as BadQuery, ShelfFull, TooManyRoots, BadName, TooManyTriggers}
 
--- whether work begins or ends a subscription
+-- whether work prints a reply, or begins or ends a subscription
 abbrev pub is_followed : WorkData → Bool
 is_followed (says out) = false
+is_followed (prints d) = true
 is_followed (evaluates plan cursor) = false
 is_followed (begins s) = true
 is_followed (drops number name) = true
@@ -143,7 +144,7 @@ stays (Refused refusal) at shelf = tt
 stays (Watch root) None shelf = tt
 stays (Watch root) (Some at) shelf =
     unless_said (Watch root) shelf TooManyRoots (not (root_has_no_place root (at.instance).root shelf)) _ _
-stays ListRoots at shelf = λ is. absurd (false≢true is)
+stays ListRoots at shelf = λ is. (refl, refl)
 stays (Unwatch root) None shelf = tt
 stays (Unwatch root) (Some at) shelf =
     if_watched (Unwatch root) shelf at (is_watched root at shelf) _ (λ is. absurd (false≢true is))
@@ -160,7 +161,7 @@ stays SocketName at shelf = λ is. absurd (false≢true is)
 stays ShutDown at shelf = λ is. absurd (false≢true is)
 stays (AddProgram name program) at shelf =
     unless_said (AddProgram name program) shelf ShelfFull (not (has_no_place max_programs name shelf.programs)) _ _
-stays ListPrograms at shelf = λ is. absurd (false≢true is)
+stays ListPrograms at shelf = λ is. (refl, refl)
 stays (DeleteProgram name) at shelf = λ is. absurd (false≢true is)
 stays (Subscribe root name q) None shelf = tt
 stays (Subscribe root name q) (Some at) shelf =
@@ -176,7 +177,7 @@ stays (AddTrigger root t) (Some at) shelf =
     (with_definition (AddTrigger root t) shelf root (at.instance).root (defined_by at.instance (data_of t)) at.view)
 stays (ListTriggers root) None shelf = tt
 stays (ListTriggers root) (Some at) shelf =
-    if_watched (ListTriggers root) shelf at (is_watched root at shelf) _ (λ is. absurd (false≢true is))
+    if_watched (ListTriggers root) shelf at (is_watched root at shelf) _ (λ is. (refl, refl))
 stays (DeleteTrigger root name) None shelf = tt
 stays (DeleteTrigger root name) (Some at) shelf =
     if_watched (DeleteTrigger root name) shelf at (is_watched root at shelf) _

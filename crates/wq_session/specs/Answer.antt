@@ -15,7 +15,7 @@ use Rattle.wq_session.specs.Begun.{begun, takes_memory}
 use Rattle.wq_session.specs.Followed.{has_called, has_no_room, with_subscription, without_called}
 use Rattle.wq_session.specs.Out.{OutData, refuses, replies, replies_with, runs_out, silence}
 use Rattle.wq_session.specs.Subscribe.{subscribe_data, unsubscribe_data}
-use Rattle.wq_session.specs.Work.{WorkData, says, evaluates, begins, drops}
+use Rattle.wq_session.specs.Work.{WorkData, says, prints, evaluates, begins, drops}
 use Rattle.wq_session.specs.declared.ask.Ask.{Ask}
 use Rattle.wq_session.specs.Refusal.{ends_session}
 use Rattle.wq_session.specs.declared.cursor.Cursor.{Cursor}
@@ -78,6 +78,7 @@ dropped number name follows = record {
 -- the output when the work is done, and the subscriptions then
 abbrev pub finished : WorkData → Option AtData → List SubscriptionData → DoneData
 finished (says out) at follows = giving (settled out) follows
+finished (prints d) at follows = giving (replies d) follows
 finished (evaluates plan cursor) at follows = giving (listed plan at) follows
 finished (begins s) at follows = following s at follows
 finished (drops number name) at follows = dropped number name follows
@@ -110,6 +111,7 @@ TakesAsk ask at shelf work after =
 -- the result of work if memory runs out
 abbrev pub unmade : WorkData → OutData
 unmade (says out) = settled out
+unmade (prints d) = runs_out None
 unmade (evaluates plan cursor) = runs_out cursor
 unmade (begins s) = runs_out None
 unmade (drops number name) = runs_out None
@@ -129,6 +131,7 @@ HasView (Some at) = is_some at.view ≡ true
 -- files of the root that is looked at can be listed, if any are to be listed
 abbrev pub CanFinish : WorkData → Option AtData → Type 0
 CanFinish (says out) at = Unit {0}
+CanFinish (prints d) at = Unit {0}
 CanFinish (evaluates plan cursor) at = HasView at
 CanFinish (begins s) at = HasView at
 CanFinish (drops number name) at = Unit {0}

@@ -62,15 +62,3 @@ takes_memory ShutDown = false
 takes_memory Leave = false
 takes_memory Nothing = false
 takes_memory _ = true
-
--- whether an ask gives the shelf something to keep
-abbrev pub hands_in : Ask → Bool
-hands_in (AddProgram name program) = true
-hands_in (AddTrigger root trigger) = true
-hands_in _ = false
-
--- whether an ask has a query that is read before the shelf is held
-abbrev pub has_query : Ask → Bool
-has_query (Query root crawl query) = true
-has_query (Subscribe root name query) = true
-has_query _ = false

@@ -18,13 +18,18 @@ use Rattle.wq_query.specs.declared.fault.QueryFault.{QueryFault}
 use Rattle.wq_registry.specs.CacheKey.{CacheKeyData, Says}
 use Rattle.wq_registry.specs.Kept.{StandsFor}
 use Rattle.wq_term.specs.Expr.{ExprData}
-use Rattle.wq_view.specs.View.{ViewData}
 use Rattle.wq_session.specs.At.{AtData, at_data}
-use Rattle.wq_session.specs.declared.ask.Ask.{Ask}
+use Rattle.wq_session.specs.Moment.{Shown, shown_in}
 use Rattle.wq_session.specs.Trigger.{defined_by}
+use Rattle.wq_session.specs.declared.ask.Ask.{Ask}
 use Rattle.wq_session.specs.declared.ask.Ask.TheVariants.{Query as AsksQuery, Subscribe, AddTrigger}
 use Rattle.wq_session.specs.declared.lookup.Lookup.{Lookup}
 use Rattle.wq_session.specs.declared.prepared.Prepared.{Prepared}
+use Rattle.wq_session.specs.declared.read_object.ReadObject.{ReadObject}
+use Rattle.wq_session.specs.declared.read_object.ReadObject.TheVariants.{None as Unread}
+use Rattle.wq_session.specs.declared.read_object.ReadObject.TheVariants.{Query as QueryRead}
+use Rattle.wq_session.specs.declared.read_object.ReadObject.TheVariants.{Trigger as TriggerRead}
+use Rattle.wq_session.specs.declared.read_object.ReadObject.TheVariants.{Refused as ObjectRefused}
 use Rattle.wq_session.specs.declared.read_query.ReadQuery.{ReadQuery}
 use Rattle.wq_session.specs.declared.read_trigger.ReadTrigger.{ReadTrigger}
 use Rattle.wq_session.specs.declared.refusal.Refusal.{Refusal}
@@ -55,82 +60,73 @@ GivesRead (Err NoMemory) said = Unit {0}
 GivesRead (Err (Query fault)) said = said ≡ Err fault
 GivesRead (Err _) said = ⊥
 
--- a way to read an object as a query
-abbrev pub Reads : Type 0
-Reads = InstanceData → Data → Result QueryData QueryFault
-
--- the query of an object was read at an instance if a view of the root is shown, and otherwise it
--- was not
-abbrev pub IsReadOf : Reads → Data → InstanceData → Option ViewData
-    → Option (Result ReadQuery Refusal) → Type 0
-IsReadOf reads d instance (Some view) (Some read) = GivesRead read (reads instance d)
-IsReadOf reads d instance (Some view) None = ⊥
-IsReadOf reads d instance None (Some read) = ⊥
-IsReadOf reads d instance None None = Unit {0}
-
--- the query of an object was read so at the root that is looked at, if there is one
-abbrev pub IsReadBy : Reads → Data → Option AtData → Option (Result ReadQuery Refusal) → Type 0
-IsReadBy reads d (Some at) read = IsReadOf reads d at.instance at.view read
-IsReadBy reads d None (Some read) = ⊥
-IsReadBy reads d None None = Unit {0}
-
--- an object was read there as a query
-abbrev pub IsReadAt : Data → Option AtData → Option (Result ReadQuery Refusal) → Type 0
-IsReadAt = IsReadBy queries
-
--- an object was read there as the query of a subscription
-abbrev pub IsSubscribedAt : Data → Option AtData → Option (Result ReadQuery Refusal) → Type 0
-IsSubscribedAt = IsReadBy subscribes
-
--- the knowledge of the program of a query, if the query was read
-abbrev pub AreRead : Option (Result ReadQuery Refusal) → Type 0
-AreRead (Some (Ok read)) = IsRead read
-AreRead _ = Unit {0}
-
 -- a trigger was read, or its fault was found, or memory ran out
 abbrev pub GivesDefined : Result ReadTrigger Refusal → Result DefinitionData Refusal → Type 0
 GivesDefined (Ok read) said = (said ≡ Ok (definition_data read.definition)) × IsReadTrigger read
 GivesDefined (Err NoMemory) said = Unit {0}
 GivesDefined (Err refusal) said = said ≡ Err refusal
 
--- the trigger of an object was read at an instance if a view of the root is shown, and otherwise it
--- was not
-abbrev pub IsDefinedOf : Data → InstanceData → Option ViewData
-    → Option (Result ReadTrigger Refusal) → Type 0
-IsDefinedOf d instance (Some view) (Some read) = GivesDefined read (defined_by instance d)
-IsDefinedOf d instance (Some view) None = ⊥
-IsDefinedOf d instance None (Some read) = ⊥
-IsDefinedOf d instance None None = Unit {0}
+-- the result of reading an object as a query
+abbrev pub GivesReadObject : Result QueryData QueryFault → ReadObject → Type 0
+GivesReadObject said (QueryRead read) = GivesRead (Ok read) said
+GivesReadObject said (ObjectRefused refusal) = GivesRead (Err refusal) said
+GivesReadObject said _ = ⊥
 
--- an object was read so as a trigger at the root that is looked at, if there is one
-abbrev pub IsDefinedAt : Data → Option AtData → Option (Result ReadTrigger Refusal) → Type 0
-IsDefinedAt d (Some at) read = IsDefinedOf d at.instance at.view read
-IsDefinedAt d None (Some read) = ⊥
-IsDefinedAt d None None = Unit {0}
+-- the result of reading an object as a trigger
+abbrev pub GivesDefinedObject : Result DefinitionData Refusal → ReadObject → Type 0
+GivesDefinedObject said (TriggerRead read) = GivesDefined (Ok read) said
+GivesDefinedObject said (ObjectRefused refusal) = GivesDefined (Err refusal) said
+GivesDefinedObject said _ = ⊥
 
--- the knowledge of the program of a trigger, if the trigger was read
-abbrev pub AreDefined : Option (Result ReadTrigger Refusal) → Type 0
-AreDefined (Some (Ok read)) = IsReadTrigger read
-AreDefined _ = Unit {0}
+-- the object of an ask, if it has one
+pub data ObjectData : Type 0 where
+  -- there is none
+  asks_nothing : ObjectData
+  -- a query
+  asks_query : Data → ObjectData
+  -- the query of a subscription
+  asks_subscription : Data → ObjectData
+  -- a trigger
+  asks_trigger : Data → ObjectData
 
--- the query of an ask was read if the ask has one, and otherwise no query was read
-abbrev pub IsReadFor : Ask → Option AtData → Option (Result ReadQuery Refusal) → Type 0
-IsReadFor (AsksQuery root crawl q) at read = IsReadAt (data_of q) at read
-IsReadFor (Subscribe root name q) at read = IsSubscribedAt (data_of q) at read
-IsReadFor _ at read = read ≡ None
+-- the object of an ask
+abbrev pub object_in : Ask → ObjectData
+object_in (AsksQuery root crawl q) = asks_query (data_of q)
+object_in (Subscribe root name q) = asks_subscription (data_of q)
+object_in (AddTrigger root t) = asks_trigger (data_of t)
+object_in _ = asks_nothing
 
--- the same trigger, after more became known of its program; nothing else changed
-abbrev pub IsSameDefined : Option (Result ReadTrigger Refusal)
-    → Option (Result ReadTrigger Refusal) → Type 0
-IsSameDefined (Some (Ok read)) (Some (Ok after)) =
+-- the object of an ask, if it has one, was read at an instance
+abbrev pub IsReadThere : ObjectData → InstanceData → ReadObject → Type 0
+IsReadThere asks_nothing instance read = read ≡ Unread
+IsReadThere (asks_query d) instance read = GivesReadObject (queries instance d) read
+IsReadThere (asks_subscription d) instance read = GivesReadObject (subscribes instance d) read
+IsReadThere (asks_trigger d) instance read = GivesDefinedObject (defined_by instance d) read
+
+-- the same of a root that is shown; at none nothing was read
+abbrev pub IsReadShown : ObjectData → Shown → ReadObject → Type 0
+IsReadShown object None read = read ≡ Unread
+IsReadShown object (Some (instance, view)) read = IsReadThere object instance read
+
+-- the object of an ask, if it has one, was read at the root that is looked at, if a view is shown
+unfoldable pub IsReadAt : ObjectData → Option AtData → ReadObject → Type 0
+IsReadAt object at read = IsReadShown object (shown_in at) read
+
+-- the knowledge of the program of an object, if the object was read
+abbrev pub AreRead : ReadObject → Type 0
+AreRead (QueryRead read) = IsRead read
+AreRead (TriggerRead read) = IsReadTrigger read
+AreRead _ = Unit {0}
+
+-- the same object, after more became known of its program; nothing else changed
+abbrev pub IsReadAgain : ReadObject → ReadObject → Type 0
+IsReadAgain (QueryRead read) (QueryRead after) =
+    (asked_of after.query ≡ asked_of read.query) × IsRead after
+IsReadAgain (QueryRead read) _ = ⊥
+IsReadAgain (TriggerRead read) (TriggerRead after) =
     (definition_data after.definition ≡ definition_data read.definition) × IsReadTrigger after
-IsSameDefined (Some (Ok read)) _ = ⊥
-IsSameDefined before after = after ≡ before
-
--- the trigger of an ask was read if the ask has one, and otherwise no trigger was read
-abbrev pub IsDefinedFor : Ask → Option AtData → Option (Result ReadTrigger Refusal) → Type 0
-IsDefinedFor (AddTrigger root t) at read = IsDefinedAt (data_of t) at read
-IsDefinedFor _ at read = read ≡ None
+IsReadAgain (TriggerRead read) _ = ⊥
+IsReadAgain before after = after ≡ before
 
 -- the ask that was prepared
 abbrev pub asked : Prepared → Ask
@@ -140,26 +136,19 @@ asked prepared = prepared.ask
 abbrev pub asked_at : Prepared → Option AtData
 asked_at prepared = option_map at_data prepared.at
 
--- an ask was prepared
+-- an ask was prepared: its object, if it has one, was read
 abbrev pub IsPrepared : Prepared → Type 0
-IsPrepared prepared =
-    IsReadFor (asked prepared) (asked_at prepared) prepared.query
-    × IsDefinedFor (asked prepared) (asked_at prepared) prepared.trigger
+IsPrepared prepared = IsReadAt (object_in (asked prepared)) (asked_at prepared) prepared.read
 
--- the key that keeps the program of a trigger that was read
-abbrev pub trigger_key : Option (Result ReadTrigger Refusal) → Option CacheKeyData
-trigger_key (Some (Ok read)) = (read.lookup).key
-trigger_key _ = None
-
--- the key of a query that was read, or otherwise that of a trigger
-abbrev pub key_from : Option (Result ReadQuery Refusal) → Option (Result ReadTrigger Refusal)
-    → Option CacheKeyData
-key_from (Some (Ok read)) trigger = (read.lookup).key
-key_from _ trigger = trigger_key trigger
+-- the key that keeps the program of an object that was read
+abbrev pub key_from : ReadObject → Option CacheKeyData
+key_from (QueryRead read) = (read.lookup).key
+key_from (TriggerRead read) = (read.lookup).key
+key_from _ = None
 
 -- the key of a prepared ask
 abbrev pub key_in : Prepared → Option CacheKeyData
-key_in prepared = key_from prepared.query prepared.trigger
+key_in prepared = key_from prepared.read
 
 -- a program that was found has the meaning of the key's text, if there is a key
 abbrev pub IsFoundFor : Option CacheKeyData → Option (Arc Raw Global) → Type 0

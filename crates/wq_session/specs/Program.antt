@@ -19,7 +19,7 @@ use Rattle.wq_session.specs.Argument.{RequestData, complete, adds, are_none, one
 use Rattle.wq_session.specs.At.{ShelfNow}
 use Rattle.wq_session.specs.Limit.{max_program_name}
 use Rattle.wq_session.specs.Out.{replies}
-use Rattle.wq_session.specs.Work.{BegunData, says, saying}
+use Rattle.wq_session.specs.Work.{BegunData, printing, says}
 use Rattle.wq_session.specs.declared.ask.Ask.TheVariants.{ListPrograms, DeleteProgram}
 use Rattle.wq_session.specs.declared.refusal.Refusal.{Refusal}
 use Rattle.wq_session.specs.declared.refusal.Refusal.TheVariants.{WrongArguments, BadName}
@@ -92,7 +92,7 @@ try_add name program shelf =
 
 -- the beginning of `program-list`
 abbrev pub listing_programs : ShelfNow → BegunData
-listing_programs shelf = saying (replies (programs_data (names shelf.programs))) shelf
+listing_programs shelf = printing (programs_data (names shelf.programs)) shelf
 
 -- the beginning of `program-del`
 abbrev pub deleting : List ℕ → ShelfNow → BegunData

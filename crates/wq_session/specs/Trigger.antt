@@ -27,7 +27,7 @@ use Rattle.wq_session.specs.Out.{replies}
 use Rattle.wq_session.specs.Program.{is_name}
 use Rattle.wq_session.specs.Query.{program_for}
 use Rattle.wq_session.specs.Root.{root_named}
-use Rattle.wq_session.specs.Work.{BegunData, says, saying}
+use Rattle.wq_session.specs.Work.{BegunData, printing, says}
 use Rattle.wq_session.specs.declared.ask.Ask.{Ask}
 use Rattle.wq_session.specs.declared.ask.Ask.TheVariants.{AddTrigger, ListTriggers, DeleteTrigger}
 use Rattle.wq_session.specs.declared.refusal.Refusal.{Refusal}
@@ -153,8 +153,7 @@ try_trigger root d at shelf =
 abbrev pub try_list_triggers : List ℕ → Option AtData → ShelfNow → Result BegunData Refusal
 try_list_triggers root at shelf =
     or_fault NotWatched (watched root at shelf) (λ at.
-    Ok (saying (replies (triggers_reply
-    (objects_of (triggers_of (at.instance).root shelf)))) shelf))
+    Ok (printing (triggers_reply (objects_of (triggers_of (at.instance).root shelf))) shelf))
 
 -- the beginning of `trigger-del`
 abbrev pub try_delete_trigger : List ℕ → List ℕ → Option AtData → ShelfNow

@@ -12,7 +12,7 @@ use Rattle.wq_session.specs.Argument.{RequestData, complete, are_none, one_text}
 use Rattle.wq_session.specs.At.{AtData, ShelfNow, watched}
 use Rattle.wq_session.specs.Out.{replies}
 use Rattle.wq_session.specs.Root.{is_absolute, root_named}
-use Rattle.wq_session.specs.Work.{BegunData, says, saying}
+use Rattle.wq_session.specs.Work.{BegunData, printing, says}
 use Rattle.wq_session.specs.declared.ask.Ask.TheVariants.{Watch, ListRoots, Unwatch}
 use Rattle.wq_session.specs.declared.refusal.Refusal.{Refusal}
 use Rattle.wq_session.specs.declared.refusal.Refusal.TheVariants.{WrongArguments, RootNotAbsolute}
@@ -73,7 +73,7 @@ try_watch root at shelf =
 
 -- the beginning of `watch-list`
 abbrev pub listing_roots : ShelfNow → BegunData
-listing_roots shelf = saying (replies (roots_data (root_texts shelf.roots))) shelf
+listing_roots shelf = printing (roots_data (root_texts shelf.roots)) shelf
 
 -- the beginning of `watch-del`
 abbrev pub try_unwatch : List ℕ → Option AtData → ShelfNow → Result BegunData Refusal

@@ -2,6 +2,8 @@
 -- shelf then.
 -- It is this server's own.
 use Rattle.std.specs.Prelude.{◌≡◌, ℕ, List, Option, Result, Ok, Err}
+use Rattle.serde_json.specs.Data.{Data}
+use Rattle.serde_json.specs.View.{view as data_of}
 use Rattle.wq_follow.specs.Followed.{subscription_data}
 use Rattle.wq_follow.specs.Subscription.{SubscriptionData}
 use Rattle.wq_query.specs.Query.{PlanData, planned}
@@ -10,14 +12,17 @@ use Rattle.wq_session.specs.Out.{OutData}
 use Rattle.wq_session.specs.declared.cursor.Cursor.{Cursor}
 use Rattle.wq_session.specs.declared.refusal.Refusal.{Refusal}
 use Rattle.wq_session.specs.declared.refusal.Refusal.TheVariants.{NoMemory}
+use Rattle.wq_session.specs.declared.work.Rest.{Rest}
+use Rattle.wq_session.specs.declared.work.Rest.TheVariants.{Says, Prints, Evaluates}
+use Rattle.wq_session.specs.declared.work.Rest.TheVariants.{Begins as BeginsFollowing, Drops}
 use Rattle.wq_session.specs.declared.work.Work.{Work}
-use Rattle.wq_session.specs.declared.work.Work.TheVariants.{Says, Evaluates}
-use Rattle.wq_session.specs.declared.work.Work.TheVariants.{Begins as BeginsFollowing, Drops}
 
 -- the rest of the work of an answer
 pub data WorkData : Type 0 where
   -- nothing: this is the output
   says : OutData → WorkData
+  -- printing this reply
+  prints : Data → WorkData
   -- listing the files of a plan; this cursor was moved for it
   evaluates : PlanData → Option Cursor → WorkData
   -- beginning a subscription, and making its first list
@@ -34,17 +39,26 @@ pub record BegunData : Type 0 where
 abbrev pub saying : OutData → ShelfNow → BegunData
 saying out shelf = record { work = says out; shelf = shelf }
 
--- the work
+-- this reply is printed, and the shelf stays
+abbrev pub printing : Data → ShelfNow → BegunData
+printing d shelf = record { work = prints d; shelf = shelf }
+
+-- the rest of the work
+abbrev pub rest_data : Rest → WorkData
+rest_data (Says out) = says out
+rest_data (Prints reply) = prints (data_of reply.value)
+rest_data (Evaluates plan cursor) = evaluates (planned plan) cursor
+rest_data (BeginsFollowing s) = begins (subscription_data s)
+rest_data (Drops root name) = drops root name
+
+-- the work, beside which the object of the ask is kept to be freed
 abbrev pub work_data : Work → WorkData
-work_data (Says out) = says out
-work_data (Evaluates plan cursor) = evaluates (planned plan) cursor
-work_data (BeginsFollowing s) = begins (subscription_data s)
-work_data (Drops root name) = drops root name
+work_data work = rest_data work.rest
 
 -- the result is the work that was begun, with the shelf then; or a reason to refuse it; or memory
 -- ran out. In the last two cases the shelf stays
-abbrev pub Begins : Result BegunData Refusal → ShelfNow → Result Work Refusal → ShelfNow → Type 0
-Begins begun shelf (Ok work) after =
-    begun ≡ Ok (record { work = work_data work; shelf = after })
+abbrev pub Begins : Result BegunData Refusal → ShelfNow → Result Rest Refusal → ShelfNow → Type 0
+Begins begun shelf (Ok rest) after =
+    begun ≡ Ok (record { work = rest_data rest; shelf = after })
 Begins begun shelf (Err NoMemory) after = after ≡ shelf
 Begins begun shelf (Err refusal) after = (begun ≡ Err refusal) × (after ≡ shelf)

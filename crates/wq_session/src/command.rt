@@ -4,11 +4,11 @@ ghost use Rattle.std.specs.Prelude.{◌≡◌, option_map, true, false, IfErr};
 ghost use Rattle.serde_json.specs.View.{items_view};
 ghost use Rattle.wq_session.specs.Argument.{behind};
 ghost use Rattle.wq_session.specs.At.{at_data};
-ghost use Rattle.wq_session.specs.Begun.{hands_in, has_query, takes_memory, tried};
+ghost use Rattle.wq_session.specs.Begun.{takes_memory, tried};
 ghost use Rattle.wq_session.specs.Command.{command_named};
 ghost use Rattle.wq_session.specs.Need.{need_of, seen};
 ghost use Rattle.wq_session.specs.Needed.{need_data};
-ghost use Rattle.wq_session.specs.Prepared.{IsDefinedFor, IsReadFor};
+ghost use Rattle.wq_session.specs.Prepared.{IsReadAt, object_in};
 ghost use Rattle.wq_session.specs.Reading.{Requests, request_of};
 ghost use Rattle.wq_session.specs.Refusal.{ends_session};
 ghost use Rattle.wq_session.specs.Shelved.{shelf_data};
@@ -26,11 +26,10 @@ use crate::ask::Ask;
 use crate::at::At;
 use crate::need::Need;
 use crate::outcome::Out;
-use crate::read_query::ReadQuery;
-use crate::read_trigger::ReadTrigger;
+use crate::read_object::ReadObject;
 use crate::refusal::Refusal;
 use crate::root::RootText;
-use crate::work::Work;
+use crate::work::Rest;
 use clock::{ask_clock, begin_clock};
 use program::{ask_add, ask_delete, ask_names, begin_add, begin_delete, begin_names};
 pub(crate) use query::listed;
@@ -171,84 +170,55 @@ fn seen(crawl: bool, root: &RootText) -> Need<'_>
     }
 }
 
-/// The beginning of an ask while the shelf is held, or the reason to refuse the line.
+/// The beginning of an ask while the shelf is held, or the reason to refuse the line; and the object of the ask, which
+/// is not needed after it was read.
+#[tactic(auto, using(crate::proofs::Before::are_read))]
 pub(crate) fn tried(
     alloc: Global,
     ask: Ask,
     at: Option<At<'_>>,
-    read: Option<Result<ReadQuery, Refusal>>,
-    defined: Option<Result<ReadTrigger, Refusal>>,
+    read: ReadObject,
     shelf: &mut Shelf<Trigger>,
-) -> Result<Work, Refusal>
-    requires read { IsReadFor ask (option_map at_data at) read }
-    requires defined { IsDefinedFor ask (option_map at_data at) defined }
+) -> (Result<Rest, Refusal>, Option<Value>)
+    requires { IsReadAt (object_in ask) (option_map at_data at) read }
     ensures begun { Begins (tried ask (option_map at_data at.entry) (shelf_data shelf.old)) (shelf_data shelf.old)
-        result (shelf_data shelf.new) }
-    ensures memory { IfErr result (λ refusal.
+        result.0 (shelf_data shelf.new) }
+    ensures memory { IfErr result.0 (λ refusal.
         ends_session refusal ≡ false → takes_memory ask ≡ true) }
 {
     match ask {
-        Ask::AddProgram { name, program } => begin_add(alloc, &name, program, shelf),
-        Ask::AddTrigger { root, .. } => begin_trigger(alloc, &root, defined, at, shelf),
-        ask => tried_as(alloc, &ask, at, read, shelf),
-    }
-}
-
-/// The same for an ask that gives the shelf nothing to keep.
-fn tried_as(
-    alloc: Global,
-    ask: &Ask,
-    at: Option<At<'_>>,
-    read: Option<Result<ReadQuery, Refusal>>,
-    shelf: &mut Shelf<Trigger>,
-) -> Result<Work, Refusal>
-    requires read { IsReadFor ask.now (option_map at_data at) read }
-    requires plain { hands_in ask.now ≡ false }
-    ensures begun { Begins (tried ask.now (option_map at_data at.entry) (shelf_data shelf.old)) (shelf_data shelf.old)
-        result (shelf_data shelf.new) }
-    ensures memory { IfErr result (λ refusal.
-        ends_session refusal ≡ false → takes_memory ask.now ≡ true) }
-{
-    match ask {
-        Ask::Query { root, .. } => begin_query(alloc, root, read, at, shelf),
-        Ask::Subscribe { root, name, .. } => begin_subscribe(alloc, root, name, read, at, shelf),
-        ask => tried_plainly(alloc, ask, at, shelf),
-    }
-}
-
-/// The same for an ask that has no query either.
-fn tried_plainly(
-    alloc: Global,
-    ask: &Ask,
-    at: Option<At<'_>>,
-    shelf: &mut Shelf<Trigger>,
-) -> Result<Work, Refusal>
-    requires plain { hands_in ask.now ≡ false }
-    requires unread { has_query ask.now ≡ false }
-    ensures begun { Begins (tried ask.now (option_map at_data at.entry) (shelf_data shelf.old)) (shelf_data shelf.old)
-        result (shelf_data shelf.new) }
-    ensures memory { IfErr result (λ refusal.
-        ends_session refusal ≡ false → takes_memory ask.now ≡ true) }
-{
-    match ask {
-        Ask::Refused(refusal) => Err(*refusal),
-        Ask::Watch { root } => begin_watch(alloc, root, at, shelf),
-        Ask::ListRoots => begin_list(alloc, shelf),
-        Ask::Unwatch { root } => begin_unwatch(alloc, root, at, shelf),
-        Ask::Query { .. } => unreachable!(),
-        Ask::Clock { root, .. } => begin_clock(alloc, root, at, shelf),
-        Ask::Version => Ok(Work::Says(Out::version())),
-        Ask::SocketName => begin_socket(alloc, shelf),
-        Ask::ShutDown => Ok(Work::Says(Out::shutdown())),
-        Ask::AddProgram { .. } => unreachable!(),
-        Ask::ListPrograms => begin_names(alloc, shelf),
-        Ask::DeleteProgram { name } => begin_delete(alloc, name, shelf),
-        Ask::Subscribe { .. } => unreachable!(),
-        Ask::Unsubscribe { root, name } => begin_unsubscribe(alloc, root, name, at, shelf),
-        Ask::AddTrigger { .. } => unreachable!(),
-        Ask::ListTriggers { root } => begin_list_triggers(alloc, root, at, shelf),
-        Ask::DeleteTrigger { root, name } => begin_delete_trigger(alloc, root, name, at, shelf),
-        Ask::Leave => Ok(Work::Says(Out::silence(false))),
-        Ask::Nothing => Ok(Work::Says(Out::silence(true))),
+        Ask::Refused(refusal) => (Err(refusal), None),
+        Ask::Watch { root } => (begin_watch(alloc, &root, at, shelf), None),
+        Ask::ListRoots => (begin_list(alloc, shelf), None),
+        Ask::Unwatch { root } => (begin_unwatch(alloc, &root, at, shelf), None),
+        Ask::Query { root, query, .. } => {
+            (begin_query(alloc, &root, read, at, shelf), Some(query))
+        }
+        Ask::Clock { root, .. } => (begin_clock(alloc, &root, at, shelf), None),
+        Ask::Version => (Ok(Rest::Says(Out::version())), None),
+        Ask::SocketName => (begin_socket(alloc, shelf), None),
+        Ask::ShutDown => (Ok(Rest::Says(Out::shutdown())), None),
+        Ask::AddProgram { name, program } => (begin_add(alloc, &name, program, shelf), None),
+        Ask::ListPrograms => (begin_names(alloc, shelf), None),
+        Ask::DeleteProgram { name } => (begin_delete(alloc, &name, shelf), None),
+        Ask::Subscribe { root, name, query } => {
+            (
+                begin_subscribe(alloc, &root, &name, read, at, shelf),
+                Some(query),
+            )
+        }
+        Ask::Unsubscribe { root, name } => (
+            begin_unsubscribe(alloc, &root, &name, at, shelf),
+            None,
+        ),
+        Ask::AddTrigger { root, trigger } => {
+            (begin_trigger(alloc, &root, read, at, shelf), Some(trigger))
+        }
+        Ask::ListTriggers { root } => (begin_list_triggers(alloc, &root, at, shelf), None),
+        Ask::DeleteTrigger { root, name } => {
+            (begin_delete_trigger(alloc, &root, &name, at, shelf), None)
+        }
+        Ask::Leave => (Ok(Rest::Says(Out::silence(false))), None),
+        Ask::Nothing => (Ok(Rest::Says(Out::silence(true))), None),
     }
 }

@@ -1,31 +1,35 @@
 //! Prepared asks: each has all that can be read of it before the shelf is held. So the shelf is held for looking up
 //! names alone.
 ghost use Rattle.std.specs.Prelude.{◌≡◌, option_map};
-ghost use Rattle.serde_json.specs.View.{view as data_of};
+ghost use Rattle.wq_clock.specs.Instance.{instance_data};
+ghost use Rattle.wq_session.specs.Answer.{TakesAsk};
 ghost use Rattle.wq_session.specs.At.{at_data};
-ghost use Rattle.wq_session.specs.Prepared.{AreDefined, IsDefinedAt, IsDefinedFor, IsFoundFor, IsPrepared, IsReadAt, IsReadFor};
-ghost use Rattle.wq_session.specs.Prepared.{IsSameDefined, IsSubscribedAt, asked, asked_at, key_in, trigger_key};
+ghost use Rattle.wq_session.specs.Prepared.{IsFoundFor, IsPrepared, IsReadAt, IsReadThere, asked, asked_at};
+ghost use Rattle.wq_session.specs.Prepared.{key_in, object_in};
+ghost use Rattle.wq_session.specs.Shelved.{shelf_data};
+ghost use Rattle.wq_session.specs.Work.{work_data};
 
 use crate::ask::Ask;
 use crate::at::At;
+use crate::command::tried;
+use crate::outcome::Out;
+use crate::read_object::ReadObject;
 use crate::read_query::ReadQuery;
 use crate::read_trigger::ReadTrigger;
-use crate::refusal::Refusal;
-use serde_json::Value;
+use crate::work::{Rest, Work};
 use std::alloc::Global;
 use std::sync::Arc;
-use wq_registry::{CacheKey, Compiled};
+use wq_clock::Instance;
+use wq_follow::Trigger;
+use wq_registry::{CacheKey, Compiled, Shelf};
 use wq_verify::Program;
 
-/// An ask, at the root that is looked at, with its query or its trigger, if it has one, read there.
+/// An ask, at the root that is looked at, with its object, if it has one, read there.
 #[derive(Drop)]
 pub struct Prepared<'a> {
     pub(crate) ask: Ask,
     pub(crate) at: Option<At<'a>>,
-    /// The query, if a view is shown to read it at.
-    pub(crate) query: Option<Result<ReadQuery, Refusal>>,
-    /// The trigger, if a view is shown to read it at.
-    pub(crate) trigger: Option<Result<ReadTrigger, Refusal>>,
+    pub(crate) read: ReadObject,
 }
 
 impl Ask {
@@ -36,13 +40,11 @@ impl Ask {
         ensures ask { asked result ≡ self }
         ensures at { asked_at result ≡ option_map at_data at.entry }
     {
-        let query = query_of(alloc, &self, at);
-        let trigger = trigger_of(alloc, &self, at);
+        let read = read_at(alloc, &self, at);
         Prepared {
             ask: self,
             at,
-            query,
-            trigger,
+            read,
         }
     }
 }
@@ -52,20 +54,7 @@ impl<'a> Prepared<'a> {
     pub fn key(&self) -> Option<&CacheKey>
         ensures { option_map (λ key. key.now) result ≡ key_in self.now }
     {
-        match &self.query {
-            Some(Ok(read)) => read.lookup.key.as_ref(),
-            _ => self.trigger_key(),
-        }
-    }
-
-    /// The expression of its trigger.
-    fn trigger_key(&self) -> Option<&CacheKey>
-        ensures { option_map (λ key. key.now) result ≡ trigger_key (self.now).trigger }
-    {
-        match &self.trigger {
-            Some(Ok(read)) => read.lookup.key.as_ref(),
-            _ => None,
-        }
+        self.read.key()
     }
 
     /// The ask with the program of its expression: the one that was found for its [`key`](Prepared::key), or one that
@@ -82,115 +71,60 @@ impl<'a> Prepared<'a> {
         ensures ask { asked result.0 ≡ asked self.entry }
         ensures at { asked_at result.0 ≡ asked_at self.entry }
     {
-        let Prepared {
-            ask,
-            at,
-            query,
-            trigger,
-        } = self;
-        match query {
-            Some(Ok(read)) => {
-                let (read, compiled) = read.compiled(alloc, found);
-                let query = Some(Ok(read));
-                let prepared = Prepared {
-                    ask,
-                    at,
-                    query,
-                    trigger,
-                };
-                (prepared, compiled)
-            }
-            query => {
-                let (trigger, compiled) = compiled_trigger(alloc, trigger, found);
-                let prepared = Prepared {
-                    ask,
-                    at,
-                    query,
-                    trigger,
-                };
-                (prepared, compiled)
-            }
-        }
+        let Prepared { ask, at, read } = self;
+        let (read, compiled) = read.compiled(alloc, found);
+        (Prepared { ask, at, read }, compiled)
     }
 }
 
-/// A trigger, if one was read, with the program of its expression, if there is one.
-fn compiled_trigger(
-    alloc: Global,
-    trigger: Option<Result<ReadTrigger, Refusal>>,
-    found: Option<Arc<Program>>,
-) -> (Option<Result<ReadTrigger, Refusal>>, Option<Compiled>)
-    requires defined { AreDefined trigger }
-    requires found { IsFoundFor (trigger_key trigger) found }
-    ensures { IsSameDefined trigger result.0 }
+impl Prepared<'_> {
+    /// The part of an answer that holds the shelf: it looks up names, moves a cursor, or does a command. It looks at no
+    /// file, and reads or compiles no query. A command that names a root is refused if no root is looked at. All but
+    /// `watch` are also refused if the root is not on the shelf under the number of the one that is looked at. `watch`
+    /// puts it there under that number.
+    ///
+    /// If memory runs out, the answer says so, and the shelf is as before.
+    pub fn take(self, alloc: Global, shelf: &mut Shelf<Trigger>) -> Work
+        requires { IsPrepared self }
+        ensures { TakesAsk (asked self.entry) (asked_at self.entry) (shelf_data shelf.old)
+            (work_data result) (shelf_data shelf.new) }
+    {
+        let Prepared { ask, at, read } = self;
+        let (begun, object) = tried(alloc, ask, at, read, shelf);
+        let rest = match begun {
+            Ok(rest) => rest,
+            Err(refusal) => Rest::Says(Out::refused(alloc, refusal)),
+        };
+        Work { rest, object }
+    }
+}
+
+/// The object of an ask, if it has one, at the root that is looked at. It is read only if a view is shown.
+#[tactic(auto, unfolding(crate::specs::Prepared::IsReadAt))]
+fn read_at(alloc: Global, ask: &Ask, at: Option<At<'_>>) -> ReadObject
+    ensures { IsReadAt (object_in ask.now) (option_map at_data at.entry) result }
 {
-    match trigger {
-        Some(Ok(read)) => {
-            let (read, compiled) = read.compiled(alloc, found);
-            (Some(Ok(read)), compiled)
-        }
-        trigger => (trigger, None),
+    let Some(at) = at else {
+        return ReadObject::None;
+    };
+    if at.view.is_none() {
+        return ReadObject::None;
     }
+    read_there(alloc, ask, &at.instance)
 }
 
-/// The query of an ask, at the root that is looked at.
-fn query_of(alloc: Global, ask: &Ask, at: Option<At<'_>>) -> Option<Result<ReadQuery, Refusal>>
-    ensures { IsReadFor ask.now (option_map at_data at.entry) result }
+/// The object of an ask, if it has one, at this instance of the server.
+fn read_there(alloc: Global, ask: &Ask, instance: &Instance) -> ReadObject
+    ensures { IsReadThere (object_in ask.now) (instance_data instance.now) result }
 {
     match ask {
-        Ask::Query { query, .. } => read_at(alloc, query, at),
-        Ask::Subscribe { query, .. } => subscribed_at(alloc, query, at),
-        _ => None,
+        Ask::Query { query, .. } => ReadObject::of_query(ReadQuery::read(alloc, query, instance)),
+        Ask::Subscribe { query, .. } => {
+            ReadObject::of_query(ReadQuery::read_subscription(alloc, query, instance))
+        }
+        Ask::AddTrigger { trigger, .. } => {
+            ReadObject::of_trigger(ReadTrigger::read(alloc, trigger, instance))
+        }
+        _ => ReadObject::None,
     }
-}
-
-/// The query of an object, at the root that is looked at.
-fn read_at(alloc: Global, object: &Value, at: Option<At<'_>>) -> Option<Result<ReadQuery, Refusal>>
-    ensures { IsReadAt (data_of object.now) (option_map at_data at.entry) result }
-{
-    let at = at?;
-    if at.view.is_none() {
-        return None;
-    }
-    Some(ReadQuery::read(alloc, object, &at.instance))
-}
-
-/// The query of the object of a subscription, at the root that is looked at.
-fn subscribed_at(
-    alloc: Global,
-    object: &Value,
-    at: Option<At<'_>>,
-) -> Option<Result<ReadQuery, Refusal>>
-    ensures { IsSubscribedAt (data_of object.now) (option_map at_data at.entry) result }
-{
-    let at = at?;
-    if at.view.is_none() {
-        return None;
-    }
-    Some(ReadQuery::read_subscription(alloc, object, &at.instance))
-}
-
-/// The trigger of an ask, at the root that is looked at.
-fn trigger_of(alloc: Global, ask: &Ask, at: Option<At<'_>>) -> Option<Result<ReadTrigger, Refusal>>
-    ensures { IsDefinedFor ask.now (option_map at_data at.entry) result }
-{
-    match ask {
-        Ask::AddTrigger { trigger, .. } => defined_at(alloc, trigger, at),
-        _ => None,
-    }
-}
-
-/// The trigger of an object, at the root that is looked at.
-fn defined_at(
-    alloc: Global,
-    object: &Value,
-    at: Option<At<'_>>,
-) -> Option<Result<ReadTrigger, Refusal>>
-    ensures { IsDefinedAt (data_of object.now) (option_map at_data at.entry) result }
-{
-    let at = at?;
-    if at.view.is_none() {
-        return None;
-    }
-    Some(ReadTrigger::read(alloc, object, &at.instance))
 }

@@ -4,28 +4,27 @@ ghost use Rattle.std.specs.Prelude.{◌≡◌, [], Some, map, option_map};
 ghost use Rattle.wq_clock.specs.Instance.{instance_data};
 ghost use Rattle.wq_follow.specs.Followed.{subscription_data};
 ghost use Rattle.wq_query.specs.Query.{planned};
-ghost use Rattle.wq_session.specs.Answer.{CanFinish, Finishes, TakesAsk, settled};
+ghost use Rattle.wq_session.specs.Answer.{CanFinish, Finishes, settled};
 ghost use Rattle.wq_session.specs.At.{at_data};
 ghost use Rattle.wq_session.specs.Desk.{AnswersShelf, HoldsShelf};
 ghost use Rattle.wq_session.specs.Followed.{follows_of};
 ghost use Rattle.wq_session.specs.Prepared.{IsPrepared, asked, asked_at};
-ghost use Rattle.wq_session.specs.Shelved.{shelf_data};
 ghost use Rattle.wq_session.specs.Work.{evaluates, work_data};
 
 use crate::ask::Ask;
 use crate::at::At;
-use crate::command::{listed, tried};
+use crate::command::listed;
 use crate::cursor::Cursor;
 use crate::desk::Desk;
 use crate::outcome::Out;
 use crate::prepared::Prepared;
+use crate::reply::printed;
 use crate::turn::Turn;
-use crate::work::Work;
+use crate::work::{Rest, Work};
 use std::alloc::Global;
 use wq_clock::Instance;
-use wq_follow::{Subscription, Trigger};
+use wq_follow::Subscription;
 use wq_query::{Crew, Plan};
-use wq_registry::Shelf;
 use wq_view::View;
 
 /// A server's record of one client: its subscriptions. An ask of a session depends on nothing else that came before.
@@ -67,12 +66,14 @@ impl Session {
         ensures { Finishes (work_data work) (option_map at_data at.entry) (follows_of self.old)
             result (follows_of self.new) }
     {
-        match work {
-            Work::Says(mut out) => {
+        let Work { rest, .. } = work;
+        match rest {
+            Rest::Says(mut out) => {
                 out.unset = None;
                 out
             }
-            Work::Evaluates(plan, cursor) => match at {
+            Rest::Prints(reply) => printed(alloc, &reply),
+            Rest::Evaluates(plan, cursor) => match at {
                 Some(
                     At {
                         instance,
@@ -81,7 +82,7 @@ impl Session {
                 ) => self.list(crew, alloc, &plan, cursor, &instance, view),
                 _ => unreachable!(),
             },
-            Work::Begins(subscription) => match at {
+            Rest::Begins(subscription) => match at {
                 Some(
                     At {
                         instance,
@@ -90,7 +91,7 @@ impl Session {
                 ) => self.begin(alloc, subscription, &instance, view),
                 _ => unreachable!(),
             },
-            Work::Drops(root, name) => self.drop_called(alloc, root, &name),
+            Rest::Drops(root, name) => self.drop_called(alloc, root, &name),
         }
     }
 
@@ -142,31 +143,6 @@ impl Session {
             desk.unset(cursor);
         }
         out
-    }
-}
-
-impl Prepared<'_> {
-    /// The part of an answer that holds the shelf: it looks up names, moves a cursor, or does a command. It looks at no
-    /// file, and reads or compiles no query. A command that names a root is refused if no root is looked at. All but
-    /// `watch` are also refused if the root is not on the shelf under the number of the one that is looked at. `watch`
-    /// puts it there under that number.
-    ///
-    /// If memory runs out, the answer says so, and the shelf is as before.
-    pub fn take(self, alloc: Global, shelf: &mut Shelf<Trigger>) -> Work
-        requires { IsPrepared self }
-        ensures { TakesAsk (asked self.entry) (asked_at self.entry) (shelf_data shelf.old)
-            (work_data result) (shelf_data shelf.new) }
-    {
-        let Prepared {
-            ask,
-            at,
-            query,
-            trigger,
-        } = self;
-        match tried(alloc, ask, at, query, trigger, shelf) {
-            Ok(work) => work,
-            Err(refusal) => Work::Says(Out::refused(alloc, refusal)),
-        }
     }
 }
 

@@ -2,15 +2,27 @@
 
 use crate::cursor::Cursor;
 use crate::outcome::Out;
+use crate::plain::Plain;
+use serde_json::Value;
 use wq_base::Text;
 use wq_follow::Subscription;
 use wq_query::Plan;
 
+/// The rest of the work of an answer, and the object of its ask. The object is freed when the work is finished, and not
+/// while the shelf is held.
+#[derive(Drop)]
+pub struct Work {
+    pub(crate) rest: Rest,
+    pub(crate) object: Option<Value>,
+}
+
 /// The rest of the work of an answer.
 #[derive(Drop)]
-pub enum Work {
+pub(crate) enum Rest {
     /// Nothing: this is the output.
     Says(Out),
+    /// Printing this reply, which may be long.
+    Prints(Plain),
     /// Listing the files of a plan; this cursor was moved for it.
     Evaluates(Plan, Option<Cursor>),
     /// Beginning a subscription, and making its first list.

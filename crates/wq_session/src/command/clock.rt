@@ -16,7 +16,7 @@ use crate::refusal::Refusal;
 use crate::reply::saying;
 use crate::root::RootText;
 use crate::words::{one_behind, text, two_behind};
-use crate::work::Work;
+use crate::work::Rest;
 use serde_json::{Value, json};
 use std::alloc::{AllocError, Global};
 use wq_base::{Text, VERSION};
@@ -79,7 +79,7 @@ pub(super) fn begin_clock(
     root: &RootText,
     at: Option<At<'_>>,
     shelf: &Shelf<Trigger>,
-) -> Result<Work, Refusal>
+) -> Result<Rest, Refusal>
     ensures { Begins (try_clock root.now (option_map at_data at.entry) (shelf_data shelf.now)) (shelf_data shelf.now)
         result (shelf_data shelf.now) }
 {

@@ -17,10 +17,11 @@ ghost use Rattle.wq_session.specs.Shelved.{shelf_data};
 ghost use Rattle.wq_session.specs.Work.{Begins};
 
 use crate::ask::Ask;
+use crate::plain::Plain;
 use crate::refusal::Refusal;
 use crate::reply::saying;
 use crate::words::{are_none, one_text, two_texts};
-use crate::work::Work;
+use crate::work::Rest;
 use base64::DecodeAllocError;
 use base64::engine::general_purpose::STANDARD;
 use serde_json::{Value, json};
@@ -160,13 +161,13 @@ fn names(alloc: Global, shelf: &Shelf<Trigger>) -> Result<Vec<Value>, AllocError
     Ok(values)
 }
 
-/// `program-list`
+/// `program-list`. The reply is printed when the shelf is no longer held.
 #[tactic(auto, using(crate::proofs::Strings::plain_named))]
-pub(super) fn begin_names(alloc: Global, shelf: &Shelf<Trigger>) -> Result<Work, Refusal>
+pub(super) fn begin_names(alloc: Global, shelf: &Shelf<Trigger>) -> Result<Rest, Refusal>
     ensures { Begins (Ok (listing_programs (shelf_data shelf.now))) (shelf_data shelf.now) result (shelf_data shelf.now) }
 {
-    let reply = names_reply(alloc, shelf)?;
-    Ok(saying(alloc, &reply)?)
+    let value = names_reply(alloc, shelf)?;
+    Ok(Rest::Prints(Plain { value }))
 }
 
 /// `program-add`. The reply is made first, so that nothing is kept if memory runs out.
@@ -175,15 +176,15 @@ pub(super) fn begin_add(
     name: &Text,
     program: Program,
     shelf: &mut Shelf<Trigger>,
-) -> Result<Work, Refusal>
+) -> Result<Rest, Refusal>
     ensures { Begins (try_add name.now program (shelf_data shelf.old)) (shelf_data shelf.old) result (shelf_data shelf.new) }
 {
     let name = name.as_str();
     let replaced = shelf.get(name).is_some();
     let reply = add_reply(alloc, name, program.raw().code.len(), replaced)?;
-    let work = saying(alloc, &reply)?;
+    let rest = saying(alloc, &reply)?;
     match shelf.add(name, program) {
-        Ok(_) => Ok(work),
+        Ok(_) => Ok(rest),
         Err(ShelfFault::NoMemory) => Err(Refusal::NoMemory),
         Err(ShelfFault::Full) => Err(Refusal::ShelfFull),
         Err(ShelfFault::NoRoot) => unreachable!(),
@@ -195,12 +196,12 @@ pub(super) fn begin_delete(
     alloc: Global,
     name: &Text,
     shelf: &mut Shelf<Trigger>,
-) -> Result<Work, Refusal>
+) -> Result<Rest, Refusal>
     ensures { Begins (Ok (deleting name.now (shelf_data shelf.old))) (shelf_data shelf.old) result (shelf_data shelf.new) }
 {
     let name = name.as_str();
     let there = shelf.get(name).is_some();
-    let work = saying(alloc, &delete_reply(alloc, name, there)?)?;
+    let rest = saying(alloc, &delete_reply(alloc, name, there)?)?;
     shelf.remove(name);
-    Ok(work)
+    Ok(rest)
 }

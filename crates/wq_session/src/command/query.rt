@@ -11,7 +11,7 @@ ghost use Rattle.wq_session.specs.Answer.{Finishes};
 ghost use Rattle.wq_session.specs.Argument.{behind};
 ghost use Rattle.wq_session.specs.At.{at_data};
 ghost use Rattle.wq_session.specs.Query.{begun_query, crawls_first, moved_cursor, query_arguments, query_request};
-ghost use Rattle.wq_session.specs.Prepared.{AreRead, IsLookup, IsRead, IsReadAt};
+ghost use Rattle.wq_session.specs.Prepared.{AreRead, IsLookup, IsRead, IsReadAt, asks_query};
 ghost use Rattle.wq_session.specs.Query.{synchronises, try_query};
 ghost use Rattle.wq_session.specs.Reading.{Requests};
 ghost use Rattle.wq_session.specs.Shelved.{shelf_data};
@@ -23,12 +23,13 @@ use crate::at::{At, watched};
 use crate::cursor::Cursor;
 use crate::lookup::Lookup;
 use crate::outcome::Out;
+use crate::read_object::ReadObject;
 use crate::read_query::ReadQuery;
 use crate::refusal::Refusal;
 use crate::root::RootText;
 use crate::shelving::swap_cursor;
 use crate::words::{text, two_behind};
-use crate::work::Work;
+use crate::work::Rest;
 use serde_json::Value;
 use std::alloc::{AllocError, Global};
 use std::sync::Arc;
@@ -89,12 +90,12 @@ fn synchronises(value: Option<&Value>) -> bool
 pub(super) fn begin_query(
     alloc: Global,
     root: &RootText,
-    read: Option<Result<ReadQuery, Refusal>>,
+    read: ReadObject,
     at: Option<At<'_>>,
     shelf: &mut Shelf<Trigger>,
-) -> Result<Work, Refusal>
+) -> Result<Rest, Refusal>
     requires { AreRead read }
-    ensures { (d : Data) → IsReadAt d (option_map at_data at.entry) read
+    ensures { (d : Data) → IsReadAt (asks_query d) (option_map at_data at.entry) read
         → Begins (try_query root.now d (option_map at_data at.entry) (shelf_data shelf.old))
         (shelf_data shelf.old) result (shelf_data shelf.new) }
 {
@@ -105,9 +106,10 @@ pub(super) fn begin_query(
         return Err(Refusal::NotWatched);
     };
     match read {
-        Some(Ok(read)) => begin_read(alloc, read, at.instance.root, view.tick(), shelf),
-        Some(Err(refusal)) => Err(refusal),
-        None => Err(Refusal::NotWatched),
+        ReadObject::Query(read) => begin_read(alloc, read, at.instance.root, view.tick(), shelf),
+        ReadObject::Refused(refusal) => Err(refusal),
+        ReadObject::Trigger(_) => Err(Refusal::NotWatched),
+        ReadObject::None => Err(Refusal::NotWatched),
     }
 }
 
@@ -118,7 +120,7 @@ fn begin_read(
     root: u64,
     tick: u64,
     shelf: &mut Shelf<Trigger>,
-) -> Result<Work, Refusal>
+) -> Result<Rest, Refusal>
     requires read { IsRead read }
     requires watched { is_none (numbered root shelf.old.roots) ≡ false }
     ensures { Begins (begun_query root tick (asked_of read.query) (shelf_data shelf.old)) (shelf_data shelf.old) result
@@ -127,7 +129,7 @@ fn begin_read(
     let program = program_for(&read.query, &read.lookup, shelf)?;
     let cursor = cursor_of(alloc, &read.query, root)?;
     let bound = move_cursor(&read.query, root, tick, shelf)?;
-    Ok(Work::Evaluates(read.query.plan(bound, program), cursor))
+    Ok(Rest::Evaluates(read.query.plan(bound, program), cursor))
 }
 
 /// The program that selects the files of a query.

@@ -14,7 +14,7 @@ use crate::ask::Ask;
 use crate::refusal::Refusal;
 use crate::reply::saying;
 use crate::words::{are_none, are_options};
-use crate::work::Work;
+use crate::work::Rest;
 use serde_json::{Value, json};
 use std::alloc::{AllocError, Global};
 use wq_base::VERSION;
@@ -59,7 +59,7 @@ fn socket_reply(alloc: Global, name: &str) -> Result<Value, AllocError>
 }
 
 /// `get-sockname`
-pub(super) fn begin_socket(alloc: Global, shelf: &Shelf<Trigger>) -> Result<Work, Refusal>
+pub(super) fn begin_socket(alloc: Global, shelf: &Shelf<Trigger>) -> Result<Rest, Refusal>
     ensures { Begins (Ok (telling_socket (shelf_data shelf.now))) (shelf_data shelf.now) result (shelf_data shelf.now) }
 {
     let reply = socket_reply(alloc, shelf.sockname())?;

@@ -8,7 +8,7 @@ ghost use Rattle.wq_clock.specs.Instance.{instance_data};
 ghost use Rattle.wq_query.specs.Query.{asked_of};
 ghost use Rattle.wq_session.specs.Argument.{behind};
 ghost use Rattle.wq_session.specs.At.{at_data};
-ghost use Rattle.wq_session.specs.Prepared.{AreRead, IsRead, IsSubscribedAt};
+ghost use Rattle.wq_session.specs.Prepared.{AreRead, IsRead, IsReadAt, asks_subscription};
 ghost use Rattle.wq_session.specs.Reading.{Requests};
 ghost use Rattle.wq_session.specs.Reply.{IsReply};
 ghost use Rattle.wq_session.specs.Shelved.{shelf_data};
@@ -20,11 +20,12 @@ use crate::ask::Ask;
 use crate::at::{At, watched};
 use crate::command::program::is_name;
 use crate::command::query::program_for;
+use crate::read_object::ReadObject;
 use crate::read_query::ReadQuery;
 use crate::refusal::Refusal;
 use crate::root::RootText;
 use crate::words::{text, three_behind, two_texts};
-use crate::work::Work;
+use crate::work::Rest;
 use serde_json::{Value, json};
 use std::alloc::{AllocError, Global};
 use wq_base::{Text, VERSION};
@@ -99,12 +100,12 @@ pub(super) fn begin_subscribe(
     alloc: Global,
     root: &RootText,
     name: &Text,
-    read: Option<Result<ReadQuery, Refusal>>,
+    read: ReadObject,
     at: Option<At<'_>>,
     shelf: &Shelf<Trigger>,
-) -> Result<Work, Refusal>
+) -> Result<Rest, Refusal>
     requires { AreRead read }
-    ensures { (d : Data) → IsSubscribedAt d (option_map at_data at.entry) read
+    ensures { (d : Data) → IsReadAt (asks_subscription d) (option_map at_data at.entry) read
         → Begins (try_subscribe root.now name.now d (option_map at_data at.entry) (shelf_data shelf.now))
         (shelf_data shelf.now) result (shelf_data shelf.now) }
 {
@@ -118,9 +119,10 @@ pub(super) fn begin_subscribe(
         return Err(Refusal::BadName);
     }
     match read {
-        Some(Ok(read)) => begin_read(alloc, root, name, read, at.instance.root, shelf),
-        Some(Err(refusal)) => Err(refusal),
-        None => Err(Refusal::NotWatched),
+        ReadObject::Query(read) => begin_read(alloc, root, name, read, at.instance.root, shelf),
+        ReadObject::Refused(refusal) => Err(refusal),
+        ReadObject::Trigger(_) => Err(Refusal::NotWatched),
+        ReadObject::None => Err(Refusal::NotWatched),
     }
 }
 
@@ -132,7 +134,7 @@ fn begin_read(
     read: ReadQuery,
     number: u64,
     shelf: &Shelf<Trigger>,
-) -> Result<Work, Refusal>
+) -> Result<Rest, Refusal>
     requires { IsRead read }
     ensures { Begins (begun_subscription root.now name.now number (asked_of read.query) (shelf_data shelf.now))
         (shelf_data shelf.now) result (shelf_data shelf.now) }
@@ -142,7 +144,7 @@ fn begin_read(
     let name = copy(alloc, name.as_str())?;
     let bound = read.query.bound().unwrap_or(Bound::Fresh);
     let plan = read.query.plan(bound, program);
-    Ok(Work::Begins(Subscription::new(name, root, number, plan)))
+    Ok(Rest::Begins(Subscription::new(name, root, number, plan)))
 }
 
 /// A text of its own with these bytes.
@@ -159,7 +161,7 @@ pub(super) fn begin_unsubscribe(
     name: &Text,
     at: Option<At<'_>>,
     shelf: &Shelf<Trigger>,
-) -> Result<Work, Refusal>
+) -> Result<Rest, Refusal>
     ensures { Begins (try_unsubscribe root.now name.now (option_map at_data at.entry) (shelf_data shelf.now))
         (shelf_data shelf.now) result (shelf_data shelf.now) }
 {
@@ -169,5 +171,5 @@ pub(super) fn begin_unsubscribe(
     if !is_name(name) {
         return Err(Refusal::BadName);
     }
-    Ok(Work::Drops(at.instance.root, copy(alloc, name.as_str())?))
+    Ok(Rest::Drops(at.instance.root, copy(alloc, name.as_str())?))
 }

@@ -11,7 +11,7 @@ ghost use Rattle.wq_registry.specs.Root.{numbered};
 ghost use Rattle.wq_registry.specs.Shelf.{triggers_of};
 ghost use Rattle.wq_session.specs.Argument.{behind};
 ghost use Rattle.wq_session.specs.At.{at_data};
-ghost use Rattle.wq_session.specs.Prepared.{AreDefined, IsDefinedAt, IsReadTrigger};
+ghost use Rattle.wq_session.specs.Prepared.{AreRead, IsReadAt, IsReadTrigger, asks_trigger};
 ghost use Rattle.wq_session.specs.Reading.{Requests};
 ghost use Rattle.wq_session.specs.Reply.{IsReply};
 ghost use Rattle.wq_session.specs.Shelved.{shelf_data};
@@ -27,13 +27,15 @@ use crate::at::{At, watched};
 use crate::command::program::is_name;
 use crate::command::query::program_for;
 use crate::command::subscribe::copy;
+use crate::plain::Plain;
+use crate::read_object::ReadObject;
 use crate::read_trigger::ReadTrigger;
 use crate::refusal::Refusal;
 use crate::reply::saying;
 use crate::root::RootText;
 use crate::shelving::{add_trigger, has_trigger, remove_trigger, run_of};
 use crate::words::{one_text, text, two_behind, two_texts};
-use crate::work::Work;
+use crate::work::Rest;
 use serde_json::{Value, json};
 use std::alloc::{AllocError, Global};
 use std::sync::Arc;
@@ -91,12 +93,12 @@ pub(super) fn ask_delete_trigger(alloc: Global, words: Vec<Value>) -> Result<Ask
 pub(super) fn begin_trigger(
     alloc: Global,
     root: &RootText,
-    read: Option<Result<ReadTrigger, Refusal>>,
+    read: ReadObject,
     at: Option<At<'_>>,
     shelf: &mut Shelf<Trigger>,
-) -> Result<Work, Refusal>
-    requires { AreDefined read }
-    ensures { (d : Data) → IsDefinedAt d (option_map at_data at.entry) read
+) -> Result<Rest, Refusal>
+    requires { AreRead read }
+    ensures { (d : Data) → IsReadAt (asks_trigger d) (option_map at_data at.entry) read
         → Begins (try_trigger root.now d (option_map at_data at.entry) (shelf_data shelf.old))
         (shelf_data shelf.old) result (shelf_data shelf.new) }
 {
@@ -107,9 +109,10 @@ pub(super) fn begin_trigger(
         return Err(Refusal::NotWatched);
     };
     match read {
-        Some(Ok(read)) => begin_read(alloc, root, read, at.instance.root, shelf),
-        Some(Err(refusal)) => Err(refusal),
-        None => Err(Refusal::NotWatched),
+        ReadObject::Trigger(read) => begin_read(alloc, root, read, at.instance.root, shelf),
+        ReadObject::Refused(refusal) => Err(refusal),
+        ReadObject::Query(_) => Err(Refusal::NotWatched),
+        ReadObject::None => Err(Refusal::NotWatched),
     }
 }
 
@@ -120,7 +123,7 @@ fn begin_read(
     read: ReadTrigger,
     number: u64,
     shelf: &mut Shelf<Trigger>,
-) -> Result<Work, Refusal>
+) -> Result<Rest, Refusal>
     requires read { IsReadTrigger read }
     requires watched { is_none (numbered number shelf.old.roots) ≡ false }
     ensures { Begins
@@ -142,7 +145,7 @@ fn add(
     program: Arc<Program>,
     number: u64,
     shelf: &mut Shelf<Trigger>,
-) -> Result<Work, Refusal>
+) -> Result<Rest, Refusal>
     requires program { ((definition_data definition).query).program ≡ None
         → AnswersMeaning program.value ((definition_data definition).query).expression }
     requires watched { is_none (numbered number shelf.old.roots) ≡ false }
@@ -153,11 +156,11 @@ fn add(
     let name = copy(alloc, definition.name())?;
     let name = name.as_str();
     let reply = trigger_reply(alloc, name, has_trigger(shelf, number, name))?;
-    let work = saying(alloc, &reply)?;
+    let rest = saying(alloc, &reply)?;
     let running = run_of(shelf, number, name);
     let trigger = Trigger::new(definition, root, program, running);
     match add_trigger(shelf, number, name, trigger) {
-        Ok(_) => Ok(work),
+        Ok(_) => Ok(rest),
         Err(ShelfFault::NoMemory) => Err(Refusal::NoMemory),
         Err(ShelfFault::Full) => Err(Refusal::TooManyTriggers),
         Err(ShelfFault::NoRoot) => unreachable!(),
@@ -172,14 +175,14 @@ fn trigger_reply(alloc: Global, name: &str, replaced: bool) -> Result<Value, All
     json!(in alloc; { "disposition": disposition, "triggerid": name, "version": VERSION })
 }
 
-/// `trigger-list`
+/// `trigger-list`. The reply is printed when the shelf is no longer held.
 #[tactic(auto, using(crate::proofs::Triggers::plain_triggers))]
 pub(super) fn begin_list_triggers(
     alloc: Global,
     root: &RootText,
     at: Option<At<'_>>,
     shelf: &Shelf<Trigger>,
-) -> Result<Work, Refusal>
+) -> Result<Rest, Refusal>
     ensures { Begins (try_list_triggers root.now (option_map at_data at.entry) (shelf_data shelf.now))
         (shelf_data shelf.now) result (shelf_data shelf.now) }
 {
@@ -187,8 +190,8 @@ pub(super) fn begin_list_triggers(
         return Err(Refusal::NotWatched);
     };
     let objects = objects_on(alloc, shelf, at.instance.root)?;
-    let reply = triggers_reply(alloc, objects)?;
-    Ok(saying(alloc, &reply)?)
+    let value = triggers_reply(alloc, objects)?;
+    Ok(Rest::Prints(Plain { value }))
 }
 
 /// The triggers of a root, by their objects.
@@ -239,7 +242,7 @@ pub(super) fn begin_delete_trigger(
     name: &Text,
     at: Option<At<'_>>,
     shelf: &mut Shelf<Trigger>,
-) -> Result<Work, Refusal>
+) -> Result<Rest, Refusal>
     ensures { Begins
         (try_delete_trigger root.now name.now (option_map at_data at.entry) (shelf_data shelf.old))
         (shelf_data shelf.old) result (shelf_data shelf.new) }
@@ -252,7 +255,7 @@ pub(super) fn begin_delete_trigger(
     }
     let (number, name) = (at.instance.root, name.as_str());
     let deleted = has_trigger(shelf, number, name);
-    let work = saying(alloc, &trigger_deleted_reply(alloc, name, deleted)?)?;
+    let rest = saying(alloc, &trigger_deleted_reply(alloc, name, deleted)?)?;
     remove_trigger(shelf, number, name);
-    Ok(work)
+    Ok(rest)
 }

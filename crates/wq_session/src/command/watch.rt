@@ -17,12 +17,13 @@ ghost use Rattle.wq_session.specs.declared.refusal.Refusal.TheVariants.{NoMemory
 
 use crate::ask::Ask;
 use crate::at::{At, watched};
+use crate::plain::Plain;
 use crate::refusal::Refusal;
 use crate::reply::saying;
 use crate::root::{RootText, is_absolute};
 use crate::shelving::{add_root, remove_root};
 use crate::words::{are_none, one_text};
-use crate::work::Work;
+use crate::work::Rest;
 use serde_json::{Value, json};
 use std::alloc::{AllocError, Global};
 use wq_base::VERSION;
@@ -113,7 +114,7 @@ pub(super) fn begin_watch(
     root: &RootText,
     at: Option<At<'_>>,
     shelf: &mut Shelf<Trigger>,
-) -> Result<Work, Refusal>
+) -> Result<Rest, Refusal>
     ensures { Begins (try_watch root.now (option_map at_data at.entry) (shelf_data shelf.old)) (shelf_data shelf.old)
         result (shelf_data shelf.new) }
 {
@@ -121,9 +122,9 @@ pub(super) fn begin_watch(
         return Err(Refusal::NotWatched);
     };
     let root = root.as_str();
-    let work = saying(alloc, &watch_reply(alloc, root)?)?;
+    let rest = saying(alloc, &watch_reply(alloc, root)?)?;
     put_root(root, at.instance.root, shelf)?;
-    Ok(work)
+    Ok(rest)
 }
 
 /// Puts a root on the shelf, under this number.
@@ -141,13 +142,13 @@ fn put_root(root: &str, number: u64, shelf: &mut Shelf<Trigger>) -> Result<(), R
     }
 }
 
-/// `watch-list`
+/// `watch-list`. The reply is printed when the shelf is no longer held.
 #[tactic(auto, using(crate::proofs::Strings::plain_rooted))]
-pub(super) fn begin_list(alloc: Global, shelf: &Shelf<Trigger>) -> Result<Work, Refusal>
+pub(super) fn begin_list(alloc: Global, shelf: &Shelf<Trigger>) -> Result<Rest, Refusal>
     ensures { Begins (Ok (listing_roots (shelf_data shelf.now))) (shelf_data shelf.now) result (shelf_data shelf.now) }
 {
-    let reply = list_reply(alloc, shelf)?;
-    Ok(saying(alloc, &reply)?)
+    let value = list_reply(alloc, shelf)?;
+    Ok(Rest::Prints(Plain { value }))
 }
 
 /// `watch-del`. The reply is made first, so that the root stays if memory runs out.
@@ -156,14 +157,14 @@ pub(super) fn begin_unwatch(
     root: &RootText,
     at: Option<At<'_>>,
     shelf: &mut Shelf<Trigger>,
-) -> Result<Work, Refusal>
+) -> Result<Rest, Refusal>
     ensures { Begins (try_unwatch root.now (option_map at_data at.entry) (shelf_data shelf.old)) (shelf_data shelf.old)
         result (shelf_data shelf.new) }
 {
     let Some(at) = watched(root, at, shelf) else {
         return Err(Refusal::NotWatched);
     };
-    let work = saying(alloc, &unwatch_reply(alloc, root.as_str())?)?;
+    let rest = saying(alloc, &unwatch_reply(alloc, root.as_str())?)?;
     remove_root(shelf, at.instance.root);
-    Ok(work)
+    Ok(rest)
 }

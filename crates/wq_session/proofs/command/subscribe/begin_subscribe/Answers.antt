@@ -1,23 +1,38 @@
 -- The object was read at the root that is looked at.
-use Rattle.std.proofs.Common.{rules, ◌≡◌, Ok, Err, Some, ap, option_map, subst, sym, ◌∙◌}
-use Rattle.wq_session.proofs.Before.{begins_subscribed, refuses_subscribed}
+use Rattle.std.proofs.Common.{rules, ◌≡◌, ap, option_map, subst, sym, ◌∙◌}
+use Rattle.wq_session.proofs.Before.{begins_subscribed, object_there, refuses_subscribed}
 use Rattle.wq_session.specs.At.{at_data}
-use Rattle.wq_session.specs.Prepared.{IsSubscribedAt}
+use Rattle.wq_session.specs.Prepared.{IsReadAt, asks_subscription}
 use Rattle.wq_session.specs.Shelved.{shelf_data}
+use Rattle.wq_session.specs.declared.read_object.ReadObject.TheVariants.{None as Unread, Query as QueryRead, Refused as ObjectRefused, Trigger as TriggerRead}
 use Rattle.wq_session.proofs.command.subscribe.begin_subscribe.Goals as goal
 
-pub returns-in-Some-Ok : goal.returns-in-Some-Ok
-returns-in-Some-Ok c d said =
-    let is : c.args.read ≡ Some (Ok c.in-Some-Ok.read) = search rules in
+pub returns-in-Query : goal.returns-in-Query
+returns-in-Query c d said =
+    let is : c.args.read ≡ QueryRead c.in-Query.read = search rules in
     begins_subscribed c.args.root.now c.args.name.now d (option_map at_data c.args.at) (shelf_data c.args.shelf.now) (at_data c.in-Some.at)
     (sym c.in-Some.ensures.value) (sym c.is_name.ensures ∙ c.if-not-is_name.false) c.in-Some-view.field-0.now
-    (ap (option_map (λ view. view.now)) c.in-Some-view.is) c.in-Some-Ok.read
-    (subst (IsSubscribedAt d (option_map at_data c.args.at)) is said) c.begin_read.result c.begin_read.ensures
+    (ap (option_map (λ view. view.now)) c.in-Some-view.is) c.in-Query.read
+    (subst (IsReadAt (asks_subscription d) (option_map at_data c.args.at)) is said) c.begin_read.result c.begin_read.ensures
 
-pub returns-in-Some-Err : goal.returns-in-Some-Err
-returns-in-Some-Err c d said =
-    let is : c.args.read ≡ Some (Err c.in-Some-Err.refusal) = search rules in
+pub returns-in-Refused : goal.returns-in-Refused
+returns-in-Refused c d said =
+    let is : c.args.read ≡ ObjectRefused c.in-Refused.refusal = search rules in
     refuses_subscribed c.args.root.now c.args.name.now d (option_map at_data c.args.at) (shelf_data c.args.shelf.now) (at_data c.in-Some.at)
     (sym c.in-Some.ensures.value) (sym c.is_name.ensures ∙ c.if-not-is_name.false) c.in-Some-view.field-0.now
-    (ap (option_map (λ view. view.now)) c.in-Some-view.is) c.in-Some-Err.refusal
-    (subst (IsSubscribedAt d (option_map at_data c.args.at)) is said)
+    (ap (option_map (λ view. view.now)) c.in-Some-view.is) c.in-Refused.refusal
+    (subst (IsReadAt (asks_subscription d) (option_map at_data c.args.at)) is said)
+
+pub returns-in-Trigger : goal.returns-in-Trigger
+returns-in-Trigger c d said =
+    let is : c.args.read ≡ TriggerRead c.in-Trigger.field-0 = search rules in
+    absurd (object_there (asks_subscription d) c.args.root.now (option_map at_data c.args.at) (shelf_data c.args.shelf.now) (at_data c.in-Some.at)
+    c.in-Some-view.field-0.now (sym c.in-Some.ensures.value) (ap (option_map (λ view. view.now)) c.in-Some-view.is)
+    (TriggerRead c.in-Trigger.field-0) (subst (IsReadAt (asks_subscription d) (option_map at_data c.args.at)) is said))
+
+pub returns : goal.returns
+returns c d said =
+    let is : c.args.read ≡ Unread = search rules in
+    absurd (object_there (asks_subscription d) c.args.root.now (option_map at_data c.args.at) (shelf_data c.args.shelf.now) (at_data c.in-Some.at)
+    c.in-Some-view.field-0.now (sym c.in-Some.ensures.value) (ap (option_map (λ view. view.now)) c.in-Some-view.is)
+    Unread (subst (IsReadAt (asks_subscription d) (option_map at_data c.args.at)) is said))

@@ -7,7 +7,7 @@ use Rattle.wq_session.proofs.Triggers.{trigger_put}
 use Rattle.wq_session.specs.Out.{replies}
 use Rattle.wq_session.specs.Shelved.{shelf_data}
 use Rattle.wq_session.specs.Trigger.{has_no_trigger_place, name_in, trigger_called, trigger_in, trigger_reply}
-use Rattle.wq_session.specs.Work.{says, work_data}
+use Rattle.wq_session.specs.Work.{says, rest_data}
 use Rattle.wq_session.proofs.command.trigger.add.Goals as goal
 
 pub returns-in-Ok : goal.returns-in-Ok
@@ -18,9 +18,9 @@ returns-in-Ok c =
     let name : c.as_str-name.result.now ≡ name_in d = search rules in
     let place : has_no_trigger_place c.args.number c.as_str-name.result.now shelf ≡ false = search rules in
     let replaced : c.has_trigger.result ≡ is_some (trigger_called c.args.number c.as_str-name.result.now shelf) = search rules in
-    let says : work_data c.in_ok-work.work ≡ says (replies (trigger_reply c.as_str-name.result.now c.has_trigger.result)) = search rules in
+    let says : rest_data c.in_ok-rest.rest ≡ says (replies (trigger_reply c.as_str-name.result.now c.has_trigger.result)) = search rules in
     let made : trigger_data c.new-trigger.result ≡ trigger_in c.args.root c.args.number d program shelf = search rules in
     let added : shelf_data c.add_trigger.new.shelf ≡ trigger_added c.args.number c.as_str-name.result.now (trigger_data c.new-trigger.result) shelf =
     search rules in
-    trigger_put c.args.root c.args.number d program shelf c.as_str-name.result.now c.has_trigger.result (work_data c.in_ok-work.work)
+    trigger_put c.args.root c.args.number d program shelf c.as_str-name.result.now c.has_trigger.result (rest_data c.in_ok-rest.rest)
     (trigger_data c.new-trigger.result) (shelf_data c.add_trigger.new.shelf) name place replaced says made added

@@ -1,10 +1,13 @@
--- The query or the trigger of the ask that was read is known.
-use Rattle.std.proofs.Common.{rules, ◌≡◌, Ok, Some, subst}
-use Rattle.wq_session.proofs.Before.{asked_read}
-use Rattle.wq_session.specs.Prepared.{AreRead, asked_at}
+-- The object of the ask that was read is known, and stays read.
+use Rattle.wq_session.proofs.Before.{are_read, read_again}
+use Rattle.wq_session.specs.Prepared.{asked_at, object_in}
 use Rattle.wq_session.proofs.prepared.Prepared.compiled.Goals as goal
 
 pub compiled-read-requires-clause-read : goal.compiled-read-requires-clause-read
 compiled-read-requires-clause-read c =
-    let is : c.args.self.query ≡ Some (Ok c.in-Some-Ok.read) = search rules in
-    subst AreRead is (asked_read c.args.self.ask (asked_at c.args.self) c.args.self.query c.requires.prepared.0)
+    are_read (object_in c.args.self.ask) (asked_at c.args.self) c.args.self.read c.requires.prepared
+
+pub returns-clause-prepared : goal.returns-clause-prepared
+returns-clause-prepared c =
+    read_again (object_in c.args.self.ask) (asked_at c.args.self) c.args.self.read c.compiled-read.result.0 c.requires.prepared
+    c.compiled-read.ensures

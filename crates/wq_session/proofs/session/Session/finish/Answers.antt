@@ -3,10 +3,16 @@ use Rattle.std.proofs.Common.{ap, option_map, subst, sym}
 use Rattle.wq_session.specs.Answer.{Finishes}
 use Rattle.wq_session.specs.At.{at_data}
 use Rattle.wq_session.specs.Followed.{follows_of}
-use Rattle.wq_session.specs.Work.{WorkData, work_data}
+use Rattle.wq_session.specs.Work.{WorkData, rest_data}
 use Rattle.wq_session.proofs.session.Session.finish.Goals as goal
 
 pub returns-in-Drops : goal.returns-in-Drops
 returns-in-Drops g c =
     subst (λ (w : WorkData). Finishes w (option_map at_data c.args.at) (follows_of c.args.self.now) c.drop_called.result
-    (follows_of c.drop_called.new.self)) (sym (ap work_data c.in-Drops.is)) (c.drop_called.ensures (option_map at_data c.args.at))
+    (follows_of c.drop_called.new.self)) (sym (ap rest_data c.in-Drops.is)) (c.drop_called.ensures (option_map at_data c.args.at))
+
+pub returns-in-Prints : goal.returns-in-Prints
+returns-in-Prints g c =
+    subst (λ (w : WorkData). Finishes w (option_map at_data c.args.at) (follows_of c.args.self.now) c.printed.result
+    (follows_of c.args.self.now)) (sym (ap rest_data c.in-Prints.is))
+    (c.printed.ensures (option_map at_data c.args.at) (follows_of c.args.self.now))

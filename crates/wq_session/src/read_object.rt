@@ -1,0 +1,89 @@
+//! The object of an ask, read before the shelf is held.
+ghost use Rattle.std.specs.Prelude.{◌≡◌, Result, option_map};
+ghost use Rattle.wq_follow.specs.Definition.{DefinitionData};
+ghost use Rattle.wq_query.specs.Query.{QueryData};
+ghost use Rattle.wq_query.specs.declared.fault.QueryFault.{QueryFault};
+ghost use Rattle.wq_session.specs.Prepared.{AreRead, GivesDefined, GivesDefinedObject, GivesRead};
+ghost use Rattle.wq_session.specs.Prepared.{GivesReadObject, IsFoundFor, IsReadAgain, key_from};
+ghost use Rattle.wq_session.specs.declared.refusal.Refusal.{Refusal};
+
+use crate::read_query::ReadQuery;
+use crate::read_trigger::ReadTrigger;
+use crate::refusal::Refusal;
+use std::alloc::Global;
+use std::sync::Arc;
+use wq_registry::{CacheKey, Compiled};
+use wq_verify::Program;
+
+/// The object of an ask, read at the root that is looked at.
+#[derive(Drop)]
+pub(crate) enum ReadObject {
+    /// The ask has no object, or no view is shown to read it at.
+    None,
+    /// A query, or the query of a subscription.
+    Query(ReadQuery),
+    /// A trigger.
+    Trigger(ReadTrigger),
+    /// The first reason to refuse the object.
+    Refused(Refusal),
+}
+
+impl ReadObject {
+    /// The object of a query that was read.
+    pub(crate) fn of_query(read: Result<ReadQuery, Refusal>) -> ReadObject
+        ensures { (said : Result QueryData QueryFault) → GivesRead read said
+            → GivesReadObject said result }
+    {
+        match read {
+            Ok(read) => ReadObject::Query(read),
+            Err(refusal) => ReadObject::Refused(refusal),
+        }
+    }
+
+    /// The object of a trigger that was read.
+    pub(crate) fn of_trigger(read: Result<ReadTrigger, Refusal>) -> ReadObject
+        ensures { (said : Result DefinitionData Refusal) → GivesDefined read said
+            → GivesDefinedObject said result }
+    {
+        match read {
+            Ok(read) => ReadObject::Trigger(read),
+            Err(refusal) => ReadObject::Refused(refusal),
+        }
+    }
+
+    /// The expression that needs a program. There is none if the object has no expression, or its key could not be
+    /// made.
+    pub(crate) fn key(&self) -> Option<&CacheKey>
+        ensures { option_map (λ key. key.now) result ≡ key_from self.now }
+    {
+        match self {
+            ReadObject::Query(read) => read.lookup.key.as_ref(),
+            ReadObject::Trigger(read) => read.lookup.key.as_ref(),
+            _ => None,
+        }
+    }
+
+    /// The object with the program of its expression, if it has one, and the program for the cache if it was compiled
+    /// now.
+    pub(crate) fn compiled(
+        self,
+        alloc: Global,
+        found: Option<Arc<Program>>,
+    ) -> (ReadObject, Option<Compiled>)
+        requires read { AreRead self }
+        requires found { IsFoundFor (key_from self) found }
+        ensures { IsReadAgain self result.0 }
+    {
+        match self {
+            ReadObject::Query(read) => {
+                let (read, compiled) = read.compiled(alloc, found);
+                (ReadObject::Query(read), compiled)
+            }
+            ReadObject::Trigger(read) => {
+                let (read, compiled) = read.compiled(alloc, found);
+                (ReadObject::Trigger(read), compiled)
+            }
+            read => (read, None),
+        }
+    }
+}
