@@ -9,8 +9,8 @@ use Rattle.wq_follow.specs.Subscription.{SubscriptionData}
 use Rattle.wq_live.specs.Table.{IsTableOf, TableData}
 use Rattle.wq_live.specs.declared.event.RootEvent.TheVariants.{Ended}
 use Rattle.wq_replay.specs.Gets.{answered, at_end, ending, fault_for, kept, looked, with_follows}
-use Rattle.wq_replay.specs.Playing.{Does, Runs, sent_to}
-use Rattle.wq_replay.specs.World.{HappeningData, WorldData, asked, at_events, shows, unrefused}
+use Rattle.wq_replay.specs.Playing.{Happens, Runs, sent_to}
+use Rattle.wq_replay.specs.World.{HappeningData, WorldData, asked, at_events, shows_root, unrefused}
 use Rattle.wq_alone.proofs.Worlds.{gets_ended, gets_looked, gets_refused, runs_one}
 use Rattle.wq_session.specs.Desk.{AnswersShelf}
 use Rattle.wq_serve.specs.Serving.{PlaceData}
@@ -38,12 +38,12 @@ shown_answer shelf old after follows left ask at out same answers =
 pub no_fault : (need : NeedData) (table : TableData) → fault_for need table None ≡ None
 no_fault none table = refl
 no_fault (look root) table = refl
-no_fault (crawl root) table = by (shows root table)
+no_fault (crawl root) table = by (shows_root root table)
   where
     by : (b : Bool) → ◌≡◌ {A = Option CrawlFault} (if b then None else None) None
     by true = refl
     by false = refl
-no_fault (watch root) table = by (shows root table)
+no_fault (watch root) table = by (shows_root root table)
   where
     by : (b : Bool) → ◌≡◌ {A = Option CrawlFault} (if b then None else None) None
     by true = refl
@@ -68,10 +68,10 @@ AsksWell run client world ask out after = (next : WorldData)
 
 -- the same after another happening, which sends nothing
 pub after_first : (run : Run) (client : ℤ) (world between : WorldData) (first : HappeningData) (ask : Ask) (out : OutData) (after : PlaceData)
-    → Does world first [] between → AsksWell run client between ask out after
+    → Happens world first [] between → AsksWell run client between ask out after
     → (next : WorldData) × Runs world (first ∷ asked client ask ∷ []) (sent_to client out) next × ShowsWorld run client out.goes_on after next
-after_first run client world between first ask out after does (next, runs, shows) =
-    (next, (between, [], sent_to client out, does, refl, runs), shows)
+after_first run client world between first ask out after does (next, runs, shows_root) =
+    (next, (between, [], sent_to client out, does, refl, runs), shows_root)
 
 module _ (run : Run) (client : ℤ) (world : WorldData) (after : PlaceData) (ask : Ask) (out : OutData) (table : TableData)
     (is : IsTableOf world.events table) (of_run : world.run ≡ run_data run) (current : IsCurrent after.known) where

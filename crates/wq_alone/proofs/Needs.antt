@@ -14,7 +14,7 @@ use Rattle.wq_live.specs.Event.{number_of}
 use Rattle.wq_live.specs.Table.{IsTableOf, RootView, TableData, WantsForTicks, number_by_text, root_by_text}
 use Rattle.wq_live.specs.declared.event.RootEvent.{RootEvent}
 use Rattle.wq_replay.specs.Gets.{at_root, ending, fault_for, looked, refused_fault}
-use Rattle.wq_replay.specs.Playing.{Does, Runs, sent_to}
+use Rattle.wq_replay.specs.Playing.{Happens, Runs, sent_to}
 use Rattle.wq_replay.specs.World.{HappeningData, Watches, WorldData, asked, at_events, crawl as crawls_root, watching, refusing, unrefused}
 use Rattle.wq_serve.specs.Basis.{Basis}
 use Rattle.wq_session.specs.Desk.{AnswersAt, StandData}
@@ -230,7 +230,7 @@ module _ (one_view : HasOneView) (basis : Basis) (client : ℤ) (before after : 
   alone_asked need happens (inr (next, runs, shown)) = inr ([], next, happens, runs, shown)
 
   -- the ask after another happening
-  pub then_asked : (need : NeedData) (first : HappeningData) (between : WorldData) → HappensFirst need (first ∷ []) → Does world first [] between
+  pub then_asked : (need : NeedData) (first : HappeningData) (between : WorldData) → HappensFirst need (first ∷ []) → Happens world first [] between
       → IsBlind need ⊎ AsksWell basis.run client between ask out after → IsBlind need ⊎ IsAskRun need
   then_asked need first between happens does (inl blind) = inl blind
   then_asked need first between happens does (inr well) =

@@ -5,7 +5,7 @@ use Rattle.wq_follow.specs.Subscription.{SubscriptionData}
 use Rattle.wq_live.specs.Event.{number_of}
 use Rattle.wq_live.specs.Table.{IsTableOf, TableData}
 use Rattle.wq_replay.specs.Gets.{AnswersInWorld, EndsAt, Gets, GetsAt, GetsFor, ending, fault_for, looked}
-use Rattle.wq_replay.specs.Playing.{Does, Runs}
+use Rattle.wq_replay.specs.Playing.{Happens, Runs}
 use Rattle.wq_replay.specs.World.{Crawls, CrawlsAt, HappeningData, SentData, WorldData, unrefused}
 use Rattle.wq_session.specs.Answer.{AnswersAsk, MayRefuse}
 use Rattle.wq_session.specs.At.{AtData, ShelfNow}
@@ -16,7 +16,7 @@ use Rattle.wq_session.specs.declared.ask.Ask.{Ask}
 use Rattle.wq_view.specs.Listing.{PassData}
 
 -- one happening is a run
-pub runs_one : (world after : WorldData) (happening : HappeningData) (sent : List SentData) → Does world happening sent after
+pub runs_one : (world after : WorldData) (happening : HappeningData) (sent : List SentData) → Happens world happening sent after
     → Runs world (happening ∷ []) sent after
 runs_one world after happening sent does = (after, sent, [], does, sym (append-nil sent), (refl, refl))
 

@@ -15,7 +15,7 @@ use Rattle.wq_session.specs.Followed.{follows_of}
 use Rattle.wq_session.specs.declared.session.Session.{Session}
 use Rattle.wq_follow.specs.Followed.{subscription_data}
 use Rattle.wq_follow.specs.declared.subscription.Subscription.{Subscription}
-use Rattle.wq_replay.specs.Client.{follows_in, is_of, numbers_from, others, with_number}
+use Rattle.wq_replay.specs.Client.{follows_in, is_of, numbers_from, other_clients, with_root_number}
 use Rattle.wq_replay.specs.Clients.{FollowsNow, kept_client, kept_with}
 use Rattle.wq_replay.specs.Gets.{kept}
 use Rattle.wq_replay.specs.declared.client.Client.{Client}
@@ -42,23 +42,23 @@ int_eq_through x y z one other differ =
 -- the other clients, and the clients after them, which have the subscriptions of one client alone
 pub now_with : (number : ℤ) (left : List SubscriptionData) (before tail : List Client)
     → ((other : ℤ) → follows_in other tail ≡ cond (int_eq number other) left [])
-    → FollowsNow number left before (others number before ++ tail)
+    → FollowsNow number left before (other_clients number before ++ tail)
 now_with number left [] tail ends other = ends other
 now_with number left (client ∷ before) tail ends other =
     by (int_eq number client.number) (int_eq number other) (int_eq other client.number) refl refl refl
     (now_with number left before tail ends other)
   where
     by : (is same has : Bool) → int_eq number client.number ≡ is → int_eq number other ≡ same → int_eq other client.number ≡ has
-        → follows_in other (others number before ++ tail) ≡ cond same left (follows_in other before)
-        → follows_in other (cond (not is) (client ∷ others number before) (others number before) ++ tail)
+        → follows_in other (other_clients number before ++ tail) ≡ cond same left (follows_in other before)
+        → follows_in other (cond (not is) (client ∷ other_clients number before) (other_clients number before) ++ tail)
         ≡ cond same left (cond has (follows_of client.session) (follows_in other before))
     by true true has is same had later = later
     by true false true is same had later = absurd (int_eq_both number client.number other is had same)
     by true false false is same had later = later
     by false true true is same had later = absurd (int_eq_through number other client.number same had is)
-    by false true false is same had later = ap (λ b. cond b (follows_of client.session) (follows_in other (others number before ++ tail))) had ∙ later
-    by false false true is same had later = ap (λ b. cond b (follows_of client.session) (follows_in other (others number before ++ tail))) had
-    by false false false is same had later = ap (λ b. cond b (follows_of client.session) (follows_in other (others number before ++ tail))) had ∙ later
+    by false true false is same had later = ap (λ b. cond b (follows_of client.session) (follows_in other (other_clients number before ++ tail))) had ∙ later
+    by false false true is same had later = ap (λ b. cond b (follows_of client.session) (follows_in other (other_clients number before ++ tail))) had
+    by false false false is same had later = ap (λ b. cond b (follows_of client.session) (follows_in other (other_clients number before ++ tail))) had ∙ later
 
 -- no client is after them
 none_behind : (number other : ℤ) → follows_in other [] ≡ cond (int_eq number other) [] []
@@ -78,15 +78,15 @@ kept_behind number session (s ∷ all) some other =
 
 -- the client is kept with a session, if that has subscriptions
 pub kept_now : (number : ℤ) (session : Session) (before after : List Client)
-    → after ≡ others number before ++ kept_client number session → FollowsNow number (follows_of session) before after
+    → after ≡ other_clients number before ++ kept_client number session → FollowsNow number (follows_of session) before after
 kept_now number session before after is =
     subst (FollowsNow number (follows_of session) before) (sym is)
     (now_with number (follows_of session) before (kept_client number session) (kept_behind number session (follows_of session) refl))
 
 -- the client is no longer kept
-pub dropped_now : (number : ℤ) (before after : List Client) → after ≡ others number before → FollowsNow number [] before after
+pub dropped_now : (number : ℤ) (before after : List Client) → after ≡ other_clients number before → FollowsNow number [] before after
 dropped_now number before after is =
-    subst (FollowsNow number [] before) (append-nil (others number before) ∙ sym is)
+    subst (FollowsNow number [] before) (append-nil (other_clients number before) ∙ sym is)
     (now_with number [] before [] (none_behind number))
 
 -- the subscriptions of a client that was found
@@ -131,40 +131,40 @@ follows_none number clients none =
 
 -- the others are the same without the one at the place that was found
 pub others_removed : (number : ℤ) (clients : List Client) (i : ℕ) (client : Client) → position (is_of number) clients ≡ Some i
-    → others number (remove clients i) ≡ others number clients
+    → other_clients number (remove clients i) ≡ other_clients number clients
 others_removed number clients i client at =
     let found = position-Some (is_of number) clients i client at in
     let test : Client → Bool = λ c. not (is_of number c) in
     filter-append test (take i clients) (drop (suc i) clients)
-    ∙ ap (λ later. others number (take i clients) ++ later) (sym (ap (λ b. cond (not b) (get_or clients i client ∷ others number (drop (suc i) clients)) (others number (drop (suc i) clients))) found.1))
-    ∙ ap (λ later. others number (take i clients) ++ others number later) (sym (drop-cons clients i client found.0))
+    ∙ ap (λ later. other_clients number (take i clients) ++ later) (sym (ap (λ b. cond (not b) (get_or clients i client ∷ other_clients number (drop (suc i) clients)) (other_clients number (drop (suc i) clients))) found.1))
+    ∙ ap (λ later. other_clients number (take i clients) ++ other_clients number later) (sym (drop-cons clients i client found.0))
     ∙ sym (filter-append test (take i clients) (drop i clients))
-    ∙ ap (others number) (take-append-drop i clients)
+    ∙ ap (other_clients number) (take-append-drop i clients)
 
 -- one more number is lower
 pub lower_next : (number : ℕ) (numbers : List ℕ) (i x : ℕ) → i < length numbers → x ≡ get_or numbers i x → nat_lt x number ≡ true
-    → with_number number numbers ≡ take i numbers ++ with_number number (drop i numbers)
-    → with_number number numbers ≡ take (i + 1) numbers ++ with_number number (drop (i + 1) numbers)
+    → with_root_number number numbers ≡ take i numbers ++ with_root_number number (drop i numbers)
+    → with_root_number number numbers ≡ take (i + 1) numbers ++ with_root_number number (drop (i + 1) numbers)
 lower_next number numbers i x within is lower so_far =
     let next : i + 1 ≡ suc i = omega arith in
     let parts : drop i numbers ≡ x ∷ drop (suc i) numbers = drop-cons numbers i x within ∙ ap (λ y. y ∷ drop (suc i) numbers) (sym is) in
     let front : take (suc i) numbers ≡ take i numbers ++ x ∷ [] = take-suc numbers i x within ∙ ap (λ y. take i numbers ++ y ∷ []) (sym is) in
-    so_far ∙ ap (λ rest. take i numbers ++ with_number number rest) parts
-    ∙ ap (λ b. take i numbers ++ cond b (x ∷ with_number number (drop (suc i) numbers)) (cond (nat_eq number x) (x ∷ drop (suc i) numbers) (number ∷ x ∷ drop (suc i) numbers))) lower
-    ∙ sym (append_assoc (take i numbers) (x ∷ []) (with_number number (drop (suc i) numbers)))
-    ∙ ap (λ xs. xs ++ with_number number (drop (suc i) numbers)) (sym front)
-    ∙ ap (λ n. take n numbers ++ with_number number (drop n numbers)) (sym next)
+    so_far ∙ ap (λ rest. take i numbers ++ with_root_number number rest) parts
+    ∙ ap (λ b. take i numbers ++ cond b (x ∷ with_root_number number (drop (suc i) numbers)) (cond (nat_eq number x) (x ∷ drop (suc i) numbers) (number ∷ x ∷ drop (suc i) numbers))) lower
+    ∙ sym (append_assoc (take i numbers) (x ∷ []) (with_root_number number (drop (suc i) numbers)))
+    ∙ ap (λ xs. xs ++ with_root_number number (drop (suc i) numbers)) (sym front)
+    ∙ ap (λ n. take n numbers ++ with_root_number number (drop n numbers)) (sym next)
 
 -- a number that is at a place, before which all are lower, is there
 pub there : (number : ℕ) (numbers : List ℕ) (i x : ℕ) → i < length numbers → x ≡ get_or numbers i x → x ≡ number
-    → with_number number numbers ≡ take i numbers ++ with_number number (drop i numbers) → numbers ≡ with_number number numbers
+    → with_root_number number numbers ≡ take i numbers ++ with_root_number number (drop i numbers) → numbers ≡ with_root_number number numbers
 there number numbers i x within is same so_far =
     let parts : drop i numbers ≡ x ∷ drop (suc i) numbers = drop-cons numbers i x within ∙ ap (λ y. y ∷ drop (suc i) numbers) (sym is) in
     let lower : nat_lt x number ≡ false = grind (arith, nat_tests) in
     let equal : nat_eq number x ≡ true = grind (arith, nat_tests) in
     sym (
-    so_far ∙ ap (λ rest. take i numbers ++ with_number number rest) parts
-    ∙ ap (λ b. take i numbers ++ cond b (x ∷ with_number number (drop (suc i) numbers)) (cond (nat_eq number x) (x ∷ drop (suc i) numbers) (number ∷ x ∷ drop (suc i) numbers))) lower
+    so_far ∙ ap (λ rest. take i numbers ++ with_root_number number rest) parts
+    ∙ ap (λ b. take i numbers ++ cond b (x ∷ with_root_number number (drop (suc i) numbers)) (cond (nat_eq number x) (x ∷ drop (suc i) numbers) (number ∷ x ∷ drop (suc i) numbers))) lower
     ∙ ap (λ b. take i numbers ++ cond b (x ∷ drop (suc i) numbers) (number ∷ x ∷ drop (suc i) numbers)) equal
     ∙ ap (λ rest. take i numbers ++ rest) (sym parts)
     ∙ take-append-drop i numbers
@@ -172,48 +172,48 @@ there number numbers i x within is same so_far =
 
 -- it is put before one that is higher
 pub put_before : (number : ℕ) (numbers : List ℕ) (i x : ℕ) → i < length numbers → x ≡ get_or numbers i x → number < x
-    → with_number number numbers ≡ take i numbers ++ with_number number (drop i numbers)
-    → take i numbers ++ number ∷ drop i numbers ≡ with_number number numbers
+    → with_root_number number numbers ≡ take i numbers ++ with_root_number number (drop i numbers)
+    → take i numbers ++ number ∷ drop i numbers ≡ with_root_number number numbers
 put_before number numbers i x within is higher so_far =
     let parts : drop i numbers ≡ x ∷ drop (suc i) numbers = drop-cons numbers i x within ∙ ap (λ y. y ∷ drop (suc i) numbers) (sym is) in
     let lower : nat_lt x number ≡ false = grind (arith, nat_tests) in
     let equal : nat_eq number x ≡ false = grind (arith, nat_tests) in
     sym (
-    so_far ∙ ap (λ rest. take i numbers ++ with_number number rest) parts
-    ∙ ap (λ b. take i numbers ++ cond b (x ∷ with_number number (drop (suc i) numbers)) (cond (nat_eq number x) (x ∷ drop (suc i) numbers) (number ∷ x ∷ drop (suc i) numbers))) lower
+    so_far ∙ ap (λ rest. take i numbers ++ with_root_number number rest) parts
+    ∙ ap (λ b. take i numbers ++ cond b (x ∷ with_root_number number (drop (suc i) numbers)) (cond (nat_eq number x) (x ∷ drop (suc i) numbers) (number ∷ x ∷ drop (suc i) numbers))) lower
     ∙ ap (λ b. take i numbers ++ cond b (x ∷ drop (suc i) numbers) (number ∷ x ∷ drop (suc i) numbers)) equal
     ∙ ap (λ rest. take i numbers ++ number ∷ rest) (sym parts)
     )
 
 -- and after all, if all are lower
-pub put_last : (number : ℕ) (numbers : List ℕ) (i : ℕ) → drop i numbers ≡ [] → with_number number numbers ≡ take i numbers ++ with_number number (drop i numbers)
-    → numbers ++ number ∷ [] ≡ with_number number numbers
+pub put_last : (number : ℕ) (numbers : List ℕ) (i : ℕ) → drop i numbers ≡ [] → with_root_number number numbers ≡ take i numbers ++ with_root_number number (drop i numbers)
+    → numbers ++ number ∷ [] ≡ with_root_number number numbers
 put_last number numbers i none so_far =
     ap (λ xs. xs ++ number ∷ []) (sym (ap (λ rest. take i numbers ++ rest) (sym none) ∙ take-append-drop i numbers) ∙ append-nil (take i numbers))
-    ∙ sym (so_far ∙ ap (λ rest. take i numbers ++ with_number number rest) none)
+    ∙ sym (so_far ∙ ap (λ rest. take i numbers ++ with_root_number number rest) none)
 
 -- an answer that lets the client go on
 pub answer_kept : (number : ℤ) (session : Session) (goes_on : Bool) (before after : List Client) → goes_on ≡ true
-    → after ≡ others number before ++ kept_client number session → FollowsNow number (kept goes_on (follows_of session)) before after
+    → after ≡ other_clients number before ++ kept_client number session → FollowsNow number (kept goes_on (follows_of session)) before after
 answer_kept number session goes_on before after goes is =
     subst (λ g. FollowsNow number (kept g (follows_of session)) before after) (sym goes) (kept_now number session before after is)
 
 -- and an answer that ends its session
 pub answer_dropped : (number : ℤ) (session : Session) (goes_on : Bool) (before after : List Client) → goes_on ≡ false
-    → after ≡ others number before → FollowsNow number (kept goes_on (follows_of session)) before after
+    → after ≡ other_clients number before → FollowsNow number (kept goes_on (follows_of session)) before after
 answer_dropped number session goes_on before after goes is =
     subst (λ g. FollowsNow number (kept g (follows_of session)) before after) (sym goes) (dropped_now number before after is)
 
 -- the number of one more subscription
 pub numbers_next : (numbers after : List ℕ) (all : List Subscription) (i : ℕ) (s : Subscription) (number : ℕ) (total : List ℕ)
-    → i < length all → s ≡ get_or all i s → number ≡ (subscription_data s).number → after ≡ with_number number numbers
+    → i < length all → s ≡ get_or all i s → number ≡ (subscription_data s).number → after ≡ with_root_number number numbers
     → numbers_from numbers (map subscription_data (drop i all)) ≡ total
     → numbers_from after (map subscription_data (drop (i + 1) all)) ≡ total
 numbers_next numbers after all i s number total within is named put so_far =
     let next : i + 1 ≡ suc i = omega arith in
     let parts : drop i all ≡ s ∷ drop (suc i) all = drop-cons all i s within ∙ ap (λ y. y ∷ drop (suc i) all) (sym is) in
     ap (λ n. numbers_from after (map subscription_data (drop n all))) next
-    ∙ ap (λ now. numbers_from now (map subscription_data (drop (suc i) all))) (put ∙ ap (λ n. with_number n numbers) named)
+    ∙ ap (λ now. numbers_from now (map subscription_data (drop (suc i) all))) (put ∙ ap (λ n. with_root_number n numbers) named)
     ∙ sym (ap (λ left. numbers_from numbers (map subscription_data left)) parts)
     ∙ so_far
 

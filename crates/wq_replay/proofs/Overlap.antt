@@ -22,7 +22,7 @@ use Rattle.wq_view.specs.Listing.{PassData}
 use Rattle.wq_replay.specs.Accepted.{AcceptsAt, AcceptsFor, AcceptsUnless}
 use Rattle.wq_replay.specs.Gets.{GetsAt, GetsFor, ending, fault_for}
 use Rattle.wq_replay.specs.Overlap.{Meanwhile, HasTrigger, RunsDoNotOverlap, StartsTrigger}
-use Rattle.wq_replay.specs.Playing.{Does}
+use Rattle.wq_replay.specs.Playing.{Happens}
 use Rattle.wq_replay.specs.Rounds.{HasRound, RoundsAt}
 use Rattle.wq_replay.specs.Runs.{other_runs}
 use Rattle.wq_replay.specs.World.{Crawls, CrawlsAt, HappeningData, crawl, watching, asked, idle, round, ended, SentData, Starts, WatchesAt, WorldData, root_text}
@@ -128,7 +128,7 @@ module _ (answers_are_calls : AnswersAreCalls) (rounds_are_calls : RoundsAreCall
 
   -- any happening but the end of the run
   step_keeps : (world : WorldData) (happening : HappeningData) (sent : List SentData) (next : WorldData) → IsRunning root name run sockname world
-      → Does world happening sent next → happening ≢ ended run → HasTrigger root name next
+      → Happens world happening sent next → happening ≢ ended run → HasTrigger root name next
       → (run_at root name next.shelf ≡ Some run) × (list_any (λ r. nat_eq run r) (next.runs).running ≡ true)
   step_keeps world (crawl at seen) sent next is (none, goes) other there =
       let same = (does answers_are_calls rounds_are_calls world (crawl at seen) sent next is.calls sockname is.leads (none, goes)) in

@@ -20,7 +20,7 @@ use Rattle.wq_view.specs.Listing.{PassData}
 use Rattle.wq_view.specs.View.{ViewData}
 use Rattle.wq_replay.specs.Accepted.{AcceptsAt, AcceptsOf, AcceptsRound, AcceptsUnless, RunsWith, ShelvesAreCalls}
 use Rattle.wq_replay.specs.Gets.{GetsAt, GetsFor, ending, fault_for}
-use Rattle.wq_replay.specs.Playing.{Does, Runs}
+use Rattle.wq_replay.specs.Playing.{Happens, Runs}
 use Rattle.wq_replay.specs.Rounds.{RoundsAt}
 use Rattle.wq_replay.specs.World.{Crawls, CrawlsAt, HappeningData, crawl, watching, asked, idle, round, ended, WatchesAt, SentData, Starts, WorldData, new_world, root_text}
 
@@ -93,7 +93,7 @@ module _ (answers_are_calls : AnswersAreCalls) (rounds_are_calls : RoundsAreCall
 
   -- a happening, on a shelf that calls lead to
   pub does : (world : WorldData) (happening : HappeningData) (sent : List SentData) (after : WorldData) (earlier : List CallNow) (sockname : List ℕ)
-      → world.shelf ≡ after_all earlier (blank sockname) → Does world happening sent after
+      → world.shelf ≡ after_all earlier (blank sockname) → Happens world happening sent after
       → (calls : List CallNow) × AcceptsOf world happening sent calls × (after.shelf ≡ after_all calls world.shelf)
   does world (crawl root seen) sent after earlier sockname leads (none, goes) = ([], refl, crawls world root seen after goes)
   does world (watching root seen) sent after earlier sockname leads (none, (place, is, goes)) = ([], refl, watches place world root seen after goes)

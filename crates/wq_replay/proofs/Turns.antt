@@ -13,7 +13,7 @@ use Rattle.wq_registry.specs.Change.{later}
 use Rattle.wq_registry.specs.Root.{RootData, changed, numbered, triggers_in}
 use Rattle.wq_registry.specs.Shelf.{triggers_of}
 use Rattle.wq_session.specs.At.{ShelfNow}
-use Rattle.wq_session.specs.Round.{HaveTurns, TurnData, after_turns, with_triggers}
+use Rattle.wq_session.specs.Round.{HaveTurns, TriggerTurnData, after_turns, with_triggers}
 use Rattle.wq_session.specs.Trigger.{run_in}
 use Rattle.wq_view.specs.View.{ViewData}
 use Rattle.wq_replay.specs.Overlap.{fired_for}
@@ -126,7 +126,7 @@ turn_starts instance view fired t after run start l m is fires agrees =
 
 module _ (instance : InstanceData) (view : ViewData) where
   -- a launcher that shows nothing shows nothing later
-  none_shown : (ts : ByName TriggerData) (turns : List TurnData) (left : LauncherData) → HaveTurns instance view ts None turns (Some left) → ⊥
+  none_shown : (ts : ByName TriggerData) (turns : List TriggerTurnData) (left : LauncherData) → HaveTurns instance view ts None turns (Some left) → ⊥
   none_shown [] [] left had = cc
   none_shown [] (u ∷ turns) left had = elim had [ ]
   none_shown (t ∷ ts) [] left had = elim had [ ]
@@ -134,7 +134,7 @@ module _ (instance : InstanceData) (view : ViewData) where
       none_shown ts turns left (subst (λ (o : Option LauncherData). HaveTurns instance view ts o turns (Some left)) none later)
 
   -- a run goes on over all turns
-  pub turns_go : (run : ℕ) (ts : ByName TriggerData) (turns : List TurnData) (l left : LauncherData) → goes_on run l ≡ true
+  pub turns_go : (run : ℕ) (ts : ByName TriggerData) (turns : List TriggerTurnData) (l left : LauncherData) → goes_on run l ≡ true
       → HaveTurns instance view ts (Some l) turns (Some left) → goes_on run left ≡ true
   turns_go run [] [] l left goes had = subst (λ (m : LauncherData). goes_on run m ≡ true) (sym (some_same had)) goes
   turns_go run [] (u ∷ turns) l left goes had = elim had [ ]
@@ -144,16 +144,16 @@ module _ (instance : InstanceData) (view : ViewData) where
       turns_go run ts turns m left (turn_goes run u.fired (t.1).running l m goes agrees) later
 
   -- a round passes over a trigger whose command runs
-  abbrev pub Passes : List ℕ → ℕ → List TurnData → Type 0
+  abbrev pub Passes : List ℕ → ℕ → List TriggerTurnData → Type 0
   Passes name run turns = (run_in (under name (after_turns turns)) ≡ Some run)
       × ((other : ℕ) (start : StartData) → fired_for name turns ≢ Some (started other start))
 
   -- the same by whether the first turn is that of the trigger
-  abbrev AtTurn : List ℕ → ℕ → TurnData → List TurnData → Bool → Type 0
+  abbrev AtTurn : List ℕ → ℕ → TriggerTurnData → List TriggerTurnData → Bool → Type 0
   AtTurn name run u turns b = (run_in (if b then Some u.after else under name (after_turns turns)) ≡ Some run)
       × ((other : ℕ) (start : StartData) → (if b then Some u.fired else fired_for name turns) ≢ Some (started other start))
 
-  pub turns_pass : (name : List ℕ) (run : ℕ) (ts : ByName TriggerData) (turns : List TurnData) (l left : LauncherData) → run_in (under name ts) ≡ Some run
+  pub turns_pass : (name : List ℕ) (run : ℕ) (ts : ByName TriggerData) (turns : List TriggerTurnData) (l left : LauncherData) → run_in (under name ts) ≡ Some run
       → goes_on run l ≡ true → HaveTurns instance view ts (Some l) turns (Some left) → Passes name run turns
   turns_pass name run [] turns l left has goes had = absurd cc
   turns_pass name run (t ∷ ts) [] l left has goes had = elim had [ ]
@@ -170,7 +170,7 @@ module _ (instance : InstanceData) (view : ViewData) where
       by false has rest = rest has
 
   -- a round starts the command of a trigger
-  pub turns_start : (name : List ℕ) (run : ℕ) (start : StartData) (ts : ByName TriggerData) (turns : List TurnData) (l left : LauncherData)
+  pub turns_start : (name : List ℕ) (run : ℕ) (start : StartData) (ts : ByName TriggerData) (turns : List TriggerTurnData) (l left : LauncherData)
       → HaveTurns instance view ts (Some l) turns (Some left) → fired_for name turns ≡ Some (started run start)
       → (run_in (under name (after_turns turns)) ≡ Some run) × (goes_on run left ≡ true)
   turns_start name run start [] [] l left had is = absurd cc
@@ -189,7 +189,7 @@ module _ (instance : InstanceData) (view : ViewData) where
       by false is rest = rest is
 
 -- the triggers of the root of a round, after it
-pub after_round : (root : ℕ) (name : List ℕ) (run : ℕ) (turns : List TurnData) (shelf after : ShelfNow) → after ≡ with_triggers root (after_turns turns) shelf
+pub after_round : (root : ℕ) (name : List ℕ) (run : ℕ) (turns : List TriggerTurnData) (shelf after : ShelfNow) → after ≡ with_triggers root (after_turns turns) shelf
     → (numbered root shelf.roots ≡ None → turns ≡ []) → run_in (under name (after_turns turns)) ≡ Some run → run_at root name after ≡ Some run
 after_round root name run turns shelf after is none has =
     by (put_triggers root (after_turns turns) shelf.roots)
@@ -197,18 +197,18 @@ after_round root name run turns shelf after is none has =
     by : (numbered root shelf.roots ≡ None) ⊎ (triggers_in (numbered root (changed root (λ r. record r { triggers = after_turns turns }) shelf.roots)) ≡ after_turns turns)
         → run_at root name after ≡ Some run
     by (inl missing) =
-        absurd (empty (subst (λ (turns : List TurnData). run_in (under name (after_turns turns)) ≡ Some run) (none missing) has))
+        absurd (empty (subst (λ (turns : List TriggerTurnData). run_in (under name (after_turns turns)) ≡ Some run) (none missing) has))
       where
         empty : None ≡ Some run → ⊥
         empty is = cc
     by (inr put) = ap (run_at root name) is ∙ ap (λ ts. run_in (under name ts)) put ∙ has
 
 -- a root that is not there has no turns
-pub no_turns : (instance : InstanceData) (view : ViewData) (shelf : ShelfNow) (turns : List TurnData) (shown left : Option LauncherData)
+pub no_turns : (instance : InstanceData) (view : ViewData) (shelf : ShelfNow) (turns : List TriggerTurnData) (shown left : Option LauncherData)
     → HaveTurns instance view (triggers_of instance.root shelf) shown turns left → numbered instance.root shelf.roots ≡ None → turns ≡ []
 no_turns instance view shelf turns shown left had none =
     by turns (subst (λ (o : Option (RootData TriggerData)). HaveTurns instance view (triggers_in o) shown turns left) none had)
   where
-    by : (turns : List TurnData) → HaveTurns instance view [] shown turns left → turns ≡ []
+    by : (turns : List TriggerTurnData) → HaveTurns instance view [] shown turns left → turns ≡ []
     by [] had = refl
     by (u ∷ turns) had = elim had [ ]

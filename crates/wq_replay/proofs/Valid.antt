@@ -10,18 +10,18 @@ use Rattle.wq_session.specs.Accepted.{AddedAreAsked, CallNow}
 use Rattle.wq_session.specs.HandedIn.{AsksHandInValid, HandsInValid}
 use Rattle.wq_session.specs.Need.{need_of}
 use Rattle.wq_session.specs.Out.{OutData}
-use Rattle.wq_session.specs.Round.{TurnData, turn_calls}
+use Rattle.wq_session.specs.Round.{TriggerTurnData, turn_calls}
 use Rattle.wq_session.specs.declared.ask.Ask.{Ask}
 use Rattle.wq_session.specs.declared.ask.Ask.TheVariants.{AddProgram}
 use Rattle.wq_session.proofs.Adding.{one_of}
 use Rattle.wq_verify.specs.Typing.{IsValid}
 use Rattle.wq_replay.specs.Accepted.{AcceptsAt, AcceptsOf, AcceptsRound, AcceptsUnless, RunsWith, ShelvesAreCalls}
 use Rattle.wq_replay.specs.Gets.{ending, fault_for}
-use Rattle.wq_replay.specs.Valid.{AreOfEvents, IsOfEvent, ProgramsAreValid}
+use Rattle.wq_replay.specs.Valid.{AreAsksOfEvents, IsOfEvent, ProgramsAreValid}
 use Rattle.wq_replay.specs.World.{crawl, watching, asked, idle, round, ended, HappeningData, SentData, WorldData, new_world, root_text}
 
 -- the calls of turns add no program
-turns_none : (raw : Raw) (root : ℕ) (turns : List TurnData) → AddsOne raw (turn_calls root turns) → ⊥
+turns_none : (raw : Raw) (root : ℕ) (turns : List TriggerTurnData) → AddsOne raw (turn_calls root turns) → ⊥
 turns_none raw root [] one = one
 turns_none raw root (turn ∷ turns) (inl none) = none
 turns_none raw root (turn ∷ turns) (inr one) = turns_none raw root turns one
@@ -64,7 +64,7 @@ module _ (added_are_asked : AddedAreAsked) (hand_in_valid : AsksHandInValid) (ra
 
   -- and so may one that the calls of happenings add
   each : (world : WorldData) (happenings : List HappeningData) (sent : List SentData) (after : WorldData) (calls : List CallNow)
-      → RunsWith world happenings sent after calls → AreOfEvents happenings → AddsOne raw calls → IsValid raw
+      → RunsWith world happenings sent after calls → AreAsksOfEvents happenings → AddsOne raw calls → IsValid raw
   each world [] sent after calls (none, is, empty) good one = absurd (subst (AddsOne raw) empty one)
   each world (happening ∷ later) sent after calls (next, first, rest, now, behind, does, accepts, leads, same, parts, more) good one =
       at (each next later rest after behind more good.1) (one_of raw now behind (subst (AddsOne raw) parts one))

@@ -33,7 +33,7 @@ use Rattle.wq_replay.specs.declared.sent.Sent.{Sent}
 use Rattle.wq_replay.specs.declared.world.World.{World}
 use Rattle.wq_clock.specs.Run.{RunData, instance_of, run_data}
 use Rattle.wq_replay.specs.Gets.{AnswersInWorld, EndsAt, Gets, GetsAt, GetsFor, Rests, answered, at_end, ending, fault_for, kept, looked, numbered, with_follows}
-use Rattle.wq_replay.specs.Playing.{Does, Runs}
+use Rattle.wq_replay.specs.Playing.{Happens, Runs}
 use Rattle.wq_replay.specs.World.{Crawls, CrawlsAt, HappeningData, RefusedData, SentData, Starts, Watches, WatchesAt, WorldData, unrefused}
 
 some_same : {X : Type 0} {x y : X} → Some x ≡ Some y → x ≡ y
@@ -50,7 +50,7 @@ runs_go_on world between after (happening ∷ first) later sent rest (next, now,
     (next, now, behind ++ rest, does, ap (λ s. s ++ rest) is ∙ append_assoc now behind rest, runs_go_on next between after first later behind rest runs goes)
 
 -- one happening is a run
-pub runs_one : (world after : WorldData) (happening : HappeningData) (sent : List SentData) → Does world happening sent after
+pub runs_one : (world after : WorldData) (happening : HappeningData) (sent : List SentData) → Happens world happening sent after
     → Runs world (happening ∷ []) sent after
 runs_one world after happening sent does = (after, sent, [], does, sym (append-nil sent), (refl, refl))
 
@@ -259,7 +259,7 @@ PlaysOn before all sent now left =
 
 -- one more happening was played
 pub plays_one : (before now next : WorldData) (all left : List HappeningData) (happening : HappeningData) (sent said : List SentData)
-    → PlaysOn before all sent now (happening ∷ left) → Does now happening said next → PlaysOn before all (sent ++ said) next left
+    → PlaysOn before all sent now (happening ∷ left) → Happens now happening said next → PlaysOn before all (sent ++ said) next left
 plays_one before now next all left happening sent said plays does = λ rest after runs.
     subst (λ s. Runs before all s after) (sym (append_assoc sent said rest))
     (plays (said ++ rest) after (next, said, rest, does, refl, runs))
@@ -267,7 +267,7 @@ plays_one before now next all left happening sent said plays does = λ rest afte
 -- the same of the code's happenings and replies
 pub plays_next : (before now next : WorldData) (all : List HappeningData) (left behind : List Happening) (happening : Happening)
     (sent after : List Sent) (said : Option Sent) → left ≡ happening ∷ behind → all_sent after ≡ all_sent sent ++ sent_if said
-    → PlaysOn before all (all_sent sent) now (map happening_data left) → Does now (happening_data happening) (sent_if said) next
+    → PlaysOn before all (all_sent sent) now (map happening_data left) → Happens now (happening_data happening) (sent_if said) next
     → PlaysOn before all (all_sent after) next (map happening_data behind)
 plays_next before now next all left behind happening sent after said is more plays does =
     subst (λ s. PlaysOn before all s next (map happening_data behind)) (sym more)

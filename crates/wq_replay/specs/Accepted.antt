@@ -16,7 +16,7 @@ use Rattle.wq_session.specs.declared.ask.Ask.{Ask}
 use Rattle.wq_crawl.specs.declared.fault.CrawlFault.{CrawlFault}
 use Rattle.wq_session.specs.declared.refusal.Refusal.TheVariants.{NoMemory}
 use Rattle.wq_replay.specs.Gets.{at_end, ending, fault_for, looked}
-use Rattle.wq_replay.specs.Playing.{Does, Runs, sent_to}
+use Rattle.wq_replay.specs.Playing.{Happens, Runs, sent_to}
 use Rattle.wq_replay.specs.Rounds.{HasRound}
 use Rattle.wq_replay.specs.World.{WorldData, HappeningData, crawl, watching, asked, idle, round}
 use Rattle.wq_replay.specs.World.{ended, SentData, new_world, root_text}
@@ -72,7 +72,7 @@ RunsWith world [] sent after calls = (sent ≡ []) × (after ≡ world) × (call
 RunsWith world (happening ∷ later) sent after calls =
     (next : WorldData) × (first rest : List SentData)
     × (now : List CallNow) × (behind : List CallNow)
-    × Does world happening first next × AcceptsOf world happening first now
+    × Happens world happening first next × AcceptsOf world happening first now
     × (next.shelf ≡ after_all now world.shelf) × (sent ≡ first ++ rest)
     × (calls ≡ now ++ behind) × RunsWith next later rest after behind
 

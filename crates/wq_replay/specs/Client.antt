@@ -17,22 +17,22 @@ follows_in number (client ∷ later) =
     if is_of number client then follows_of client.session else follows_in number later
 
 -- the other clients
-abbrev pub others : ℤ → List Client → List Client
-others number = filter (λ client. not (is_of number client))
+abbrev pub other_clients : ℤ → List Client → List Client
+other_clients number = filter (λ client. not (is_of number client))
 
 -- ascending numbers with this one, which is added if it is not among them
-abbrev pub with_number : ℕ → List ℕ → List ℕ
-with_number number [] = number ∷ []
-with_number number (first ∷ later) =
-    if nat_lt first number then first ∷ with_number number later
+abbrev pub with_root_number : ℕ → List ℕ → List ℕ
+with_root_number number [] = number ∷ []
+with_root_number number (first ∷ later) =
+    if nat_lt first number then first ∷ with_root_number number later
     else if nat_eq number first then first ∷ later
     else number ∷ first ∷ later
 
 -- such numbers, with the numbers of the roots of these subscriptions
 abbrev pub numbers_from : List ℕ → List SubscriptionData → List ℕ
 numbers_from numbers [] = numbers
-numbers_from numbers (s ∷ later) = numbers_from (with_number s.number numbers) later
+numbers_from numbers (s ∷ later) = numbers_from (with_root_number s.number numbers) later
 
 -- the numbers of the roots of these subscriptions, each once, ascending
-abbrev pub numbers_of : List SubscriptionData → List ℕ
-numbers_of = numbers_from []
+abbrev pub root_numbers_of : List SubscriptionData → List ℕ
+root_numbers_of = numbers_from []

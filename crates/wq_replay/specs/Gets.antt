@@ -18,7 +18,7 @@ use Rattle.wq_session.specs.Out.{OutData}
 use Rattle.wq_session.specs.declared.ask.Ask.{Ask}
 use Rattle.wq_session.specs.declared.refusal.Refusal.TheVariants.{NoMemory}
 use Rattle.wq_crawl.specs.declared.fault.CrawlFault.{CrawlFault}
-use Rattle.wq_replay.specs.World.{RefusedData, WorldData, at_events, shows, unrefused}
+use Rattle.wq_replay.specs.World.{RefusedData, WorldData, at_events, shows_root, unrefused}
 
 -- the fault of the last crawl or watching, if that was of this root and was refused
 abbrev pub refused_fault : List ℕ → Option RefusedData → Option CrawlFault
@@ -29,9 +29,9 @@ refused_fault root (Some refused) = if bytes_eq refused.root root then Some refu
 -- its root is shown, a watching if it is not
 abbrev pub fault_for : NeedData → TableData → Option RefusedData → Option CrawlFault
 fault_for (crawl_of root) table refused =
-    if shows root table then refused_fault root refused else None
+    if shows_root root table then refused_fault root refused else None
 fault_for (watch_of root) table refused =
-    if shows root table then None else refused_fault root refused
+    if shows_root root table then None else refused_fault root refused
 fault_for _ table refused = None
 
 -- the number of the root that an ask ends, if it is shown

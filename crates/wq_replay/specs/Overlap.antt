@@ -6,15 +6,15 @@ use Rattle.std.specs.Str.{bytes_eq}
 use Rattle.wq_clock.specs.Run.{RunData, instance_of}
 use Rattle.wq_follow.specs.Round.{FiredData, started}
 use Rattle.wq_follow.specs.Start.{StartData}
-use Rattle.wq_session.specs.Round.{TurnData}
+use Rattle.wq_session.specs.Round.{TriggerTurnData}
 use Rattle.wq_session.specs.Trigger.{trigger_called}
 use Rattle.wq_view.specs.View.{ViewData}
-use Rattle.wq_replay.specs.Playing.{Does, Runs}
+use Rattle.wq_replay.specs.Playing.{Happens, Runs}
 use Rattle.wq_replay.specs.Rounds.{HasRound}
 use Rattle.wq_replay.specs.World.{WorldData, HappeningData, ended, SentData, new_world}
 
 -- the result of a round for the trigger of a name, if there is one
-abbrev pub fired_for : List ℕ → List TurnData → Option FiredData
+abbrev pub fired_for : List ℕ → List TriggerTurnData → Option FiredData
 fired_for name [] = None
 fired_for name (turn ∷ turns) =
     if bytes_eq name turn.name then Some turn.fired else fired_for name turns
@@ -34,7 +34,7 @@ HasTrigger root name world = is_some (trigger_called root name world.shelf) ≡ 
 abbrev pub Meanwhile : ℕ → List ℕ → ℕ → WorldData → List HappeningData → WorldData → Type 0
 Meanwhile root name run world [] after = after ≡ world
 Meanwhile root name run world (happening ∷ later) after =
-    (sent : List SentData) × (next : WorldData) × Does world happening sent next
+    (sent : List SentData) × (next : WorldData) × Happens world happening sent next
     × (happening ≢ ended run) × HasTrigger root name next × Meanwhile root name run next later after
 
 -- after a trigger was started, no round starts it before its run has ended, unless a client deletes

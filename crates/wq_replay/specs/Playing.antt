@@ -23,21 +23,21 @@ abbrev pub sent_to : ℤ → OutData → List SentData
 sent_to client out = sent_for client out.shuts out.reply ++ map (sent_list client) out.lists
 
 -- a happening comes: the server sends these lines, and this is the world after it
-abbrev pub Does : WorldData → HappeningData → List SentData → WorldData → Type 0
-Does world (crawl root seen) sent after = (sent ≡ []) × Crawls world root seen after
-Does world (watching root seen) sent after = (sent ≡ []) × Watches world root seen after
-Does world (asked client ask) sent after =
+abbrev pub Happens : WorldData → HappeningData → List SentData → WorldData → Type 0
+Happens world (crawl root seen) sent after = (sent ≡ []) × Crawls world root seen after
+Happens world (watching root seen) sent after = (sent ≡ []) × Watches world root seen after
+Happens world (asked client ask) sent after =
     (out : OutData) × Gets client world ask out after × (sent ≡ sent_to client out)
-Does world (idle client root) sent after =
+Happens world (idle client root) sent after =
     (out : OutData) × Rests client root world out after × (sent ≡ sent_to client out)
-Does world (round root succeeds) sent after = Rounds root succeeds world sent after
-Does world (ended run) sent after = (sent ≡ []) × (after ≡ without_running run world)
+Happens world (round root succeeds) sent after = Rounds root succeeds world sent after
+Happens world (ended run) sent after = (sent ≡ []) × (after ≡ without_running run world)
 
 -- these happenings come in turn
 abbrev pub Runs : WorldData → List HappeningData → List SentData → WorldData → Type 0
 Runs world [] sent after = (sent ≡ []) × (after ≡ world)
 Runs world (happening ∷ later) sent after =
-    (next : WorldData) × (first rest : List SentData) × Does world happening first next
+    (next : WorldData) × (first rest : List SentData) × Happens world happening first next
     × (sent ≡ first ++ rest) × Runs next later rest after
 
 -- two runs, one after the other, are one run

@@ -18,7 +18,7 @@ use Rattle.wq_crawl.specs.declared.fault.CrawlFault.TheVariants.{Unreadable}
 use Rattle.wq_view.specs.Listing.{PassData}
 use Rattle.wq_replay.specs.Limit.{max_script}
 use Rattle.wq_replay.specs.Line.{lines_of}
-use Rattle.wq_replay.specs.Client.{numbers_of}
+use Rattle.wq_replay.specs.Client.{root_numbers_of}
 use Rattle.wq_replay.specs.Rounds.{trigger_run}
 use Rattle.wq_replay.specs.Stage.{StageData, Turn, drafts, lists, hears, rests, fires, finishes}
 use Rattle.wq_replay.specs.Stage.{malformed, start, turn_of}
@@ -68,7 +68,7 @@ pub record IsHeard (stage : StageData) (client : ℤ) (event : Event) (sent : Li
 
 -- the happenings if a client has an idle moment of each root that it is subscribed to
 abbrev pub moments : ℤ → WorldData → List HappeningData
-moments client world = map (idle client) (numbers_of (world.follows client))
+moments client world = map (idle client) (root_numbers_of (world.follows client))
 
 -- the happenings if the triggers of `/r` have a round
 abbrev pub rounds : Bool → List HappeningData

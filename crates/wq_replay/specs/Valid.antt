@@ -16,13 +16,13 @@ IsOfEvent (asked client ask) = (event : Event) × Asks event ask
 IsOfEvent _ = Unit {0}
 
 -- and so is each ask of happenings
-abbrev pub AreOfEvents : List HappeningData → Type 0
-AreOfEvents [] = Unit {0}
-AreOfEvents (happening ∷ later) = IsOfEvent happening × AreOfEvents later
+abbrev pub AreAsksOfEvents : List HappeningData → Type 0
+AreAsksOfEvents [] = Unit {0}
+AreAsksOfEvents (happening ∷ later) = IsOfEvent happening × AreAsksOfEvents later
 
 -- each program under a name on the shelf of a world may run
 abbrev pub ProgramsAreValid : Type 0
 ProgramsAreValid = (run : RunData) (sockname : List ℕ) (happenings : List HappeningData)
     (sent : List SentData) (after : WorldData) (name : List ℕ) (raw : Raw)
-    → Runs (new_world run sockname) happenings sent after → AreOfEvents happenings
+    → Runs (new_world run sockname) happenings sent after → AreAsksOfEvents happenings
     → under name (after.shelf).programs ≡ Some raw → IsValid raw

@@ -90,8 +90,8 @@ abbrev pub at_events : List RootEvent → WorldData → WorldData
 at_events events world = record world { events = events }
 
 -- whether the root of a text is shown
-abbrev pub shows : List ℕ → TableData → Bool
-shows root table = is_some (number_by_text root table)
+abbrev pub shows_root : List ℕ → TableData → Bool
+shows_root root table = is_some (number_by_text root table)
 
 -- a crawl of a root that listed this. A root that is not shown stays so. Otherwise the pass is
 -- added, unless it tells nothing. It is refused if the ticks are used up

@@ -9,7 +9,7 @@ ghost use Rattle.wq_session.specs.At.{at_data};
 ghost use Rattle.wq_session.specs.Followed.{follows_of};
 ghost use Rattle.wq_session.specs.Moment.{Idles};
 ghost use Rattle.wq_session.specs.Shelved.{shelf_data};
-ghost use Rattle.wq_replay.specs.Client.{follows_in, is_of, numbers_of, others, with_number};
+ghost use Rattle.wq_replay.specs.Client.{follows_in, is_of, other_clients, root_numbers_of, with_root_number};
 ghost use Rattle.wq_replay.specs.Clients.{FollowsNow, kept_client};
 ghost use Rattle.wq_replay.specs.Gets.{kept};
 
@@ -66,7 +66,7 @@ pub(crate) fn idle(
 /// Takes a client out, and gives its session: a new one, if none was kept.
 fn take_out(clients: &mut Vec<Client>, alloc: Global, number: i64) -> Session
     ensures session { follows_of result ≡ follows_in number clients.old.items }
-    ensures others { clients.new.items ≡ others number clients.old.items }
+    ensures others { clients.new.items ≡ other_clients number clients.old.items }
     ensures shorter { vec_len clients.new ≤ vec_len clients.old }
     ensures room { vec_capacity clients.new ≡ vec_capacity clients.old }
 {
@@ -87,7 +87,7 @@ fn place_of(clients: &[Client], number: i64) -> Option<usize>
 
 /// Takes a client out.
 fn drop_client(clients: &mut Vec<Client>, number: i64)
-    ensures others { clients.new.items ≡ others number clients.old.items }
+    ensures others { clients.new.items ≡ other_clients number clients.old.items }
     ensures shorter { vec_len clients.new ≤ vec_len clients.old }
     ensures room { vec_capacity clients.new ≡ vec_capacity clients.old }
 {
@@ -115,7 +115,7 @@ pub(crate) fn numbers(
     number: i64,
 ) -> Result<Vec<u64>, AllocError>
     ensures { IfOk result (λ numbers. numbers.items
-        ≡ numbers_of (follows_in number clients.now)) }
+        ≡ root_numbers_of (follows_in number clients.now)) }
 {
     match place_of(clients, number) {
         Some(place) => root_numbers(alloc, clients[place].session.subscriptions()),
@@ -126,7 +126,7 @@ pub(crate) fn numbers(
 /// The numbers of the roots of these subscriptions, each once, ascending.
 fn root_numbers(alloc: Global, subscriptions: &[Subscription]) -> Result<Vec<u64>, AllocError>
     ensures { IfOk result (λ numbers. numbers.items
-        ≡ numbers_of (map subscription_data subscriptions.now)) }
+        ≡ root_numbers_of (map subscription_data subscriptions.now)) }
 {
     let mut numbers = Vec::new(alloc);
     for subscription in subscriptions {
@@ -137,7 +137,7 @@ fn root_numbers(alloc: Global, subscriptions: &[Subscription]) -> Result<Vec<u64
 
 /// Puts a number among ascending numbers, if it is not there.
 fn put_number(numbers: &mut Vec<u64>, number: u64) -> Result<(), AllocError>
-    ensures { OnOk result (numbers.new.items ≡ with_number number numbers.old.items) }
+    ensures { OnOk result (numbers.new.items ≡ with_root_number number numbers.old.items) }
 {
     if let Some(place) = place_for(numbers, number) {
         numbers.insert(place, number)?;
@@ -147,10 +147,10 @@ fn put_number(numbers: &mut Vec<u64>, number: u64) -> Result<(), AllocError>
 
 /// The place for a number among ascending numbers, if it is not there.
 fn place_for(numbers: &[u64], number: u64) -> Option<usize>
-    ensures there { IfNone result (numbers.now ≡ with_number number numbers.now) }
+    ensures there { IfNone result (numbers.now ≡ with_root_number number numbers.now) }
     ensures within { IfSome result (λ place. place ≤ length numbers.now) }
     ensures put { IfSome result (λ place.
-        insert numbers.now place number ≡ with_number number numbers.now) }
+        insert numbers.now place number ≡ with_root_number number numbers.now) }
 {
     for place in 0..numbers.len() {
         let first = numbers[place];

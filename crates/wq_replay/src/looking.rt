@@ -8,7 +8,7 @@ ghost use Rattle.wq_session.specs.At.{at_data};
 ghost use Rattle.wq_clock.specs.Run.{instance_of, run_data};
 ghost use Rattle.wq_replay.specs.Stands.{refused_data};
 ghost use Rattle.wq_replay.specs.Gets.{at_root, ending, fault_for, looked, numbered, refused_fault};
-ghost use Rattle.wq_replay.specs.World.{shows};
+ghost use Rattle.wq_replay.specs.World.{shows_root};
 
 use crate::refused::Refused;
 use wq_clock::{Instance, Run};
@@ -18,7 +18,7 @@ use wq_session::{At, Need};
 
 /// Whether the root of this text is shown.
 pub(crate) fn shows(table: &RootTable, root: &str) -> bool
-    ensures { result ≡ shows root.now table.now }
+    ensures { result ≡ shows_root root.now table.now }
 {
     table.number_of(root).is_some()
 }

@@ -9,11 +9,11 @@ ghost use Rattle.wq_live.specs.declared.event.RootEvent.TheVariants.{Started};
 ghost use Rattle.wq_session.specs.Need.{need_of};
 ghost use Rattle.wq_view.specs.Listing.{listing_of};
 ghost use Rattle.wq_clock.specs.Run.{instance_of, run_data};
-ghost use Rattle.wq_replay.specs.Client.{numbers_of};
+ghost use Rattle.wq_replay.specs.Client.{root_numbers_of};
 ghost use Rattle.wq_replay.specs.Stands.{Leads, Stands, all_sent, crawl_data, happening_data};
 ghost use Rattle.wq_replay.specs.Stands.{sent_if};
 ghost use Rattle.wq_replay.specs.Gets.{AnswersInWorld, EndsAt, Gets, Rests, looked};
-ghost use Rattle.wq_replay.specs.Playing.{Does, Runs};
+ghost use Rattle.wq_replay.specs.Playing.{Happens, Runs};
 ghost use Rattle.wq_replay.specs.World.{Crawls, HappeningData, SentData, Starts, Watches};
 ghost use Rattle.wq_replay.specs.World.{WorldData, new_world, root_text};
 ghost use Rattle.wq_replay.specs.Rounds.{Rounds, trigger_run, sent_note, without_running};
@@ -142,7 +142,7 @@ impl World {
         happening: Happening<'_>,
     ) -> Result<Option<Sent>, AllocError>
         ensures { (before : WorldData) → Stands before self.old → IfOk result (λ sent.
-            (after : WorldData) × Does before (happening_data happening.entry) (sent_if sent) after
+            (after : WorldData) × Happens before (happening_data happening.entry) (sent_if sent) after
             × Stands after self.new) }
     {
         match happening {
@@ -342,7 +342,7 @@ impl World {
     /// The numbers of the roots of a client's subscriptions, each once, ascending.
     pub fn numbers(&self, alloc: Global, client: i64) -> Result<Vec<u64>, AllocError>
         ensures { (before : WorldData) → Stands before self.now → IfOk result (λ numbers.
-            numbers.items ≡ numbers_of (before.follows client)) }
+            numbers.items ≡ root_numbers_of (before.follows client)) }
     {
         clients::numbers(&self.clients, alloc, client)
     }

@@ -17,7 +17,7 @@ use Rattle.wq_registry.specs.ByName.{has_no_place}
 use Rattle.wq_registry.specs.Shelf.{root_has_no_place}
 use Rattle.wq_registry.specs.History.{adds_trigger, after_all, removes_trigger}
 use Rattle.wq_session.specs.Accepted.{CallNow, Accepts, AnswersAreCalls, calls_of, cursor_calls, definition_calls, made_calls, query_calls, shown_calls, unset_calls}
-use Rattle.wq_session.specs.Trigger.{begun_trigger, defined_by, has_no_trigger_place, name_in, put_trigger, trigger_in}
+use Rattle.wq_session.specs.Trigger.{begun_trigger, defined_by, defined_name, has_no_trigger_place, put_trigger, trigger_in}
 use Rattle.wq_session.specs.Answer.{AnswerData, finished, without_cursor}
 use Rattle.wq_session.specs.Program.{is_name}
 use Rattle.wq_session.specs.Subscribe.{begun_subscription, first_plan}
@@ -110,8 +110,8 @@ module _ (shelf : ShelfNow) where
           (or_own_fault program (λ program. put_trigger root number d program shelf))
       found (Err refusal) = tt
       found (Ok program) =
-          unless TooManyTriggers (not (has_no_trigger_place number (name_in d) shelf))
-          (adds_trigger number (name_in d) (trigger_in root number d program shelf) ∷ []) shelf _ refl
+          unless TooManyTriggers (not (has_no_trigger_place number (defined_name d) shelf))
+          (adds_trigger number (defined_name d) (trigger_in root number d program shelf) ∷ []) shelf _ refl
 
   -- the consequences if the root is watched
   where_watched : (at : AtData) (test : Bool) (calls : List CallNow) (next : AtData → Result BegunData Refusal)

@@ -2,7 +2,7 @@
 use Rattle.std.proofs.Common.{◌≡◌, ◌<◌, ◌≤◌, ◌⊎◌, inl, inr, ℕ, List, [], ◌∷◌, subst, arith}
 use Rattle.wq_follow.specs.Launcher.{most_failures}
 use Rattle.wq_follow.specs.Round.{CountsFailure, FiredData, runs, quiet, started, failed, short}
-use Rattle.wq_session.specs.Round.{CountFailures, FailedStartsAreCounted, HasFailure, TurnData}
+use Rattle.wq_session.specs.Round.{CountFailures, FailedStartsAreCounted, HasFailure, TriggerTurnData}
 
 -- a turn after which the count is greater or the same, and turns after which it is
 rises_then : (most b n c : ℕ) → (b < n) ⊎ (n ≡ most) → (n ≤ c) ⊎ (most ≤ c) → (b < c) ⊎ (most ≤ c)
@@ -32,7 +32,7 @@ turn_keeps quiet b n is = inl (omega (arith, is))
 turn_keeps (started run start) b n is = inl (omega (arith, is))
 turn_keeps short b n is = inl (omega (arith, is))
 
-turns_keep : (turns : List TurnData) (b c : ℕ) → CountFailures turns b c → (b ≤ c) ⊎ (most_failures ≤ c)
+turns_keep : (turns : List TriggerTurnData) (b c : ℕ) → CountFailures turns b c → (b ≤ c) ⊎ (most_failures ≤ c)
 turns_keep [] b c is = inl (omega (arith, is))
 turns_keep (turn ∷ turns) b c (n, one, more) =
     stays_then most_failures b n c (turn_keeps turn.fired b n one) (turns_keep turns n c more)

@@ -8,7 +8,7 @@ use Rattle.wq_registry.specs.Shelf.{cursor_unset}
 use Rattle.wq_follow.specs.Subscription.{SubscriptionData}
 use Rattle.wq_clock.specs.Instance.{InstanceData}
 use Rattle.wq_session.proofs.Follows.{followed_stays, is_followed}
-use Rattle.wq_session.specs.Answer.{AnswersAsk, Finishes, TakesAsk, AnswerData, DoneData, begun_at, begun_by, finished, following, giving, listed, settled, unmade, without_cursor}
+use Rattle.wq_session.specs.Answer.{AnswersAsk, Finishes, TakesAsk, AnswerData, DoneData, subscribing_at, subscribing_by, finished, following, giving, listed, settled, unmade, without_cursor}
 use Rattle.wq_session.specs.Followed.{has_no_room}
 use Rattle.wq_session.specs.declared.refusal.Refusal.TheVariants.{TooManySubscriptions}
 use Rattle.wq_session.specs.At.{AtData, ShelfNow}
@@ -33,12 +33,12 @@ none_begun : (s : SubscriptionData) (at : Option AtData) (follows : List Subscri
 none_begun s at follows = by (has_no_room s.number s.name follows) at
   where
     shown : (instance : InstanceData) (view : Option ViewData)
-        → (option_map_or (λ view. begun_at s instance view follows) view (giving (silence true) follows)).out.unset ≡ None
+        → (option_map_or (λ view. subscribing_at s instance view follows) view (giving (silence true) follows)).out.unset ≡ None
     shown instance None = refl
     shown instance (Some view) = refl
 
     by : (full : Bool) (at : Option AtData)
-        → (if full then giving (refuses TooManySubscriptions) follows else begun_by s at follows).out.unset ≡ None
+        → (if full then giving (refuses TooManySubscriptions) follows else subscribing_by s at follows).out.unset ≡ None
     by true at = refl
     by false None = refl
     by false (Some at) = shown at.instance at.view

@@ -18,7 +18,7 @@ use Rattle.wq_session.specs.Answer.{CanFinish, TakesAsk}
 use Rattle.wq_session.specs.At.{AtData, ShelfNow, is_watched}
 use Rattle.wq_session.specs.Begun.{or_refused, tried}
 use Rattle.wq_session.specs.Clock.{clock_data}
-use Rattle.wq_session.specs.Trigger.{begun_trigger, defined_by, has_no_trigger_place, name_in, put_trigger}
+use Rattle.wq_session.specs.Trigger.{begun_trigger, defined_by, defined_name, has_no_trigger_place, put_trigger}
 use Rattle.wq_session.specs.Out.{OutData, replies}
 use Rattle.wq_session.specs.Program.{is_name}
 use Rattle.wq_session.specs.Subscribe.{begun_subscription, first_plan}
@@ -114,7 +114,7 @@ module _ (at : AtData) (shelf : ShelfNow) where
       found : (program : Result (Option Raw) Refusal)
           → Fits (Some at) (or_own_fault program (λ program. put_trigger root number d program shelf))
       found (Err refusal) = tt
-      found (Ok program) = unless_said TooManyTriggers (not (has_no_trigger_place number (name_in d) shelf)) _ _ (Some at)
+      found (Ok program) = unless_said TooManyTriggers (not (has_no_trigger_place number (defined_name d) shelf)) _ _ (Some at)
 
   -- the beginning of `unsubscribe` can be finished
   with_name : (number : ℕ) (name : List ℕ) (test : Bool)

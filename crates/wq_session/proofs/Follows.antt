@@ -19,7 +19,7 @@ use Rattle.wq_view.specs.View.{ViewData}
 use Rattle.wq_session.specs.At.{AtData, ShelfNow, is_watched}
 use Rattle.wq_session.specs.Begun.{begun, or_refused, takes_memory, tried}
 use Rattle.wq_session.specs.Clock.{clock_data}
-use Rattle.wq_session.specs.Trigger.{begun_trigger, defined_by, has_no_trigger_place, name_in, put_trigger}
+use Rattle.wq_session.specs.Trigger.{begun_trigger, defined_by, defined_name, has_no_trigger_place, put_trigger}
 use Rattle.wq_session.specs.Out.{OutData, replies}
 use Rattle.wq_session.specs.Program.{is_name}
 use Rattle.wq_session.specs.Query.{begun_query, has_place, moved_cursor, plan_at, program_for, used_at}
@@ -108,7 +108,7 @@ module _ (ask : Ask) (shelf : ShelfNow) where
       put : (program : Result (Option Raw) Refusal)
           → Stays ask shelf (or_own_fault program (λ program. put_trigger root number d program shelf))
       put (Err refusal) = tt
-      put (Ok program) = unless_said TooManyTriggers (not (has_no_trigger_place number (name_in d) shelf)) _ _
+      put (Ok program) = unless_said TooManyTriggers (not (has_no_trigger_place number (defined_name d) shelf)) _ _
 
   module _ (takes : takes_memory ask ≡ true) where
     -- the beginning of `subscribe`

@@ -12,7 +12,7 @@ use Rattle.wq_follow.specs.Followed.{subscription_data}
 use Rattle.wq_follow.specs.Subscription.{SubscriptionData}
 use Rattle.wq_follow.specs.declared.subscription.Subscription.{Subscription}
 use Rattle.wq_session.specs.At.{AtData}
-use Rattle.wq_session.specs.Moment.{Idles, MayRunOut, Shown, TellsOne, left_of, lists_of, shown_in, told_at, told_of}
+use Rattle.wq_session.specs.Moment.{Idles, MayRunOut, Shown, TellsOne, left_of, shown_in, told_list_at, told_lists_of, told_of}
 use Rattle.wq_session.specs.Out.{OutData, tells_lists}
 use Rattle.wq_session.proofs.Called.{removed_between, set_between, set_made}
 
@@ -76,7 +76,7 @@ module _ (root : ℕ) (shown : Shown) (front : List SubscriptionData) (s : Subsc
       → length front ≡ place → TellsOne root shown front s later lists (Ok (place + 1)) follows lists
   tells_other place follows other is there =
       let nothing : told_of root shown s ≡ record { lists = []; left = s ∷ [] } =
-      ap (λ b. if b then told_at shown s else record { lists = []; left = s ∷ [] }) other in (
+      ap (λ b. if b then told_list_at shown s else record { lists = []; left = s ∷ [] }) other in (
         is ∙ sym (append_assoc front (s ∷ []) later) ∙ ap (λ t. front ++ t.left ++ later) (sym nothing),
         sym (append-nil lists) ∙ ap (λ t. lists ++ t.lists) (sym nothing),
         ap (λ n. n + 1) (sym there) ∙ ap (λ t. length front + length t.left) (sym nothing),
@@ -84,11 +84,11 @@ module _ (root : ℕ) (shown : Shown) (front : List SubscriptionData) (s : Subsc
 
   -- one of this root is told this
   pub tells_this : (next : ℕ) (after : List SubscriptionData) (told : List (List ℕ)) → nat_eq root s.number ≡ true
-      → after ≡ front ++ (told_at shown s).left ++ later → told ≡ lists ++ (told_at shown s).lists
-      → next ≡ length front + length (told_at shown s).left → TellsOne root shown front s later lists (Ok next) after told
+      → after ≡ front ++ (told_list_at shown s).left ++ later → told ≡ lists ++ (told_list_at shown s).lists
+      → next ≡ length front + length (told_list_at shown s).left → TellsOne root shown front s later lists (Ok next) after told
   tells_this next after told this is given moved =
-      let so : told_of root shown s ≡ told_at shown s =
-      ap (λ b. if b then told_at shown s else record { lists = []; left = s ∷ [] }) this in (
+      let so : told_of root shown s ≡ told_list_at shown s =
+      ap (λ b. if b then told_list_at shown s else record { lists = []; left = s ∷ [] }) this in (
         is ∙ ap (λ t. front ++ t.left ++ later) (sym so),
         given ∙ ap (λ t. lists ++ t.lists) (sym so),
         moved ∙ ap (λ t. length front + length t.left) (sym so),
@@ -104,10 +104,10 @@ module _ (root : ℕ) (shown : Shown) (front : List SubscriptionData) (s : Subsc
 module _ (root : ℕ) (at : Option AtData) where
   -- one more list after the others
   lists_more : (polled : List SubscriptionData) (s : SubscriptionData)
-      → lists_of root (shown_in at) polled ++ (told_of root (shown_in at) s).lists ≡ lists_of root (shown_in at) (polled ++ s ∷ [])
+      → told_lists_of root (shown_in at) polled ++ (told_of root (shown_in at) s).lists ≡ told_lists_of root (shown_in at) (polled ++ s ∷ [])
   lists_more [] s = sym (append-nil (told_of root (shown_in at) s).lists)
   lists_more (first ∷ polled) s =
-      append_assoc (told_of root (shown_in at) first).lists (lists_of root (shown_in at) polled) (told_of root (shown_in at) s).lists
+      append_assoc (told_of root (shown_in at) first).lists (told_lists_of root (shown_in at) polled) (told_of root (shown_in at) s).lists
       ∙ ap (λ lists. (told_of root (shown_in at) first).lists ++ lists) (lists_more polled s)
 
   left_more : (polled : List SubscriptionData) (s : SubscriptionData)
@@ -125,7 +125,7 @@ module _ (root : ℕ) (at : Option AtData) where
     pub counted : length polled ≡ count
     pub left : now ≡ left_of root (shown_in at) polled ++ later
     pub placed : length (left_of root (shown_in at) polled) ≡ place
-    pub told : lists ≡ lists_of root (shown_in at) polled
+    pub told : lists ≡ told_lists_of root (shown_in at) polled
 
   -- none at first
   pub none_told : (follows : List SubscriptionData) → Told follows 0 follows 0 []

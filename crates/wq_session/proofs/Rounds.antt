@@ -16,7 +16,7 @@ use Rattle.wq_registry.specs.Root.{RootData, changed, numbered, triggers_in, wit
 use Rattle.wq_registry.specs.Shelf.{ShelfData, blank, trigger_changed, triggers_of}
 use Rattle.wq_view.specs.View.{ViewData}
 use Rattle.wq_session.specs.At.{ShelfNow}
-use Rattle.wq_session.specs.Round.{CountFailures, HasTurn, HaveTurns, IsCountedRound, RoundsAreCalls, TurnData, after_turns, turn_calls, with_triggers}
+use Rattle.wq_session.specs.Round.{CountFailures, HasTurn, HaveTurns, IsCountedRound, RoundsAreCalls, TriggerTurnData, after_turns, turn_calls, with_triggers}
 use Rattle.wq_session.specs.Shelved.{each, shelf_data}
 use Rattle.wq_session.proofs.Shelves.{changed_with, triggers_now}
 
@@ -121,7 +121,7 @@ pub record Had (instance : InstanceData) (view : ViewData) (ts : ByName TriggerD
     (count place : ℕ) (now : ShelfNow) (left : Option LauncherData) (counted : ℕ) : Type 0 where
   pub front : ByName TriggerData
   pub later : ByName TriggerData
-  pub turns : List TurnData
+  pub turns : List TriggerTurnData
   pub parts : ts ≡ front ++ later
   pub placed : length front ≡ place
   pub had : HaveTurns instance view front shown turns left
@@ -129,7 +129,7 @@ pub record Had (instance : InstanceData) (view : ViewData) (ts : ByName TriggerD
   pub counts : CountFailures turns count counted
 
 -- one more turn is counted
-count_more : (turns : List TurnData) (turn : TurnData) (count next counted : ℕ) → CountFailures turns count next
+count_more : (turns : List TriggerTurnData) (turn : TriggerTurnData) (count next counted : ℕ) → CountFailures turns count next
     → CountsFailure turn.fired next counted → CountFailures (turns ++ turn ∷ []) count counted
 count_more [] turn count next counted is counts = (counted, subst (λ n. CountsFailure turn.fired n counted) is counts, refl)
 count_more (u ∷ turns) turn count next counted (mid, first, rest) counts = (mid, first, count_more turns turn mid next counted rest counts)
@@ -149,7 +149,7 @@ module _ (instance : InstanceData) (view : ViewData) (shelf : ShelfNow) (shown :
   }
 
   -- one more turn
-  had_more : (front : ByName TriggerData) (t : List ℕ × TriggerData) (turns : List TurnData) (turn : TurnData)
+  had_more : (front : ByName TriggerData) (t : List ℕ × TriggerData) (turns : List TriggerTurnData) (turn : TriggerTurnData)
       (shown next left : Option LauncherData) → HaveTurns instance view front shown turns next → turn.name ≡ t.0
       → Fires instance view t.1 turn.fired turn.after → Agrees turn.fired (t.1).running next left
       → HaveTurns instance view (front ++ t ∷ []) shown (turns ++ turn ∷ []) left
@@ -163,11 +163,11 @@ module _ (instance : InstanceData) (view : ViewData) (shelf : ShelfNow) (shown :
     ((had.2).0, (had.2).1, had_more front t turns turn _ next left (had.2).2 name fires agrees),
   )
 
-  after_more : (turns : List TurnData) (turn : TurnData) → after_turns (turns ++ turn ∷ []) ≡ after_turns turns ++ (turn.name, turn.after) ∷ []
+  after_more : (turns : List TriggerTurnData) (turn : TriggerTurnData) → after_turns (turns ++ turn ∷ []) ≡ after_turns turns ++ (turn.name, turn.after) ∷ []
   after_more [] turn = refl
   after_more (u ∷ turns) turn = ap (λ ts. (u.name, u.after) ∷ ts) (after_more turns turn)
 
-  as_many : (front : ByName TriggerData) (turns : List TurnData) (shown left : Option LauncherData)
+  as_many : (front : ByName TriggerData) (turns : List TriggerTurnData) (shown left : Option LauncherData)
       → HaveTurns instance view front shown turns left → length (after_turns turns) ≡ length front
   as_many [] [] shown left had = refl
   as_many [] (u ∷ turns) shown left had = elim had [ ]
@@ -176,7 +176,7 @@ module _ (instance : InstanceData) (view : ViewData) (shelf : ShelfNow) (shown :
 
   -- the triggers that are there by then
   there_now : (place : ℕ) (now : ShelfNow) (left : Option LauncherData) (front later : ByName TriggerData) (t : List ℕ × TriggerData)
-      (turns : List TurnData) → triggers_of instance.root shelf ≡ front ++ t ∷ later
+      (turns : List TriggerTurnData) → triggers_of instance.root shelf ≡ front ++ t ∷ later
       → now ≡ with_triggers instance.root (after_turns turns ++ t ∷ later) shelf
       → triggers_of instance.root now ≡ after_turns turns ++ t ∷ later
   there_now place now left front later t turns parts is =
@@ -184,7 +184,7 @@ module _ (instance : InstanceData) (view : ViewData) (shelf : ShelfNow) (shown :
       ∙ set_triggers instance.root (after_turns turns ++ t ∷ later) shelf.roots t later front parts
 
   -- the next trigger had its turn
-  one_had : (place : ℕ) (now after : ShelfNow) (left last : Option LauncherData) (next counted : ℕ) (front later : ByName TriggerData) (turns : List TurnData)
+  one_had : (place : ℕ) (now after : ShelfNow) (left last : Option LauncherData) (next counted : ℕ) (front later : ByName TriggerData) (turns : List TriggerTurnData)
       → triggers_of instance.root shelf ≡ front ++ later → length front ≡ place → place < length (triggers_of instance.root shelf)
       → HaveTurns instance view front shown turns left → now ≡ with_triggers instance.root (after_turns turns ++ later) shelf
       → CountFailures turns count next → HasTurn instance view now place left next after last counted
@@ -223,7 +223,7 @@ module _ (instance : InstanceData) (view : ViewData) (shelf : ShelfNow) (shown :
       → place < length (triggers_of instance.root shelf) → place < length (triggers_of instance.root now)
   as_many_now place now left next so more = by so.front so.later so.turns so.parts so.placed so.had so.is
     where
-      by : (front later : ByName TriggerData) (turns : List TurnData) → triggers_of instance.root shelf ≡ front ++ later
+      by : (front later : ByName TriggerData) (turns : List TriggerTurnData) → triggers_of instance.root shelf ≡ front ++ later
           → length front ≡ place → HaveTurns instance view front shown turns left
           → now ≡ with_triggers instance.root (after_turns turns ++ later) shelf → place < length (triggers_of instance.root now)
       by front [] turns parts placed had is = absurd (omega (arith, more, ap length parts, length-append front [], placed))
@@ -242,7 +242,7 @@ module _ (instance : InstanceData) (view : ViewData) (shelf : ShelfNow) (shown :
       → place ≡ length (triggers_of instance.root shelf) → IsCountedRound instance view shelf shown count now left counted
   all_had place now left counted so all = by so.front so.later so.turns so.parts so.placed so.had so.is so.counts
     where
-      by : (front later : ByName TriggerData) (turns : List TurnData) → triggers_of instance.root shelf ≡ front ++ later
+      by : (front later : ByName TriggerData) (turns : List TriggerTurnData) → triggers_of instance.root shelf ≡ front ++ later
           → length front ≡ place → HaveTurns instance view front shown turns left
           → now ≡ with_triggers instance.root (after_turns turns ++ later) shelf → CountFailures turns count counted
           → IsCountedRound instance view shelf shown count now left counted
@@ -292,7 +292,7 @@ pub had_turn : (instance : InstanceData) (view : ViewData) (s : ShelfData Trigge
     → (front : ByName TriggerData) (t : List ℕ × TriggerData) (later : ByName TriggerData)
     → triggers_of instance.root (shelf_data s) ≡ front ++ t ∷ later → length front ≡ k
     → (fired : FiredData) → Fires instance view (trigger_data old) fired (trigger_data new) → Agrees fired (trigger_data old).running shown left
-    → CountsFailure fired count counted → (turn : TurnData) × (turn.name ≡ t.0) × Fires instance view t.1 turn.fired turn.after × Agrees turn.fired (t.1).running shown left
+    → CountsFailure fired count counted → (turn : TriggerTurnData) × (turn.name ≡ t.0) × Fires instance view t.1 turn.fired turn.after × Agrees turn.fired (t.1).running shown left
     × (shelf_data (trigger_changed instance.root k new s) ≡ with_triggers instance.root (front ++ (t.0, turn.after) ∷ later) (shelf_data s))
     × CountsFailure turn.fired count counted
 had_turn instance view s k shown left count counted old new got front t later parts placed fired fires agrees counts =
@@ -308,7 +308,7 @@ had_turn instance view s k shown left count counted old new got front t later pa
 
 module _ (instance : InstanceData) (view : ViewData) (shelf : ShelfNow) (places : PlacesAreNames TriggerData) where
   -- the calls of the turns that are left
-  steps : (done todo : ByName TriggerData) (turns : List TurnData) (shown left : Option LauncherData) (changes : List (Change TriggerData))
+  steps : (done todo : ByName TriggerData) (turns : List TriggerTurnData) (shown left : Option LauncherData) (changes : List (Change TriggerData))
       → made changes [] ≡ done ++ todo → HaveTurns instance view todo shown turns left
       → with_triggers instance.root (done ++ after_turns turns) shelf
       ≡ after_all (turn_calls instance.root turns) (with_triggers instance.root (done ++ todo) shelf)

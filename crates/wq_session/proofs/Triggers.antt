@@ -26,7 +26,7 @@ use Rattle.wq_registry.specs.Shelf.{trigger_added}
 use Rattle.wq_session.specs.At.{ShelfNow}
 use Rattle.wq_session.specs.Out.{replies}
 use Rattle.wq_session.specs.Taking.{FindsProgram}
-use Rattle.wq_session.specs.Trigger.{has_no_trigger_place, name_in, objects_of, put_trigger, trigger_called, trigger_in, trigger_reply, triggers_reply}
+use Rattle.wq_session.specs.Trigger.{defined_name, has_no_trigger_place, objects_of, put_trigger, trigger_called, trigger_in, trigger_reply, triggers_reply}
 use Rattle.wq_session.specs.Work.{WorkData, says}
 use Rattle.wq_session.specs.declared.refusal.Refusal.{Refusal}
 use Rattle.wq_session.specs.declared.refusal.Refusal.TheVariants.{TooManyTriggers}
@@ -113,14 +113,14 @@ no_objects number s values none empty =
 
 -- a trigger that was put under its name, part by part
 pub trigger_put : (root : List ℕ) (number : ℕ) (d : DefinitionData) (program : Option Raw) (shelf : ShelfNow) (name : List ℕ) (replaced : Bool)
-    (work : WorkData) (t : TriggerData) (after : ShelfNow) → name ≡ name_in d → has_no_trigger_place number name shelf ≡ false
+    (work : WorkData) (t : TriggerData) (after : ShelfNow) → name ≡ defined_name d → has_no_trigger_place number name shelf ≡ false
     → replaced ≡ is_some (trigger_called number name shelf) → work ≡ says (replies (trigger_reply name replaced))
     → t ≡ trigger_in root number d program shelf → after ≡ trigger_added number name t shelf
     → put_trigger root number d program shelf ≡ Ok (record { work = work; shelf = after })
 trigger_put root number d program shelf name replaced work t after named place was said made added =
     ap (λ b. unless_fault TooManyTriggers (not b) (Ok (record {
-      work = says (replies (trigger_reply (name_in d) (is_some (trigger_called number (name_in d) shelf))));
-      shelf = trigger_added number (name_in d) (trigger_in root number d program shelf) shelf;
+      work = says (replies (trigger_reply (defined_name d) (is_some (trigger_called number (defined_name d) shelf))));
+      shelf = trigger_added number (defined_name d) (trigger_in root number d program shelf) shelf;
     }))) (ap (λ n. has_no_trigger_place number n shelf) (sym named) ∙ place)
     ∙ ap (λ n. Ok (record {
       work = says (replies (trigger_reply n (is_some (trigger_called number n shelf))));

@@ -20,7 +20,7 @@ use Rattle.wq_session.specs.At.{AtData, ShelfNow}
 use Rattle.wq_session.specs.Begun.{takes_memory, tried}
 use Rattle.wq_session.specs.Out.{OutData, refuses, runs_out}
 use Rattle.wq_session.specs.Query.{program_for}
-use Rattle.wq_session.specs.Trigger.{defined_by, name_in, trigger_in}
+use Rattle.wq_session.specs.Trigger.{defined_by, defined_name, trigger_in}
 use Rattle.wq_session.specs.Work.{BegunData, evaluates}
 use Rattle.wq_session.specs.declared.ask.Ask.{Ask}
 use Rattle.wq_session.specs.declared.ask.Ask.TheVariants.{Watch, Unwatch, AddProgram, DeleteProgram}
@@ -52,7 +52,7 @@ shown_calls instance (Some view) d = query_calls instance.root view.tick (querie
 abbrev pub made_calls : List ℕ → ℕ → DefinitionData → Result (Option Raw) Refusal → ShelfNow
     → List CallNow
 made_calls root number d (Ok program) shelf =
-    adds_trigger number (name_in d) (trigger_in root number d program shelf) ∷ []
+    adds_trigger number (defined_name d) (trigger_in root number d program shelf) ∷ []
 made_calls root number d (Err refusal) shelf = []
 
 -- the calls of a definition, of the root with this text and number

@@ -49,24 +49,24 @@ giving out follows = record { out = out; follows = follows }
 
 -- a subscription began at a view of its root: the session keeps it, and the client has its first
 -- list
-abbrev pub begun_at : SubscriptionData → InstanceData → ViewData → List SubscriptionData → DoneData
-begun_at s instance view follows = record {
+abbrev pub subscribing_at : SubscriptionData → InstanceData → ViewData → List SubscriptionData → DoneData
+subscribing_at s instance view follows = record {
   out = replies_with (subscribe_data instance view s.name) (list_of instance view s);
   follows = with_subscription (caught_up view s) follows;
 }
 
 -- the same at the root that is looked at, which shows a view
-abbrev pub begun_by : SubscriptionData → Option AtData → List SubscriptionData → DoneData
-begun_by s None follows = giving (silence true) follows
-begun_by s (Some at) follows =
-    option_map_or (λ view. begun_at s at.instance view follows) at.view
+abbrev pub subscribing_by : SubscriptionData → Option AtData → List SubscriptionData → DoneData
+subscribing_by s None follows = giving (silence true) follows
+subscribing_by s (Some at) follows =
+    option_map_or (λ view. subscribing_at s at.instance view follows) at.view
     (giving (silence true) follows)
 
 -- a subscription began, or there is no room for it
 abbrev pub following : SubscriptionData → Option AtData → List SubscriptionData → DoneData
 following s at follows =
     if has_no_room s.number s.name follows then giving (refuses TooManySubscriptions) follows
-    else begun_by s at follows
+    else subscribing_by s at follows
 
 -- the subscription of this name and root ended, if there is one
 abbrev pub dropped : ℕ → List ℕ → List SubscriptionData → DoneData

@@ -3,9 +3,9 @@
 use Rattle.std.specs.Prelude.{◌≡◌, ℕ, ◌-◌, List, ◌++◌, length, take, codes}
 
 -- a line without the newline at its end
-abbrev pub text_of : List ℕ → List ℕ
-text_of line = take (length line - 1) line
+abbrev pub line_text : List ℕ → List ℕ
+line_text line = take (length line - 1) line
 
 -- a line ends with a newline
 abbrev pub IsLine : List ℕ → Type 0
-IsLine line = line ≡ text_of line ++ codes "\n"
+IsLine line = line ≡ line_text line ++ codes "\n"

@@ -25,7 +25,7 @@ shown_in None = None
 shown_in (Some at) = option_map (λ view. (at.instance, view)) at.view
 
 -- the list that a subscription is given, and the subscription that is left
-pub record ToldData : Type 0 where
+pub record ToldListData : Type 0 where
   pub lists : List (List ℕ)
   pub left : List SubscriptionData
 
@@ -35,22 +35,22 @@ listed_once None = []
 listed_once (Some list) = list ∷ []
 
 -- its list at the view of its root, or the notice that the root is no longer watched
-abbrev pub told_at : Shown → SubscriptionData → ToldData
-told_at None s = record { lists = compact_text (canceled_data s.root s.name) ∷ []; left = [] }
-told_at (Some (instance, view)) s = record {
+abbrev pub told_list_at : Shown → SubscriptionData → ToldListData
+told_list_at None s = record { lists = compact_text (canceled_data s.root s.name) ∷ []; left = [] }
+told_list_at (Some (instance, view)) s = record {
   lists = listed_once (next_list instance view s);
   left = caught_up view s ∷ [];
 }
 
 -- its list at an idle moment of the root of this number; it gets nothing if its root is another
-abbrev pub told_of : ℕ → Shown → SubscriptionData → ToldData
+abbrev pub told_of : ℕ → Shown → SubscriptionData → ToldListData
 told_of root shown s =
-    if nat_eq root s.number then told_at shown s else record { lists = []; left = s ∷ [] }
+    if nat_eq root s.number then told_list_at shown s else record { lists = []; left = s ∷ [] }
 
 -- the lists of these, one after the other
-abbrev pub lists_of : ℕ → Shown → List SubscriptionData → List (List ℕ)
-lists_of root shown [] = []
-lists_of root shown (s ∷ later) = (told_of root shown s).lists ++ lists_of root shown later
+abbrev pub told_lists_of : ℕ → Shown → List SubscriptionData → List (List ℕ)
+told_lists_of root shown [] = []
+told_lists_of root shown (s ∷ later) = (told_of root shown s).lists ++ told_lists_of root shown later
 
 -- the subscriptions that are left
 abbrev pub left_of : ℕ → Shown → List SubscriptionData → List SubscriptionData
@@ -63,14 +63,14 @@ MayRunOut None s = Unit {0}
 MayRunOut (Some (instance, view)) s = is_told (s.follower).last view.tick ≡ false
 
 -- memory may run out for a subscription only if there is something to tell it
-abbrev pub WantsMemory : ℕ → Shown → SubscriptionData → Type 0
-WantsMemory root shown s = (nat_eq root s.number ≡ true) × MayRunOut shown s
+abbrev pub MayRunOutAt : ℕ → Shown → SubscriptionData → Type 0
+MayRunOutAt root shown s = (nat_eq root s.number ≡ true) × MayRunOut shown s
 
 -- the server polls none of these subscriptions: there are none, or memory ran out at the first of
 -- them
 abbrev pub AreLeft : ℕ → Shown → List SubscriptionData → Type 0
 AreLeft root shown [] = Unit {0}
-AreLeft root shown (s ∷ later) = WantsMemory root shown s
+AreLeft root shown (s ∷ later) = MayRunOutAt root shown s
 
 -- an idle moment: the first subscriptions get their lists, and the others are as before
 pub record Idles (root : ℕ) (at : Option AtData) (follows : List SubscriptionData) (out : OutData)
@@ -78,7 +78,7 @@ pub record Idles (root : ℕ) (at : Option AtData) (follows : List SubscriptionD
   pub polled : List SubscriptionData
   pub later : List SubscriptionData
   pub parts : follows ≡ polled ++ later
-  pub gives : out ≡ tells_lists (lists_of root (shown_in at) polled)
+  pub gives : out ≡ tells_lists (told_lists_of root (shown_in at) polled)
   pub left : after ≡ left_of root (shown_in at) polled ++ later
   pub short : AreLeft root (shown_in at) later
 
@@ -93,7 +93,7 @@ TellsOne root shown front s later lists (Ok next) after told =
     × (told ≡ lists ++ (told_of root shown s).lists)
     × (next ≡ length front + length (told_of root shown s).left)
 TellsOne root shown front s later lists (Err short) after told =
-    (after ≡ front ++ s ∷ later) × (told ≡ lists) × WantsMemory root shown s
+    (after ≡ front ++ s ∷ later) × (told ≡ lists) × MayRunOutAt root shown s
 
 -- the meaning of the code's root that is shown
 abbrev pub shown_data : Option (Instance × Bor ViewData) → Shown

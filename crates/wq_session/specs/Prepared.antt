@@ -141,14 +141,14 @@ abbrev pub IsPrepared : Prepared → Type 0
 IsPrepared prepared = IsReadAt (object_in (asked prepared)) (asked_at prepared) prepared.read
 
 -- the key that keeps the program of an object that was read
-abbrev pub key_from : ReadObject → Option CacheKeyData
-key_from (QueryRead read) = (read.lookup).key
-key_from (TriggerRead read) = (read.lookup).key
-key_from _ = None
+abbrev pub key_of_read : ReadObject → Option CacheKeyData
+key_of_read (QueryRead read) = (read.lookup).key
+key_of_read (TriggerRead read) = (read.lookup).key
+key_of_read _ = None
 
 -- the key of a prepared ask
 abbrev pub key_in : Prepared → Option CacheKeyData
-key_in prepared = key_from prepared.read
+key_in prepared = key_of_read prepared.read
 
 -- a program that was found has the meaning of the key's text, if there is a key
 abbrev pub IsFoundFor : Option CacheKeyData → Option (Arc Raw Global) → Type 0

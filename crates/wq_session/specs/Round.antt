@@ -14,7 +14,7 @@ use Rattle.wq_session.specs.Accepted.{CallNow}
 use Rattle.wq_session.specs.At.{ShelfNow}
 
 -- the part of a round for one trigger: its name, the action, and the trigger then
-pub record TurnData : Type 0 where
+pub record TriggerTurnData : Type 0 where
   pub name : List ℕ
   pub fired : FiredData
   pub after : TriggerData
@@ -30,7 +30,7 @@ abbrev pub HasTurn : InstanceData → ViewData → ShelfNow → ℕ → Option L
 HasTurn instance view shelf place shown count after left counted =
     (front : ByName TriggerData) (t : List ℕ × TriggerData) (later : ByName TriggerData)
     → triggers_of instance.root shelf ≡ front ++ t ∷ later → length front ≡ place
-    → (turn : TurnData) × (turn.name ≡ t.0) × Fires instance view t.1 turn.fired turn.after
+    → (turn : TriggerTurnData) × (turn.name ≡ t.0) × Fires instance view t.1 turn.fired turn.after
     × Agrees turn.fired (t.1).running shown left
     × (after ≡ with_triggers instance.root (front ++ (t.0, turn.after) ∷ later) shelf)
     × CountsFailure turn.fired count counted
@@ -38,7 +38,7 @@ HasTurn instance view shelf place shown count after left counted =
 -- each trigger had its turn, one after the other, at a view; the launcher, if it is shown, is
 -- then in this state
 abbrev pub HaveTurns : InstanceData → ViewData → ByName TriggerData → Option LauncherData
-    → List TurnData → Option LauncherData → Type 0
+    → List TriggerTurnData → Option LauncherData → Type 0
 HaveTurns instance view [] shown [] left = left ≡ shown
 HaveTurns instance view (t ∷ later) shown (turn ∷ turns) left =
     (turn.name ≡ t.0) × Fires instance view t.1 turn.fired turn.after
@@ -48,32 +48,32 @@ HaveTurns instance view _ shown _ left = ⊥
 
 -- the count of a launcher's failures before and after turns: it rose in each turn whose start failed,
 -- and in the others it stayed
-abbrev pub CountFailures : List TurnData → ℕ → ℕ → Type 0
+abbrev pub CountFailures : List TriggerTurnData → ℕ → ℕ → Type 0
 CountFailures [] before after = after ≡ before
 CountFailures (turn ∷ turns) before after =
     (next : ℕ) × CountsFailure turn.fired before next × CountFailures turns next after
 
 -- the triggers after these turns
-abbrev pub after_turns : List TurnData → ByName TriggerData
+abbrev pub after_turns : List TriggerTurnData → ByName TriggerData
 after_turns [] = []
 after_turns (turn ∷ turns) = (turn.name, turn.after) ∷ after_turns turns
 
 -- a round of the root of an instance, at a view of it
 pub record IsRound (instance : InstanceData) (view : ViewData) (shelf : ShelfNow)
     (shown : Option LauncherData) (after : ShelfNow) (left : Option LauncherData) : Type 0 where
-  pub turns : List TurnData
+  pub turns : List TriggerTurnData
   pub had : HaveTurns instance view (triggers_of instance.root shelf) shown turns left
   pub is : after ≡ with_triggers instance.root (after_turns turns) shelf
 
 -- a start failed in one of these turns
-abbrev pub HasFailure : List TurnData → Type 0
+abbrev pub HasFailure : List TriggerTurnData → Type 0
 HasFailure [] = ⊥
 HasFailure (turn ∷ turns) =
     ((start : StartData) × (turn.fired ≡ failed start)) ⊎ HasFailure turns
 
 -- over turns in which a start failed, the count rose; at the greatest count it may have risen
 abbrev pub FailedStartsAreCounted : Type 0
-FailedStartsAreCounted = (turns : List TurnData) (before after : ℕ)
+FailedStartsAreCounted = (turns : List TriggerTurnData) (before after : ℕ)
     → CountFailures turns before after → HasFailure turns
     → (before < after) ⊎ (most_failures ≤ after)
 
@@ -84,7 +84,7 @@ IsCountedRound instance view shelf shown count after left counted =
     (round : IsRound instance view shelf shown after left) × CountFailures round.turns count counted
 
 -- the calls of turns: each puts its trigger under its name again
-abbrev pub turn_calls : ℕ → List TurnData → List CallNow
+abbrev pub turn_calls : ℕ → List TriggerTurnData → List CallNow
 turn_calls root [] = []
 turn_calls root (turn ∷ turns) = adds_trigger root turn.name turn.after ∷ turn_calls root turns
 

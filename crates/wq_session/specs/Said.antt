@@ -3,7 +3,7 @@
 use Rattle.std.specs.Prelude.{ℕ, List, []}
 use Rattle.std.specs.Prelude.{Option, Some, None as Nothing, Vec}
 use Rattle.std.specs.declared.alloc.Global.{Global}
-use Rattle.wq_session.specs.Line.{IsLine, text_of}
+use Rattle.wq_session.specs.Line.{IsLine, line_text}
 use Rattle.wq_session.specs.declared.outcome.Reply.{Reply}
 use Rattle.wq_session.specs.declared.outcome.Reply.TheVariants.{None, Made, Fixed}
 
@@ -11,7 +11,7 @@ use Rattle.wq_session.specs.declared.outcome.Reply.TheVariants.{None, Made, Fixe
 abbrev pub reply_text : Reply → Option (List ℕ)
 reply_text None = Nothing
 reply_text (Made text) = Some text
-reply_text (Fixed line) = Some (text_of line.now)
+reply_text (Fixed line) = Some (line_text line.now)
 
 -- the texts of lists, if there are any
 abbrev pub list_texts : Option (Vec (List ℕ) Global) → List (List ℕ)

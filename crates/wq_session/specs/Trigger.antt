@@ -75,8 +75,8 @@ abbrev pub defined_by : InstanceData → Data → Result DefinitionData Refusal
 defined_by instance d = or_its_fault trigger_refusal (defines instance d) Ok
 
 -- the name of a definition
-abbrev pub name_in : DefinitionData → List ℕ
-name_in d = (d.shape).name
+abbrev pub defined_name : DefinitionData → List ℕ
+defined_name d = (d.shape).name
 
 -- the trigger of a name, of the root of a number
 abbrev pub trigger_called : ℕ → List ℕ → ShelfNow → Option TriggerData
@@ -122,18 +122,18 @@ trigger_deleted_reply name deleted =
 -- the trigger of a definition, by its program, which takes over the run of the one that it replaces
 abbrev pub trigger_in : List ℕ → ℕ → DefinitionData → Option Raw → ShelfNow → TriggerData
 trigger_in root number d program shelf =
-    triggered d root program (run_in (trigger_called number (name_in d) shelf))
+    triggered d root program (run_in (trigger_called number (defined_name d) shelf))
 
 -- the trigger of a definition, with its program, is put under its name for a root with this text
 -- and number
 abbrev pub put_trigger : List ℕ → ℕ → DefinitionData → Option Raw → ShelfNow
     → Result BegunData Refusal
 put_trigger root number d program shelf =
-    unless_fault TooManyTriggers (not (has_no_trigger_place number (name_in d) shelf)) (
+    unless_fault TooManyTriggers (not (has_no_trigger_place number (defined_name d) shelf)) (
     Ok (record {
-      work = says (replies (trigger_reply (name_in d)
-          (is_some (trigger_called number (name_in d) shelf))));
-      shelf = trigger_added number (name_in d) (trigger_in root number d program shelf) shelf;
+      work = says (replies (trigger_reply (defined_name d)
+          (is_some (trigger_called number (defined_name d) shelf))));
+      shelf = trigger_added number (defined_name d) (trigger_in root number d program shelf) shelf;
     }))
 
 -- the same with the program that its query asks for

@@ -2,7 +2,7 @@
 ghost use Rattle.std.specs.Prelude.{◌≡◌, IfOk, OnErr, OnOk, Option, Some, map, position};
 ghost use Rattle.wq_clock.specs.Instance.{instance_data};
 ghost use Rattle.wq_follow.specs.Followed.{subscription_data};
-ghost use Rattle.wq_session.specs.Answer.{Finishes, begun_at, giving};
+ghost use Rattle.wq_session.specs.Answer.{Finishes, giving, subscribing_at};
 ghost use Rattle.wq_session.specs.At.{AtData};
 ghost use Rattle.wq_session.specs.Followed.{follows_of, has_called, has_no_room, is_called};
 ghost use Rattle.wq_session.specs.Followed.{with_subscription, without_called};
@@ -54,7 +54,7 @@ impl Session {
         instance: &Instance,
         view: &View,
     ) -> Result<Out, AllocError>
-        ensures begun { IfOk result (λ out. begun_at (subscription_data subscription)
+        ensures begun { IfOk result (λ out. subscribing_at (subscription_data subscription)
             (instance_data instance.now) view.now (follows_of self.old)
             ≡ giving out (follows_of self.new)) }
         ensures stays { OnErr result (follows_of self.new ≡ follows_of self.old) }

@@ -4,7 +4,7 @@ ghost use Rattle.wq_session.specs.Answer.{MayRefuse};
 ghost use Rattle.wq_session.specs.Out.{refuses, replies, runs_out, saying_text, saying_with};
 ghost use Rattle.wq_session.specs.Out.{shuts_with, silence, tells_lists};
 ghost use Rattle.wq_session.specs.Reply.{error_data};
-ghost use Rattle.wq_session.specs.Line.{IsLine, text_of};
+ghost use Rattle.wq_session.specs.Line.{IsLine, line_text};
 ghost use Rattle.wq_session.specs.Server.{shutdown_data, version_data};
 
 use crate::cursor::Cursor;
@@ -208,7 +208,7 @@ fn error(alloc: Global, refusal: Refusal) -> Result<Out, AllocError>
 #[tactic(auto, using(crate::proofs::Newlines::not_empty))]
 fn without_newline(line: &[u8]) -> &[u8]
     requires { IsLine line.now }
-    ensures { result.now ≡ text_of line.now }
+    ensures { result.now ≡ line_text line.now }
 {
     &line[..line.len() - 1]
 }

@@ -13,11 +13,11 @@ pub struct Line {
 
 impl Model for Line {
     ghost use Rattle.std.specs.Prelude.{ℕ, List};
-    ghost use Rattle.wq_session.specs.Line.{IsLine, text_of};
+    ghost use Rattle.wq_session.specs.Line.{IsLine, line_text};
 
     ghost Value = { List ℕ };
 
-    ghost view = { λ l. text_of l.bytes };
+    ghost view = { λ l. line_text l.bytes };
 
     ghost invariant = { λ l. IsLine l.bytes };
 }

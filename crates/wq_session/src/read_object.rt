@@ -4,7 +4,7 @@ ghost use Rattle.wq_follow.specs.Definition.{DefinitionData};
 ghost use Rattle.wq_query.specs.Query.{QueryData};
 ghost use Rattle.wq_query.specs.declared.fault.QueryFault.{QueryFault};
 ghost use Rattle.wq_session.specs.Prepared.{AreRead, GivesDefined, GivesDefinedObject, GivesRead};
-ghost use Rattle.wq_session.specs.Prepared.{GivesReadObject, IsFoundFor, IsReadAgain, key_from};
+ghost use Rattle.wq_session.specs.Prepared.{GivesReadObject, IsFoundFor, IsReadAgain, key_of_read};
 ghost use Rattle.wq_session.specs.declared.refusal.Refusal.{Refusal};
 
 use crate::read_query::ReadQuery;
@@ -54,7 +54,7 @@ impl ReadObject {
     /// The expression that needs a program. There is none if the object has no expression, or its key could not be
     /// made.
     pub(crate) fn key(&self) -> Option<&CacheKey>
-        ensures { option_map (λ key. key.now) result ≡ key_from self.now }
+        ensures { option_map (λ key. key.now) result ≡ key_of_read self.now }
     {
         match self {
             ReadObject::Query(read) => read.lookup.key.as_ref(),
@@ -71,7 +71,7 @@ impl ReadObject {
         found: Option<Arc<Program>>,
     ) -> (ReadObject, Option<Compiled>)
         requires read { AreRead self }
-        requires found { IsFoundFor (key_from self) found }
+        requires found { IsFoundFor (key_of_read self) found }
         ensures { IsReadAgain self result.0 }
     {
         match self {

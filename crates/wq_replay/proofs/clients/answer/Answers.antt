@@ -7,7 +7,7 @@ use Rattle.wq_session.specs.At.{at_data}
 use Rattle.wq_session.specs.Followed.{follows_of}
 use Rattle.wq_session.specs.Shelved.{shelf_data}
 use Rattle.wq_session.proofs.Held.{shown_answer}
-use Rattle.wq_replay.specs.Client.{follows_in, others}
+use Rattle.wq_replay.specs.Client.{follows_in, other_clients}
 use Rattle.wq_replay.specs.Clients.{kept_client}
 use Rattle.wq_replay.proofs.Follows.{answer_dropped, answer_kept}
 use Rattle.wq_replay.proofs.clients.answer.Goals as goal
@@ -21,8 +21,8 @@ returns c =
     let room : c.reserve.new.self.items ≡ clients = search rules in
     let had = subst (λ (z : ℤ). follows_of c.take_out-session.result ≡ follows_in z c.reserve.new.self.items) number c.take_out-session.ensures.session
     ∙ ap (follows_in c.args.number) room in
-    let rest = subst (λ (z : ℤ). c.take_out-session.new.clients.items ≡ others z c.reserve.new.self.items) number c.take_out-session.ensures.others
-    ∙ ap (others c.args.number) room in
+    let rest = subst (λ (z : ℤ). c.take_out-session.new.clients.items ≡ other_clients z c.reserve.new.self.items) number c.take_out-session.ensures.others
+    ∙ ap (other_clients c.args.number) room in
     let says : c.goes_on.result ≡ c.answer_at-out.result.goes_on = c.goes_on.ensures in (
       follows_of session,
       shown_answer c.args.ask (option_map at_data c.args.at) (follows_in c.args.number clients) (follows_of session) c.answer_at-out.result

@@ -2,7 +2,7 @@
 use Rattle.std.proofs.Common.{rules, ◌≡◌, ℤ, position, get_or, ap, sym, subst, ◌∙◌}
 use mir.Facts.{to_z-of_z}
 use Rattle.std.specs.List.{remove}
-use Rattle.wq_replay.specs.Client.{is_of, others}
+use Rattle.wq_replay.specs.Client.{is_of, other_clients}
 use Rattle.wq_session.specs.Followed.{follows_of}
 use Rattle.wq_replay.proofs.Follows.{follows_at, follows_none, others_removed}
 use Rattle.wq_replay.proofs.clients.take_out.Goals as goal
@@ -28,11 +28,11 @@ returns-clause-others c =
     let clients = c.args.clients.now.items in
     let placed = subst (λ (z : ℤ). c.place_of.result ≡ position (is_of z) c.deref.result.now) (to_z-of_z c.ranges.number) c.place_of.ensures
     ∙ ap (position (is_of c.args.number)) c.deref.ensures.value in
-    let left = subst (λ (z : ℤ). c.drop_client.new.clients.items ≡ others z c.match-place_of.clients.items) (to_z-of_z c.ranges.number) c.drop_client.ensures.others in
+    let left = subst (λ (z : ℤ). c.drop_client.new.clients.items ≡ other_clients z c.match-place_of.clients.items) (to_z-of_z c.ranges.number) c.drop_client.ensures.others in
     elim c.match-place_of.branch [
       | in-Some w ↦
           let gone : w.remove.new.self.items ≡ remove clients w.in-Some.place = search rules in
-          left ∙ ap (λ v. others c.args.number v.items) w.clients-is ∙ ap (others c.args.number) gone
+          left ∙ ap (λ v. other_clients c.args.number v.items) w.clients-is ∙ ap (other_clients c.args.number) gone
           ∙ others_removed c.args.number clients w.in-Some.place w.remove.result (sym placed ∙ w.in-Some.is)
-      | in-None w ↦ left ∙ ap (λ v. others c.args.number v.items) w.clients-is
+      | in-None w ↦ left ∙ ap (λ v. other_clients c.args.number v.items) w.clients-is
     ]

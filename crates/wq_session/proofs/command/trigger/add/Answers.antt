@@ -6,7 +6,7 @@ use Rattle.wq_registry.specs.Shelf.{trigger_added}
 use Rattle.wq_session.proofs.Triggers.{trigger_put}
 use Rattle.wq_session.specs.Out.{replies}
 use Rattle.wq_session.specs.Shelved.{shelf_data}
-use Rattle.wq_session.specs.Trigger.{has_no_trigger_place, name_in, trigger_called, trigger_in, trigger_reply}
+use Rattle.wq_session.specs.Trigger.{defined_name, has_no_trigger_place, trigger_called, trigger_in, trigger_reply}
 use Rattle.wq_session.specs.Work.{says, rest_data}
 use Rattle.wq_session.proofs.command.trigger.add.Goals as goal
 
@@ -15,7 +15,7 @@ returns-in-Ok c =
     let d = definition_data c.args.definition in
     let program = option_map (λ _. c.args.program.value) (d.query).program in
     let shelf = shelf_data c.args.shelf.now in
-    let name : c.as_str-name.result.now ≡ name_in d = search rules in
+    let name : c.as_str-name.result.now ≡ defined_name d = search rules in
     let place : has_no_trigger_place c.args.number c.as_str-name.result.now shelf ≡ false = search rules in
     let replaced : c.has_trigger.result ≡ is_some (trigger_called c.args.number c.as_str-name.result.now shelf) = search rules in
     let says : rest_data c.in_ok-rest.rest ≡ says (replies (trigger_reply c.as_str-name.result.now c.has_trigger.result)) = search rules in
