@@ -18,8 +18,9 @@ WALK = {"openat": 2, "getdents64": 4, "statx": 4}
 # The first reply of each session is written, and the first line of each is read. A subscriber has its first list too.
 STREAM = range(2, 5)
 LISTS = range(3, 6)
-# The first of these starts the crawler and the second a session, in the thread that accepts; the crawler's own start commands.
-STARTS = {"openat": range(1, 7), "getdents64": range(1, 5), "clone3": range(3, 7)}
+# The first of these start the crawler, the thread of idle moments and a session, in the thread that accepts; the crawler's own
+# start commands.
+STARTS = {"openat": range(1, 7), "getdents64": range(1, 5), "clone3": range(4, 8)}
 INTERVAL = 10
 SECONDS = 10.0
 ERRORS = {"clone3": "EAGAIN"}
