@@ -5,7 +5,7 @@ from pathlib import Path
 from typing import List
 
 import built
-from client import VERSION, Client, same
+from client import ENDED, VERSION, Client, same
 from house import PATIENCE, House, dear_query, line_of
 
 TURNS = 3
@@ -27,7 +27,7 @@ def check_leaving(tally: built.Tally, room: Path, root: Path) -> None:
         check_with_many_lines(tally, house)
         house.goes_on(tally, "after all of them went")
         same(tally, "the end after all of them went", house.server.shut_down(house.first), 0)
-        same(tally, "what the server said", house.server.errors(), f"listening on {house.server.sockname}\n".encode())
+        same(tally, "what the server said", house.server.errors(), f"listening on {house.server.sockname}\n".encode() + ENDED)
 
 
 def check_while_a_tree_is_listed(tally: built.Tally, house: House) -> None:

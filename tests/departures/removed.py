@@ -5,7 +5,7 @@ import shutil
 from pathlib import Path
 
 import built
-from client import VERSION, Client, Server, query_of_names, same
+from client import ENDED, VERSION, Client, Server, query_of_names, same
 
 
 def check_a_socket_that_goes(tally: built.Tally, room: Path, root: Path) -> None:
@@ -25,7 +25,7 @@ def check_a_socket_that_goes(tally: built.Tally, room: Path, root: Path) -> None
             told = client.ask("get-sockname")
             same(tally, f"the name that it tells without {name}", told, {"sockname": server.sockname, **VERSION})
             same(tally, f"the end without {name}", server.shut_down(client), 0)
-            same(tally, f"what it says without {name}", server.errors(), f"listening on {server.sockname}\n".encode())
+            same(tally, f"what it says without {name}", server.errors(), f"listening on {server.sockname}\n".encode() + ENDED)
         shutil.rmtree(inside, ignore_errors=True)
         shutil.rmtree(tree)
 

@@ -17,7 +17,7 @@ NUMBERS = range(61_000, 61_100)
 INTERVAL = 50
 NO_MEMORY = {"error": "E60: no memory", **VERSION}
 # A client takes so many threads.
-THREADS = 3
+THREADS = 2
 # How many files a server may open, which are too few for 32 clients.
 HANDLES = (20, 24, 32)
 FORK = multiprocessing.get_context("fork")
