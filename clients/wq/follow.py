@@ -1,9 +1,12 @@
 """`wq follow`: changes as they come."""
 
 import argparse
+import contextlib
+import os
 import select
+import signal
 import sys
-from typing import Any, List
+from typing import Any, Iterator, List, Optional
 
 from wqclient.client import Client
 from wqclient.lines import Ended
@@ -22,11 +25,11 @@ SUBSCRIPTION = "wq"
 
 def follow(options: argparse.Namespace, home: Home) -> int:
     directory, globs = directory_and_globs(options.words)
-    with reached(home) as server:
+    with reached(home) as server, waking() as woken:
         feed = Feed(server, directory, globs, options)
         feed.begin("false")
         while True:
-            for found in feed.lists(watches_output=True):
+            for found in feed.lists(woken):
                 tell(found, feed.place, options)
 
 
@@ -59,13 +62,13 @@ class Feed:
         self.server.ask("subscribe", self.place.root, SUBSCRIPTION, query)
         return found["files"]
 
-    def lists(self, watches_output: bool = False) -> List[Value]:
-        """The next lists, of which one is waited for. The line that ends the subscription is met after those before
-        it."""
+    def lists(self, woken: Optional[int] = None) -> List[Value]:
+        """The next lists, of which one is waited for, with the file that wakes, if one is given. The line that ends the
+        subscription is met after those before it."""
         client = self.server.client
         if not client.lists:
-            if watches_output:
-                wait(client)
+            if woken is not None:
+                wait(client, woken)
             self.take()
         if client.lists and client.lists[0].get("canceled"):
             raise Trouble(f"{self.place.root} is no longer watched, so nothing more is told of it")
@@ -84,11 +87,32 @@ class Feed:
         client.take_lists()
 
 
-def wait(client: Client) -> None:
-    """Waits for the server. If the reader of standard output goes meanwhile, there is nobody to tell."""
+@contextlib.contextmanager
+def waking() -> Iterator[int]:
+    """A file that can be read as soon as a signal comes. Without it, a signal that comes just before a wait would be heard
+    after that wait."""
+    reading, writing = os.pipe()
+    os.set_blocking(writing, False)
+    signal.set_wakeup_fd(writing, warn_on_full_buffer=False)
+    try:
+        yield reading
+    finally:
+        signal.set_wakeup_fd(-1)
+        os.close(reading)
+        os.close(writing)
+
+
+def wait(client: Client, woken: int) -> None:
+    """Waits for the server. If the reader of standard output goes meanwhile, there is nobody to tell. A signal has its
+    handler called as soon as the poll ends."""
     poll = select.poll()
     poll.register(client, select.POLLIN)
+    poll.register(woken, select.POLLIN)
     poll.register(sys.stdout, 0)  # its end is told whatever is asked for
-    events = dict(poll.poll())
-    if events.get(sys.stdout.fileno(), 0) & select.POLLERR:
-        raise BrokenPipeError
+    while True:
+        events = dict(poll.poll())
+        if events.get(sys.stdout.fileno(), 0) & select.POLLERR:
+            raise BrokenPipeError
+        if client.fileno() in events:
+            return
+        os.read(woken, 64)
