@@ -7,11 +7,11 @@ from typing import Dict, Iterator, List, NamedTuple, Set
 
 PAGE = "CONTRIBUTING.md"
 CODE = re.compile(r"`([^`]+)`")
-# What a row may say of its files: a name of the code, or one with hyphens. `ask_..` and `NAME-found` are no names.
+# A row may say this of its files: a name of the code, or one with hyphens. `ask_..` and `NAME-found` are no names.
 WORD = re.compile(r"(?!NAME)[A-Za-z_][\w-]*")
 CRATE = re.compile(r"In `(crates/\w+)`")
 HEADING = "## To add "
-# What the page says of how many rooms the tables name: files, and directories that get a file more.
+# The page says how many rooms the tables name: files, and directories that get a file more.
 COUNTED = re.compile(r"The tables for (a term) name (\d+) rooms, and those for (a command or an error) (\d+)\.")
 
 
@@ -50,7 +50,7 @@ def files_in(cell: str, base: str) -> Iterator[str]:
 
 
 def wrong_rooms(top: Path) -> Iterator[str]:
-    """What the recipes say that is not so."""
+    """The sayings of the recipes that are not so."""
     page = (top / PAGE).read_text(encoding="utf-8")
     named: Dict[str, Set[str]] = defaultdict(set)
     for room in rooms(page):

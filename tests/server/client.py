@@ -19,7 +19,7 @@ from wqclient.lines import Ended, Lines
 
 PATIENCE = 60.0
 A_HOUR = 3_600_000
-# What a server says when a client ends it.
+# A server says this when a client ends it.
 ENDED = b"a client ended the server by shutdown-server\n"
 VERSION = {"version": "wq-1"}
 # What ./wqd adds to it, so that memory which is freed goes back to the system or is used again.

@@ -1,4 +1,4 @@
-"""What a server tells its operator of its walks."""
+"""A server tells its operator of its walks."""
 
 import json
 import os
@@ -48,13 +48,13 @@ def check_what_walks_leave_out(tally: built.Tally, room: Path) -> None:
 
 
 def told_after_both(server: Server, root: Path, said: bytes) -> bytes:
-    """What is said when both directories can be read again. A walk may come between the two."""
+    """The lines when both directories can be read again. A walk may come between the two."""
     server.says(left_out(root, 2, 0))
     return server.errors()[len(said):]
 
 
 def left_out(root: Path, names: int, directories: int) -> bytes:
-    """The line by which the operator is told what a walk left out."""
+    """The line that tells the operator how much a walk left out."""
     text = json.dumps(str(root))
     return f"{text}: names that are not UTF-8: {names}, directories that cannot be read: {directories}\n".encode()
 

@@ -30,7 +30,7 @@ def check_a_command_that_ends_by_a_signal(tally: built.Tally, room: Path) -> Non
 
 
 def check_how_commands_ended(tally: built.Tally, room: Path) -> None:
-    """The operator is told of each command that ended otherwise than with status 0, with its trigger."""
+    """The server tells its operator of each command that ended otherwise than with status 0, with its trigger."""
     with Scene(room) as scene:
         scene.make("a")
         for name, script in (("fine", "exit 0"), ("fails", "exit 3"), ('a "signal"', "kill -9 $$")):
