@@ -1,6 +1,7 @@
 //! A text in memory that contracts see as its bytes.
-ghost use Rattle.std.specs.Prelude.{◌≡◌, string_bytes};
+ghost use Rattle.std.specs.Prelude.{◌≡◌, IfOk, string_bytes};
 
+use std::alloc::{AllocError, Global};
 use std::marker::Model;
 
 /// A text. Contracts see its bytes alone, and not their places in memory.
@@ -23,6 +24,16 @@ impl Text {
         ensures { result ≡ string_bytes text }
     {
         Text { text }
+    }
+
+    /// A copy of a text.
+    ///
+    /// # Errors
+    /// Memory ran out for it.
+    pub fn copied(alloc: Global, text: &str) -> Result<Text, AllocError>
+        ensures { IfOk result (λ copy. copy ≡ text.now) }
+    {
+        Ok(Text::from_string(String::from_str(alloc, text)?))
     }
 
     /// The text as a string slice.

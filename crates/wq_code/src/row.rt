@@ -11,7 +11,7 @@ use crate::field::{
 use crate::limit::{MAX_CONSTANT_TEXT, MAX_ENTRIES};
 use crate::operation::Op;
 use crate::version::Version;
-use crate::word::{op_of_byte, take_a, take_b};
+use crate::word::{op_of_byte, with_a, with_b};
 use std::alloc::{AllocError, Global};
 use wq_base::{Table, TextList};
 use wq_glob::{Flags, MAX_PATTERN, Pattern, PatternFault};
@@ -228,13 +228,13 @@ impl Field for Op {
         let (code, rest) = byte_of(bytes)?;
         let op = op_of_byte(version, code).ok_or(FileFault::UnknownOperation)?;
         let (a, rest) = byte_of(rest)?;
-        let op = take_a(op, a).ok_or(FileFault::BadOperand)?;
+        let op = with_a(op, a).ok_or(FileFault::BadOperand)?;
         // Each version has a call of its own, which knows how wide the number is.
         let (b, rest) = match version {
             Version::First => wide_of(Version::First, rest)?,
             Version::Second => wide_of(Version::Second, rest)?,
         };
-        let op = take_b(op, b).ok_or(FileFault::BadOperand)?;
+        let op = with_b(op, b).ok_or(FileFault::BadOperand)?;
         Ok((op, rest))
     }
 

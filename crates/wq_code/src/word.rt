@@ -187,7 +187,7 @@ fn relation_of_byte(byte: u8) -> Option<Relation>
 
 /// An instruction with this operand `a`, if that is in its range.
 #[tactic(auto, unfolding(crate::specs::Word::with_a))]
-pub(crate) fn take_a(op: Op, a: u8) -> Option<Op>
+pub(crate) fn with_a(op: Op, a: u8) -> Option<Op>
     ensures { result ≡ with_a op a }
 {
     match op {
@@ -203,7 +203,7 @@ pub(crate) fn take_a(op: Op, a: u8) -> Option<Op>
 
 /// An instruction with this operand `b`, if that is in its range.
 #[tactic(auto, unfolding(crate::specs::Word::with_b))]
-pub(crate) fn take_b(op: Op, b: u32) -> Option<Op>
+pub(crate) fn with_b(op: Op, b: u32) -> Option<Op>
     ensures { result ≡ with_b op b }
 {
     match op {

@@ -17,11 +17,13 @@ use Rattle.wq_crawl.specs.Tree.{IsCounted, ListedData, Lists, listed_code}
 use Rattle.wq_crawl.specs.declared.tree.TreeFault.{TreeFault}
 use Rattle.wq_crawl.specs.declared.tree.TreeFault.TheVariants.{Unreadable as UnreadableTree}
 use Rattle.wq_crawl.specs.declared.tree.TreeFault.TheVariants.{TooManyRows as TooManyTreeRows}
-use Rattle.wq_crawl.specs.declared.tree.TreeFault.TheVariants.{NoHandle as NoTreeHandle, NoMemory as NoTreeMemory}
+use Rattle.wq_crawl.specs.declared.tree.TreeFault.TheVariants.{NoHandle as NoTreeHandle}
+use Rattle.wq_crawl.specs.declared.tree.TreeFault.TheVariants.{NoMemory as NoTreeMemory}
 use Rattle.wq_crawl.specs.declared.tree.TreeFault.TheVariants.{GaveWay as TreeGaveWay}
 use Rattle.wq_crawl.specs.declared.fault.CrawlFault.{CrawlFault}
 use Rattle.wq_crawl.specs.declared.fault.CrawlFault.TheVariants.{Unreadable, TooManyFiles}
-use Rattle.wq_crawl.specs.declared.fault.CrawlFault.TheVariants.{GaveWay, NoHandle, TooManyRoots, NoMemory}
+use Rattle.wq_crawl.specs.declared.fault.CrawlFault.TheVariants.{GaveWay, NoHandle, TooManyRoots}
+use Rattle.wq_crawl.specs.declared.fault.CrawlFault.TheVariants.{NoMemory}
 use Rattle.wq_crawl.specs.declared.place.Place.{Place}
 use Rattle.wq_crawl.specs.declared.place.Place.TheVariants.{Shown, Full, Free}
 

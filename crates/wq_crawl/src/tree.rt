@@ -95,7 +95,7 @@ pub trait Tree {
     fn failures(&self) -> u64
         ensures { result ≡ failed self.now };
 
-    /// What the last listing left out, if the source counts that. No contract speaks of it.
+    /// The number of files that the last listing left out, if the source counts that. No contract speaks of it.
     fn left_out(&self) -> LeftOut {
         LeftOut::nothing()
     }

@@ -3,7 +3,6 @@
 #![tactic(auto)]
 
 mod batch;
-mod copy;
 mod definition;
 mod fault;
 mod follower;

@@ -9,7 +9,6 @@ ghost use Rattle.wq_follow.specs.Definition.{limit_from, limit_of, list_input, t
 ghost use Rattle.wq_follow.specs.Definition.{names_program, shape_of, without_byte_0};
 ghost use Rattle.wq_follow.specs.Started.{input_data};
 
-use crate::copy::copy;
 use crate::fault::TriggerFault;
 use crate::order::Input;
 use serde_json::Value;
@@ -56,7 +55,7 @@ pub(crate) fn read_shape(alloc: Global, object: &Value) -> Result<Shape, Trigger
         return Err(TriggerFault::BadShape);
     };
     Ok(Shape {
-        name: copy(alloc, name)?,
+        name: Text::copied(alloc, name)?,
         command,
         appends,
         input,
@@ -167,7 +166,7 @@ fn arguments(alloc: Global, words: &[Value]) -> Result<Option<Table<Text>>, Allo
         let Some(text) = argument(word) else {
             return Ok(None);
         };
-        texts.push(copy(alloc, text)?)?;
+        texts.push(Text::copied(alloc, text)?)?;
     }
     Ok(Some(texts))
 }

@@ -11,7 +11,6 @@ ghost use Rattle.wq_follow.specs.Start.{objects, since_text, start_of, taken};
 ghost use Rattle.wq_follow.specs.Started.{IsClocked, env_data, input_data, order_data, start_data};
 
 use crate::batch::Batch;
-use crate::copy::copy;
 use crate::order::{Input, Order};
 use std::alloc::{AllocError, Global};
 use wq_base::{Table, Text};
@@ -81,7 +80,7 @@ fn put_texts(alloc: Global, args: &mut Table<Text>, texts: &[Text]) -> Result<()
     ensures { OnOk result (args.new ≡ args.old ++ texts.now) }
 {
     for text in texts {
-        args.push(copy(alloc, text.as_str())?)?;
+        args.push(Text::copied(alloc, text.as_str())?)?;
     }
     Ok(())
 }
@@ -100,7 +99,7 @@ fn put_names(
     let mut reader = view.reader();
     for place in places {
         let name = reader.get(*place as usize).name.as_str();
-        args.push(copy(alloc, name)?)?;
+        args.push(Text::copied(alloc, name)?)?;
     }
     Ok(())
 }
@@ -235,9 +234,9 @@ fn variables(
     Ok(Env {
         clock: print(instance, batch.tick),
         overflow,
-        root: copy(alloc, order.root.as_str())?,
+        root: Text::copied(alloc, order.root.as_str())?,
         since: since(instance, batch.from),
-        trigger: copy(alloc, order.name.as_str())?,
+        trigger: Text::copied(alloc, order.name.as_str())?,
     })
 }
 

@@ -148,7 +148,7 @@ impl<N: Named, R: Wait + Drop> Publisher<N, R> {
     {
         let next = self.table().with_start(text, &pass)?;
         let number = next.given();
-        let text = Text::from_string(String::from_str(self.alloc, text)?);
+        let text = Text::copied(self.alloc, text)?;
         let events = start_events(self.alloc, number, text, pass)?;
         let told = self.add(next, &events)?;
         Ok((number, told))

@@ -228,7 +228,7 @@ impl RootTable {
         let alloc = *self.roots.allocator();
         let mut roots = self.copies(alloc, self.roots.len() + 1)?;
         let number = self.given + 1;
-        let text = Arc::new(alloc, Text::from_string(String::from_str(alloc, text)?))?;
+        let text = Arc::new(alloc, Text::copied(alloc, text)?)?;
         let view = Arc::new(alloc, first_view(alloc, pass)?)?;
         roots.push(ShownRoot { number, text, view })?;
         Ok(RootTable {

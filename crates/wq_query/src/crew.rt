@@ -1,4 +1,4 @@
-//! Who finds the files of a query and prints its reply: the thread that asks alone, or several threads.
+//! The crew that finds the files of a query and prints its reply: the thread that asks alone, or several threads.
 ghost use Rattle.std.specs.Prelude.{◌≡◌, ◌<◌, ◌≤◌, All, IfOk, filter, length};
 ghost use Rattle.serde_json.specs.Written.{compact_text};
 ghost use Rattle.wq_base.specs.Limit.{AreFew};
@@ -29,7 +29,7 @@ const MIN_FOR_WORKERS: usize = 16384;
 /// Each thread of a query has at least so many candidates: four pieces.
 const MIN_FOR_WORKER: usize = 4096;
 
-/// Who finds the files of a query and prints its reply. No answer depends on it.
+/// The crew that finds the files of a query and prints its reply. No answer depends on it.
 pub trait Crew {
     ghost use Rattle.std.specs.Prelude.{◌≡◌, ◌<◌, ◌≤◌, All, IfOk, filter, length};
     ghost use Rattle.serde_json.specs.Written.{compact_text};

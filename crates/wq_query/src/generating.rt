@@ -47,7 +47,7 @@ fn one_text(alloc: Global, value: &Value) -> Result<Text, QueryFault>
     ensures { GivesGenerator result (text_of (data_of value.now)) }
 {
     match text(value) {
-        Some(text) => Ok(Text::from_string(String::from_str(alloc, text)?)),
+        Some(text) => Ok(Text::copied(alloc, text)?),
         None => Err(QueryFault::BadGenerator),
     }
 }

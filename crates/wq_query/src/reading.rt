@@ -89,7 +89,7 @@ pub(crate) fn since(
         return Ok(Since::Bound(Bound::Fresh));
     };
     if let Some(name) = cursor(value) {
-        return Ok(Since::Cursor(copy(alloc, name)?));
+        return Ok(Since::Cursor(Text::copied(alloc, name)?));
     }
     match read_bound(value, instance) {
         Ok(bound) => Ok(Since::Bound(bound)),
@@ -113,16 +113,9 @@ pub(crate) fn program(alloc: Global, value: Option<&Value>) -> Result<Option<Tex
 {
     match value {
         None => Ok(None),
-        Some(Value::String(name)) => Ok(Some(copy(alloc, name.as_str())?)),
+        Some(Value::String(name)) => Ok(Some(Text::copied(alloc, name.as_str())?)),
         Some(_) => Err(QueryFault::WrongValue),
     }
-}
-
-/// A copy of a text.
-fn copy(alloc: Global, text: &str) -> Result<Text, AllocError>
-    ensures { IfOk result (λ copy. copy ≡ text.now) }
-{
-    Ok(Text::from_string(String::from_str(alloc, text)?))
 }
 
 /// The value of a key that is true or false; false if the key is not there.

@@ -54,6 +54,7 @@ impl Waiting {
         !self.is_closed && self.events.is_empty()
     }
 
+    /// Whether the queue takes in no more events.
     pub fn is_closed(&self) -> bool
         ensures { result ≡ self.now.is_closed }
     {

@@ -9,3 +9,4 @@ pub mod Short
 pub mod Law
 pub mod ProgramFault
 pub mod FirstRules
+pub mod Report

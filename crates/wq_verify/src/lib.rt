@@ -3,7 +3,8 @@
 //! cells and constants that it uses, and costs no more than a number known beforehand.
 //!
 //! `specs/Typing.antt` defines whether a program may run, by the existence of such kinds, and
-//! `specs/Fault.antt` the faults of one that may not. This crate runs no programs.
+//! `specs/Fault.antt` the faults of one that may not. `check` reports on the bytes of a program file.
+//! This crate runs no programs.
 #![tactic(auto)]
 
 mod budget;
@@ -11,6 +12,7 @@ mod fault;
 mod law;
 mod pass;
 mod program;
+mod report;
 mod rule;
 mod shape;
 mod stack;
@@ -21,4 +23,5 @@ pub use law::{
     runs_begin_well, steps_go_well, valid_are_accepted, valid_are_typed,
 };
 pub use program::{Program, verify};
+pub use report::{FAULT, LONGEST_NAME, MAX_FILE, Report, check};
 pub use shape::MAX_CELLS;

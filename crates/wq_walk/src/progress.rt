@@ -49,7 +49,7 @@ impl<'a> Progress<'a> {
         }
     }
 
-    /// What the walk left out so far.
+    /// The number of files that the walk left out so far.
     pub(crate) fn left_out(&self) -> LeftOut {
         LeftOut {
             names: self.names.load(Ordering::SeqCst),

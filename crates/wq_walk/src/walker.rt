@@ -31,7 +31,7 @@ pub struct Walker<T: Threads + Drop, D: Disk + Drop> {
     /// How many callers wait for a listing.
     waiting: Arc<AtomicU64>,
     failures: u64,
-    /// What the last listing left out.
+    /// The number of files that the last listing left out.
     left_out: LeftOut,
 }
 

@@ -17,7 +17,7 @@ loop-word-preserved c =
     let is = sym c.argument.ensures ∙ ap (option_map (λ text. text.now)) c.in-Some.is in
     let more = read_more argument_of arguments_in (λ d ds. refl) c.args.words.now c.loop-word.word-index c.word-item.result c.loop-word.texts c.in-Some.text.now _ c.loop-word-test.true c.word-item.is is c.loop-word.invariant in
     ap (λ texts. before texts (arguments_in (items_view (drop (c.loop-word.word-index + 1) c.args.words.now))))
-    (c.in_ok-push.ensures.ok ∙ ap (λ text. c.loop-word.texts ++ text ∷ []) c.in_ok-copy.ensures) ∙ more
+    (c.in_ok-push.ensures.ok ∙ ap (λ text. c.loop-word.texts ++ text ∷ []) c.in_ok-copied.ensures) ∙ more
 
 pub returns : goal.returns
 returns c =
