@@ -79,12 +79,18 @@ impl Cache {
     /// Keeps a program. If as many are kept as may be, it takes the place of the one that was asked
     /// for longest ago. A program of another run of the server is not kept, nor one whose expression
     /// has over 16,384 bytes, and none is if memory runs out.
-    pub fn keep(&mut self, compiled: Compiled)
+    ///
+    /// The caller frees what it is given: the program that is kept no longer, or that was not kept.
+    pub fn keep(&mut self, compiled: Compiled) -> Option<Forgotten>
         ensures { self.new ≡ self.old }
     {
         if self.is_of(&compiled.key) && compiled.key.key.text.len() <= MAX_KEPT_TEXT {
-            put(&mut self.kept, compiled.key.key, &compiled.program);
+            return put(&mut self.kept, compiled.key.key, compiled.program);
         }
+        Some(Forgotten {
+            key: compiled.key.key,
+            program: compiled.program,
+        })
     }
 
     /// Whether an expression was read in the run of the server that this cache is of.
@@ -102,6 +108,13 @@ fn size() -> NonZeroUsize {
         Some(size) => size,
         None => NonZeroUsize::MIN,
     }
+}
+
+/// A program that a cache keeps no longer, or that it did not keep, with its key. It is there to be freed.
+#[derive(Drop)]
+pub struct Forgotten {
+    pub(crate) key: Key,
+    pub(crate) program: Arc<Program>,
 }
 
 /// A program that was compiled of an expression, and that a cache may keep.

@@ -8,6 +8,7 @@ ghost use Rattle.wq_term.specs.Reading.{reads_as};
 ghost use Rattle.wq_registry.specs.CacheKey.{Says};
 ghost use Rattle.wq_registry.specs.Kept.{CacheData, KeepsMeanings, StandsFor, instance_at};
 
+use crate::cache::Forgotten;
 use lru::LruCache;
 use serde_json::Value;
 use std::alloc::{AllocError, Global};
@@ -79,14 +80,19 @@ pub(crate) fn look_up(kept: &mut LruCache<Key, Arc<Program>>, key: &Key) -> Opti
 }
 
 /// Keeps a program under a key. If there are as many as may be, it takes the place of the one that
-/// was asked for longest ago. If memory runs out it is not kept.
-pub(crate) fn put(kept: &mut LruCache<Key, Arc<Program>>, key: Key, program: &Arc<Program>)
+/// was asked for longest ago. If memory runs out it is not kept. Given is what is not kept then.
+pub(crate) fn put(
+    kept: &mut LruCache<Key, Arc<Program>>,
+    key: Key,
+    program: Arc<Program>,
+) -> Option<Forgotten>
     ensures { (cache : CacheData) → KeepsMeanings cache kept.old.entries
-        → StandsFor (instance_at cache key.root) (string_bytes key.text) program.now.value
+        → StandsFor (instance_at cache key.root) (string_bytes key.text) program.value
         → KeepsMeanings cache kept.new.entries }
 {
-    let Ok(program) = Arc::try_clone(program) else {
-        return;
+    let (key, program) = match kept.push(key, program) {
+        Ok(pair) => pair?,
+        Err(failed) => failed.value,
     };
-    let _ = kept.put(key, program);
+    Some(Forgotten { key, program })
 }

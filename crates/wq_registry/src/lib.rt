@@ -15,7 +15,7 @@ mod root;
 mod roots;
 mod shelf;
 
-pub use cache::{Cache, Compiled, MAX_KEPT, MAX_KEPT_TEXT, compile_shared};
+pub use cache::{Cache, Compiled, Forgotten, MAX_KEPT, MAX_KEPT_TEXT, compile_shared};
 pub use fault::ShelfFault;
 pub use key::CacheKey;
 pub use law::{

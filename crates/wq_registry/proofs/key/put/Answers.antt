@@ -1,9 +1,10 @@
-use Rattle.std.proofs.Common.{sym, subst}
-use Rattle.wq_registry.specs.Kept.{StandsFor, instance_at}
 use Rattle.wq_registry.proofs.Keeping.{put_or_not}
 use Rattle.wq_registry.proofs.key.put.Goals as goal
 
 pub returns : goal.returns
 returns c cache meanings stands =
-    put_or_not cache c.args.kept.now c.args.key c.in-Ok.program c.put.new.self c.put.result c.put.ensures.entries c.put.ensures.err meanings
-    (subst (λ raw. StandsFor (instance_at cache c.args.key.root) c.args.key.text.bytes.items raw) (sym c.in-Ok.ensures) stands)
+    put_or_not cache c.args.kept.now c.args.key c.args.program c.push.new.self c.push.result c.push.ensures.entries c.push.ensures.err meanings stands
+
+pub returns-in_err-pair-in-Ok : goal.returns-in_err-pair-in-Ok
+returns-in_err-pair-in-Ok c cache meanings stands =
+    put_or_not cache c.args.kept.now c.args.key c.args.program c.push.new.self c.push.result c.push.ensures.entries c.push.ensures.err meanings stands
