@@ -1,2 +1,14 @@
 mod Runs
 mod Parts
+mod Contents
+mod Lexemes
+mod Values
+mod Terms
+mod Lines
+mod Lists
+mod Looks
+mod Faults
+mod Needs
+mod Asked
+mod Events
+mod Sessions

@@ -1,1 +1,5 @@
 pub mod Headline
+pub mod TextBytes
+pub mod LineCost
+pub mod Lists
+pub mod Alone

@@ -17,15 +17,18 @@ use Rattle.wq_registry.specs.ByName.{under}
 use Rattle.wq_registry.specs.Change.{Change, last_said, later, putting, removing, says_of}
 use Rattle.wq_registry.specs.History.{adds_program, removes_program, adds_root, removes_root, uses_cursor, unsets_cursor, adds_trigger, removes_trigger, after as after_call, after_all, is_interrupted, since_added, stays_on, trigger_change}
 use Rattle.wq_registry.specs.Shelf.{blank}
-use Rattle.wq_session.specs.Accepted.{Accepts, CallNow, calls_of, cursor_calls, definition_calls, made_calls, query_calls, shown_calls, unset_calls}
+use Rattle.wq_ask.specs.Out.{OutData}
+use Rattle.wq_ask.specs.declared.ask.Ask.{Ask}
+use Rattle.wq_ask.specs.declared.ask.Ask.TheVariants.{Alone, OfRoot, OfShelf, Unwatch, Watch}
+use Rattle.wq_ask.specs.declared.ask.RootAsk.{RootAsk}
+use Rattle.wq_ask.specs.declared.ask.RootAsk.TheVariants.{AddTrigger, Clock, DeleteTrigger, ListTriggers, Query, Subscribe, Unsubscribe}
+use Rattle.wq_ask.specs.declared.ask.ShelfAsk.TheVariants.{AddProgram, DeleteProgram, ListPrograms, ListRoots, SocketName}
+use Rattle.wq_ask.specs.declared.cursor.Cursor.{Cursor}
+use Rattle.wq_ask.specs.declared.refusal.Refusal.{Refusal}
+use Rattle.wq_session.specs.Accepted.{Accepts, CallNow, calls_of, cursor_calls, definition_calls, made_calls, query_calls, shown_calls, there_calls, unset_calls}
 use Rattle.wq_session.specs.At.{AtData, ShelfNow}
-use Rattle.wq_session.specs.Out.{OutData}
 use Rattle.wq_session.specs.Query.{program_for}
 use Rattle.wq_session.specs.Trigger.{defined_by, run_in, trigger_called}
-use Rattle.wq_session.specs.declared.ask.Ask.{Ask}
-use Rattle.wq_session.specs.declared.ask.Ask.TheVariants.{Refused, Watch, ListRoots, Unwatch, Query, Clock, Version, SocketName, ShutDown, AddProgram, ListPrograms, DeleteProgram, Subscribe, Unsubscribe, AddTrigger, ListTriggers, DeleteTrigger, Leave, Nothing}
-use Rattle.wq_session.specs.declared.cursor.Cursor.{Cursor}
-use Rattle.wq_session.specs.declared.refusal.Refusal.{Refusal}
 use Rattle.wq_view.specs.View.{ViewData}
 use Rattle.wq_replay.proofs.Shelves.{after_both}
 
@@ -196,48 +199,35 @@ definition_kept root number shelf (Ok d) =
     ]
 definition_kept root number shelf (Err refusal) = tt
 
--- and those of any ask
-ask_kept : (ask : Ask) (at : Option AtData) (shelf : ShelfNow) → OneKept (calls_of ask at shelf) shelf
-ask_kept (AddProgram name program) at shelf = tt
-ask_kept (DeleteProgram name) at shelf = tt
-ask_kept (Refused refusal) None shelf = tt
-ask_kept (Refused refusal) (Some at) shelf = tt
-ask_kept (Watch root) None shelf = tt
-ask_kept (Watch root) (Some at) shelf = tt
-ask_kept ListRoots None shelf = tt
-ask_kept ListRoots (Some at) shelf = tt
-ask_kept (Unwatch root) None shelf = tt
-ask_kept (Unwatch root) (Some at) shelf = tt
-ask_kept (Query root crawls q) None shelf = tt
-ask_kept (Query root crawls q) (Some at) shelf = by at.view
+-- and those of an ask of a root
+there_kept : (what : RootAsk) (root : List ℕ) (at : AtData) (shelf : ShelfNow) → OneKept (there_calls what root at shelf) shelf
+there_kept (Query q) root at shelf = by at.view
   where
     by : (view : Option ViewData) → OneKept (shown_calls at.instance view (data_of q)) shelf
     by None = tt
     by (Some view) = query_kept (at.instance).root view.tick shelf (queries at.instance (data_of q))
-ask_kept (Clock root crawls) None shelf = tt
-ask_kept (Clock root crawls) (Some at) shelf = tt
-ask_kept Version None shelf = tt
-ask_kept Version (Some at) shelf = tt
-ask_kept SocketName None shelf = tt
-ask_kept SocketName (Some at) shelf = tt
-ask_kept ShutDown None shelf = tt
-ask_kept ShutDown (Some at) shelf = tt
-ask_kept ListPrograms None shelf = tt
-ask_kept ListPrograms (Some at) shelf = tt
-ask_kept (Subscribe root name q) None shelf = tt
-ask_kept (Subscribe root name q) (Some at) shelf = tt
-ask_kept (Unsubscribe root name) None shelf = tt
-ask_kept (Unsubscribe root name) (Some at) shelf = tt
-ask_kept (AddTrigger root t) None shelf = tt
-ask_kept (AddTrigger root t) (Some at) shelf = definition_kept root (at.instance).root shelf (defined_by at.instance (data_of t))
-ask_kept (ListTriggers root) None shelf = tt
-ask_kept (ListTriggers root) (Some at) shelf = tt
-ask_kept (DeleteTrigger root name) None shelf = tt
-ask_kept (DeleteTrigger root name) (Some at) shelf = tt
-ask_kept Leave None shelf = tt
-ask_kept Leave (Some at) shelf = tt
-ask_kept Nothing None shelf = tt
-ask_kept Nothing (Some at) shelf = tt
+there_kept Clock root at shelf = tt
+there_kept (Subscribe name q) root at shelf = tt
+there_kept (Unsubscribe name) root at shelf = tt
+there_kept (AddTrigger t) root at shelf = definition_kept root (at.instance).root shelf (defined_by at.instance (data_of t))
+there_kept ListTriggers root at shelf = tt
+there_kept (DeleteTrigger name) root at shelf = tt
+
+-- and those of any ask
+ask_kept : (ask : Ask) (at : Option AtData) (shelf : ShelfNow) → OneKept (calls_of ask at shelf) shelf
+ask_kept (Watch root) None shelf = tt
+ask_kept (Watch root) (Some at) shelf = tt
+ask_kept (Unwatch root) None shelf = tt
+ask_kept (Unwatch root) (Some at) shelf = tt
+ask_kept (OfRoot root crawl what) None shelf = tt
+ask_kept (OfRoot root crawl what) (Some at) shelf = there_kept what root at shelf
+ask_kept (OfShelf (AddProgram name program)) at shelf = tt
+ask_kept (OfShelf (DeleteProgram name)) at shelf = tt
+ask_kept (OfShelf ListRoots) at shelf = tt
+ask_kept (OfShelf SocketName) at shelf = tt
+ask_kept (OfShelf ListPrograms) at shelf = tt
+ask_kept (Alone what) None shelf = tt
+ask_kept (Alone what) (Some at) shelf = tt
 
 module _ (root : ℕ) (name : List ℕ) (sockname : List ℕ) (shelf : ShelfNow) (earlier : List CallNow) (leads : shelf ≡ after_all earlier (blank sockname)) where
   -- after such a list of calls a trigger that is there has the run that it had

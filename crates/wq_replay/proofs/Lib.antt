@@ -1,6 +1,7 @@
 mod Tables
 mod Follows
-mod Worlds
+pub mod Worlds
+mod Needs
 mod Words
 mod NewLines
 mod Parts

@@ -12,15 +12,15 @@ use Rattle.wq_registry.specs.ByName.{under}
 use Rattle.wq_registry.specs.Change.{later}
 use Rattle.wq_registry.specs.History.{adds_root, after_all}
 use Rattle.wq_registry.specs.Shelf.{blank, triggers_of}
+use Rattle.wq_ask.specs.Need.{need_of}
+use Rattle.wq_ask.specs.Out.{OutData}
+use Rattle.wq_ask.specs.declared.ask.Ask.{Ask}
 use Rattle.wq_session.specs.Accepted.{AnswersAreCalls, CallNow}
-use Rattle.wq_session.specs.Need.{need_of}
-use Rattle.wq_session.specs.Out.{OutData}
 use Rattle.wq_session.specs.Round.{RoundsAreCalls, after_turns, turn_calls}
 use Rattle.wq_session.specs.Trigger.{run_in, trigger_called}
-use Rattle.wq_session.specs.declared.ask.Ask.{Ask}
 use Rattle.wq_view.specs.Listing.{PassData}
 use Rattle.wq_replay.specs.Accepted.{AcceptsAt, AcceptsFor, AcceptsUnless}
-use Rattle.wq_replay.specs.Gets.{GetsAt, GetsFor, ending, fault_for}
+use Rattle.wq_replay.specs.Gets.{Gets, ending, fault_for}
 use Rattle.wq_replay.specs.Overlap.{Meanwhile, HasTrigger, RunsDoNotOverlap, StartsTrigger}
 use Rattle.wq_replay.specs.Playing.{Happens}
 use Rattle.wq_replay.specs.Rounds.{HasRound, RoundsAt}
@@ -51,16 +51,9 @@ watches (Shown number) world root seen after is = ap (λ w. w.runs) is
 watches Full world root seen after is = ap (λ w. w.runs) is
 watches Free world root seen after goes = starts world root seen after goes
 
-gets_at : (number : Option ℕ) (table : TableData) (client : ℤ) (world : WorldData) (ask : Ask) (out : OutData) (after : WorldData)
-    → GetsAt number table client world ask out after → after.runs ≡ world.runs
-gets_at None table client world ask out after (shelf, left, gets, is) = ap (λ w. w.runs) is
-gets_at (Some number) table client world ask out after (inl (shelf, left, gets, is)) = ap (λ w. w.runs) is
-gets_at (Some number) table client world ask out after (inr (may, is)) = ap (λ w. w.runs) is
-
-gets_for : (fault : Option CrawlFault) (table : TableData) (client : ℤ) (world : WorldData) (ask : Ask) (out : OutData) (after : WorldData)
-    → GetsFor fault table client world ask out after → after.runs ≡ world.runs
-gets_for None table client world ask out after gets = gets_at (ending (need_of ask) table) table client world ask out after gets
-gets_for (Some fault) table client world ask out after (may, is) = ap (λ w. w.runs) is
+gets : (client : ℤ) (world : WorldData) (ask : Ask) (out : OutData) (after : WorldData) → Gets client world ask out after
+    → after.runs ≡ world.runs
+gets client world ask out after (ready, later, meets, (shelf, left, replies, is)) = ap (λ w. w.runs) is
 
 -- a run goes on when another one has ended
 other_ended : (run other : ℕ) (running : List ℕ) → other ≢ run → list_any (λ r. nat_eq run r) running ≡ true
@@ -138,12 +131,12 @@ module _ (answers_are_calls : AnswersAreCalls) (rounds_are_calls : RoundsAreCall
       let same = (does answers_are_calls rounds_are_calls world (watching at seen) sent next is.calls sockname is.leads (none, (place, found, goes))) in
       let shelf : next.shelf ≡ world.shelf = same.2 ∙ ap (λ cs. after_all cs world.shelf) same.1 in
       (ap (run_at root name) shelf ∙ is.has, ap (λ r. list_any (λ x. nat_eq run x) r.running) (watches place world at seen next goes) ∙ is.goes)
-  step_keeps world (asked client ask) sent next is (out, (table, found, gets), same) other there =
-      let it = does answers_are_calls rounds_are_calls world (asked client ask) sent next is.calls sockname is.leads (out, (table, found, gets), same) in (
+  step_keeps world (asked client ask) sent next is (out, got, same) other there =
+      let it = does answers_are_calls rounds_are_calls world (asked client ask) sent next is.calls sockname is.leads (out, got, same) in (
         ap (run_at root name) it.2
             ∙ ask_keeps client world ask (it.1).0 is.calls it.0 is.leads (it.1).1 (ap (λ s. is_some (trigger_called root name s)) (sym it.2) ∙ there)
             ∙ is.has,
-        ap (λ r. list_any (λ x. nat_eq run x) r.running) (gets_for (fault_for (need_of ask) table world.refused) table client world ask out next gets) ∙ is.goes,
+        ap (λ r. list_any (λ x. nat_eq run x) r.running) (gets client world ask out next got) ∙ is.goes,
       )
   step_keeps world (idle client at) sent next is (out, (table, left, found, idles, same), lines) other there =
       (ap (λ w. run_at root name w.shelf) same ∙ is.has, ap (λ w. list_any (λ x. nat_eq run x) (w.runs).running) same ∙ is.goes)

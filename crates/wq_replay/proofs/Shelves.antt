@@ -9,20 +9,30 @@ use Rattle.wq_crawl.specs.declared.place.Place.{Place}
 use Rattle.wq_crawl.specs.declared.place.Place.TheVariants.{Shown, Full, Free}
 use Rattle.wq_registry.specs.History.{adds_root, after_all}
 use Rattle.wq_registry.specs.Shelf.{blank}
-use Rattle.wq_session.specs.Accepted.{CallNow, AnswersAreCalls}
-use Rattle.wq_session.specs.Need.{need_of}
-use Rattle.wq_session.specs.Out.{OutData}
+use Rattle.wq_ask.specs.Out.{MayRefuse}
+use Rattle.wq_session.specs.Accepted.{Accepts, CallNow, AnswersAreCalls}
+use Rattle.wq_session.specs.Crawl.{crawl_refusal}
+use Rattle.wq_session.specs.Desk.{StandData, stand}
+use Rattle.wq_session.specs.Views.{ReadyData, Replies}
+use Rattle.wq_session.proofs.Held.{shown_answer}
+use Rattle.wq_live.specs.declared.event.RootEvent.{RootEvent}
+use Rattle.wq_crawl.specs.declared.fault.CrawlFault.TheVariants.{NoMemory}
+use Rattle.wq_ask.specs.Need.{need_of}
+use Rattle.wq_ask.specs.Out.{OutData}
+use Rattle.wq_ask.specs.declared.ask.Ask.{Ask}
 use Rattle.wq_session.specs.Round.{IsRound, RoundsAreCalls, turn_calls}
-use Rattle.wq_session.specs.At.{ShelfNow}
-use Rattle.wq_session.specs.declared.ask.Ask.{Ask}
+use Rattle.wq_session.specs.At.{AtData, ShelfNow}
 use Rattle.wq_crawl.specs.declared.fault.CrawlFault.{CrawlFault}
 use Rattle.wq_view.specs.Listing.{PassData}
 use Rattle.wq_view.specs.View.{ViewData}
 use Rattle.wq_replay.specs.Accepted.{AcceptsAt, AcceptsOf, AcceptsRound, AcceptsUnless, RunsWith, ShelvesAreCalls}
-use Rattle.wq_replay.specs.Gets.{GetsAt, GetsFor, ending, fault_for}
+use Rattle.wq_replay.specs.Gets.{MeetsAt, MeetsFor, RepliesIn, at_end, ending, fault_for, looked}
 use Rattle.wq_replay.specs.Playing.{Happens, Runs}
 use Rattle.wq_replay.specs.Rounds.{RoundsAt}
-use Rattle.wq_replay.specs.World.{Crawls, CrawlsAt, HappeningData, crawl, watching, asked, idle, round, ended, WatchesAt, SentData, Starts, WorldData, new_world, root_text}
+use Rattle.wq_replay.specs.World.{Crawls, CrawlsAt, HappeningData, crawl, watching, asked, idle, round, ended, WatchesAt, SentData, Starts, WorldData, at_events, new_world, root_text}
+
+some_same : {X : Type 0} {x y : X} → Some x ≡ Some y → x ≡ y
+some_same h = cc h
 
 -- a crawl leaves the shelf
 at_number : (number : Option ℕ) (world : WorldData) (root : List ℕ) (pass : PassData) (after : WorldData)
@@ -54,23 +64,46 @@ after_both [] later shelf = refl
 after_both (c ∷ cs) later shelf = after_both cs later _
 
 module _ (answers_are_calls : AnswersAreCalls) (rounds_are_calls : RoundsAreCalls) where
-  -- the reply to an ask
-  ends : (number : Option ℕ) (table : TableData) (client : ℤ) (world : WorldData) (ask : Ask) (out : OutData) (after : WorldData)
-      → GetsAt number table client world ask out after
-      → (calls : List CallNow) × AcceptsAt number table client world ask out calls × (after.shelf ≡ after_all calls world.shelf)
-  ends None table client world ask out after (shelf, left, gets, is) =
-      let it = answers_are_calls ask _ world.shelf (world.follows client) out shelf left gets in
-      (it.0, it.1, ap (λ w. w.shelf) is ∙ it.2)
-  ends (Some number) table client world ask out after (inl (shelf, left, gets, is)) =
-      let it = answers_are_calls ask _ world.shelf (world.follows client) out shelf left gets in
-      (it.0, inl it.1, ap (λ w. w.shelf) is ∙ it.2)
-  ends (Some number) table client world ask out after (inr (may, is)) = ([], inr (may, refl), ap (λ w. w.shelf) is)
+  -- an ask that was answered at a root
+  answered_at : (at : Option AtData) (ready : ReadyData) (later : List RootEvent) (client : ℤ) (world : WorldData) (ask : Ask) (out : OutData) (after : WorldData)
+      → ready ≡ Ok at → RepliesIn client ready (at_events later world) ask out after
+      → (calls : List CallNow) × Accepts ask at world.shelf (world.follows client) out calls × (after.shelf ≡ after_all calls world.shelf)
+  answered_at at ready later client world ask out after is (shelf, left, replies, same) =
+      let answers = subst (λ (r : ReadyData). Replies r ask (stand (Some world.shelf) (world.follows client)) out (stand (Some shelf) left)) is replies in
+      let it = answers_are_calls ask at world.shelf (world.follows client) out shelf left
+      (shown_answer ask at (world.follows client) left out world.shelf shelf answers) in
+      (it.0, it.1, ap (λ w. w.shelf) same ∙ it.2)
 
-  gets_for : (fault : Option CrawlFault) (table : TableData) (client : ℤ) (world : WorldData) (ask : Ask) (out : OutData)
-      (after : WorldData) → GetsFor fault table client world ask out after
+  -- an ask that was refused before
+  refused_by : (fault : CrawlFault) (ready : ReadyData) (later : List RootEvent) (client : ℤ) (world : WorldData) (ask : Ask) (out : OutData) (after : WorldData)
+      → ready ≡ Err fault → RepliesIn client ready (at_events later world) ask out after → MayRefuse (crawl_refusal fault) out × (after.shelf ≡ world.shelf)
+  refused_by fault ready later client world ask out after is (shelf, left, replies, same) =
+      let it = subst (λ (r : ReadyData). Replies r ask (stand (Some world.shelf) (world.follows client)) out (stand (Some shelf) left)) is replies in
+      (it.0, ap (λ w. w.shelf) same ∙ some_same (ap (λ (s : StandData). s.shelf) it.1))
+
+  -- the reply to an ask
+  ends : (number : Option ℕ) (table : TableData) (ready : ReadyData) (later : List RootEvent) (client : ℤ) (world : WorldData) (ask : Ask) (out : OutData)
+      (after : WorldData) → MeetsAt number (need_of ask) world.run table world.events ready later
+      → RepliesIn client ready (at_events later world) ask out after
+      → (calls : List CallNow) × AcceptsAt number table client world ask out calls × (after.shelf ≡ after_all calls world.shelf)
+  ends None table ready later client world ask out after (is, same) replies =
+      answered_at (looked (need_of ask) world.run table) ready later client world ask out after is replies
+  ends (Some number) table ready later client world ask out after (inl (is, same)) replies =
+      let it = answered_at (Some (at_end world.run number)) ready later client world ask out after is replies in
+      (it.0, inl it.1, it.2)
+  ends (Some number) table ready later client world ask out after (inr (is, same)) replies =
+      let it = refused_by NoMemory ready later client world ask out after is replies in
+      ([], inr (it.0, refl), it.1)
+
+  gets_for : (fault : Option CrawlFault) (table : TableData) (ready : ReadyData) (later : List RootEvent) (client : ℤ) (world : WorldData) (ask : Ask)
+      (out : OutData) (after : WorldData) → MeetsFor fault (need_of ask) world.run table world.events ready later
+      → RepliesIn client ready (at_events later world) ask out after
       → (calls : List CallNow) × AcceptsUnless fault table client world ask out calls × (after.shelf ≡ after_all calls world.shelf)
-  gets_for None table client world ask out after gets = ends (ending (need_of ask) table) table client world ask out after gets
-  gets_for (Some fault) table client world ask out after (may, is) = ([], (may, refl), ap (λ w. w.shelf) is)
+  gets_for None table ready later client world ask out after meets replies =
+      ends (ending (need_of ask) table) table ready later client world ask out after meets replies
+  gets_for (Some fault) table ready later client world ask out after (is, same) replies =
+      let it = refused_by fault ready later client world ask out after is replies in
+      ([], (it.0, refl), it.1)
 
   -- the result of a round, on a shelf that calls lead to
   pub round_calls : (instance : InstanceData) (view : ViewData) (shelf : ShelfNow) (earlier : List CallNow) (sockname : List ℕ) (shown : Option LauncherData)
@@ -97,8 +130,8 @@ module _ (answers_are_calls : AnswersAreCalls) (rounds_are_calls : RoundsAreCall
       → (calls : List CallNow) × AcceptsOf world happening sent calls × (after.shelf ≡ after_all calls world.shelf)
   does world (crawl root seen) sent after earlier sockname leads (none, goes) = ([], refl, crawls world root seen after goes)
   does world (watching root seen) sent after earlier sockname leads (none, (place, is, goes)) = ([], refl, watches place world root seen after goes)
-  does world (asked client ask) sent after earlier sockname leads (out, (table, is, gets), same) =
-      let it = gets_for (fault_for (need_of ask) table world.refused) table client world ask out after gets in
+  does world (asked client ask) sent after earlier sockname leads (out, (ready, later, (table, is, meets), replies), same) =
+      let it = gets_for (fault_for (need_of ask) table world.refused) table ready later client world ask out after meets replies in
       (it.0, (out, (table, is, it.1), same), it.2)
   does world (idle client root) sent after earlier sockname leads (out, (table, left, is, idles, same), lines) = ([], refl, ap (λ w. w.shelf) same)
   does world (round root succeeds) sent after earlier sockname leads (table, is, goes) =

@@ -6,13 +6,14 @@ use Rattle.wq_live.specs.Table.{RootView, TableData, root_by_text}
 use Rattle.wq_registry.specs.ByName.{under}
 use Rattle.wq_registry.specs.History.{AddsOne, adds_root}
 use Rattle.wq_registry.proofs.Added.{programs_were_added}
+use Rattle.wq_ask.specs.HandedIn.{AsksHandInValid, HandsInValid}
+use Rattle.wq_ask.specs.Need.{need_of}
+use Rattle.wq_ask.specs.Out.{OutData}
+use Rattle.wq_ask.specs.declared.ask.Ask.{Ask}
+use Rattle.wq_ask.specs.declared.ask.Ask.TheVariants.{OfShelf}
+use Rattle.wq_ask.specs.declared.ask.ShelfAsk.TheVariants.{AddProgram}
 use Rattle.wq_session.specs.Accepted.{AddedAreAsked, CallNow}
-use Rattle.wq_session.specs.HandedIn.{AsksHandInValid, HandsInValid}
-use Rattle.wq_session.specs.Need.{need_of}
-use Rattle.wq_session.specs.Out.{OutData}
 use Rattle.wq_session.specs.Round.{TriggerTurnData, turn_calls}
-use Rattle.wq_session.specs.declared.ask.Ask.{Ask}
-use Rattle.wq_session.specs.declared.ask.Ask.TheVariants.{AddProgram}
 use Rattle.wq_session.proofs.Adding.{one_of}
 use Rattle.wq_verify.specs.Typing.{IsValid}
 use Rattle.wq_replay.specs.Accepted.{AcceptsAt, AcceptsOf, AcceptsRound, AcceptsUnless, RunsWith, ShelvesAreCalls}
@@ -28,7 +29,7 @@ turns_none raw root (turn ∷ turns) (inr one) = turns_none raw root turns one
 
 module _ (added_are_asked : AddedAreAsked) (hand_in_valid : AsksHandInValid) (raw : Raw) where
   -- a program that an ask hands in may run
-  handed : (ask : Ask) → (name : List ℕ) × (ask ≡ AddProgram name raw) → HandsInValid ask → IsValid raw
+  handed : (ask : Ask) → (name : List ℕ) × (ask ≡ OfShelf (AddProgram name raw)) → HandsInValid ask → IsValid raw
   handed ask it good = subst HandsInValid it.1 good
 
   -- a program that the calls of an ask add

@@ -2,39 +2,38 @@
 use Rattle.std.proofs.Common.{◌≡◌, ℕ, ℤ, Bool, true, false, if◌then◌else◌, List, [], ◌∷◌, ◌++◌, length, arith, Option, Some, None, Result, Ok, Err, IfOk, IfSome, OnOk, MatchOption, Vec, map, option_map, refl, sym, ap, subst, ◌∙◌}
 use Rattle.std.proofs.lemmas.List.{append-nil, append_assoc}
 use Rattle.std.specs.Ordering.{int_eq}
-use Rattle.wq_clock.specs.Instance.{InstanceData}
 use Rattle.wq_follow.specs.Subscription.{SubscriptionData}
 use Rattle.wq_live.specs.Event.{number_of}
 use Rattle.wq_live.specs.Table.{TableData, IsTableOf}
-use Rattle.wq_session.specs.Answer.{AnswersAsk, MayRefuse}
-use Rattle.wq_session.specs.Crawl.{crawl_refusal}
+use Rattle.wq_ask.specs.Need.{need_of}
+use Rattle.wq_ask.specs.Out.{OutData}
 use Rattle.wq_session.specs.Moment.{Idles}
-use Rattle.wq_session.specs.Need.{NeedData, need_of}
-use Rattle.wq_session.specs.Out.{OutData}
+use Rattle.wq_session.specs.Desk.{stand}
 use Rattle.wq_session.specs.At.{AtData, ShelfNow}
 use Rattle.wq_session.specs.Shelved.{shelf_data}
-use Rattle.wq_session.specs.declared.ask.Ask.{Ask}
+use Rattle.wq_live.specs.declared.event.RootEvent.{RootEvent}
+use Rattle.wq_ask.specs.declared.ask.Ask.{Ask}
 use Rattle.wq_crawl.specs.Publish.{IsPlace}
 use Rattle.wq_crawl.specs.declared.fault.CrawlFault.{CrawlFault}
 use Rattle.wq_crawl.specs.declared.place.Place.{Place}
 use Rattle.wq_crawl.specs.declared.place.Place.TheVariants.{Free}
-use Rattle.wq_session.specs.declared.refusal.Refusal.{Refusal}
+use Rattle.wq_session.specs.Views.{ReadyData, Replies}
 use Rattle.wq_view.specs.Listing.{PassData}
 use Rattle.std.specs.declared.alloc.Global.{Global}
 use Rattle.std.specs.declared.alloc.AllocError.{AllocError}
 use Rattle.wq_replay.specs.Client.{follows_in}
 use Rattle.wq_replay.specs.Clients.{FollowsNow}
 use Rattle.wq_replay.specs.Launched.{runs_data}
-use Rattle.wq_replay.specs.Stands.{Leads, Stands, all_sent, happening_data, refused_data, sent_if, sent_of}
-use Rattle.wq_replay.proofs.Tables.{at_data_of}
+use Rattle.wq_replay.specs.Stands.{Leads, Stands, all_sent, happening_data, sent_if, sent_of}
+use Rattle.wq_replay.specs.Tables.{refused_data}
 use Rattle.wq_replay.specs.declared.client.Client.{Client}
 use Rattle.wq_replay.specs.declared.happening.Happening.{Happening}
 use Rattle.wq_replay.specs.declared.sent.Sent.{Sent}
 use Rattle.wq_replay.specs.declared.world.World.{World}
-use Rattle.wq_clock.specs.Run.{RunData, instance_of, run_data}
-use Rattle.wq_replay.specs.Gets.{AnswersInWorld, EndsAt, Gets, GetsAt, GetsFor, Rests, answered, at_end, ending, fault_for, kept, looked, numbered, with_follows}
+use Rattle.wq_clock.specs.Run.{run_data}
+use Rattle.wq_replay.specs.Gets.{Gets, Meets, Rests, answered, kept, numbered, with_follows}
 use Rattle.wq_replay.specs.Playing.{Happens, Runs}
-use Rattle.wq_replay.specs.World.{Crawls, CrawlsAt, HappeningData, RefusedData, SentData, Starts, Watches, WatchesAt, WorldData, unrefused}
+use Rattle.wq_replay.specs.World.{Crawls, CrawlsAt, HappeningData, RefusedData, SentData, Starts, Watches, WatchesAt, WorldData, at_events, unrefused}
 
 some_same : {X : Type 0} {x y : X} → Some x ≡ Some y → x ≡ y
 some_same h = cc h
@@ -74,71 +73,6 @@ watches_free before root seen place (Err error) Then found free starts = tt
 watches_free before root seen place (Ok done) Then found free (after, starts, holds) =
     (after, (place, found, subst (λ p. WatchesAt p before root seen after) (sym free) starts), holds)
 
--- the fault that is found in the code's values
-pub fault_is : (said need : NeedData) (table : TableData) (taken worlds : Option RefusedData) (got : Option CrawlFault)
-    → got ≡ fault_for said table taken → said ≡ need → worlds ≡ taken → fault_for need table worlds ≡ got
-fault_is said need table taken worlds got is same stands =
-    ap (fault_for need table) stands ∙ ap (λ n. fault_for n table taken) (sym same) ∙ sym is
-
--- an ask whose crawl or watching was refused
-pub gets_refused : (before : WorldData) (client : ℤ) (ask : Ask) (out : OutData) (table : TableData) (fault : CrawlFault) (refusal : Refusal)
-    → IsTableOf before.events table → fault_for (need_of ask) table before.refused ≡ Some fault → refusal ≡ crawl_refusal fault
-    → MayRefuse refusal out → Gets client before ask out (unrefused before)
-gets_refused before client ask out table fault refusal is some named may = (
-  table,
-  is,
-  subst (λ f. GetsFor f table client before ask out (unrefused before)) (sym some) (subst (λ r. MayRefuse r out) named may, refl),
-)
-
--- an ask that ends a root
-pub gets_ended : (before after : WorldData) (client : ℤ) (ask : Ask) (out : OutData) (table : TableData) (number : ℕ) → IsTableOf before.events table
-    → fault_for (need_of ask) table before.refused ≡ None → ending (need_of ask) table ≡ Some number
-    → EndsAt client number before ask out after → Gets client before ask out after
-gets_ended before after client ask out table number is none ends gets = (
-  table,
-  is,
-  subst (λ f. GetsFor f table client before ask out after) (sym none)
-      (subst (λ n. GetsAt n table client before ask out after) (sym ends) gets),
-)
-
--- any other ask
-pub gets_looked : (before after : WorldData) (client : ℤ) (ask : Ask) (out : OutData) (table : TableData) → IsTableOf before.events table
-    → fault_for (need_of ask) table before.refused ≡ None → ending (need_of ask) table ≡ None
-    → AnswersInWorld client (looked (need_of ask) before.run table) before ask out after → Gets client before ask out after
-gets_looked before after client ask out table is none ends gets = (
-  table,
-  is,
-  subst (λ f. GetsFor f table client before ask out after) (sym none)
-      (subst (λ n. GetsAt n table client before ask out after) (sym ends) gets),
-)
-
--- a reply at the end of a root is the reply to an ask that ends it
-pub ended_gets : (before : WorldData) (client : ℤ) (ask : Ask) (table : TableData) (number : ℕ) (code : World) (result : Result OutData AllocError)
-    → IsTableOf before.events table → fault_for (need_of ask) table before.refused ≡ None → ending (need_of ask) table ≡ Some number
-    → IfOk result (λ out. (after : WorldData) × EndsAt client number before ask out after × Stands after code)
-    → IfOk result (λ out. (after : WorldData) × Gets client before ask out after × Stands after code)
-ended_gets before client ask table number code (Err error) is none ends gets = tt
-ended_gets before client ask table number code (Ok out) is none ends (after, gets, stands) =
-    (after, gets_ended before after client ask out table number is none ends gets, stands)
-
--- and a reply at the root that is looked at is the reply to any other ask
-pub looked_gets : (before : WorldData) (client : ℤ) (ask : Ask) (table : TableData) (code : World) (result : Result OutData AllocError)
-    → IsTableOf before.events table → fault_for (need_of ask) table before.refused ≡ None → ending (need_of ask) table ≡ None
-    → IfOk result (λ out. (after : WorldData) × AnswersInWorld client (looked (need_of ask) before.run table) before ask out after × Stands after code)
-    → IfOk result (λ out. (after : WorldData) × Gets client before ask out after × Stands after code)
-looked_gets before client ask table code (Err error) is none ends gets = tt
-looked_gets before client ask table code (Ok out) is none ends (after, gets, stands) =
-    (after, gets_looked before after client ask out table is none ends gets, stands)
-
--- an answer that is found in the code's values
-pub answers_at : (ask : Ask) (out : OutData) (at said : Option AtData) (from mine shelf : ShelfNow)
-    (had has left : List SubscriptionData) → at ≡ said → mine ≡ from → has ≡ had
-    → AnswersAsk ask at from had out shelf left → AnswersAsk ask said mine has out shelf left
-answers_at ask out at said from mine shelf had has left same stands follows answers =
-    subst (λ f. AnswersAsk ask said mine f out shelf left) (sym follows)
-    (subst (λ s. AnswersAsk ask said s had out shelf left) (sym stands)
-    (subst (λ a. AnswersAsk ask a from had out shelf left) same answers))
-
 -- the subscriptions of clients in the code, if those of one client changed
 pub follows_still : (client : ℤ) (left : List SubscriptionData) (world code next : ℤ → List SubscriptionData)
     → ((other : ℤ) → world other ≡ code other) → ((other : ℤ) → next other ≡ with_follows client left code other)
@@ -151,21 +85,32 @@ follows_still client left world code next stands now other =
     by false = stands other
 
 -- an answer to a client, and the world after it
-pub answers_well : (before : WorldData) (client : ℤ) (ask : Ask) (at said : Option AtData) (from shelf : ShelfNow) (had : List Client)
-    (code : World) (result : Result OutData AllocError) → at ≡ said → before.shelf ≡ from
-    → ((other : ℤ) → before.follows other ≡ follows_in other had) → before.run ≡ run_data code.run
-    → IsTableOf before.events code.table → shelf ≡ shelf_data code.shelf → before.runs ≡ runs_data code.runs → None ≡ option_map refused_data code.refused → code.spent ≡ false
-    → IfOk result (λ out. (left : List SubscriptionData) × AnswersAsk ask at from (follows_in client had) out shelf left
-    × FollowsNow client (kept out.goes_on left) had code.clients.items)
-    → IfOk result (λ out. (after : WorldData) × AnswersInWorld client said before ask out after × Stands after code)
-answers_well before client ask at said from shelf had code (Err error) same stands follows run roots held runs refused whole answers = tt
-answers_well before client ask at said from shelf had code (Ok out) same stands follows run roots held runs refused whole (left, answers, now) = (
-  answered client shelf (kept out.goes_on left) before,
-  (shelf, left, answers_at ask out at said from before.shelf shelf (follows_in client had) (before.follows client) left same stands (follows client) answers, refl),
+pub answers_well : (before : WorldData) (client : ℤ) (ask : Ask) (ready : ReadyData) (later : List RootEvent) (from shelf : ShelfNow) (had : List Client)
+    (left : List SubscriptionData) (out : OutData) (code : World) → before.shelf ≡ from
+    → ((other : ℤ) → before.follows other ≡ follows_in other had) → Meets (need_of ask) before.run before.refused before.events ready later
+    → Replies ready ask (stand (Some from) (follows_in client had)) out (stand (Some shelf) left)
+    → FollowsNow client (kept out.goes_on left) had code.clients.items → before.run ≡ run_data code.views.run
+    → IsTableOf later code.views.table → shelf ≡ shelf_data code.shelf → before.runs ≡ runs_data code.runs
+    → None ≡ option_map refused_data code.views.refused → code.spent ≡ false
+    → (after : WorldData) × Gets client before ask out after × Stands after code
+answers_well before client ask ready later from shelf had left out code held follows meets replies now run roots shown runs refused whole = (
+  answered client shelf (kept out.goes_on left) (at_events later before),
+  (
+    ready,
+    later,
+    meets,
+    (
+      shelf,
+      left,
+      subst (λ f. Replies ready ask (stand (Some before.shelf) f) out (stand (Some shelf) left)) (sym (follows client))
+          (subst (λ s. Replies ready ask (stand (Some s) (follows_in client had)) out (stand (Some shelf) left)) (sym held) replies),
+      refl,
+    ),
+  ),
   record {
     run = run;
     roots = roots;
-    shelf = held;
+    shelf = shown;
     follows = follows_still client (kept out.goes_on left) before.follows (λ other. follows_in other had) (λ other. follows_in other code.clients.items) follows now;
     runs = runs;
     refused = refused;
@@ -175,9 +120,9 @@ answers_well before client ask at said from shelf had code (Ok out) same stands 
 
 -- an idle moment of a client, and the world after it
 pub rests_well : (before : WorldData) (client : ℤ) (root : ℕ) (at : Option AtData) (had : List Client) (code : World)
-    (result : Result OutData AllocError) → at ≡ numbered root before.run code.table
-    → ((other : ℤ) → before.follows other ≡ follows_in other had) → before.run ≡ run_data code.run
-    → IsTableOf before.events code.table → before.shelf ≡ shelf_data code.shelf → before.runs ≡ runs_data code.runs → None ≡ option_map refused_data code.refused → code.spent ≡ false
+    (result : Result OutData AllocError) → at ≡ numbered root before.run code.views.table
+    → ((other : ℤ) → before.follows other ≡ follows_in other had) → before.run ≡ run_data code.views.run
+    → IsTableOf before.events code.views.table → before.shelf ≡ shelf_data code.shelf → before.runs ≡ runs_data code.runs → None ≡ option_map refused_data code.views.refused → code.spent ≡ false
     → IfOk result (λ out. (left : List SubscriptionData) × Idles root at (follows_in client had) out left
     × FollowsNow client left had code.clients.items)
     → IfOk result (λ out. (after : WorldData) × Rests client root before out after × Stands after code)
@@ -185,10 +130,10 @@ rests_well before client root at had code (Err error) same follows run roots hel
 rests_well before client root at had code (Ok out) same follows run roots held runs refused whole (left, idles, now) = (
   answered client before.shelf left before,
   (
-    code.table,
+    code.views.table,
     left,
     roots,
-    subst (λ f. Idles root (numbered root before.run code.table) f out left) (sym (follows client))
+    subst (λ f. Idles root (numbered root before.run code.views.table) f out left) (sym (follows client))
         (subst (λ a. Idles root a (follows_in client had) out left) same idles),
     refl,
   ),
@@ -202,39 +147,6 @@ rests_well before client root at had code (Ok out) same follows run roots held r
     whole = whole;
   },
 )
-
--- the root that an ask ends, which is found in the code's values
-pub ends_none : (mine : RunData) (said need : NeedData) (table : TableData) → None ≡ option_map (instance_of mine) (ending said table)
-    → said ≡ need → ending need table ≡ None
-ends_none mine said need table is same = subst (λ n. ending n table ≡ None) same (none_of (ending said table) is)
-  where
-    none_of : (number : Option ℕ) → None ≡ option_map (instance_of mine) number → number ≡ None
-    none_of None is = refl
-    none_of (Some number) is = absurd cc
-
-pub ends_some : (mine : RunData) (said need : NeedData) (table : TableData) (instance : InstanceData)
-    → Some instance ≡ option_map (instance_of mine) (ending said table) → said ≡ need
-    → (ending need table ≡ Some instance.root) × (instance ≡ instance_of mine instance.root)
-ends_some mine said need table instance is same =
-    let found = some_of (ending said table) is in (subst (λ n. ending n table ≡ Some instance.root) same found.0, found.1)
-  where
-    some_of : (number : Option ℕ) → Some instance ≡ option_map (instance_of mine) number
-        → (number ≡ Some instance.root) × (instance ≡ instance_of mine instance.root)
-    some_of None is = absurd cc
-    some_of (Some number) is =
-        let same : instance ≡ instance_of mine number = some_same is in
-        (ap (λ i. Some i.root) (sym same), same ∙ ap (λ i. instance_of mine i.root) (sym same))
-
--- the root that is looked at, in the code's values
-pub looked_is : (said need : NeedData) (mine run : RunData) (table : TableData) (got : Option AtData) → got ≡ looked said mine table
-    → said ≡ need → run ≡ mine → got ≡ looked need run table
-looked_is said need mine run table got is same stands =
-    is ∙ ap (λ n. looked n mine table) same ∙ ap (λ r. looked need r table) (sym stands)
-
--- a root that has ended, in the code's values
-pub ended_is : (instance : InstanceData) (run : RunData) → instance ≡ instance_of run instance.root
-    → Some (at_data_of instance None) ≡ Some (at_end run instance.root)
-ended_is instance run is = ap (λ i. Some (at_data_of i None)) is
 
 -- a fact about an option that was given
 pub given_none : {X E : Type 0} (A : Type 0) (B : X → Type 0) (result : Result (Option X) E) (field : Option X) → result ≡ Ok field → field ≡ None

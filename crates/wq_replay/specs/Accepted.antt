@@ -6,15 +6,14 @@ use Rattle.wq_clock.specs.Run.{RunData, instance_of}
 use Rattle.wq_live.specs.Table.{RootView, TableData, IsTableOf, root_by_text}
 use Rattle.wq_registry.specs.History.{adds_root, after_all}
 use Rattle.wq_registry.specs.Shelf.{blank}
+use Rattle.wq_ask.specs.Out.{MayRefuse, OutData}
+use Rattle.wq_ask.specs.Need.{need_of}
+use Rattle.wq_ask.specs.declared.ask.Ask.{Ask}
 use Rattle.wq_session.specs.Accepted.{CallNow, Accepts}
-use Rattle.wq_session.specs.Answer.{MayRefuse}
 use Rattle.wq_session.specs.Crawl.{crawl_refusal}
-use Rattle.wq_session.specs.Need.{need_of}
-use Rattle.wq_session.specs.Out.{OutData}
 use Rattle.wq_session.specs.Round.{turn_calls}
-use Rattle.wq_session.specs.declared.ask.Ask.{Ask}
 use Rattle.wq_crawl.specs.declared.fault.CrawlFault.{CrawlFault}
-use Rattle.wq_session.specs.declared.refusal.Refusal.TheVariants.{NoMemory}
+use Rattle.wq_ask.specs.declared.refusal.Refusal.TheVariants.{NoMemory}
 use Rattle.wq_replay.specs.Gets.{at_end, ending, fault_for, looked}
 use Rattle.wq_replay.specs.Playing.{Happens, Runs, sent_to}
 use Rattle.wq_replay.specs.Rounds.{HasRound}

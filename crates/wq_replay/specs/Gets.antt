@@ -3,22 +3,24 @@
 -- (`sync_timeout`), of `watch` and of `watch-del`; the rest is this server's own.
 use Rattle.std.specs.Prelude.{◌≡◌, ◌⊎◌, ℕ, ℤ, Bool, true, false, List, [], ◌∷◌, ◌++◌, find}
 use Rattle.std.specs.Prelude.{bytes_eq, if◌then◌else◌, Option, Some, None, option_map}
+use Rattle.std.specs.Prelude.{Ok, Err}
 use Rattle.std.specs.Ordering.{int_eq}
 use Rattle.wq_clock.specs.Run.{RunData, instance_of}
 use Rattle.wq_follow.specs.Subscription.{SubscriptionData}
 use Rattle.wq_live.specs.Table.{RootView, TableData, IsTableOf, has_number, number_by_text}
 use Rattle.wq_live.specs.Table.{root_by_text}
+use Rattle.wq_live.specs.declared.event.RootEvent.{RootEvent}
 use Rattle.wq_live.specs.declared.event.RootEvent.TheVariants.{Ended}
-use Rattle.wq_session.specs.Answer.{AnswersAsk, MayRefuse}
+use Rattle.wq_ask.specs.Need.{NeedData, look, crawl as crawl_of, watch as watch_of, unwatch, need_of}
+use Rattle.wq_ask.specs.Out.{OutData}
+use Rattle.wq_ask.specs.declared.ask.Ask.{Ask}
 use Rattle.wq_session.specs.At.{AtData, ShelfNow}
-use Rattle.wq_session.specs.Crawl.{crawl_refusal}
+use Rattle.wq_session.specs.Desk.{stand}
 use Rattle.wq_session.specs.Moment.{Idles}
-use Rattle.wq_session.specs.Need.{NeedData, look, crawl as crawl_of, watch as watch_of, unwatch, need_of}
-use Rattle.wq_session.specs.Out.{OutData}
-use Rattle.wq_session.specs.declared.ask.Ask.{Ask}
-use Rattle.wq_session.specs.declared.refusal.Refusal.TheVariants.{NoMemory}
+use Rattle.wq_session.specs.Views.{ReadyData, Replies}
 use Rattle.wq_crawl.specs.declared.fault.CrawlFault.{CrawlFault}
-use Rattle.wq_replay.specs.World.{RefusedData, WorldData, at_events, shows_root, unrefused}
+use Rattle.wq_crawl.specs.declared.fault.CrawlFault.TheVariants.{NoMemory}
+use Rattle.wq_replay.specs.World.{RefusedData, WorldData, at_events, shows_root}
 
 -- the fault of the last crawl or watching, if that was of this root and was refused
 abbrev pub refused_fault : List ℕ → Option RefusedData → Option CrawlFault
@@ -76,39 +78,43 @@ answered client shelf left world = record world {
   refused = None;
 }
 
--- an answer to a client at the root that it looks at, at the shelf of all clients, and at its
--- subscriptions
-abbrev pub AnswersInWorld : ℤ → Option AtData → WorldData → Ask → OutData → WorldData → Type 0
-AnswersInWorld client at world ask out after = (shelf : ShelfNow) × (left : List SubscriptionData)
-    × AnswersAsk ask at world.shelf (world.follows client) out shelf left
+-- a need that ends the root of this number, or none, is met. The ask is ready at the root that it
+-- names; or the root ends first, and the ask is ready at its end, unless memory runs out over that
+abbrev pub MeetsAt : Option ℕ → NeedData → RunData → TableData → List RootEvent → ReadyData
+    → List RootEvent → Type 0
+MeetsAt None need run table events ready later =
+    (ready ≡ Ok (looked need run table)) × (later ≡ events)
+MeetsAt (Some number) need run table events ready later =
+    ((ready ≡ Ok (Some (at_end run number))) × (later ≡ events ++ Ended number ∷ []))
+    ⊎ ((ready ≡ Err NoMemory) × (later ≡ events))
+
+-- a need is met, unless its crawl or watching was refused
+abbrev pub MeetsFor : Option CrawlFault → NeedData → RunData → TableData → List RootEvent
+    → ReadyData → List RootEvent → Type 0
+MeetsFor (Some fault) need run table events ready later = (ready ≡ Err fault) × (later ≡ events)
+MeetsFor None need run table events ready later =
+    MeetsAt (ending need table) need run table events ready later
+
+-- the roots of a world do what an ask needs, after a crawl or watching that was refused, or none.
+-- Then the ask is ready, and this is the history of the roots
+abbrev pub Meets : NeedData → RunData → Option RefusedData → List RootEvent → ReadyData
+    → List RootEvent → Type 0
+Meets need run refused events ready later = (table : TableData) × IsTableOf events table
+    × MeetsFor (fault_for need table refused) need run table events ready later
+
+-- a client's ask that is ready is answered at the shelf of all clients, and at its subscriptions;
+-- or its line is refused
+abbrev pub RepliesIn : ℤ → ReadyData → WorldData → Ask → OutData → WorldData → Type 0
+RepliesIn client ready world ask out after = (shelf : ShelfNow) × (left : List SubscriptionData)
+    × Replies ready ask (stand (Some world.shelf) (world.follows client)) out
+    (stand (Some shelf) left)
     × (after ≡ answered client shelf (kept out.goes_on left) world)
-
--- the answer to an ask that ends the root of this number: the root ends first, unless memory runs
--- out over that
-abbrev pub EndsAt : ℤ → ℕ → WorldData → Ask → OutData → WorldData → Type 0
-EndsAt client number world ask out after =
-    AnswersInWorld client (Some (at_end world.run number))
-    (at_events (world.events ++ Ended number ∷ []) world) ask out after
-    ⊎ (MayRefuse NoMemory out × (after ≡ unrefused world))
-
--- the answer to an ask that ends this root, or none
-abbrev pub GetsAt : Option ℕ → TableData → ℤ → WorldData → Ask → OutData → WorldData → Type 0
-GetsAt None table client world ask out after =
-    AnswersInWorld client (looked (need_of ask) world.run table) world ask out after
-GetsAt (Some number) table client world ask out after = EndsAt client number world ask out after
-
--- the reply to an ask: that its crawl or watching was refused, or its answer
-abbrev pub GetsFor : Option CrawlFault → TableData → ℤ → WorldData → Ask → OutData → WorldData
-    → Type 0
-GetsFor (Some fault) table client world ask out after =
-    MayRefuse (crawl_refusal fault) out × (after ≡ unrefused world)
-GetsFor None table client world ask out after =
-    GetsAt (ending (need_of ask) table) table client world ask out after
 
 -- the reply to the ask of a client, and the world after it
 abbrev pub Gets : ℤ → WorldData → Ask → OutData → WorldData → Type 0
-Gets client world ask out after = (table : TableData) × IsTableOf world.events table
-    × GetsFor (fault_for (need_of ask) table world.refused) table client world ask out after
+Gets client world ask out after = (ready : ReadyData) × (later : List RootEvent)
+    × Meets (need_of ask) world.run world.refused world.events ready later
+    × RepliesIn client ready (at_events later world) ask out after
 
 -- the lists that an idle moment of the root of this number gives out to a client, and the world
 -- after it

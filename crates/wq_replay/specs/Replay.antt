@@ -10,9 +10,9 @@ use Rattle.wq_base.specs.Byte.{newline}
 use Rattle.wq_base.specs.Writing.{WritesFront}
 use Rattle.wq_stream.specs.declared.event.Event.{Event}
 use Rattle.wq_live.specs.Event.{IsLawfulList}
-use Rattle.wq_session.specs.Need.{NeedData, crawl as crawl_of, watch as watch_of, need_of}
-use Rattle.wq_session.specs.Reading.{Asks}
-use Rattle.wq_session.specs.declared.ask.Ask.{Ask}
+use Rattle.wq_ask.specs.Need.{NeedData, crawl as crawl_of, watch as watch_of, need_of}
+use Rattle.wq_ask.specs.Reading.{Asks}
+use Rattle.wq_ask.specs.declared.ask.Ask.{Ask}
 use Rattle.wq_crawl.specs.declared.fault.CrawlFault.{CrawlFault}
 use Rattle.wq_crawl.specs.declared.fault.CrawlFault.TheVariants.{Unreadable}
 use Rattle.wq_view.specs.Listing.{PassData}

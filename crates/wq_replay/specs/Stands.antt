@@ -12,28 +12,24 @@ use Rattle.wq_replay.specs.Client.{follows_in}
 use Rattle.wq_replay.specs.Launched.{runs_data}
 use Rattle.wq_replay.specs.Playing.{Runs, sent_to}
 use Rattle.wq_replay.specs.Rounds.{sent_note}
-use Rattle.wq_replay.specs.World.{RefusedData, WorldData, HappeningData, crawl, watching, asked}
+use Rattle.wq_replay.specs.Tables.{refused_data}
+use Rattle.wq_replay.specs.World.{WorldData, HappeningData, crawl, watching, asked}
 use Rattle.wq_replay.specs.World.{idle, round, ended, SentData}
 use Rattle.wq_replay.specs.declared.happening.Happening.{Happening}
 use Rattle.wq_replay.specs.declared.happening.Happening.TheVariants.{Crawl, Watch, Asked, Idle}
 use Rattle.wq_replay.specs.declared.happening.Happening.TheVariants.{Round, Ended}
-use Rattle.wq_replay.specs.declared.refused.Refused.{Refused}
 use Rattle.wq_replay.specs.declared.sent.Sent.{Sent}
 use Rattle.wq_replay.specs.declared.sent.Sent.TheVariants.{ToClient, OfRound}
 use Rattle.wq_replay.specs.declared.world.World.{World}
 
--- a crawl or a watching that was refused
-abbrev pub refused_data : Refused → RefusedData
-refused_data refused = record { root = refused.root; fault = refused.fault }
-
 -- the code means this world, and no call of it failed
 pub record Stands (world : WorldData) (code : World) : Type 0 where
-  pub run : world.run ≡ run_data code.run
-  pub roots : IsTableOf world.events code.table
+  pub run : world.run ≡ run_data code.views.run
+  pub roots : IsTableOf world.events code.views.table
   pub shelf : world.shelf ≡ shelf_data code.shelf
   pub follows : (client : ℤ) → world.follows client ≡ follows_in client code.clients.items
   pub runs : world.runs ≡ runs_data code.runs
-  pub refused : world.refused ≡ option_map refused_data code.refused
+  pub refused : world.refused ≡ option_map refused_data code.views.refused
   pub whole : code.spent ≡ false
 
 -- the listing of a root, or the fault of its reading

@@ -4,7 +4,7 @@ use Rattle.std.specs.Prelude.{◌≡◌, ℕ, List, [], ◌∷◌, Some}
 use Rattle.wq_clock.specs.Run.{RunData}
 use Rattle.wq_code.specs.declared.raw.Raw.{Raw}
 use Rattle.wq_registry.specs.ByName.{under}
-use Rattle.wq_session.specs.Reading.{Asks}
+use Rattle.wq_ask.specs.Reading.{Asks}
 use Rattle.wq_stream.specs.declared.event.Event.{Event}
 use Rattle.wq_verify.specs.Typing.{IsValid}
 use Rattle.wq_replay.specs.Playing.{Runs}

@@ -11,8 +11,8 @@ use Rattle.wq_live.specs.Table.{TableData, number_by_text}
 use Rattle.wq_live.specs.declared.event.RootEvent.{RootEvent}
 use Rattle.wq_live.specs.declared.event.RootEvent.TheVariants.{Started}
 use Rattle.wq_registry.specs.Shelf.{blank, root_added}
+use Rattle.wq_ask.specs.declared.ask.Ask.{Ask}
 use Rattle.wq_session.specs.At.{ShelfNow}
-use Rattle.wq_session.specs.declared.ask.Ask.{Ask}
 use Rattle.wq_crawl.specs.declared.fault.CrawlFault.{CrawlFault}
 use Rattle.wq_crawl.specs.declared.fault.CrawlFault.TheVariants.{TicksSpent, TooManyRoots}
 use Rattle.wq_crawl.specs.Publish.{IsNotTakenIn, IsPlace, Passes, with_start}

@@ -1,46 +1,50 @@
 //! The clients of a world, each with its session. One that has no subscription is not kept.
-ghost use Rattle.std.specs.Prelude.{◌≡◌, ◌++◌, ◌≤◌, ◌<◌, List, IfNone, IfOk, IfSome, OnOk};
+ghost use Rattle.std.specs.Prelude.{◌≡◌, ◌++◌, ◌≤◌, ◌<◌, List, IfNone, IfOk, IfSome, OnOk, Some};
 ghost use Rattle.std.specs.Prelude.{length, map, option_map, position, vec_capacity, vec_len};
 ghost use Rattle.std.specs.List.{insert};
 ghost use Rattle.wq_follow.specs.Followed.{subscription_data};
 ghost use Rattle.wq_follow.specs.Subscription.{SubscriptionData};
-ghost use Rattle.wq_session.specs.Answer.{AnswersAsk};
+ghost use Rattle.wq_ask.specs.Need.{need_of};
 ghost use Rattle.wq_session.specs.At.{at_data};
+ghost use Rattle.wq_session.specs.Desk.{stand};
 ghost use Rattle.wq_session.specs.Followed.{follows_of};
 ghost use Rattle.wq_session.specs.Moment.{Idles};
 ghost use Rattle.wq_session.specs.Shelved.{shelf_data};
+ghost use Rattle.wq_session.specs.Views.{ReadyData, Replies};
 ghost use Rattle.wq_replay.specs.Client.{follows_in, is_of, other_clients, root_numbers_of, with_root_number};
 ghost use Rattle.wq_replay.specs.Clients.{FollowsNow, kept_client};
 ghost use Rattle.wq_replay.specs.Gets.{kept};
 
 use crate::client::Client;
 use std::alloc::{AllocError, Global};
+use wq_ask::{Ask, Out};
 use wq_follow::{Subscription, Trigger};
 use wq_query::Alone;
 use wq_registry::Shelf;
-use wq_session::{Ask, At, Out, Session};
+use wq_session::{At, Session, Views};
 
-/// The reply to the ask of a client. If there is no room to keep the client, nothing changes.
-pub(crate) fn answer(
+/// The reply to the ask of a client, and the views after it. If there is no room to keep the client, nothing changes.
+pub(crate) fn answer<V: Views + Drop>(
     clients: &mut Vec<Client>,
     alloc: Global,
     number: i64,
     ask: Ask,
-    at: Option<At<'_>>,
+    views: V,
     shelf: &mut Shelf<Trigger>,
-) -> Result<Out, AllocError>
-    ensures { IfOk result (λ out. (left : List SubscriptionData)
-        × AnswersAsk ask (option_map at_data at.entry) (shelf_data shelf.old)
-        (follows_in number clients.old.items) out (shelf_data shelf.new) left
-        × FollowsNow number (kept out.goes_on left) clients.old.items clients.new.items) }
+) -> Result<(V, Out), AllocError>
+    ensures { IfOk result (λ it. (ready : ReadyData) × (left : List SubscriptionData)
+        × V.readies views (need_of ask) ready it.0
+        × Replies ready ask (stand (Some (shelf_data shelf.old)) (follows_in number clients.old.items))
+        it.1 (stand (Some (shelf_data shelf.new)) left)
+        × FollowsNow number (kept (it.1).goes_on left) clients.old.items clients.new.items) }
 {
     clients.reserve(1)?;
     let mut session = take_out(clients, alloc, number);
-    let out = session.answer_at(&Alone {}, alloc, ask, at, shelf);
+    let (views, out) = session.answer(&Alone {}, alloc, ask, views, shelf);
     if out.goes_on() {
         put_back(clients, number, session);
     }
-    Ok(out)
+    Ok((views, out))
 }
 
 /// The lists that an idle moment of a root gives out to a client. If there is no room to keep the client, nothing

@@ -1,8 +1,8 @@
 //! The happenings that may come in a world.
 
+use wq_ask::Ask;
 use wq_base::Text;
 use wq_crawl::CrawlFault;
-use wq_session::Ask;
 use wq_view::Pass;
 
 /// Something that may happen. The name of a root has no slashes at its end, except for `/`.
@@ -19,7 +19,7 @@ pub enum Happening<'a> {
         root: Text,
         seen: Result<&'a Pass, CrawlFault>,
     },
-    /// A client asks. If it leaves, its ask is [`Ask::Leave`].
+    /// A client asks. If it leaves, its ask is [`LoneAsk::Leave`](wq_ask::LoneAsk::Leave).
     Asked {
         client: i64,
         ask: Ask,

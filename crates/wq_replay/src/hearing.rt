@@ -2,8 +2,8 @@
 //! then itself. Other lines bring idle moments, a round of triggers, or the end of a run. `world` lets
 //! them happen.
 ghost use Rattle.std.specs.Prelude.{◌≡◌, ◌++◌, ◌∷◌, [], IfOk, map, option_to_list};
-ghost use Rattle.wq_session.specs.Need.{need_of};
-ghost use Rattle.wq_session.specs.Needed.{need_data};
+ghost use Rattle.wq_ask.specs.Need.{need_of};
+ghost use Rattle.wq_ask.specs.Needed.{need_data};
 ghost use Rattle.wq_replay.specs.Replay.{end_if, listed_root, needed, rounds};
 ghost use Rattle.wq_replay.specs.Stands.{crawl_data, happening_data};
 ghost use Rattle.wq_replay.specs.World.{asked, idle};
@@ -11,9 +11,9 @@ ghost use Rattle.wq_replay.specs.World.{asked, idle};
 use crate::happening::Happening;
 use crate::world::ROOT;
 use std::alloc::{AllocError, Global};
+use wq_ask::{Ask, Need};
 use wq_base::Text;
 use wq_crawl::CrawlFault;
-use wq_session::{Ask, Need};
 use wq_view::Pass;
 
 /// The happenings if a client asks this while `/r` lists that.
@@ -53,7 +53,7 @@ pub(crate) fn moments<'a>(
 pub(crate) fn rounds<'a>(alloc: Global, succeeds: bool) -> Result<Vec<Happening<'a>>, AllocError>
     ensures { IfOk result (λ all. map happening_data all.items ≡ rounds succeeds) }
 {
-    let root = text(alloc, ROOT)?;
+    let root = Text::copied(alloc, ROOT)?;
     let mut rounds = Vec::with_capacity(alloc, 1)?;
     rounds.push(Happening::Round { root, succeeds })?;
     Ok(rounds)
@@ -81,22 +81,15 @@ fn needed<'a>(
 {
     match need {
         Need::Crawl(name) => Ok(Some(Happening::Crawl {
-            root: text(alloc, name)?,
+            root: Text::copied(alloc, name)?,
             seen: listed(tree, name),
         })),
         Need::Watch(name) => Ok(Some(Happening::Watch {
-            root: text(alloc, name)?,
+            root: Text::copied(alloc, name)?,
             seen: listed(tree, name),
         })),
         _ => Ok(None),
     }
-}
-
-/// A text that is kept.
-pub(crate) fn text(alloc: Global, text: &str) -> Result<Text, AllocError>
-    ensures { IfOk result (λ kept. kept ≡ text.now) }
-{
-    Ok(Text::from_string(String::from_str(alloc, text)?))
 }
 
 /// The listing of a root: for `/r`, the tree that a script has set. No other root can be read.

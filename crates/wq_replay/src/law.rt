@@ -6,7 +6,8 @@ ghost use Rattle.wq_replay.specs.Replay.{ScriptsAreRuns};
 ghost use Rattle.wq_replay.specs.Playing.{RunsGoOn};
 ghost use Rattle.wq_replay.specs.Valid.{ProgramsAreValid};
 
-use wq_session::{added_are_asked, answers_are_calls, asks_hand_in_valid, rounds_are_calls};
+use wq_ask::asks_hand_in_valid;
+use wq_session::{added_are_asked, answers_are_calls, rounds_are_calls};
 
 /// Two runs, one after the other, are one run.
 pub fn runs_go_on()

@@ -11,7 +11,6 @@ mod hearing;
 mod launcher;
 mod launching;
 mod law;
-mod looking;
 mod player;
 mod refused;
 mod runs;
@@ -21,6 +20,7 @@ mod sent;
 mod stage;
 mod start_line;
 mod step;
+mod table_views;
 mod taking;
 mod world;
 

@@ -13,8 +13,8 @@ use crate::sent::{Sent, Told};
 use itoa::Buffer;
 use std::io;
 use std::io::Write;
+use wq_ask::Line;
 use wq_base::{Table, write_all};
-use wq_session::Line;
 
 /// Sends these lines to clients, and tells whether the server goes on.
 pub(crate) fn send<W: Write>(writer: &mut W, sent: &[Sent]) -> Result<bool, StepFault>

@@ -2,7 +2,7 @@
 ghost use Rattle.std.specs.Prelude.{◌≡◌, ℕ, ℤ, [], List, Option, None, Some, IfOk, Ok, OnOk, map, true};
 ghost use Rattle.wq_stream.specs.Stream.{event_of, is_binary};
 ghost use Rattle.wq_stream.specs.declared.event.Event.{Event};
-ghost use Rattle.wq_session.specs.Reading.{Asks};
+ghost use Rattle.wq_ask.specs.Reading.{Asks};
 ghost use Rattle.wq_replay.specs.LineData.{line_data, seen_data};
 ghost use Rattle.wq_replay.specs.Replay.{crawled, ends_of};
 ghost use Rattle.wq_replay.specs.Stage.{StageData, drafts, empty_draft, finishes, fires, hears, rests, turn_at_end};
@@ -14,7 +14,7 @@ ghost use Rattle.wq_replay.specs.World.{WorldData};
 
 use crate::fault::StepFault;
 use crate::happening::Happening;
-use crate::hearing::{end_if, happenings, moments, rounds, text};
+use crate::hearing::{end_if, happenings, moments, rounds};
 use crate::script::{Line, RowLine, read_line};
 use crate::sending::send;
 use crate::stage::{Draft, Stage};
@@ -22,8 +22,8 @@ use crate::taking::MAX_SCRIPT_LINE;
 use crate::world::{ROOT, World};
 use std::alloc::{AllocError, Global};
 use std::io::Write;
-use wq_base::Table;
-use wq_session::{Ask, Refusal};
+use wq_ask::{Ask, LoneAsk, Refusal};
+use wq_base::{Table, Text};
 use wq_stream::{Event, MAX_LINE};
 use wq_view::{Pass, Seen, SharedBytes};
 
@@ -69,7 +69,7 @@ fn step_outside<W: Write>(
             let ask = ask_of(alloc, line);
             hear(alloc, stage, writer, client, ask)
         }
-        Line::Leave(client) => hear(alloc, stage, writer, client, Ask::Leave),
+        Line::Leave(client) => hear(alloc, stage, writer, client, Ask::Alone(LoneAsk::Leave)),
         Line::Idle(client) => rest(alloc, stage, writer, client),
         Line::Fire(succeeds) => fire(alloc, stage, writer, succeeds),
         Line::Done(name) => finish(alloc, stage, writer, name),
@@ -150,7 +150,7 @@ fn crawl(alloc: Global, world: &mut World, tree: &Pass) -> Result<(), AllocError
     ensures { (before : WorldData) → Stands before world.old → OnOk result (
         (after : WorldData) × Runs before (crawled true tree.now) [] after × Stands after world.new) }
 {
-    let root = text(alloc, ROOT)?;
+    let root = Text::copied(alloc, ROOT)?;
     let mut happenings = Vec::new(alloc);
     happenings.push(Happening::Crawl {
         root,
@@ -172,7 +172,7 @@ fn ask_of(alloc: Global, line: &[u8]) -> Ask
     }
     match Vec::from_slice(alloc, line) {
         Ok(bytes) => Ask::read(alloc, Event::Line(Table::from_vec(bytes))),
-        Err(_) => Ask::Refused(Refusal::NoMemory),
+        Err(_) => Ask::Alone(LoneAsk::Refused(Refusal::NoMemory)),
     }
 }
 

@@ -3,16 +3,14 @@
 //! moments, rounds of triggers, and ends of runs.
 ghost use Rattle.std.specs.Prelude.{◌≡◌, ◌+◌, ◌++◌, ◌∷◌, List, Ok, [], false, map, string_bytes};
 ghost use Rattle.std.specs.Prelude.{true, IfOk, IsErr, OnErr, OnOk, None, pos};
-ghost use Rattle.wq_clock.specs.Instance.{instance_data};
 ghost use Rattle.wq_live.specs.Table.{IsFullTable, IsTableOf, root_by_text};
 ghost use Rattle.wq_live.specs.declared.event.RootEvent.TheVariants.{Started};
-ghost use Rattle.wq_session.specs.Need.{need_of};
 ghost use Rattle.wq_view.specs.Listing.{listing_of};
-ghost use Rattle.wq_clock.specs.Run.{instance_of, run_data};
+ghost use Rattle.wq_clock.specs.Run.{run_data};
 ghost use Rattle.wq_replay.specs.Client.{root_numbers_of};
 ghost use Rattle.wq_replay.specs.Stands.{Leads, Stands, all_sent, crawl_data, happening_data};
 ghost use Rattle.wq_replay.specs.Stands.{sent_if};
-ghost use Rattle.wq_replay.specs.Gets.{AnswersInWorld, EndsAt, Gets, Rests, looked};
+ghost use Rattle.wq_replay.specs.Gets.{Gets, Rests};
 ghost use Rattle.wq_replay.specs.Playing.{Happens, Runs};
 ghost use Rattle.wq_replay.specs.World.{Crawls, HappeningData, SentData, Starts, Watches};
 ghost use Rattle.wq_replay.specs.World.{WorldData, new_world, root_text};
@@ -22,35 +20,32 @@ use crate::client::Client;
 use crate::clients;
 use crate::happening::Happening;
 use crate::launcher::MemoryLauncher;
-use crate::looking::{ending, fault_for, looked, numbered};
 use crate::refused::Refused;
 use crate::runs::RunSet;
 use crate::sent::{Sent, Told};
 use crate::start_line::lines_about;
+use crate::table_views::TableViews;
 use std::alloc::{AllocError, Global};
 use std::mem;
+use wq_ask::{Ask, Out};
 use wq_base::{Table, Text};
-use wq_clock::{Instance, Run};
+use wq_clock::Run;
 use wq_crawl::{CrawlFault, Place, place_for};
 use wq_follow::Trigger;
 use wq_live::RootTable;
 use wq_registry::{Cache, Shelf};
-use wq_session::{Ask, At, Out, Refusal, round};
+use wq_session::round;
 use wq_view::{Pass, ViewFault};
 
 /// A world in which clients ask about roots.
 #[derive(Drop)]
 pub struct World {
-    pub(crate) run: Run,
-    /// The roots that are shown, with their views.
-    pub(crate) table: RootTable,
+    pub(crate) views: TableViews,
     pub(crate) shelf: Shelf<Trigger>,
     /// The clients that have subscriptions.
     pub(crate) clients: Vec<Client>,
     /// The commands of triggers that run.
     pub(crate) runs: RunSet,
-    /// The last crawl or watching, if it was refused and nothing followed it.
-    pub(crate) refused: Option<Refused>,
     /// Whether memory ran out in a call, so that every later call is refused.
     pub(crate) spent: bool,
 }
@@ -69,12 +64,10 @@ impl World {
         let table = first_table(alloc)?;
         match shelf.add_root(ROOT, 1) {
             Ok(()) => Ok(World {
-                run,
-                table,
+                views: TableViews::new(run, table),
                 shelf,
                 clients: Vec::new(alloc),
                 runs: RunSet::new(alloc),
-                refused: None,
                 spent: false,
             }),
             Err(_) => Err(AllocError),
@@ -182,7 +175,7 @@ impl World {
         match seen {
             Ok(pass) => self.pass(root, pass),
             Err(fault) => {
-                self.refused = Some(Refused { root, fault });
+                self.views.refused = Some(Refused { root, fault });
                 Ok(())
             }
         }
@@ -193,19 +186,19 @@ impl World {
         ensures { (before : WorldData) → Stands before self.old → OnOk result (
             (after : WorldData) × Crawls before root (Ok pass.now) after × Stands after self.new) }
     {
-        self.refused = None;
-        let Some(number) = self.table.number_of(root.as_str()) else {
+        self.views.refused = None;
+        let Some(number) = self.views.table.number_of(root.as_str()) else {
             return Ok(());
         };
-        match self.table.with_pass(number, pass) {
+        match self.views.table.with_pass(number, pass) {
             Ok(None) => Ok(()),
             Ok(Some(table)) => {
-                self.table = table;
+                self.views.table = table;
                 Ok(())
             }
             Err(ViewFault::TicksSpent) => {
                 let fault = CrawlFault::TicksSpent;
-                self.refused = Some(Refused { root, fault });
+                self.views.refused = Some(Refused { root, fault });
                 Ok(())
             }
             Err(ViewFault::NoMemory) => Err(AllocError),
@@ -218,14 +211,14 @@ impl World {
             (after : WorldData) × Watches before root (crawl_data seen.entry) after
             × Stands after self.new) }
     {
-        match place_for(&self.table, root.as_str()) {
+        match place_for(&self.views.table, root.as_str()) {
             Place::Shown(_) => {
-                self.refused = None;
+                self.views.refused = None;
                 Ok(())
             }
             Place::Full => {
                 let fault = CrawlFault::TooManyRoots;
-                self.refused = Some(Refused { root, fault });
+                self.views.refused = Some(Refused { root, fault });
                 Ok(())
             }
             Place::Free => self.start(root, seen),
@@ -234,8 +227,8 @@ impl World {
 
     /// Starts a root that is not shown, with this listing or fault.
     fn start(&mut self, root: Text, seen: Result<&Pass, CrawlFault>) -> Result<(), AllocError>
-        requires new { root_by_text root self.old.table ≡ None }
-        requires room { IsFullTable self.old.table → ⊥ }
+        requires new { root_by_text root self.old.views.table ≡ None }
+        requires room { IsFullTable self.old.views.table → ⊥ }
         ensures { (before : WorldData) → Stands before self.old → OnOk result (
             (after : WorldData) × Starts before root (crawl_data seen.entry) after
             × Stands after self.new) }
@@ -243,7 +236,7 @@ impl World {
         match seen {
             Ok(pass) => self.start_with(root, pass),
             Err(fault) => {
-                self.refused = Some(Refused { root, fault });
+                self.views.refused = Some(Refused { root, fault });
                 Ok(())
             }
         }
@@ -251,15 +244,15 @@ impl World {
 
     /// Starts a root that is not shown with this pass.
     fn start_with(&mut self, root: Text, pass: &Pass) -> Result<(), AllocError>
-        requires new { root_by_text root self.old.table ≡ None }
-        requires room { IsFullTable self.old.table → ⊥ }
+        requires new { root_by_text root self.old.views.table ≡ None }
+        requires room { IsFullTable self.old.views.table → ⊥ }
         ensures { (before : WorldData) → Stands before self.old → OnOk result (
             (after : WorldData) × Starts before root (Ok pass.now) after × Stands after self.new) }
     {
-        match self.table.with_start(root.as_str(), pass) {
+        match self.views.table.with_start(root.as_str(), pass) {
             Ok(table) => {
-                self.table = table;
-                self.refused = None;
+                self.views.table = table;
+                self.views.refused = None;
                 Ok(())
             }
             // There is room for one more root, so only memory can run out.
@@ -273,60 +266,19 @@ impl World {
         ensures { (before : WorldData) → Stands before self.old → IfOk result (λ out.
             (after : WorldData) × Gets client before ask out after × Stands after self.new) }
     {
-        let refused = self.refused.take();
-        if let Some(fault) = fault_for(ask.need(), &self.table, refused) {
-            return Ok(Out::refused(alloc, Refusal::from(fault)));
-        }
-        match ending(ask.need(), self.run, &self.table) {
-            Some(instance) => self.answer_ended(alloc, client, ask, instance),
-            None => self.answer_at(alloc, client, ask),
-        }
-    }
-
-    /// The reply to an ask that ends this root.
-    fn answer_ended(
-        &mut self,
-        alloc: Global,
-        client: i64,
-        ask: Ask,
-        instance: Instance,
-    ) -> Result<Out, AllocError>
-        requires followed { self.old.refused ≡ None }
-        ensures { (before : WorldData) → Stands before self.old
-            → instance_data instance ≡ instance_of before.run instance.root → IfOk result (λ out.
-            (after : WorldData) × EndsAt client instance.root before ask out after
-            × Stands after self.new) }
-    {
-        // The root is shown, so only memory can run out.
-        let Ok(Some(table)) = self.table.with_end(instance.root) else {
-            return Ok(Out::refused(alloc, Refusal::NoMemory));
-        };
-        let at = At {
-            instance,
-            view: None,
-        };
-        let out = clients::answer(
+        let blank = TableViews::new(self.views.run, RootTable::new(alloc));
+        let views = mem::replace(&mut self.views, blank);
+        let answered = clients::answer(
             &mut self.clients,
             alloc,
             client,
             ask,
-            Some(at),
+            views,
             &mut self.shelf,
         )?;
-        self.table = table;
+        let (views, out) = answered;
+        self.views = views;
         Ok(out)
-    }
-
-    /// The reply to any other ask, at the root that it names.
-    fn answer_at(&mut self, alloc: Global, client: i64, ask: Ask) -> Result<Out, AllocError>
-        requires followed { self.old.refused ≡ None }
-        ensures { (before : WorldData) → Stands before self.old → IfOk result (λ out.
-            (after : WorldData)
-            × AnswersInWorld client (looked (need_of ask) before.run self.old.table) before ask
-            out after × Stands after self.new) }
-    {
-        let at = looked(ask.need(), self.run, &self.table);
-        clients::answer(&mut self.clients, alloc, client, ask, at, &mut self.shelf)
     }
 
     /// The lists that an idle moment of the root of this number gives out to a client.
@@ -334,8 +286,8 @@ impl World {
         ensures { (before : WorldData) → Stands before self.old → IfOk result (λ out.
             (after : WorldData) × Rests client root before out after × Stands after self.new) }
     {
-        self.refused = None;
-        let at = numbered(root, self.run, &self.table);
+        self.views.refused = None;
+        let at = self.views.numbered(root);
         clients::idle(&mut self.clients, alloc, client, root, at)
     }
 
@@ -360,11 +312,11 @@ impl World {
             (after : WorldData) × Rounds root.now succeeds before (map sent_note lines) after
             × Stands after self.new) }
     {
-        self.refused = None;
-        let Some((number, view)) = self.table.root(root.as_str()) else {
+        self.views.refused = None;
+        let Some((number, view)) = self.views.table.root(root.as_str()) else {
             return Ok(Table::new(alloc));
         };
-        let instance = self.run.instance(number);
+        let instance = self.views.run.instance(number);
         let runs = mem::replace(&mut self.runs, RunSet::new(alloc));
         let next = runs.next;
         let mut launcher = MemoryLauncher::new(alloc, runs, succeeds);
@@ -385,7 +337,7 @@ impl World {
         ensures { (before : WorldData) → Stands before self.old
             → Stands (without_running run before) self.new }
     {
-        self.refused = None;
+        self.views.refused = None;
         self.runs.end(run);
     }
 
@@ -395,7 +347,7 @@ impl World {
         ensures { (before : WorldData) → Stands before self.now
             → result ≡ trigger_run root.now trigger.now before }
     {
-        let number = self.table.number_of(root)?;
+        let number = self.views.table.number_of(root)?;
         self.shelf.root(number)?.trigger(trigger)?.running()
     }
 }

@@ -3,11 +3,11 @@ use Rattle.std.proofs.Common.{◌≡◌, ◌<◌, Bool, true, false, List, [], �
 use Rattle.std.specs.Io.KnownBytes.{Appends}
 use Rattle.std.proofs.lemmas.List.{append-nil, append_assoc}
 use Rattle.wq_stream.specs.declared.event.Event.{Event}
-use Rattle.wq_session.specs.Out.{OutData}
+use Rattle.wq_ask.specs.Out.{OutData}
 use Rattle.wq_serve.specs.Limit.{max_events}
 use Rattle.wq_stream.specs.declared.event.Event.TheVariants.{Line, Long, Binary, Idle, End, Fault}
-use Rattle.wq_session.specs.Reading.{Asks}
-use Rattle.wq_session.specs.declared.ask.Ask.{Ask}
+use Rattle.wq_ask.specs.Reading.{Asks}
+use Rattle.wq_ask.specs.declared.ask.Ask.{Ask}
 use Rattle.wq_session.specs.Desk.{StandData}
 use Rattle.wq_serve.specs.Ready.{KnownData}
 use Rattle.wq_serve.specs.Serving.{Does, GoesOn, IsAnswered, IsServed, PlaceData, Serves, written_for}

@@ -1,8 +1,7 @@
 mod Beginnings
 mod Shown
 mod Reaching
-mod Short
 mod Staying
-mod Getting
+mod Needs
 mod Going
 mod Lines

@@ -4,21 +4,17 @@ use Rattle.wq_clock.specs.Instance.{InstanceData}
 use Rattle.wq_follow.specs.Launcher.{LauncherData}
 use Rattle.wq_registry.specs.History.{after_all, unsets_cursor}
 use Rattle.wq_registry.specs.Shelf.{blank, cursor_unset}
+use Rattle.wq_ask.specs.Out.{settled}
 use Rattle.wq_session.specs.Accepted.{AnswersAreCalls, CallNow}
-use Rattle.wq_session.specs.Answer.{TakesAsk, finished, settled}
+use Rattle.wq_session.specs.Answer.{TakesAsk, finished}
 use Rattle.wq_session.specs.Round.{IsRound, RoundsAreCalls, turn_calls}
 use Rattle.wq_view.specs.View.{ViewData}
+use Rattle.wq_ask.specs.declared.ask.Ask.{Ask}
 use Rattle.wq_session.specs.Work.{WorkData}
 use Rattle.wq_session.specs.At.{AtData, ShelfNow}
-use Rattle.wq_session.specs.declared.ask.Ask.{Ask}
 use Rattle.wq_session.specs.Reached.{TurnData, takes, unsets, rounds, Turns, LeadsToShelf, IsReached, ReachedByCalls}
 use Rattle.wq_session.proofs.Ending.{none_named}
 use Rattle.wq_session.proofs.Held.{none_unset}
-
--- an empty shelf
-pub blank_reached : (sockname : List ℕ) → IsReached (blank sockname)
-unfolding IsReached
-blank_reached sockname = (sockname, [], refl)
 
 -- an ask is taken
 pub take_reached : (ask : Ask) (at : Option AtData) (shelf left : ShelfNow) (work : WorkData)

@@ -8,9 +8,7 @@ use Rattle.wq_clock.specs.declared.run.Run.{Run}
 use Rattle.wq_live.specs.Event.{IsLawfulList, Root, is_shown, passes_over, shown, shown_root}
 use Rattle.wq_live.specs.declared.event.RootEvent.{RootEvent}
 use Rattle.wq_session.specs.At.{AtData}
-use Rattle.wq_session.specs.Need.{NeedData, none, look, crawl, watch, unwatch}
 use Rattle.wq_view.specs.View.{IsViewOf, ViewData}
-use Rattle.wq_serve.specs.Answering.{ShowsNeeded}
 use Rattle.wq_serve.specs.Run.{ShowsAt, ShowsNumber}
 
 -- a root whose number was found was found
@@ -88,7 +86,7 @@ number_found text (r ∷ rs) root h = at (bytes_eq r.text text) refl (λ k. numb
 
 module _ (run : Run) (events : List RootEvent) (number : ℕ) (at : AtData) (same : number ≡ (at.instance).root) where
   -- the root of a text, at its number
-  shows_by_number : (text : List ℕ) (shared : Option AtData) → ShowsAt run text events (Some at) → ShowsNumber run number events shared
+  pub shows_by_number : (text : List ℕ) (shared : Option AtData) → ShowsAt run text events (Some at) → ShowsNumber run number events shared
       → ShowsAt run text events shared
   shows_by_number text None (lawful, (root, is, instance, view, there, views)) (also, hidden) =
       let num : number ≡ root.number = same ∙ ap (λ (i : InstanceData). i.root) instance in
@@ -98,26 +96,16 @@ module _ (run : Run) (events : List RootEvent) (number : ℕ) (at : AtData) (sam
       let num : number ≡ root.number = same ∙ ap (λ (i : InstanceData). i.root) instance in
       (lawful, (root, is, place ∙ ap (instance_of (run_data run)) num, seen, has, subst (λ n. IsViewOf (passes_over n events) seen) num of_it))
 
-  -- and the root that is needed
-  pub needed_by_number : (need : NeedData) (shared : Option AtData) → ShowsNeeded run need events (Some at) → ShowsNumber run number events shared
-      → ShowsNeeded run need events shared
-  needed_by_number none shared is by = absurd (cc is)
-  needed_by_number (look root) shared is by = shows_by_number root shared is by
-  needed_by_number (crawl root) shared is by = shows_by_number root shared is by
-  needed_by_number (watch root) shared is by = shows_by_number root shared is by
-  needed_by_number (unwatch root) shared is by = shows_by_number root shared is by
-
-module _ (run : Run) (need : NeedData) (events : List RootEvent) where
+module _ (shows : Option AtData → Type 0) where
   -- a root that has a number is looked at
-  pub one_needed : (instance : InstanceData) → IsNumbered (ShowsNeeded run need events) (Some instance)
-      → (at : AtData) × ShowsNeeded run need events (Some at) × (instance ≡ at.instance)
-  one_needed instance (None, shows, is) = absurd (cc is)
-  one_needed instance (Some at, shows, is) = (at, shows, some_same is)
+  pub one_shown : (instance : InstanceData) → IsNumbered shows (Some instance) → (at : AtData) × shows (Some at) × (instance ≡ at.instance)
+  one_shown instance (None, it, is) = absurd (cc is)
+  one_shown instance (Some at, it, is) = (at, it, some_same is)
 
   -- and if there is no number, none is
-  pub none_needed : IsNumbered (ShowsNeeded run need events) None → ShowsNeeded run need events None
-  none_needed (None, shows, is) = shows
-  none_needed (Some at, shows, is) = absurd (cc is)
+  pub none_there : IsNumbered shows None → shows None
+  none_there (None, it, is) = it
+  none_there (Some at, it, is) = absurd (cc is)
 
 -- a fact of each result
 pub still_ok : {A B : Type 0} (P Q : A → Type 0) (r : Result A B) → ((a : A) → P a → Q a) → IfOk r P → IfOk r Q

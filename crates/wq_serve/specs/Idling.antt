@@ -6,9 +6,9 @@ use Rattle.std.specs.Prelude.{◌≡◌, ◌⊎◌, ℕ, true, List, Option}
 use mathlib.Core.List.{IsPrefix}
 use Rattle.wq_live.specs.declared.event.RootEvent.{RootEvent}
 use Rattle.wq_follow.specs.Subscription.{SubscriptionData}
+use Rattle.wq_ask.specs.Out.{OutData, silence}
 use Rattle.wq_session.specs.At.{AtData}
 use Rattle.wq_session.specs.Moment.{Idles}
-use Rattle.wq_session.specs.Out.{OutData, silence}
 use Rattle.wq_session.specs.Desk.{StandData}
 use Rattle.wq_serve.specs.Basis.{Basis}
 use Rattle.wq_serve.specs.Ready.{KnownData}

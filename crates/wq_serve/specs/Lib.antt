@@ -6,4 +6,4 @@ pub mod Idling
 pub mod Serving
 pub mod Stays
 pub mod Limit
-pub mod Answering
+pub mod Meeting

@@ -5,8 +5,9 @@ use Rattle.std.specs.Prelude.{◌≡◌, ◌⊎◌, List, ℕ, Option, Some, Non
 use mathlib.Core.List.{IsPrefix}
 use Rattle.wq_clock.specs.Instance.{InstanceData}
 use Rattle.wq_live.specs.declared.event.RootEvent.{RootEvent}
-use Rattle.wq_session.specs.Need.{NeedData, none, look, crawl, watch, unwatch}
+use Rattle.wq_ask.specs.Need.{NeedData, none, look, crawl, watch, unwatch}
 use Rattle.wq_session.specs.At.{AtData}
+use Rattle.wq_session.specs.Views.{ReadyData}
 use Rattle.wq_crawl.specs.declared.fault.CrawlFault.{CrawlFault}
 use Rattle.wq_crawl.specs.Crawl.{CrawlerData, tells}
 use Rattle.wq_crawl.specs.Roots.{RootRequestData, RootsGive, passing, showing, ending}
@@ -19,10 +20,9 @@ pub record KnownData : Type 0 where
   pub roots : Option CrawlerData
   pub seen : List RootEvent
 
--- the root that is looked at for an ask, if there is one; or why it could not be crawled, opened or
--- retired
-abbrev pub ReadyData : Type 0
-ReadyData = Result (Option AtData) CrawlFault
+-- the knowledge of the roots, from its parts
+abbrev pub known : Option CrawlerData → List RootEvent → KnownData
+known roots seen = record { roots = roots; seen = seen }
 
 -- the session learns a list that was told: the next look begins with it too
 abbrev pub Learns : List RootEvent → Result (Option (List RootEvent)) CrawlFault

@@ -3,26 +3,24 @@
 -- server's own.
 use Rattle.std.specs.Prelude.{◌≡◌, ◌⊎◌, ◌<◌, ℕ, Bool, true, false, List, [], ◌∷◌, ◌++◌, length}
 use Rattle.std.specs.Prelude.{codes}
-use Rattle.std.specs.Prelude.{Option, Some, None, Ok, Err}
+use Rattle.std.specs.Prelude.{Option, Some, None}
 use Rattle.std.specs.Io.KnownBytes.{Appends}
 use Rattle.wq_base.specs.Writing.{WritesFront}
 use Rattle.wq_follow.specs.Subscription.{SubscriptionData}
 use Rattle.wq_stream.specs.declared.event.Event.{Event}
 use Rattle.wq_stream.specs.declared.event.Event.TheVariants.{Idle}
-use Rattle.wq_session.specs.Answer.{MayRefuse}
-use Rattle.wq_session.specs.Crawl.{crawl_refusal}
-use Rattle.wq_session.specs.Need.{need_of}
-use Rattle.wq_session.specs.Out.{OutData}
+use Rattle.wq_ask.specs.Need.{need_of}
+use Rattle.wq_ask.specs.Out.{OutData}
+use Rattle.wq_ask.specs.Reading.{Asks}
+use Rattle.wq_ask.specs.declared.ask.Ask.{Ask}
 use Rattle.wq_session.specs.At.{ShelfNow}
-use Rattle.wq_session.specs.Reading.{Asks}
-use Rattle.wq_session.specs.declared.ask.Ask.{Ask}
 use Rattle.wq_live.specs.declared.event.RootEvent.{RootEvent}
-use Rattle.wq_serve.specs.Answering.{known}
-use Rattle.wq_session.specs.Desk.{AnswersAt, StandData}
+use Rattle.wq_session.specs.Desk.{StandData}
+use Rattle.wq_session.specs.Views.{ReadyData, Replies}
 use Rattle.wq_serve.specs.Idling.{IsIdled}
 use Rattle.wq_serve.specs.Inbox.{Hands}
 use Rattle.wq_serve.specs.Limit.{max_events}
-use Rattle.wq_serve.specs.Ready.{KnownData, ReadyData, Readies}
+use Rattle.wq_serve.specs.Ready.{KnownData, Readies, known}
 use Rattle.wq_crawl.specs.Crawl.{CrawlerData}
 use Rattle.wq_serve.specs.Basis.{Basis}
 
@@ -37,12 +35,6 @@ pub record PlaceData : Type 0 where
 -- the part of that state which an answer uses
 abbrev pub stand_at : PlaceData → StandData
 stand_at place = record { shelf = place.shelf; follows = place.follows }
-
--- an ask that is ready is answered at the shelf; or its line is refused because its root could not
--- be crawled, opened or retired, which leaves the shelf and the subscriptions
-abbrev pub Replies : ReadyData → Ask → StandData → OutData → StandData → Type 0
-Replies (Ok at) ask stand out after = AnswersAt stand ask at out after
-Replies (Err fault) ask stand out after = MayRefuse (crawl_refusal fault) out × (after ≡ stand)
 
 -- an ask is answered after its needs are met
 abbrev pub IsAnswered : Basis → Ask → KnownData → StandData → OutData → KnownData → StandData

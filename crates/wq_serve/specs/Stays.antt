@@ -5,11 +5,11 @@ use Rattle.std.specs.Prelude.{◌≡◌, ◌⊎◌, ℕ, List, [], ◌∷◌, �
 use mathlib.Core.Logic.{inl, inr}
 use Rattle.wq_follow.specs.Subscription.{SubscriptionData}
 use Rattle.wq_registry.specs.History.{after_all}
+use Rattle.wq_ask.specs.Out.{OutData}
+use Rattle.wq_ask.specs.Reading.{Asks}
+use Rattle.wq_ask.specs.declared.ask.Ask.{Ask}
 use Rattle.wq_session.specs.Accepted.{Accepts, CallNow}
 use Rattle.wq_session.specs.At.{AtData, ShelfNow}
-use Rattle.wq_session.specs.Out.{OutData}
-use Rattle.wq_session.specs.Reading.{Asks}
-use Rattle.wq_session.specs.declared.ask.Ask.{Ask}
 use Rattle.wq_stream.specs.declared.event.Event.{Event}
 use Rattle.wq_serve.specs.Basis.{Basis}
 use Rattle.wq_serve.specs.Serving.{EndData, IsServed, PlaceData}

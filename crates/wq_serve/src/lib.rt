@@ -6,14 +6,14 @@
 //! files of a query. All waiting is in one of the ends.
 #![tactic(auto)]
 
-mod answering;
-mod client;
 mod idling;
 mod inbox;
 mod kept;
 mod law;
 mod lock_desk;
 mod looking;
+mod meeting;
+mod seat_views;
 mod serving;
 mod shared_shelf;
 mod writing;
@@ -22,5 +22,6 @@ pub use inbox::{Inbox, MemoryInbox};
 pub use kept::Kept;
 pub use law::accepted_stays;
 pub use lock_desk::LockDesk;
+pub use seat_views::SeatViews;
 pub use serving::{Ended, MAX_EVENTS, serve};
 pub use shared_shelf::{ReachedShelf, SharedShelf, reached_by_calls};

@@ -3,8 +3,9 @@ ghost use Rattle.std.specs.Prelude.{◌≡◌};
 
 use crate::shared_shelf::SharedShelf;
 use std::sync::{Arc, Mutex, Wait};
-use wq_registry::{CacheKey, Compiled};
-use wq_session::{Cursor, Desk, Turn, Unset, Work};
+use wq_ask::Cursor;
+use wq_registry::{CacheKey, Compiled, Forgotten};
+use wq_session::{Desk, Turn, Unset, Work};
 use wq_verify::Program;
 
 /// A desk over a shelf that threads share. It shows no shelf, and keeps none.
@@ -32,8 +33,8 @@ impl<R: Wait + Drop> Desk for LockDesk<R> {
         self.shelf.lock(&self.rt).find(key)
     }
 
-    fn keep(&mut self, compiled: Compiled) {
-        self.shelf.lock(&self.rt).keep(compiled);
+    fn keep(&mut self, compiled: Compiled) -> Option<Forgotten> {
+        self.shelf.lock(&self.rt).keep(compiled)
     }
 
     fn hold(&mut self, turn: Turn<'_>) -> Work {

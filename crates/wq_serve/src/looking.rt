@@ -1,52 +1,28 @@
 //! The root that a session looks at for an ask, and for an idle moment.
 ghost use Rattle.std.specs.Prelude.{◌≡◌, IfErr, IfOk, Option, Some, option_map};
-ghost use Rattle.wq_serve.specs.Answering.{SeesNumber, ShowsNeeded, shared_data};
 ghost use Rattle.wq_serve.specs.Basis.{basis_of};
+ghost use Rattle.wq_serve.specs.Meeting.{SeesNumber};
 ghost use Rattle.wq_serve.specs.Run.{ShowsAt, ShowsNumber};
 ghost use Rattle.wq_clock.specs.Instance.{instance_data};
-ghost use Rattle.wq_session.specs.Need.{need_of};
-ghost use Rattle.wq_session.specs.At.{AtData};
-ghost use Rattle.wq_session.specs.At.{at_data};
+ghost use Rattle.wq_session.specs.At.{AtData, at_data};
+ghost use Rattle.wq_session.specs.Views.{root_at_data};
 
 use std::alloc::AllocError;
-use std::sync::Arc;
 use wq_clock::{Instance, Run};
 use wq_live::{Look, Named, Seat};
-use wq_session::{Ask, At, Need};
-use wq_view::View;
+use wq_session::{At, RootAt};
 
-/// A root that was looked at, with a share of its view, so that no look is open for it.
-#[derive(Drop)]
-pub(crate) struct SharedAt {
-    instance: Instance,
-    view: Arc<View>,
-}
-
-impl SharedAt {
-    /// The meaning of this root for an answer.
-    pub(crate) fn at(&self) -> At<'_>
-        ensures { at_data result ≡ shared_data self.now }
-    {
-        At {
-            instance: self.instance,
-            view: Some(&self.view),
-        }
-    }
-}
-
-/// The root that an ask needs with a share of its view, as a look shows it, if it does. It is
-/// refused if there is no share of the view of a root that is shown.
+/// The root of this text with a share of its view, as a look shows it, if it does. It is refused if there is no share
+/// of the view of a root that is shown.
 pub(crate) fn share_for<N: Named>(
     run: Run,
-    ask: &Ask,
+    root: &str,
     look: &Look<N>,
-) -> Result<Option<SharedAt>, AllocError>
-    ensures shared { IfOk result (λ at.
-        ShowsNeeded run (need_of ask.now) look.now (option_map shared_data at)) }
-    ensures short { IfErr result (λ _. (at : AtData)
-        × ShowsNeeded run (need_of ask.now) look.now (Some at)) }
+) -> Result<Option<RootAt>, AllocError>
+    ensures shared { IfOk result (λ at. ShowsAt run root.now look.now (option_map root_at_data at)) }
+    ensures short { IfErr result (λ _. (at : AtData) × ShowsAt run root.now look.now (Some at)) }
 {
-    match number_in(run, ask, look) {
+    match number_of(run, root, look) {
         Some(instance) => share_of_number(run, instance.root, look),
         None => Ok(None),
     }
@@ -58,14 +34,14 @@ pub(crate) fn share_of_number<N: Named>(
     run: Run,
     number: u64,
     look: &Look<N>,
-) -> Result<Option<SharedAt>, AllocError>
-    ensures { IfOk result (λ at. ShowsNumber run number look.now (option_map shared_data at)) }
+) -> Result<Option<RootAt>, AllocError>
+    ensures { IfOk result (λ at. ShowsNumber run number look.now (option_map root_at_data at)) }
 {
     match look.share_of(number)? {
         None => Ok(None),
-        Some(view) => Ok(Some(SharedAt {
+        Some(view) => Ok(Some(RootAt {
             instance: run.instance(number),
-            view,
+            view: Some(view),
         })),
     }
 }
@@ -81,34 +57,21 @@ pub(crate) fn number_at<'a, N: Named>(run: Run, number: u64, look: &'a Look<N>) 
     })
 }
 
-/// Looks for the number of the root that an ask needs.
+/// Looks for the number of the root of this text.
 pub(crate) fn number_for<N: Named>(
     run: Run,
-    ask: &Ask,
+    root: &str,
     seat: Seat<N>,
 ) -> (Seat<N>, Option<Instance>)
-    ensures { SeesNumber (basis_of run (N.published N.book) (N.refused N.book)) (need_of ask.now)
+    ensures { SeesNumber (basis_of run (N.published N.book) (N.refused N.book)) root.now
         seat (option_map instance_data result.1) result.0 }
 {
     match seat.look() {
         Ok(look) => {
-            let instance = number_in(run, ask, &look);
+            let instance = number_of(run, root, &look);
             (look.leave(), instance)
         }
         Err(blind) => (blind.seat(), None),
-    }
-}
-
-/// The number of the root that an ask needs, as a look shows it, if it does.
-fn number_in<N: Named>(run: Run, ask: &Ask, look: &Look<N>) -> Option<Instance>
-    ensures { (at : Option AtData) × ShowsNeeded run (need_of ask.now) look.now at
-        × (option_map instance_data result ≡ option_map (λ at. at.instance) at) }
-{
-    match ask.need() {
-        Need::None => None,
-        Need::Look(root) | Need::Crawl(root) | Need::Watch(root) | Need::Unwatch(root) => {
-            number_of(run, root, look)
-        }
     }
 }
 

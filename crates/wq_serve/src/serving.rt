@@ -6,20 +6,18 @@ ghost use Rattle.wq_serve.specs.Serving.{IsServed, Serves, place};
 ghost use Rattle.wq_session.specs.Followed.{follows_of};
 ghost use Rattle.wq_stream.specs.declared.event.Event.{Event};
 
-use crate::answering::answer;
-use crate::client::Client;
-use crate::idling::idle;
 use crate::inbox::Inbox;
+use crate::seat_views::SeatViews;
 use crate::writing::write_out;
 use std::alloc::Global;
 use std::io::Write;
 use std::thread::Threads;
+use wq_ask::{Ask, Out};
 use wq_base::Workers;
-use wq_clock::Run;
 use wq_crawl::Roots;
-use wq_live::{Named, Seat};
+use wq_live::Named;
 use wq_query::Several;
-use wq_session::{Ask, Desk, Out, Session};
+use wq_session::{Desk, Session};
 use wq_stream::Event;
 
 /// The most events that a session takes, 2^62.
@@ -27,9 +25,9 @@ pub const MAX_EVENTS: u64 = 1 << 62;
 
 /// The end of a session.
 #[derive(Drop)]
-pub struct Ended<N: Named> {
-    /// The seat that the session looked from.
-    pub seat: Seat<N>,
+pub struct Ended<N: Named, R: Roots<N> + Drop> {
+    /// The seat that the session looked from, and the roots that it asked.
+    pub views: SeatViews<N, R>,
     /// Whether the server is to end.
     pub shut: bool,
     /// Whether the writer failed.
@@ -53,82 +51,77 @@ pub struct Ended<N: Named> {
 /// the reply is made.
 ///
 /// It ends if the client has gone, after a line that ends a session, if the writer fails, and after 2^62 events.
-pub fn serve<T: Threads, N: Named, I: Inbox, W: Write, R: Roots<N>, D: Desk>(
+pub fn serve<T: Threads, N: Named, I: Inbox, W: Write, R: Roots<N> + Drop, D: Desk>(
     rt: &T,
     alloc: Global,
-    run: Run,
     inbox: &mut I,
     writer: &mut W,
-    seat: Seat<N>,
-    roots: &mut R,
+    views: SeatViews<N, R>,
     desk: &mut D,
-) -> Ended<N>
+) -> Ended<N, R>
     ensures { (follows : List SubscriptionData) × IsServed
-        (basis_of run (N.published N.book) (N.refused N.book))
-        (place (I.left inbox.old) (R.crawler roots.old) seat (D.shelf desk.old) [])
+        (basis_of views.run (N.published N.book) (N.refused N.book))
+        (place (I.left inbox.old) (R.crawler views.roots) views.seat (D.shelf desk.old) [])
         (W.contents writer.old) (W.contents writer.new)
-        (place (I.left inbox.new) (R.crawler roots.new) result.seat (D.shelf desk.new) follows)
+        (place (I.left inbox.new) (R.crawler result.views.roots) result.views.seat
+        (D.shelf desk.new) follows)
         (record { shut = result.shut; fault = result.fault }) }
 {
-    let count = roots.workers();
+    let count = views.roots.workers();
     let crew = Several {
         rt,
         workers: Workers { count },
     };
-    let mut client = Client {
-        alloc,
-        run,
-        session: Session::new(alloc),
-    };
-    let mut seat = seat;
+    let mut session = Session::new(alloc);
+    let mut views = views;
     for _ in 0..MAX_EVENTS {
-        let (after, out) = take_event(&crew, &mut client, inbox, seat, roots, desk);
-        seat = after;
+        let (after, out) = take_event(&crew, alloc, &mut session, inbox, views, desk);
+        views = after;
         let shut = out.shuts();
         if write_out(writer, &out).is_err() {
             return Ended {
-                seat,
+                views,
                 shut,
                 fault: true,
             };
         }
         if !out.goes_on() {
             return Ended {
-                seat,
+                views,
                 shut,
                 fault: false,
             };
         }
     }
     Ended {
-        seat,
+        views,
         shut: false,
         fault: false,
     }
 }
 
 /// Takes the next event, and answers it.
-fn take_event<T: Threads, N: Named, I: Inbox, R: Roots<N>, D: Desk>(
+fn take_event<T: Threads, N: Named, I: Inbox, R: Roots<N> + Drop, D: Desk>(
     crew: &Several<'_, T>,
-    client: &mut Client,
+    alloc: Global,
+    session: &mut Session,
     inbox: &mut I,
-    seat: Seat<N>,
-    roots: &mut R,
+    views: SeatViews<N, R>,
     desk: &mut D,
-) -> (Seat<N>, Out)
+) -> (SeatViews<N, R>, Out)
     ensures serves { (event : Event) × Serves
-        (basis_of client.old.run (N.published N.book) (N.refused N.book))
-        (place (I.left inbox.old) (R.crawler roots.old) seat (D.shelf desk.old)
-        (follows_of client.old.session)) event result.1
-        (place (I.left inbox.new) (R.crawler roots.new) result.0 (D.shelf desk.new)
-        (follows_of client.new.session)) }
-    ensures run { client.new.run ≡ client.old.run }
+        (basis_of views.run (N.published N.book) (N.refused N.book))
+        (place (I.left inbox.old) (R.crawler views.roots) views.seat (D.shelf desk.old)
+        (follows_of session.old)) event result.1
+        (place (I.left inbox.new) (R.crawler result.0.roots) result.0.seat (D.shelf desk.new)
+        (follows_of session.new)) }
+    ensures run { result.0.run ≡ views.run }
 {
     match inbox.next() {
-        Event::Idle(root) => idle(client, root, seat),
+        Event::Idle(root) => views.rest(alloc, session, root),
         event => {
-            let ask = Ask::read(client.alloc, event);
-            answer(crew, client, ask, seat, roots, desk)
+            let ask = Ask::read(alloc, event);
+            session.answer(crew, alloc, ask, views, desk)
         }
     }
 }

@@ -14,10 +14,11 @@ use crate::kept::Kept;
 use std::alloc::Global;
 use std::marker::Model;
 use std::sync::Arc;
+use wq_ask::Cursor;
 use wq_clock::Instance;
 use wq_follow::{Launch, Trigger};
-use wq_registry::{Cache, CacheKey, Compiled, Root, Shelf};
-use wq_session::{Cursor, Turn, Unset, Work, answers_are_calls, round, rounds_are_calls};
+use wq_registry::{Cache, CacheKey, Compiled, Forgotten, Root, Shelf};
+use wq_session::{Turn, Unset, Work, answers_are_calls, round, rounds_are_calls};
 use wq_verify::Program;
 use wq_view::View;
 
@@ -86,11 +87,11 @@ impl ReachedShelf<Trigger> {
         self.shelf.cache().get(key)
     }
 
-    /// Keeps a program in the cache.
-    pub(crate) fn keep(&mut self, compiled: Compiled)
+    /// Keeps a program in the cache, and gives what the cache does not keep then.
+    pub(crate) fn keep(&mut self, compiled: Compiled) -> Option<Forgotten>
         ensures { self.new ≡ self.old }
     {
-        self.shelf.cache().keep(compiled);
+        self.shelf.cache().keep(compiled)
     }
 
     /// Unsets a cursor ([`Shelf::unset_cursor`]).

@@ -6,8 +6,8 @@ ghost use Rattle.wq_serve.specs.Serving.{line_for, lines_for, written_for};
 
 use std::io;
 use std::io::Write;
+use wq_ask::{Line, Out};
 use wq_base::write_all;
-use wq_session::{Line, Out};
 
 /// Writes the line of a reply, if there is one, and then that of each list.
 pub(crate) fn write_out<W: Write>(writer: &mut W, out: &Out) -> io::Result<()>

@@ -16,25 +16,28 @@ use Rattle.wq_registry.specs.Limit.{max_programs}
 use Rattle.wq_registry.specs.ByName.{has_no_place}
 use Rattle.wq_registry.specs.Shelf.{root_has_no_place}
 use Rattle.wq_registry.specs.History.{adds_trigger, after_all, removes_trigger}
-use Rattle.wq_session.specs.Accepted.{CallNow, Accepts, AnswersAreCalls, calls_of, cursor_calls, definition_calls, made_calls, query_calls, shown_calls, unset_calls}
+use Rattle.wq_ask.specs.Program.{is_name}
+use Rattle.wq_ask.specs.Clock.{clock_data}
+use Rattle.wq_ask.specs.Out.{OutData, replies, runs_out}
+use Rattle.wq_ask.specs.declared.ask.Ask.{Ask}
+use Rattle.wq_ask.specs.declared.ask.Ask.TheVariants.{Alone, OfRoot, OfShelf, Unwatch, Watch}
+use Rattle.wq_ask.specs.declared.ask.LoneAsk.{LoneAsk}
+use Rattle.wq_ask.specs.declared.ask.LoneAsk.TheVariants.{Leave, Nothing, Refused, ShutDown, Version}
+use Rattle.wq_ask.specs.declared.ask.RootAsk.{RootAsk}
+use Rattle.wq_ask.specs.declared.ask.RootAsk.TheVariants.{AddTrigger, Clock, DeleteTrigger, ListTriggers, Query as AsksQuery, Subscribe, Unsubscribe}
+use Rattle.wq_ask.specs.declared.ask.ShelfAsk.{ShelfAsk}
+use Rattle.wq_ask.specs.declared.ask.ShelfAsk.TheVariants.{AddProgram, DeleteProgram, ListPrograms, ListRoots, SocketName}
+use Rattle.wq_ask.specs.declared.cursor.Cursor.{Cursor}
+use Rattle.wq_ask.specs.declared.refusal.Refusal.{Refusal}
+use Rattle.wq_ask.specs.declared.refusal.Refusal.TheVariants.{NotWatched, Query as BadQuery, ShelfFull, TooManyRoots, BadName, TooManyTriggers}
+use Rattle.wq_session.specs.Accepted.{CallNow, Accepts, AnswersAreCalls, calls_of, cursor_calls, definition_calls, made_calls, query_calls, shelf_calls, shown_calls, there_calls, unset_calls}
 use Rattle.wq_session.specs.Trigger.{begun_trigger, defined_by, defined_name, has_no_trigger_place, put_trigger, trigger_in}
 use Rattle.wq_session.specs.Answer.{AnswerData, finished, without_cursor}
-use Rattle.wq_session.specs.Program.{is_name}
 use Rattle.wq_session.specs.Subscribe.{begun_subscription, first_plan}
 use Rattle.wq_session.specs.At.{AtData, ShelfNow, is_watched}
-use Rattle.wq_session.specs.Begun.{or_refused, tried}
-use Rattle.wq_session.specs.Clock.{clock_data}
-use Rattle.wq_session.specs.Out.{OutData, replies, runs_out}
+use Rattle.wq_session.specs.Begun.{or_refused, tried, tried_alone, tried_on, tried_there}
 use Rattle.wq_session.specs.Query.{begun_query, has_place, moved_cursor, plan_at, program_for, used_at}
 use Rattle.wq_session.specs.Work.{BegunData, begins, evaluates, saying}
-use Rattle.wq_session.specs.declared.ask.Ask.{Ask}
-use Rattle.wq_session.specs.declared.ask.Ask.TheVariants.{Refused, Watch, ListRoots, Unwatch}
-use Rattle.wq_session.specs.declared.ask.Ask.TheVariants.{Query as AsksQuery, Clock, Version}
-use Rattle.wq_session.specs.declared.ask.Ask.TheVariants.{SocketName, ShutDown, AddProgram, ListPrograms}
-use Rattle.wq_session.specs.declared.ask.Ask.TheVariants.{DeleteProgram, Leave, Nothing, Subscribe, Unsubscribe, AddTrigger, ListTriggers, DeleteTrigger}
-use Rattle.wq_session.specs.declared.cursor.Cursor.{Cursor}
-use Rattle.wq_session.specs.declared.refusal.Refusal.{Refusal}
-use Rattle.wq_session.specs.declared.refusal.Refusal.TheVariants.{NotWatched, Query as BadQuery, ShelfFull, TooManyRoots, BadName, TooManyTriggers}
 
 -- begun work leaves the shelf that these calls lead to
 abbrev Leads : List CallNow → ShelfNow → Result BegunData Refusal → Type 0
@@ -119,60 +122,48 @@ module _ (shelf : ShelfNow) where
   where_watched at false calls next so = tt
   where_watched at true calls next so = so
 
+  -- an ask of the root that is looked at
+  there : (what : RootAsk) (root : List ℕ) (at : AtData) → Leads (there_calls what root at shelf) shelf (tried_there what root at shelf)
+  there (AsksQuery q) root at = with_view at.instance (data_of q) at.view
+  there Clock root at = of_view at.view (λ view. replies (clock_data at.instance view))
+  there (Subscribe name q) root at = with_subscription root name at.instance (data_of q) at.view
+  there (Unsubscribe name) root at = unless BadName (is_name name) [] shelf _ refl
+  there (AddTrigger t) root at = with_definition root (at.instance).root (defined_by at.instance (data_of t)) at.view
+  there ListTriggers root at = refl
+  there (DeleteTrigger name) root at = unless BadName (is_name name) (removes_trigger (at.instance).root name ∷ []) shelf _ refl
+
+  -- an ask of the shelf
+  on_shelf : (what : ShelfAsk) → Leads (shelf_calls what) shelf (tried_on what shelf)
+  on_shelf ListRoots = refl
+  on_shelf SocketName = refl
+  on_shelf (AddProgram name program) =
+      unless ShelfFull (not (has_no_place max_programs name shelf.programs)) (shelf_calls (AddProgram name program)) shelf _ refl
+  on_shelf ListPrograms = refl
+  on_shelf (DeleteProgram name) = refl
+
+  -- an ask whose answer is always the same
+  alone : (what : LoneAsk) → Leads [] shelf (tried_alone what shelf)
+  alone (Refused refusal) = tt
+  alone Version = refl
+  alone ShutDown = refl
+  alone Leave = refl
+  alone Nothing = refl
+
 -- an ask that is not refused leaves the shelf that its calls lead to
 leads : (ask : Ask) (at : Option AtData) (shelf : ShelfNow) → Leads (calls_of ask at shelf) shelf (tried ask at shelf)
-leads (Refused refusal) at shelf = tt
 leads (Watch root) None shelf = tt
 leads (Watch root) (Some at) shelf =
     unless TooManyRoots (not (root_has_no_place root (at.instance).root shelf))
     (calls_of (Watch root) (Some at) shelf) shelf _ refl
-leads ListRoots None shelf = refl
-leads ListRoots (Some at) shelf = refl
 leads (Unwatch root) None shelf = tt
 leads (Unwatch root) (Some at) shelf =
     where_watched shelf at (is_watched root at shelf) (calls_of (Unwatch root) (Some at) shelf) _ refl
-leads (AsksQuery root crawl q) None shelf = tt
-leads (AsksQuery root crawl q) (Some at) shelf =
-    where_watched shelf at (is_watched root at shelf) (shown_calls at.instance at.view (data_of q)) _
-    (with_view shelf at.instance (data_of q) at.view)
-leads (Clock root crawl) None shelf = tt
-leads (Clock root crawl) (Some at) shelf =
-    where_watched shelf at (is_watched root at shelf) (calls_of (Clock root crawl) (Some at) shelf) _
-    (of_view shelf at.view (λ view. replies (clock_data at.instance view)))
-leads Version None shelf = refl
-leads Version (Some at) shelf = refl
-leads SocketName None shelf = refl
-leads SocketName (Some at) shelf = refl
-leads ShutDown None shelf = refl
-leads ShutDown (Some at) shelf = refl
-leads (AddProgram name program) at shelf =
-    unless ShelfFull (not (has_no_place max_programs name shelf.programs))
-    (calls_of (AddProgram name program) at shelf) shelf _ refl
-leads ListPrograms None shelf = refl
-leads ListPrograms (Some at) shelf = refl
-leads (DeleteProgram name) at shelf = refl
-leads (Subscribe root name q) None shelf = tt
-leads (Subscribe root name q) (Some at) shelf =
-    where_watched shelf at (is_watched root at shelf) [] _
-    (with_subscription shelf root name at.instance (data_of q) at.view)
-leads (Unsubscribe root name) None shelf = tt
-leads (Unsubscribe root name) (Some at) shelf =
-    where_watched shelf at (is_watched root at shelf) [] _ (unless BadName (is_name name) [] shelf _ refl)
-leads (AddTrigger root t) None shelf = tt
-leads (AddTrigger root t) (Some at) shelf =
-    where_watched shelf at (is_watched root at shelf)
-    (definition_calls root (at.instance).root (defined_by at.instance (data_of t)) shelf) _
-    (with_definition shelf root (at.instance).root (defined_by at.instance (data_of t)) at.view)
-leads (ListTriggers root) None shelf = tt
-leads (ListTriggers root) (Some at) shelf = where_watched shelf at (is_watched root at shelf) [] _ refl
-leads (DeleteTrigger root name) None shelf = tt
-leads (DeleteTrigger root name) (Some at) shelf =
-    where_watched shelf at (is_watched root at shelf) (removes_trigger (at.instance).root name ∷ []) _
-    (unless BadName (is_name name) (removes_trigger (at.instance).root name ∷ []) shelf _ refl)
-leads Leave None shelf = refl
-leads Leave (Some at) shelf = refl
-leads Nothing None shelf = refl
-leads Nothing (Some at) shelf = refl
+leads (OfRoot root crawl what) None shelf = tt
+leads (OfRoot root crawl what) (Some at) shelf =
+    where_watched shelf at (is_watched root at shelf) (there_calls what root at shelf) _ (there shelf what root at)
+leads (OfShelf what) at shelf = on_shelf shelf what
+leads (Alone what) None shelf = alone shelf what
+leads (Alone what) (Some at) shelf = alone shelf what
 
 -- calls one after the other
 one_more : (calls : List CallNow) (cursor : Option Cursor) (shelf : ShelfNow)

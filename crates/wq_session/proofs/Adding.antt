@@ -10,17 +10,17 @@ use Rattle.wq_follow.specs.Definition.{DefinitionData}
 use Rattle.wq_query.specs.Reading.{asks as queries}
 use Rattle.wq_query.specs.declared.fault.QueryFault.{QueryFault}
 use Rattle.wq_registry.specs.History.{AddsOne}
-use Rattle.wq_session.specs.Accepted.{CallNow, AddedAreAsked, calls_of, cursor_calls, definition_calls, made_calls, query_calls, shown_calls, unset_calls}
+use Rattle.wq_ask.specs.declared.ask.Ask.{Ask}
+use Rattle.wq_ask.specs.declared.ask.Ask.TheVariants.{Alone, OfRoot, OfShelf, Unwatch, Watch}
+use Rattle.wq_ask.specs.declared.ask.RootAsk.{RootAsk}
+use Rattle.wq_ask.specs.declared.ask.RootAsk.TheVariants.{AddTrigger, Clock, DeleteTrigger, ListTriggers, Query as AsksQuery, Subscribe, Unsubscribe}
+use Rattle.wq_ask.specs.declared.ask.ShelfAsk.TheVariants.{AddProgram, DeleteProgram, ListPrograms, ListRoots, SocketName}
+use Rattle.wq_ask.specs.declared.cursor.Cursor.{Cursor}
+use Rattle.wq_ask.specs.declared.refusal.Refusal.{Refusal}
+use Rattle.wq_session.specs.Accepted.{CallNow, AddedAreAsked, calls_of, cursor_calls, definition_calls, made_calls, query_calls, shown_calls, there_calls, unset_calls}
 use Rattle.wq_session.specs.Trigger.{defined_by}
 use Rattle.wq_session.specs.At.{AtData, ShelfNow}
 use Rattle.wq_session.specs.Query.{program_for}
-use Rattle.wq_session.specs.declared.ask.Ask.{Ask}
-use Rattle.wq_session.specs.declared.ask.Ask.TheVariants.{Refused, Watch, ListRoots, Unwatch}
-use Rattle.wq_session.specs.declared.ask.Ask.TheVariants.{Query as AsksQuery, Clock, Version}
-use Rattle.wq_session.specs.declared.ask.Ask.TheVariants.{SocketName, ShutDown, AddProgram, ListPrograms}
-use Rattle.wq_session.specs.declared.ask.Ask.TheVariants.{DeleteProgram, Leave, Nothing, Subscribe, Unsubscribe, AddTrigger, ListTriggers, DeleteTrigger}
-use Rattle.wq_session.specs.declared.cursor.Cursor.{Cursor}
-use Rattle.wq_session.specs.declared.refusal.Refusal.{Refusal}
 
 -- a call that adds a program is one of the first calls, or one of those after them
 pub one_of : (raw : Raw) (calls more : List CallNow) → AddsOne raw (calls ++ more) → AddsOne raw calls ⊎ AddsOne raw more
@@ -63,47 +63,33 @@ unset_none : (raw : Raw) (cursor : Option Cursor) → AddsOne raw (unset_calls c
 unset_none raw None one = one
 unset_none raw (Some cursor) one = neither one
 
+-- the calls of an ask of a root add none
+there_none : (raw : Raw) (what : RootAsk) (root : List ℕ) (at : AtData) (shelf : ShelfNow) → AddsOne raw (there_calls what root at shelf) → ⊥
+there_none raw (AsksQuery q) root at shelf one = shown_none raw at.instance at.view (data_of q) one
+there_none raw Clock root at shelf one = one
+there_none raw (Subscribe name q) root at shelf one = one
+there_none raw (Unsubscribe name) root at shelf one = one
+there_none raw (AddTrigger t) root at shelf one = definition_none raw root (at.instance).root (defined_by at.instance (data_of t)) shelf one
+there_none raw ListTriggers root at shelf one = one
+there_none raw (DeleteTrigger name) root at shelf one = neither one
+
 -- a program that the calls of an ask add is the one that the ask hands in
 asked : (raw : Raw) (ask : Ask) (at : Option AtData) (shelf : ShelfNow) → AddsOne raw (calls_of ask at shelf)
-    → (name : List ℕ) × (ask ≡ AddProgram name raw)
-asked raw (AddProgram name program) at shelf (inl same) = (name, ap (AddProgram name) same)
-asked raw (AddProgram name program) at shelf (inr one) = absurd one
-asked raw (DeleteProgram name) at shelf one = absurd (neither one)
-asked raw (Refused refusal) None shelf one = absurd one
-asked raw (Refused refusal) (Some at) shelf one = absurd one
+    → (name : List ℕ) × (ask ≡ OfShelf (AddProgram name raw))
+asked raw (OfShelf (AddProgram name program)) at shelf (inl same) = (name, ap (λ p. OfShelf (AddProgram name p)) same)
+asked raw (OfShelf (AddProgram name program)) at shelf (inr one) = absurd one
+asked raw (OfShelf (DeleteProgram name)) at shelf one = absurd (neither one)
+asked raw (OfShelf ListRoots) at shelf one = absurd one
+asked raw (OfShelf SocketName) at shelf one = absurd one
+asked raw (OfShelf ListPrograms) at shelf one = absurd one
 asked raw (Watch root) None shelf one = absurd one
 asked raw (Watch root) (Some at) shelf one = absurd (neither one)
-asked raw ListRoots None shelf one = absurd one
-asked raw ListRoots (Some at) shelf one = absurd one
 asked raw (Unwatch root) None shelf one = absurd one
 asked raw (Unwatch root) (Some at) shelf one = absurd (neither one)
-asked raw (AsksQuery root crawl q) None shelf one = absurd one
-asked raw (AsksQuery root crawl q) (Some at) shelf one = absurd (shown_none raw at.instance at.view (data_of q) one)
-asked raw (Clock root crawl) None shelf one = absurd one
-asked raw (Clock root crawl) (Some at) shelf one = absurd one
-asked raw Version None shelf one = absurd one
-asked raw Version (Some at) shelf one = absurd one
-asked raw SocketName None shelf one = absurd one
-asked raw SocketName (Some at) shelf one = absurd one
-asked raw ShutDown None shelf one = absurd one
-asked raw ShutDown (Some at) shelf one = absurd one
-asked raw ListPrograms None shelf one = absurd one
-asked raw ListPrograms (Some at) shelf one = absurd one
-asked raw (Subscribe root name q) None shelf one = absurd one
-asked raw (Subscribe root name q) (Some at) shelf one = absurd one
-asked raw (Unsubscribe root name) None shelf one = absurd one
-asked raw (Unsubscribe root name) (Some at) shelf one = absurd one
-asked raw (AddTrigger root t) None shelf one = absurd one
-asked raw (AddTrigger root t) (Some at) shelf one =
-    absurd (definition_none raw root (at.instance).root (defined_by at.instance (data_of t)) shelf one)
-asked raw (ListTriggers root) None shelf one = absurd one
-asked raw (ListTriggers root) (Some at) shelf one = absurd one
-asked raw (DeleteTrigger root name) None shelf one = absurd one
-asked raw (DeleteTrigger root name) (Some at) shelf one = absurd (neither one)
-asked raw Leave None shelf one = absurd one
-asked raw Leave (Some at) shelf one = absurd one
-asked raw Nothing None shelf one = absurd one
-asked raw Nothing (Some at) shelf one = absurd one
+asked raw (OfRoot root crawl what) None shelf one = absurd one
+asked raw (OfRoot root crawl what) (Some at) shelf one = absurd (there_none raw what root at shelf one)
+asked raw (Alone what) None shelf one = absurd one
+asked raw (Alone what) (Some at) shelf one = absurd one
 
 -- the law
 pub added_are_asked : AddedAreAsked
@@ -113,6 +99,6 @@ added_are_asked ask at shelf follows out calls raw (inr (inr (inl (takes, gave, 
 added_are_asked ask at shelf follows out calls raw (inr (inr (inr (begun, plan, cursor, is, work, gave, same)))) one =
     mine (one_of raw (calls_of ask at shelf) (unset_calls cursor) (subst (AddsOne raw) same one))
   where
-    mine : AddsOne raw (calls_of ask at shelf) ⊎ AddsOne raw (unset_calls cursor) → (name : List ℕ) × (ask ≡ AddProgram name raw)
+    mine : AddsOne raw (calls_of ask at shelf) ⊎ AddsOne raw (unset_calls cursor) → (name : List ℕ) × (ask ≡ OfShelf (AddProgram name raw))
     mine (inl own) = asked raw ask at shelf own
     mine (inr unset) = absurd (unset_none raw cursor unset)

@@ -23,28 +23,27 @@ use Rattle.wq_follow.specs.declared.fault.TriggerFault.TheVariants.{BadName as B
 use Rattle.wq_term.specs.Expr.{ExprData, always}
 use Rattle.wq_term.specs.declared.fault.TermFault.{TermFault}
 use Rattle.wq_view.specs.View.{ViewData}
+use Rattle.wq_ask.specs.Program.{is_name}
+use Rattle.wq_ask.specs.declared.refusal.Refusal.{Refusal}
+use Rattle.wq_ask.specs.declared.refusal.Refusal.TheVariants.{NotWatched, Query as BadQuery, BadName, NoMemory}
+use Rattle.wq_ask.specs.declared.refusal.Refusal.TheVariants.{LineTooLong, Bser, NotJson, NotACommand, UnknownCommand}
+use Rattle.wq_ask.specs.declared.refusal.Refusal.TheVariants.{WrongArguments, RootNotAbsolute, TooManyRoots, TooManySessions}
+use Rattle.wq_ask.specs.declared.refusal.Refusal.TheVariants.{UnreadableRoot, TooManyFiles, TicksSpent, NoSuchProgram}
+use Rattle.wq_ask.specs.declared.refusal.Refusal.TheVariants.{ProgramTooLarge, TooManySubscriptions, NotBase64, ShelfFull, BadTrigger, TooManyTriggers}
+use Rattle.wq_ask.specs.declared.refusal.Refusal.TheVariants.{WrongFile, WrongProgram}
 use Rattle.wq_session.specs.At.{AtData, ShelfNow, is_watched, watched}
 use Rattle.wq_session.specs.Moment.{Shown, shown_in}
 use Rattle.wq_session.specs.Prepared.{AreRead, GivesDefined, GivesDefinedObject, GivesRead, GivesReadObject, IsReadAgain, IsReadAt, IsReadShown}
 use Rattle.wq_session.specs.Prepared.{IsReadThere, ObjectData, asks_query, asks_subscription, asks_trigger, asks_nothing}
 use Rattle.wq_session.specs.Trigger.{begun_trigger, defined_by, try_trigger}
-use Rattle.wq_session.specs.Program.{is_name}
 use Rattle.wq_session.specs.Query.{begun_query, try_query}
 use Rattle.wq_session.specs.Subscribe.{begun_subscription, try_subscribe}
 use Rattle.wq_session.specs.Work.{BegunData, Begins}
-use Rattle.wq_session.specs.declared.ask.Ask.{Ask}
 use Rattle.wq_session.specs.declared.read_object.ReadObject.{ReadObject}
 use Rattle.wq_session.specs.declared.read_object.ReadObject.TheVariants.{None as Unread, Query as QueryRead, Trigger as TriggerRead}
 use Rattle.wq_session.specs.declared.read_object.ReadObject.TheVariants.{Refused as ObjectRefused}
 use Rattle.wq_session.specs.declared.read_query.ReadQuery.{ReadQuery}
 use Rattle.wq_session.specs.declared.read_trigger.ReadTrigger.{ReadTrigger}
-use Rattle.wq_session.specs.declared.refusal.Refusal.{Refusal}
-use Rattle.wq_session.specs.declared.refusal.Refusal.TheVariants.{NotWatched, Query as BadQuery, BadName, NoMemory}
-use Rattle.wq_session.specs.declared.refusal.Refusal.TheVariants.{LineTooLong, Bser, NotJson, NotACommand, UnknownCommand}
-use Rattle.wq_session.specs.declared.refusal.Refusal.TheVariants.{WrongArguments, RootNotAbsolute, TooManyRoots, TooManySessions}
-use Rattle.wq_session.specs.declared.refusal.Refusal.TheVariants.{UnreadableRoot, TooManyFiles, TicksSpent, NoSuchProgram}
-use Rattle.wq_session.specs.declared.refusal.Refusal.TheVariants.{ProgramTooLarge, TooManySubscriptions, NotBase64, ShelfFull, BadTrigger, TooManyTriggers}
-use Rattle.wq_session.specs.declared.refusal.Refusal.TheVariants.{WrongFile, WrongProgram}
 use Rattle.wq_session.specs.declared.work.Rest.{Rest}
 
 -- an object that was read is known
@@ -122,7 +121,7 @@ unfolding IsReadAt
 read_again object at read after is again = shown_again object (shown_in at) read after is again
 
 -- the watched root is the one that is looked at
-there : (root : List ℕ) (at : Option AtData) (shelf : ShelfNow) (a : AtData) → watched root at shelf ≡ Some a → at ≡ Some a
+pub there : (root : List ℕ) (at : Option AtData) (shelf : ShelfNow) (a : AtData) → watched root at shelf ≡ Some a → at ≡ Some a
 there root (Some at) shelf a is = picked (is_watched root at shelf) is
   where
     picked : (test : Bool) → (if test then Some at else None) ≡ Some a → Some at ≡ Some a
@@ -130,38 +129,30 @@ there root (Some at) shelf a is = picked (is_watched root at shelf) is
     picked false is = absurd cc
 there root None shelf a is = is
 
--- the root that is looked at, if it is the watched one and shows a view
-shown_there : (root : List ℕ) (at : Option AtData) (shelf : ShelfNow) (a : AtData) (view : ViewData) → watched root at shelf ≡ Some a
-    → a.view ≡ Some view → shown_in at ≡ Some (a.instance, view)
-shown_there root at shelf a view is shown =
-    ap shown_in (there root at shelf a is) ∙ ap (option_map (λ (view : ViewData). (a.instance, view))) shown
-
 -- an object was read there
-pub object_there : (object : ObjectData) (root : List ℕ) (at : Option AtData) (shelf : ShelfNow) (a : AtData) (view : ViewData)
-    → watched root at shelf ≡ Some a → a.view ≡ Some view → (read : ReadObject) → IsReadAt object at read → IsReadThere object a.instance read
+pub object_there : (object : ObjectData) (a : AtData) (view : ViewData) → a.view ≡ Some view
+    → (read : ReadObject) → IsReadAt object (Some a) read → IsReadThere object a.instance read
 unfolding IsReadAt
-object_there object root at shelf a view is shown read said =
-    subst (λ (s : Shown). IsReadShown object s read) (shown_there root at shelf a view is shown) said
+object_there object a view shown read said =
+    subst (λ (s : Shown). IsReadShown object s read) (ap (option_map (λ (view : ViewData). (a.instance, view))) shown) said
 
-module _ (root : List ℕ) (d : Data) (at : Option AtData) (shelf : ShelfNow) (a : AtData) (is : watched root at shelf ≡ Some a) where
+module _ (d : Data) (shelf : ShelfNow) (a : AtData) (view : ViewData) (shown : a.view ≡ Some view) where
   -- the query of an object at a root that is shown
-  pub at_view : (view : ViewData) → a.view ≡ Some view
-      → try_query root d at shelf ≡ or_its_fault BadQuery (queries a.instance d) (λ q. begun_query (a.instance).root view.tick q shelf)
-  at_view view shown =
-      ap (λ w. or_fault NotWatched w (λ (at : AtData). or_fault NotWatched at.view (λ view.
-      or_its_fault BadQuery (queries at.instance d) (λ q. begun_query (at.instance).root view.tick q shelf)))) is
-      ∙ ap (λ v. or_fault NotWatched v (λ (view : ViewData).
+  pub at_view : try_query d a shelf ≡ or_its_fault BadQuery (queries a.instance d) (λ q. begun_query (a.instance).root view.tick q shelf)
+  at_view =
+      ap (λ v. or_fault NotWatched v (λ (view : ViewData).
       or_its_fault BadQuery (queries a.instance d) (λ q. begun_query (a.instance).root view.tick q shelf))) shown
 
   -- so the query that was read begins as `query` does
-  pub begins_read : (view : ViewData) → a.view ≡ Some view → (read : ReadQuery) → IsReadAt (asks_query d) at (QueryRead read)
+  pub begins_read : (read : ReadQuery) → GivesRead (Ok read) (queries a.instance d)
       → (tick : ℕ) → tick ≡ view.tick → (result : Result Rest Refusal) (after : ShelfNow)
       → Begins (begun_query (a.instance).root tick (asked_of read.query) shelf) shelf result after
-      → Begins (try_query root d at shelf) shelf result after
-  begins_read view shown read said tick told result after begins =
+      → Begins (try_query d a shelf) shelf result after
+  begins_read read said tick told result after begins =
       subst (λ b. Begins b shelf result after)
-      (sym (at_view view shown
-      ∙ ap (λ r. or_its_fault BadQuery r (λ q. begun_query (a.instance).root view.tick q shelf)) (object_there (asks_query d) root at shelf a view is shown (QueryRead read) said).0
+      (sym (at_view
+      ∙ ap (λ r. or_its_fault BadQuery r (λ q. begun_query (a.instance).root view.tick q shelf))
+      said.0
       ∙ ap (λ t. begun_query (a.instance).root t (asked_of read.query) shelf) (sym told)))
       begins
 
@@ -195,47 +186,39 @@ refused_for asked next shelf (WrongFile fault) said = elim said [ ]
 refused_for asked next shelf (WrongProgram fault place) said = elim said [ ]
 
 -- so the fault of a query that was read is the reason to refuse `query`
-pub refuses_read : (root : List ℕ) (d : Data) (at : Option AtData) (shelf : ShelfNow) (a : AtData) (view : ViewData)
-    → watched root at shelf ≡ Some a → a.view ≡ Some view → (refusal : Refusal) → IsReadAt (asks_query d) at (ObjectRefused refusal)
-    → Begins (try_query root d at shelf) shelf (Err refusal) shelf
-refuses_read root d at shelf a view is shown refusal said =
-    subst (λ b. Begins b shelf (Err refusal) shelf) (sym (at_view root d at shelf a is view shown))
-    (refused_for (queries a.instance d) (λ q. begun_query (a.instance).root view.tick q shelf) shelf refusal
-    (object_there (asks_query d) root at shelf a view is shown (ObjectRefused refusal) said))
+pub refuses_read : (d : Data) (shelf : ShelfNow) (a : AtData) (view : ViewData) → a.view ≡ Some view → (refusal : Refusal)
+    → GivesRead (Err refusal) (queries a.instance d) → Begins (try_query d a shelf) shelf (Err refusal) shelf
+refuses_read d shelf a view shown refusal said =
+    subst (λ b. Begins b shelf (Err refusal) shelf) (sym (at_view d shelf a view shown))
+    (refused_for (queries a.instance d) (λ q. begun_query (a.instance).root view.tick q shelf) shelf refusal said)
 
-module _ (root name : List ℕ) (d : Data) (at : Option AtData) (shelf : ShelfNow) (a : AtData) (is : watched root at shelf ≡ Some a)
+module _ (root name : List ℕ) (d : Data) (shelf : ShelfNow) (a : AtData) (view : ViewData) (shown : a.view ≡ Some view)
     (named : is_name name ≡ true) where
   -- the beginning of `subscribe` at a root that is shown
-  subscribed_at : (view : ViewData) → a.view ≡ Some view
-      → try_subscribe root name d at shelf
+  subscribed_at : try_subscribe root name d a shelf
       ≡ or_its_fault BadQuery (subscribes a.instance d) (λ q. begun_subscription root name (a.instance).root q shelf)
-  subscribed_at view shown =
-      ap (λ w. or_fault NotWatched w (λ (at : AtData). or_fault NotWatched at.view (λ view. unless_fault BadName (is_name name) (
-      or_its_fault BadQuery (subscribes at.instance d) (λ q. begun_subscription root name (at.instance).root q shelf))))) is
-      ∙ ap (λ v. or_fault NotWatched v (λ (view : ViewData). unless_fault BadName (is_name name) (
+  subscribed_at =
+      ap (λ v. or_fault NotWatched v (λ (view : ViewData). unless_fault BadName (is_name name) (
       or_its_fault BadQuery (subscribes a.instance d) (λ q. begun_subscription root name (a.instance).root q shelf)))) shown
       ∙ ap (λ t. unless_fault BadName t (
       or_its_fault BadQuery (subscribes a.instance d) (λ q. begun_subscription root name (a.instance).root q shelf))) named
 
   -- the query of a subscription that was read begins as `subscribe` does
-  pub begins_subscribed : (view : ViewData) → a.view ≡ Some view → (read : ReadQuery) → IsReadAt (asks_subscription d) at (QueryRead read)
-      → (result : Result Rest Refusal)
+  pub begins_subscribed : (read : ReadQuery) → GivesRead (Ok read) (subscribes a.instance d) → (result : Result Rest Refusal)
       → Begins (begun_subscription root name (a.instance).root (asked_of read.query) shelf) shelf result shelf
-      → Begins (try_subscribe root name d at shelf) shelf result shelf
-  begins_subscribed view shown read said result begins =
+      → Begins (try_subscribe root name d a shelf) shelf result shelf
+  begins_subscribed read said result begins =
       subst (λ b. Begins b shelf result shelf)
-      (sym (subscribed_at view shown
-      ∙ ap (λ r. or_its_fault BadQuery r (λ q. begun_subscription root name (a.instance).root q shelf))
-      (object_there (asks_subscription d) root at shelf a view is shown (QueryRead read) said).0))
+      (sym (subscribed_at
+      ∙ ap (λ r. or_its_fault BadQuery r (λ q. begun_subscription root name (a.instance).root q shelf)) said.0))
       begins
 
   -- and its fault is the reason to refuse `subscribe`
-  pub refuses_subscribed : (view : ViewData) → a.view ≡ Some view → (refusal : Refusal) → IsReadAt (asks_subscription d) at (ObjectRefused refusal)
-      → Begins (try_subscribe root name d at shelf) shelf (Err refusal) shelf
-  refuses_subscribed view shown refusal said =
-      subst (λ b. Begins b shelf (Err refusal) shelf) (sym (subscribed_at view shown))
-      (refused_for (subscribes a.instance d) (λ q. begun_subscription root name (a.instance).root q shelf) shelf refusal
-      (object_there (asks_subscription d) root at shelf a view is shown (ObjectRefused refusal) said))
+  pub refuses_subscribed : (refusal : Refusal) → GivesRead (Err refusal) (subscribes a.instance d)
+      → Begins (try_subscribe root name d a shelf) shelf (Err refusal) shelf
+  refuses_subscribed refusal said =
+      subst (λ b. Begins b shelf (Err refusal) shelf) (sym subscribed_at)
+      (refused_for (subscribes a.instance d) (λ q. begun_subscription root name (a.instance).root q shelf) shelf refusal said)
 
 -- the fault of a trigger that was read is the reason to refuse a line
 refused_defined : (said : Result DefinitionData Refusal) (next : DefinitionData → Result BegunData Refusal) (shelf : ShelfNow) (refusal : Refusal)
@@ -266,35 +249,31 @@ refused_defined said next shelf ShelfFull is = (ap (λ r. or_own_fault r next) i
 refused_defined said next shelf (WrongFile fault) is = (ap (λ r. or_own_fault r next) is, refl)
 refused_defined said next shelf (WrongProgram fault place) is = (ap (λ r. or_own_fault r next) is, refl)
 
-module _ (root : List ℕ) (d : Data) (at : Option AtData) (shelf : ShelfNow) (a : AtData) (is : watched root at shelf ≡ Some a) where
+module _ (root : List ℕ) (d : Data) (shelf : ShelfNow) (a : AtData) (view : ViewData) (shown : a.view ≡ Some view) where
   -- the beginning of `trigger` at a root that is shown
-  triggered_at : (view : ViewData) → a.view ≡ Some view
-      → try_trigger root d at shelf ≡ or_own_fault (defined_by a.instance d) (λ definition. begun_trigger root (a.instance).root definition shelf)
-  triggered_at view shown =
-      ap (λ w. or_fault NotWatched w (λ (at : AtData). or_fault NotWatched at.view (λ view.
-      or_own_fault (defined_by at.instance d) (λ definition. begun_trigger root (at.instance).root definition shelf)))) is
-      ∙ ap (λ v. or_fault NotWatched v (λ (view : ViewData).
+  triggered_at : try_trigger root d a shelf
+      ≡ or_own_fault (defined_by a.instance d) (λ definition. begun_trigger root (a.instance).root definition shelf)
+  triggered_at =
+      ap (λ v. or_fault NotWatched v (λ (view : ViewData).
       or_own_fault (defined_by a.instance d) (λ definition. begun_trigger root (a.instance).root definition shelf))) shown
 
   -- the trigger that was read begins as `trigger` does
-  pub begins_defined : (view : ViewData) → a.view ≡ Some view → (read : ReadTrigger) → IsReadAt (asks_trigger d) at (TriggerRead read)
+  pub begins_defined : (read : ReadTrigger) → GivesDefined (Ok read) (defined_by a.instance d)
       → (result : Result Rest Refusal) (after : ShelfNow)
       → Begins (begun_trigger root (a.instance).root (definition_data read.definition) shelf) shelf result after
-      → Begins (try_trigger root d at shelf) shelf result after
-  begins_defined view shown read said result after begins =
+      → Begins (try_trigger root d a shelf) shelf result after
+  begins_defined read said result after begins =
       subst (λ b. Begins b shelf result after)
-      (sym (triggered_at view shown
-      ∙ ap (λ r. or_own_fault r (λ definition. begun_trigger root (a.instance).root definition shelf))
-      (object_there (asks_trigger d) root at shelf a view is shown (TriggerRead read) said).0))
+      (sym (triggered_at
+      ∙ ap (λ r. or_own_fault r (λ definition. begun_trigger root (a.instance).root definition shelf)) said.0))
       begins
 
   -- and its fault is the reason to refuse `trigger`
-  pub refuses_defined : (view : ViewData) → a.view ≡ Some view → (refusal : Refusal) → IsReadAt (asks_trigger d) at (ObjectRefused refusal)
-      → Begins (try_trigger root d at shelf) shelf (Err refusal) shelf
-  refuses_defined view shown refusal said =
-      subst (λ b. Begins b shelf (Err refusal) shelf) (sym (triggered_at view shown))
-      (refused_defined (defined_by a.instance d) (λ definition. begun_trigger root (a.instance).root definition shelf) shelf refusal
-      (object_there (asks_trigger d) root at shelf a view is shown (ObjectRefused refusal) said))
+  pub refuses_defined : (refusal : Refusal) → GivesDefined (Err refusal) (defined_by a.instance d)
+      → Begins (try_trigger root d a shelf) shelf (Err refusal) shelf
+  refuses_defined refusal said =
+      subst (λ b. Begins b shelf (Err refusal) shelf) (sym triggered_at)
+      (refused_defined (defined_by a.instance d) (λ definition. begun_trigger root (a.instance).root definition shelf) shelf refusal said)
 
 -- the object of a definition, and its query
 abbrev object_in : Result DefinitionData TriggerFault → Data

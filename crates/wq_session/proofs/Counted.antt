@@ -2,7 +2,7 @@
 use Rattle.std.proofs.Common.{◌≡◌, ◌<◌, ◌≤◌, ◌⊎◌, inl, inr, ℕ, List, [], ◌∷◌, subst, arith}
 use Rattle.wq_follow.specs.Launcher.{most_failures}
 use Rattle.wq_follow.specs.Round.{CountsFailure, FiredData, runs, quiet, started, failed, short}
-use Rattle.wq_session.specs.Round.{CountFailures, FailedStartsAreCounted, HasFailure, TriggerTurnData}
+use Rattle.wq_session.specs.Round.{CountFailures, FailedStartsAreCounted, TriggerTurnData}
 
 -- a turn after which the count is greater or the same, and turns after which it is
 rises_then : (most b n c : ℕ) → (b < n) ⊎ (n ≡ most) → (n ≤ c) ⊎ (most ≤ c) → (b < c) ⊎ (most ≤ c)

@@ -7,16 +7,16 @@ use Rattle.wq_view.specs.View.{ViewData}
 use Rattle.wq_registry.specs.Shelf.{cursor_unset}
 use Rattle.wq_follow.specs.Subscription.{SubscriptionData}
 use Rattle.wq_clock.specs.Instance.{InstanceData}
+use Rattle.wq_ask.specs.Out.{settled, OutData, refuses, replies, runs_out, silence}
+use Rattle.wq_ask.specs.declared.refusal.Refusal.TheVariants.{TooManySubscriptions}
+use Rattle.wq_ask.specs.declared.ask.Ask.{Ask}
+use Rattle.wq_ask.specs.declared.cursor.Cursor.{Cursor}
 use Rattle.wq_session.proofs.Follows.{followed_stays, is_followed}
-use Rattle.wq_session.specs.Answer.{AnswersAsk, Finishes, TakesAsk, AnswerData, DoneData, subscribing_at, subscribing_by, finished, following, giving, listed, settled, unmade, without_cursor}
+use Rattle.wq_session.specs.Answer.{AnswersAsk, Finishes, TakesAsk, AnswerData, DoneData, subscribing_at, subscribing_by, finished, following, giving, listed, unmade, without_cursor}
 use Rattle.wq_session.specs.Followed.{has_no_room}
-use Rattle.wq_session.specs.declared.refusal.Refusal.TheVariants.{TooManySubscriptions}
 use Rattle.wq_session.specs.At.{AtData, ShelfNow}
 use Rattle.wq_session.specs.Begun.{begun, takes_memory}
-use Rattle.wq_session.specs.Out.{OutData, refuses, replies, runs_out, silence}
 use Rattle.wq_session.specs.Work.{BegunData, WorkData, says, prints, evaluates, begins, drops}
-use Rattle.wq_session.specs.declared.ask.Ask.{Ask}
-use Rattle.wq_session.specs.declared.cursor.Cursor.{Cursor}
 
 -- the output of a listing names no cursor
 none_listed : (plan : PlanData) (at : Option AtData) → (listed plan at).unset ≡ None

@@ -14,23 +14,26 @@ use Rattle.wq_registry.specs.Limit.{max_programs}
 use Rattle.wq_registry.specs.ByName.{has_no_place}
 use Rattle.wq_registry.specs.Shelf.{root_has_no_place}
 use Rattle.wq_view.specs.View.{ViewData}
+use Rattle.wq_ask.specs.Clock.{clock_data}
+use Rattle.wq_ask.specs.Out.{OutData, replies}
+use Rattle.wq_ask.specs.Program.{is_name}
+use Rattle.wq_ask.specs.declared.ask.Ask.{Ask}
+use Rattle.wq_ask.specs.declared.ask.Ask.TheVariants.{Alone, OfRoot, OfShelf, Unwatch, Watch}
+use Rattle.wq_ask.specs.declared.ask.LoneAsk.{LoneAsk}
+use Rattle.wq_ask.specs.declared.ask.LoneAsk.TheVariants.{Leave, Nothing, Refused, ShutDown, Version}
+use Rattle.wq_ask.specs.declared.ask.RootAsk.{RootAsk}
+use Rattle.wq_ask.specs.declared.ask.RootAsk.TheVariants.{AddTrigger, Clock, DeleteTrigger, ListTriggers, Query as AsksQuery, Subscribe, Unsubscribe}
+use Rattle.wq_ask.specs.declared.ask.ShelfAsk.{ShelfAsk}
+use Rattle.wq_ask.specs.declared.ask.ShelfAsk.TheVariants.{AddProgram, DeleteProgram, ListPrograms, ListRoots, SocketName}
+use Rattle.wq_ask.specs.declared.refusal.Refusal.{Refusal}
+use Rattle.wq_ask.specs.declared.refusal.Refusal.TheVariants.{NotWatched, Query as BadQuery, ShelfFull, TooManyRoots, BadName, TooManyTriggers}
 use Rattle.wq_session.specs.Answer.{CanFinish, TakesAsk}
 use Rattle.wq_session.specs.At.{AtData, ShelfNow, is_watched}
-use Rattle.wq_session.specs.Begun.{or_refused, tried}
-use Rattle.wq_session.specs.Clock.{clock_data}
+use Rattle.wq_session.specs.Begun.{or_refused, tried, tried_alone, tried_on, tried_there}
 use Rattle.wq_session.specs.Trigger.{begun_trigger, defined_by, defined_name, has_no_trigger_place, put_trigger}
-use Rattle.wq_session.specs.Out.{OutData, replies}
-use Rattle.wq_session.specs.Program.{is_name}
 use Rattle.wq_session.specs.Subscribe.{begun_subscription, first_plan}
 use Rattle.wq_session.specs.Query.{begun_query, has_place, moved_cursor, plan_at, program_for, used_at}
 use Rattle.wq_session.specs.Work.{BegunData, WorkData, begins, drops, evaluates, says, saying}
-use Rattle.wq_session.specs.declared.ask.Ask.{Ask}
-use Rattle.wq_session.specs.declared.ask.Ask.TheVariants.{Refused, Watch, ListRoots, Unwatch}
-use Rattle.wq_session.specs.declared.ask.Ask.TheVariants.{Query as AsksQuery, Clock, Version}
-use Rattle.wq_session.specs.declared.ask.Ask.TheVariants.{SocketName, ShutDown, AddProgram, ListPrograms}
-use Rattle.wq_session.specs.declared.ask.Ask.TheVariants.{DeleteProgram, Leave, Nothing, Subscribe, Unsubscribe, AddTrigger, ListTriggers, DeleteTrigger}
-use Rattle.wq_session.specs.declared.refusal.Refusal.{Refusal}
-use Rattle.wq_session.specs.declared.refusal.Refusal.TheVariants.{NotWatched, Query as BadQuery, ShelfFull, TooManyRoots, BadName, TooManyTriggers}
 
 -- begun work can be finished at the root that is looked at
 abbrev Fits : Option AtData → Result BegunData Refusal → Type 0
@@ -122,45 +125,43 @@ module _ (at : AtData) (shelf : ShelfNow) where
   with_name number name false = tt
   with_name number name true = tt
 
+  -- an ask of the root that is looked at
+  there_fits : (what : RootAsk) (root : List ℕ) → Fits (Some at) (tried_there what root at shelf)
+  there_fits (AsksQuery q) root = with_view (data_of q) at.view refl
+  there_fits Clock root = of_view at.view (λ view. replies (clock_data at.instance view))
+  there_fits (Subscribe name q) root = with_subscription root name (data_of q) at.view refl
+  there_fits (Unsubscribe name) root = with_name (at.instance).root name (is_name name)
+  there_fits (AddTrigger t) root = with_definition root (at.instance).root (defined_by at.instance (data_of t)) at.view
+  there_fits ListTriggers root = tt
+  there_fits (DeleteTrigger name) root = unless_said BadName (is_name name) _ _ (Some at)
+
+-- an ask of the shelf
+on_fits : (what : ShelfAsk) (at : Option AtData) (shelf : ShelfNow) → Fits at (tried_on what shelf)
+on_fits ListRoots at shelf = tt
+on_fits SocketName at shelf = tt
+on_fits (AddProgram name program) at shelf = unless_said ShelfFull (not (has_no_place max_programs name shelf.programs)) _ _ at
+on_fits ListPrograms at shelf = tt
+on_fits (DeleteProgram name) at shelf = tt
+
+-- an ask whose answer is always the same
+alone_fits : (what : LoneAsk) (at : Option AtData) (shelf : ShelfNow) → Fits at (tried_alone what shelf)
+alone_fits (Refused refusal) at shelf = tt
+alone_fits Version at shelf = tt
+alone_fits ShutDown at shelf = tt
+alone_fits Leave at shelf = tt
+alone_fits Nothing at shelf = tt
+
 -- the beginning of an ask can be finished
 tried_fits : (ask : Ask) (at : Option AtData) (shelf : ShelfNow) → Fits at (tried ask at shelf)
-tried_fits (Refused refusal) at shelf = tt
 tried_fits (Watch root) None shelf = tt
 tried_fits (Watch root) (Some at) shelf =
     unless_said TooManyRoots (not (root_has_no_place root (at.instance).root shelf)) _ _ (Some at)
-tried_fits ListRoots at shelf = tt
 tried_fits (Unwatch root) None shelf = tt
 tried_fits (Unwatch root) (Some at) shelf = where_watched at shelf (is_watched root at shelf) _ tt
-tried_fits (AsksQuery root crawl q) None shelf = tt
-tried_fits (AsksQuery root crawl q) (Some at) shelf =
-    where_watched at shelf (is_watched root at shelf) _ (with_view at shelf (data_of q) at.view refl)
-tried_fits (Clock root crawl) None shelf = tt
-tried_fits (Clock root crawl) (Some at) shelf =
-    where_watched at shelf (is_watched root at shelf) _ (of_view at shelf at.view (λ view. replies (clock_data at.instance view)))
-tried_fits Version at shelf = tt
-tried_fits SocketName at shelf = tt
-tried_fits ShutDown at shelf = tt
-tried_fits (AddProgram name program) at shelf =
-    unless_said ShelfFull (not (has_no_place max_programs name shelf.programs)) _ _ at
-tried_fits ListPrograms at shelf = tt
-tried_fits (DeleteProgram name) at shelf = tt
-tried_fits (Subscribe root name q) None shelf = tt
-tried_fits (Subscribe root name q) (Some at) shelf =
-    where_watched at shelf (is_watched root at shelf) _ (with_subscription at shelf root name (data_of q) at.view refl)
-tried_fits (Unsubscribe root name) None shelf = tt
-tried_fits (Unsubscribe root name) (Some at) shelf =
-    where_watched at shelf (is_watched root at shelf) _ (with_name at shelf (at.instance).root name (is_name name))
-tried_fits (AddTrigger root t) None shelf = tt
-tried_fits (AddTrigger root t) (Some at) shelf =
-    where_watched at shelf (is_watched root at shelf) _
-    (with_definition at shelf root (at.instance).root (defined_by at.instance (data_of t)) at.view)
-tried_fits (ListTriggers root) None shelf = tt
-tried_fits (ListTriggers root) (Some at) shelf = where_watched at shelf (is_watched root at shelf) _ tt
-tried_fits (DeleteTrigger root name) None shelf = tt
-tried_fits (DeleteTrigger root name) (Some at) shelf =
-    where_watched at shelf (is_watched root at shelf) _ (unless_said BadName (is_name name) _ _ (Some at))
-tried_fits Leave at shelf = tt
-tried_fits Nothing at shelf = tt
+tried_fits (OfRoot root crawl what) None shelf = tt
+tried_fits (OfRoot root crawl what) (Some at) shelf = where_watched at shelf (is_watched root at shelf) _ (there_fits at shelf what root)
+tried_fits (OfShelf what) at shelf = on_fits what at shelf
+tried_fits (Alone what) at shelf = alone_fits what at shelf
 
 or_fits : (r : Result BegunData Refusal) (at : Option AtData) (shelf : ShelfNow) → Fits at r → CanFinish (or_refused r shelf).work at
 or_fits (Ok b) at shelf fits = fits

@@ -16,22 +16,25 @@ use Rattle.wq_registry.specs.Limit.{max_programs}
 use Rattle.wq_registry.specs.ByName.{has_no_place}
 use Rattle.wq_registry.specs.Shelf.{root_has_no_place}
 use Rattle.wq_view.specs.View.{ViewData}
+use Rattle.wq_ask.specs.Clock.{clock_data}
+use Rattle.wq_ask.specs.Out.{OutData, replies}
+use Rattle.wq_ask.specs.Program.{is_name}
+use Rattle.wq_ask.specs.declared.ask.Ask.{Ask}
+use Rattle.wq_ask.specs.declared.ask.Ask.TheVariants.{Alone, OfRoot, OfShelf, Unwatch, Watch}
+use Rattle.wq_ask.specs.declared.ask.LoneAsk.{LoneAsk}
+use Rattle.wq_ask.specs.declared.ask.LoneAsk.TheVariants.{Leave, Nothing, Refused, ShutDown, Version}
+use Rattle.wq_ask.specs.declared.ask.RootAsk.{RootAsk}
+use Rattle.wq_ask.specs.declared.ask.RootAsk.TheVariants.{AddTrigger, Clock, DeleteTrigger, ListTriggers, Query as AsksQuery, Subscribe, Unsubscribe}
+use Rattle.wq_ask.specs.declared.ask.ShelfAsk.{ShelfAsk}
+use Rattle.wq_ask.specs.declared.ask.ShelfAsk.TheVariants.{AddProgram, DeleteProgram, ListPrograms, ListRoots, SocketName}
+use Rattle.wq_ask.specs.declared.refusal.Refusal.{Refusal}
+use Rattle.wq_ask.specs.declared.refusal.Refusal.TheVariants.{NotWatched, Query as BadQuery, ShelfFull, TooManyRoots, BadName, TooManyTriggers}
 use Rattle.wq_session.specs.At.{AtData, ShelfNow, is_watched}
-use Rattle.wq_session.specs.Begun.{begun, or_refused, takes_memory, tried}
-use Rattle.wq_session.specs.Clock.{clock_data}
+use Rattle.wq_session.specs.Begun.{begun, or_refused, takes_memory, tried, tried_alone, tried_on, tried_there}
 use Rattle.wq_session.specs.Trigger.{begun_trigger, defined_by, defined_name, has_no_trigger_place, put_trigger}
-use Rattle.wq_session.specs.Out.{OutData, replies}
-use Rattle.wq_session.specs.Program.{is_name}
 use Rattle.wq_session.specs.Query.{begun_query, has_place, moved_cursor, plan_at, program_for, used_at}
 use Rattle.wq_session.specs.Subscribe.{begun_subscription, first_plan}
 use Rattle.wq_session.specs.Work.{BegunData, WorkData, begins, drops, evaluates, prints, says, saying}
-use Rattle.wq_session.specs.declared.ask.Ask.{Ask}
-use Rattle.wq_session.specs.declared.ask.Ask.TheVariants.{Refused, Watch, ListRoots, Unwatch}
-use Rattle.wq_session.specs.declared.ask.Ask.TheVariants.{Query as AsksQuery, Clock, Version}
-use Rattle.wq_session.specs.declared.ask.Ask.TheVariants.{SocketName, ShutDown, AddProgram, ListPrograms}
-use Rattle.wq_session.specs.declared.ask.Ask.TheVariants.{DeleteProgram, Leave, Nothing, Subscribe, Unsubscribe, AddTrigger, ListTriggers, DeleteTrigger}
-use Rattle.wq_session.specs.declared.refusal.Refusal.{Refusal}
-use Rattle.wq_session.specs.declared.refusal.Refusal.TheVariants.{NotWatched, Query as BadQuery, ShelfFull, TooManyRoots, BadName, TooManyTriggers}
 
 -- whether work prints a reply, or begins or ends a subscription
 abbrev pub is_followed : WorkData → Bool
@@ -138,52 +141,45 @@ module _ (ask : Ask) (shelf : ShelfNow) where
     with_name number name false = tt
     with_name number name true = λ is. (takes, refl)
 
+    -- an ask of the root that is looked at
+    there : (what : RootAsk) (root : List ℕ) (at : AtData) → Stays ask shelf (tried_there what root at shelf)
+    there (AsksQuery q) root at = with_view at.instance (data_of q) at.view
+    there Clock root at = of_view at.view (λ view. replies (clock_data at.instance view))
+    there (Subscribe name q) root at = with_subscription root name at.instance (data_of q) at.view
+    there (Unsubscribe name) root at = with_name (at.instance).root name (is_name name)
+    there (AddTrigger t) root at = with_definition root (at.instance).root (defined_by at.instance (data_of t)) at.view
+    there ListTriggers root at = λ is. (takes, refl)
+    there (DeleteTrigger name) root at = unless_said BadName (is_name name) _ _
+
+    -- an ask of the shelf
+    on_shelf : (what : ShelfAsk) → Stays ask shelf (tried_on what shelf)
+    on_shelf ListRoots = λ is. (takes, refl)
+    on_shelf SocketName = λ is. absurd (false≢true is)
+    on_shelf (AddProgram name program) = unless_said ShelfFull (not (has_no_place max_programs name shelf.programs)) _ _
+    on_shelf ListPrograms = λ is. (takes, refl)
+    on_shelf (DeleteProgram name) = λ is. absurd (false≢true is)
+
+  -- an ask whose answer is always the same
+  alone : (what : LoneAsk) → Stays ask shelf (tried_alone what shelf)
+  alone (Refused refusal) = tt
+  alone Version = λ is. absurd (false≢true is)
+  alone ShutDown = λ is. absurd (false≢true is)
+  alone Leave = λ is. absurd (false≢true is)
+  alone Nothing = λ is. absurd (false≢true is)
+
 -- the beginning of an ask
 stays : (ask : Ask) (at : Option AtData) (shelf : ShelfNow) → Stays ask shelf (tried ask at shelf)
-stays (Refused refusal) at shelf = tt
 stays (Watch root) None shelf = tt
 stays (Watch root) (Some at) shelf =
     unless_said (Watch root) shelf TooManyRoots (not (root_has_no_place root (at.instance).root shelf)) _ _
-stays ListRoots at shelf = λ is. (refl, refl)
 stays (Unwatch root) None shelf = tt
 stays (Unwatch root) (Some at) shelf =
     if_watched (Unwatch root) shelf at (is_watched root at shelf) _ (λ is. absurd (false≢true is))
-stays (AsksQuery root crawl q) None shelf = tt
-stays (AsksQuery root crawl q) (Some at) shelf =
-    if_watched (AsksQuery root crawl q) shelf at (is_watched root at shelf) _
-    (with_view (AsksQuery root crawl q) shelf at.instance (data_of q) at.view)
-stays (Clock root crawl) None shelf = tt
-stays (Clock root crawl) (Some at) shelf =
-    if_watched (Clock root crawl) shelf at (is_watched root at shelf) _
-    (of_view (Clock root crawl) shelf at.view (λ view. replies (clock_data at.instance view)))
-stays Version at shelf = λ is. absurd (false≢true is)
-stays SocketName at shelf = λ is. absurd (false≢true is)
-stays ShutDown at shelf = λ is. absurd (false≢true is)
-stays (AddProgram name program) at shelf =
-    unless_said (AddProgram name program) shelf ShelfFull (not (has_no_place max_programs name shelf.programs)) _ _
-stays ListPrograms at shelf = λ is. (refl, refl)
-stays (DeleteProgram name) at shelf = λ is. absurd (false≢true is)
-stays (Subscribe root name q) None shelf = tt
-stays (Subscribe root name q) (Some at) shelf =
-    if_watched (Subscribe root name q) shelf at (is_watched root at shelf) _
-    (with_subscription (Subscribe root name q) shelf refl root name at.instance (data_of q) at.view)
-stays (Unsubscribe root name) None shelf = tt
-stays (Unsubscribe root name) (Some at) shelf =
-    if_watched (Unsubscribe root name) shelf at (is_watched root at shelf) _
-    (with_name (Unsubscribe root name) shelf refl (at.instance).root name (is_name name))
-stays (AddTrigger root t) None shelf = tt
-stays (AddTrigger root t) (Some at) shelf =
-    if_watched (AddTrigger root t) shelf at (is_watched root at shelf) _
-    (with_definition (AddTrigger root t) shelf root (at.instance).root (defined_by at.instance (data_of t)) at.view)
-stays (ListTriggers root) None shelf = tt
-stays (ListTriggers root) (Some at) shelf =
-    if_watched (ListTriggers root) shelf at (is_watched root at shelf) _ (λ is. (refl, refl))
-stays (DeleteTrigger root name) None shelf = tt
-stays (DeleteTrigger root name) (Some at) shelf =
-    if_watched (DeleteTrigger root name) shelf at (is_watched root at shelf) _
-    (unless_said (DeleteTrigger root name) shelf BadName (is_name name) _ _)
-stays Leave at shelf = λ is. absurd (false≢true is)
-stays Nothing at shelf = λ is. absurd (false≢true is)
+stays (OfRoot root crawl what) None shelf = tt
+stays (OfRoot root crawl what) (Some at) shelf =
+    if_watched (OfRoot root crawl what) shelf at (is_watched root at shelf) _ (there (OfRoot root crawl what) shelf refl what root at)
+stays (OfShelf what) at shelf = on_shelf (OfShelf what) shelf refl what
+stays (Alone what) at shelf = alone (Alone what) shelf what
 
 -- so if such work was begun
 pub followed_stays : (ask : Ask) (at : Option AtData) (shelf : ShelfNow) → is_followed (begun ask at shelf).work ≡ true

@@ -2,12 +2,12 @@
 use Rattle.std.proofs.Common.{◌≡◌, List, Option, Some, None, option_map, refl, sym, ap, subst, ◌∙◌}
 use Rattle.wq_follow.specs.Subscription.{SubscriptionData}
 use Rattle.wq_registry.specs.Shelf.{cursor_unset}
-use Rattle.wq_session.specs.Answer.{AnswersAsk, CanFinish, Finishes, TakesAsk, settled, without_cursor}
+use Rattle.wq_ask.specs.Out.{settled, OutData}
+use Rattle.wq_ask.specs.declared.ask.Ask.{Ask}
+use Rattle.wq_ask.specs.declared.cursor.Cursor.{Cursor}
+use Rattle.wq_session.specs.Answer.{AnswersAsk, CanFinish, Finishes, TakesAsk, without_cursor}
 use Rattle.wq_session.specs.Work.{WorkData}
-use Rattle.wq_session.specs.Out.{OutData}
 use Rattle.wq_session.specs.At.{AtData, ShelfNow}
-use Rattle.wq_session.specs.declared.ask.Ask.{Ask}
-use Rattle.wq_session.specs.declared.cursor.Cursor.{Cursor}
 use Rattle.wq_session.proofs.Ending.{answered, answered_with}
 use Rattle.wq_session.proofs.Finishing.{can_finish}
 use Rattle.wq_session.specs.Desk.{AnswersShelf, HoldsShelf, Unsets}

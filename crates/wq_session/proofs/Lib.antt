@@ -1,6 +1,3 @@
-mod Behind
-mod Texts
-mod Constants
 mod Counted
 mod Rooted
 pub mod Shelves
@@ -10,10 +7,9 @@ pub mod Ending
 mod Again
 mod Accepting
 pub mod Adding
-mod HandingIn
-mod Newlines
 pub mod Finishing
 pub mod Held
+pub mod Readying
 mod Programs
 mod Before
 mod Follows

@@ -7,10 +7,10 @@ use Rattle.wq_follow.specs.Subscription.{SubscriptionData}
 use Rattle.wq_query.specs.Query.{PlanData}
 use Rattle.wq_query.specs.Reply.{reply_of}
 use Rattle.wq_view.specs.View.{ViewData}
+use Rattle.wq_ask.specs.Out.{OutData, runs_out, saying_text}
+use Rattle.wq_ask.specs.declared.cursor.Cursor.{Cursor}
 use Rattle.wq_session.specs.Answer.{Finishes, giving}
-use Rattle.wq_session.specs.Out.{OutData, runs_out, saying_text}
 use Rattle.wq_session.specs.Work.{evaluates}
-use Rattle.wq_session.specs.declared.cursor.Cursor.{Cursor}
 
 -- the output of the text of a reply, or that memory ran out, finishes the work
 pub listed_finishes : {T E : Type 0} (bytes : T → List ℕ) (plan : PlanData) (cursor : Option Cursor) (instance : InstanceData) (view : ViewData)

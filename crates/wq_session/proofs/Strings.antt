@@ -3,8 +3,8 @@ use Rattle.std.proofs.Common.{◌≡◌, ℕ, false, List, [], ◌∷◌, map, r
 use Rattle.serde_json.specs.Data.{Data, string}
 use Rattle.serde_json.specs.View.{items_of}
 use Rattle.serde_json.specs.Written.{has_float, items_have_float}
-use Rattle.wq_session.specs.Program.{programs_data}
-use Rattle.wq_session.specs.Watch.{roots_data}
+use Rattle.wq_ask.specs.Program.{programs_data}
+use Rattle.wq_ask.specs.Watch.{roots_data}
 
 -- texts have no floats
 pub no_floats : (texts : List (List ℕ)) → items_have_float (items_of (map string texts)) ≡ false

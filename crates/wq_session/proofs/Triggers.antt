@@ -23,13 +23,14 @@ use Rattle.wq_follow.specs.Definition.{DefinitionData}
 use Rattle.wq_follow.specs.Round.{TriggerData}
 use Rattle.wq_query.specs.Query.{QueryData}
 use Rattle.wq_registry.specs.Shelf.{trigger_added}
+use Rattle.wq_ask.specs.Out.{replies}
+use Rattle.wq_ask.specs.Trigger.{trigger_reply, triggers_reply}
+use Rattle.wq_ask.specs.declared.refusal.Refusal.{Refusal}
+use Rattle.wq_ask.specs.declared.refusal.Refusal.TheVariants.{TooManyTriggers}
 use Rattle.wq_session.specs.At.{ShelfNow}
-use Rattle.wq_session.specs.Out.{replies}
 use Rattle.wq_session.specs.Taking.{FindsProgram}
-use Rattle.wq_session.specs.Trigger.{defined_name, has_no_trigger_place, objects_of, put_trigger, trigger_called, trigger_in, trigger_reply, triggers_reply}
+use Rattle.wq_session.specs.Trigger.{defined_name, has_no_trigger_place, objects_of, put_trigger, trigger_called, trigger_in}
 use Rattle.wq_session.specs.Work.{WorkData, says}
-use Rattle.wq_session.specs.declared.refusal.Refusal.{Refusal}
-use Rattle.wq_session.specs.declared.refusal.Refusal.TheVariants.{TooManyTriggers}
 
 -- the objects of triggers have no float, so neither has the reply that tells them
 pub plain_triggers : (d : Data) (objects : List Data) → d ≡ triggers_reply objects → items_have_float (items_of objects) ≡ false → has_float d ≡ false

@@ -15,19 +15,22 @@ use Rattle.wq_registry.specs.History.{Call, adds_program, removes_program, adds_
 use Rattle.wq_registry.specs.History.{uses_cursor, unsets_cursor, adds_trigger, removes_trigger}
 use Rattle.wq_registry.specs.History.{AddsOne, after_all}
 use Rattle.wq_view.specs.View.{ViewData}
+use Rattle.wq_ask.specs.Out.{OutData, refuses, runs_out}
+use Rattle.wq_ask.specs.declared.ask.Ask.{Ask}
+use Rattle.wq_ask.specs.declared.ask.Ask.TheVariants.{OfRoot, OfShelf, Unwatch, Watch}
+use Rattle.wq_ask.specs.declared.ask.RootAsk.{RootAsk}
+use Rattle.wq_ask.specs.declared.ask.RootAsk.TheVariants.{AddTrigger, DeleteTrigger}
+use Rattle.wq_ask.specs.declared.ask.RootAsk.TheVariants.{Query as AsksQuery}
+use Rattle.wq_ask.specs.declared.ask.ShelfAsk.{ShelfAsk}
+use Rattle.wq_ask.specs.declared.ask.ShelfAsk.TheVariants.{AddProgram, DeleteProgram}
+use Rattle.wq_ask.specs.declared.cursor.Cursor.{Cursor}
+use Rattle.wq_ask.specs.declared.refusal.Refusal.{Refusal}
 use Rattle.wq_session.specs.Answer.{AnswersAsk, finished}
 use Rattle.wq_session.specs.At.{AtData, ShelfNow}
 use Rattle.wq_session.specs.Begun.{takes_memory, tried}
-use Rattle.wq_session.specs.Out.{OutData, refuses, runs_out}
 use Rattle.wq_session.specs.Query.{program_for}
 use Rattle.wq_session.specs.Trigger.{defined_by, defined_name, trigger_in}
 use Rattle.wq_session.specs.Work.{BegunData, evaluates}
-use Rattle.wq_session.specs.declared.ask.Ask.{Ask}
-use Rattle.wq_session.specs.declared.ask.Ask.TheVariants.{Watch, Unwatch, AddProgram, DeleteProgram}
-use Rattle.wq_session.specs.declared.ask.Ask.TheVariants.{Query as AsksQuery, AddTrigger}
-use Rattle.wq_session.specs.declared.ask.Ask.TheVariants.{DeleteTrigger}
-use Rattle.wq_session.specs.declared.cursor.Cursor.{Cursor}
-use Rattle.wq_session.specs.declared.refusal.Refusal.{Refusal}
 
 -- a call of a shelf
 abbrev pub CallNow : Type 0
@@ -61,15 +64,26 @@ definition_calls root number (Ok d) shelf =
     made_calls root number d (program_for d.query shelf) shelf
 definition_calls root number (Err refusal) shelf = []
 
+-- the calls of an ask of the root with this text
+abbrev pub there_calls : RootAsk → List ℕ → AtData → ShelfNow → List CallNow
+there_calls (AsksQuery q) root at shelf = shown_calls at.instance at.view (data_of q)
+there_calls (AddTrigger t) root at shelf =
+    definition_calls root (at.instance).root (defined_by at.instance (data_of t)) shelf
+there_calls (DeleteTrigger name) root at shelf = removes_trigger (at.instance).root name ∷ []
+there_calls _ root at shelf = []
+
 -- the calls of an ask at a root that is looked at
 abbrev pub root_calls : Ask → AtData → ShelfNow → List CallNow
 root_calls (Watch root) at shelf = adds_root root (at.instance).root ∷ []
 root_calls (Unwatch root) at shelf = removes_root (at.instance).root ∷ []
-root_calls (AsksQuery root crawl q) at shelf = shown_calls at.instance at.view (data_of q)
-root_calls (AddTrigger root t) at shelf =
-    definition_calls root (at.instance).root (defined_by at.instance (data_of t)) shelf
-root_calls (DeleteTrigger root name) at shelf = removes_trigger (at.instance).root name ∷ []
+root_calls (OfRoot root crawl what) at shelf = there_calls what root at shelf
 root_calls _ at shelf = []
+
+-- the calls of an ask of the shelf
+abbrev pub shelf_calls : ShelfAsk → List CallNow
+shelf_calls (AddProgram name program) = adds_program name program ∷ []
+shelf_calls (DeleteProgram name) = removes_program name ∷ []
+shelf_calls _ = []
 
 -- the calls of an ask that needs a root
 abbrev pub looked_calls : Ask → Option AtData → ShelfNow → List CallNow
@@ -78,8 +92,7 @@ looked_calls ask (Some at) shelf = root_calls ask at shelf
 
 -- the calls of an ask at a shelf, each of which is accepted if the ask is
 abbrev pub calls_of : Ask → Option AtData → ShelfNow → List CallNow
-calls_of (AddProgram name program) at shelf = adds_program name program ∷ []
-calls_of (DeleteProgram name) at shelf = removes_program name ∷ []
+calls_of (OfShelf what) at shelf = shelf_calls what
 calls_of ask at shelf = looked_calls ask at shelf
 
 -- the unsetting of a cursor, if there is one
@@ -116,4 +129,4 @@ abbrev pub AddedAreAsked : Type 0
 AddedAreAsked = (ask : Ask) (at : Option AtData) (shelf : ShelfNow)
     (follows : List SubscriptionData) (out : OutData) (calls : List CallNow) (raw : Raw)
     → Accepts ask at shelf follows out calls → AddsOne raw calls
-    → (name : List ℕ) × (ask ≡ AddProgram name raw)
+    → (name : List ℕ) × (ask ≡ OfShelf (AddProgram name raw))

@@ -1,7 +1,7 @@
 -- The whole answer to an ask: its beginning while the shelf is held, and its end without the shelf.
 -- And the results if memory runs out.
 -- If the reply of a cursor could not be made, the cursor is unset: this is this server's own.
-use Rattle.std.specs.Prelude.{◌≡◌, ◌⊎◌, ℕ, true, false, is_some, List, Option, Some, None}
+use Rattle.std.specs.Prelude.{◌≡◌, ◌⊎◌, ℕ, true, is_some, List, Option, Some, None}
 use Rattle.std.specs.Prelude.{if◌then◌else◌}
 use Rattle.std.specs.Option.{option_map_or}
 use Rattle.wq_clock.specs.Instance.{InstanceData}
@@ -10,33 +10,21 @@ use Rattle.wq_query.specs.Query.{PlanData}
 use Rattle.wq_query.specs.Reply.{reply_of}
 use Rattle.wq_registry.specs.Shelf.{cursor_unset}
 use Rattle.wq_view.specs.View.{ViewData}
+use Rattle.wq_ask.specs.Out.{OutData, refuses, replies, replies_with, runs_out, silence, settled}
+use Rattle.wq_ask.specs.Subscribe.{subscribe_data, unsubscribe_data}
+use Rattle.wq_ask.specs.declared.ask.Ask.{Ask}
+use Rattle.wq_ask.specs.declared.cursor.Cursor.{Cursor}
+use Rattle.wq_ask.specs.declared.refusal.Refusal.TheVariants.{TooManySubscriptions}
 use Rattle.wq_session.specs.At.{AtData, ShelfNow}
 use Rattle.wq_session.specs.Begun.{begun, takes_memory}
 use Rattle.wq_session.specs.Followed.{has_called, has_no_room, with_subscription, without_called}
-use Rattle.wq_session.specs.Out.{OutData, refuses, replies, replies_with, runs_out, silence}
-use Rattle.wq_session.specs.Subscribe.{subscribe_data, unsubscribe_data}
 use Rattle.wq_session.specs.Work.{WorkData, says, prints, evaluates, begins, drops}
-use Rattle.wq_session.specs.declared.ask.Ask.{Ask}
-use Rattle.wq_session.specs.Refusal.{ends_session}
-use Rattle.wq_session.specs.declared.cursor.Cursor.{Cursor}
-use Rattle.wq_session.specs.declared.refusal.Refusal.{Refusal}
-use Rattle.wq_session.specs.declared.refusal.Refusal.TheVariants.{TooManySubscriptions}
 
 -- the files of a plan, of the root that is looked at
 abbrev pub listed : PlanData → Option AtData → OutData
 listed plan None = silence true
 listed plan (Some at) =
     option_map_or (λ view. replies (reply_of plan at.instance view)) at.view (silence true)
-
--- the output with no cursor to unset
-abbrev pub settled : OutData → OutData
-settled out = record {
-  reply = out.reply;
-  lists = out.lists;
-  goes_on = out.goes_on;
-  shuts = out.shuts;
-  unset = None;
-}
 
 -- the output when the work is done, and the subscriptions of the session then
 pub record DoneData : Type 0 where
@@ -49,7 +37,8 @@ giving out follows = record { out = out; follows = follows }
 
 -- a subscription began at a view of its root: the session keeps it, and the client has its first
 -- list
-abbrev pub subscribing_at : SubscriptionData → InstanceData → ViewData → List SubscriptionData → DoneData
+abbrev pub subscribing_at : SubscriptionData → InstanceData → ViewData → List SubscriptionData
+    → DoneData
 subscribing_at s instance view follows = record {
   out = replies_with (subscribe_data instance view s.name) (list_of instance view s);
   follows = with_subscription (caught_up view s) follows;
@@ -82,12 +71,6 @@ finished (prints d) at follows = giving (replies d) follows
 finished (evaluates plan cursor) at follows = giving (listed plan at) follows
 finished (begins s) at follows = following s at follows
 finished (drops number name) at follows = dropped number name follows
-
--- the possible results of a refusal: the reply says it; or memory ran out, but not if the session
--- ends with it
-abbrev pub MayRefuse : Refusal → OutData → Type 0
-MayRefuse refusal out =
-    (out ≡ refuses refusal) ⊎ ((ends_session refusal ≡ false) × (out ≡ runs_out None))
 
 -- an answer, with the shelf and the subscriptions of the session then
 pub record AnswerData : Type 0 where

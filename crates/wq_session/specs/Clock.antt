@@ -1,53 +1,16 @@
--- `clock`: the last pass over a root.
+-- The beginning of `clock`, the last pass over a root.
 -- From Watchman's documentation of this command.
-use Rattle.std.specs.Prelude.{ℕ, pos, Bool, false, int_lt, List, codes}
-use Rattle.std.specs.Prelude.{Option, Some, None, option_and_then, Result, Ok}
-use Rattle.std.specs.Option.{option_map_or}
-use Rattle.serde_json.specs.Data.{Data, string, object, Items, no_items, item, no_members, member}
-use Rattle.serde_json.specs.Find.{get}
+use Rattle.std.specs.Prelude.{Result, Ok}
 use Rattle.wq_base.specs.Fault.{or_fault}
-use Rattle.wq_base.specs.Version.{version}
-use Rattle.wq_clock.specs.ClockText.{clock_text}
-use Rattle.wq_clock.specs.Instance.{InstanceData}
-use Rattle.wq_term.specs.Argument.{whole_number_of}
-use Rattle.wq_view.specs.View.{ViewData}
-use Rattle.wq_session.specs.Argument.{RequestData, complete}
-use Rattle.wq_session.specs.At.{AtData, ShelfNow, watched}
-use Rattle.wq_session.specs.Out.{replies}
-use Rattle.wq_session.specs.Root.{root_named}
+use Rattle.wq_ask.specs.Out.{replies}
+use Rattle.wq_ask.specs.declared.refusal.Refusal.{Refusal}
+use Rattle.wq_ask.specs.declared.refusal.Refusal.TheVariants.{NotWatched}
+use Rattle.wq_ask.specs.Clock.{clock_data}
+use Rattle.wq_session.specs.At.{AtData, ShelfNow}
 use Rattle.wq_session.specs.Work.{BegunData, saying}
-use Rattle.wq_session.specs.declared.ask.Ask.TheVariants.{Clock}
-use Rattle.wq_session.specs.declared.refusal.Refusal.{Refusal}
-use Rattle.wq_session.specs.declared.refusal.Refusal.TheVariants.{WrongArguments, NotWatched}
 
--- whether the options of `clock` ask for a crawl of the root first: by a whole number above 0
-abbrev pub asks_crawl : Data → Bool
-asks_crawl options =
-    option_map_or (int_lt (pos 0))
-    (option_and_then whole_number_of (get (codes "sync_timeout") options)) false
-
--- the root of `clock`, which an object of options may follow, and whether it is to be crawled
-abbrev pub clock_arguments : Items → Option (List ℕ × Bool)
-clock_arguments (item (string root) no_items) = Some (root, false)
-clock_arguments (item (string root) (item (object members) no_items)) =
-    Some (root, asks_crawl (object members))
-clock_arguments _ = None
-
--- `clock` requests the clock of a root
-abbrev pub clock_request : Items → Result RequestData Refusal
-clock_request arguments =
-    or_fault WrongArguments (clock_arguments arguments) (λ (root, crawl).
-    Ok (complete (Clock (root_named root) crawl)))
-
--- the clock id of a view
-abbrev pub clock_data : InstanceData → ViewData → Data
-clock_data instance view =
-    object (member (codes "clock") (string (clock_text instance view.tick))
-    (member (codes "version") (string version) no_members))
-
--- the beginning of `clock`
-abbrev pub try_clock : List ℕ → Option AtData → ShelfNow → Result BegunData Refusal
-try_clock root at shelf =
-    or_fault NotWatched (watched root at shelf) (λ at.
+-- the beginning of `clock` at its root
+abbrev pub try_clock : AtData → ShelfNow → Result BegunData Refusal
+try_clock at shelf =
     or_fault NotWatched at.view (λ view.
-    Ok (saying (replies (clock_data at.instance view)) shelf)))
+    Ok (saying (replies (clock_data at.instance view)) shelf))

@@ -3,12 +3,12 @@
 use Rattle.std.specs.Prelude.{◌≡◌, List, Option, Some, None, option_map}
 use Rattle.wq_follow.specs.Subscription.{SubscriptionData}
 use Rattle.wq_registry.specs.Shelf.{cursor_unset}
+use Rattle.wq_ask.specs.Out.{OutData}
+use Rattle.wq_ask.specs.declared.ask.Ask.{Ask}
+use Rattle.wq_ask.specs.declared.cursor.Cursor.{Cursor}
 use Rattle.wq_session.specs.Answer.{AnswersAsk, TakesAsk}
 use Rattle.wq_session.specs.Work.{WorkData}
-use Rattle.wq_session.specs.Out.{OutData}
 use Rattle.wq_session.specs.At.{AtData, ShelfNow}
-use Rattle.wq_session.specs.declared.ask.Ask.{Ask}
-use Rattle.wq_session.specs.declared.cursor.Cursor.{Cursor}
 use Rattle.wq_session.specs.Reached.{IsReached}
 
 -- an ask is taken at a shelf. If a shelf is shown, that one is used, and the result is then shown.
@@ -27,6 +27,10 @@ Unsets shelf cursor after = after ≡ option_map (cursor_unset cursor.root curso
 pub record StandData : Type 0 where
   pub shelf : Option ShelfNow
   pub follows : List SubscriptionData
+
+-- the state, from its parts
+abbrev pub stand : Option ShelfNow → List SubscriptionData → StandData
+stand shelf follows = record { shelf = shelf; follows = follows }
 
 -- an ask is answered at a shelf. If a shelf is shown, that one is used, and the result is then
 -- shown. If none is shown, it is some shelf that the acts of sessions lead to. The subscriptions of

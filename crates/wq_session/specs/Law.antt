@@ -1,12 +1,12 @@
 -- Laws of answers, each of which follows from the definitions.
 -- It is this server's own.
 use Rattle.std.specs.Prelude.{◌≡◌, ℕ, true, List, Some}
+use Rattle.wq_ask.specs.Out.{replies}
+use Rattle.wq_ask.specs.Watch.{watch_data}
+use Rattle.wq_ask.specs.declared.ask.Ask.TheVariants.{Watch}
 use Rattle.wq_session.specs.Begun.{begun}
-use Rattle.wq_session.specs.Out.{replies}
 use Rattle.wq_session.specs.At.{AtData, ShelfNow, is_watched}
-use Rattle.wq_session.specs.Watch.{watch_data}
 use Rattle.wq_session.specs.Work.{saying}
-use Rattle.wq_session.specs.declared.ask.Ask.TheVariants.{Watch}
 
 -- watching a root again changes nothing, and has the same answer as the first time
 abbrev pub WatchingAgainChangesNothing : Type 0

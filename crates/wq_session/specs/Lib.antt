@@ -1,18 +1,7 @@
 pub mod Limit
-pub mod Refusal
 pub mod Crawl
-pub mod Root
-pub mod Command
-pub mod Argument
-pub mod Words
 pub mod At
 pub mod Shelved
-pub mod Need
-pub mod Needed
-pub mod Reply
-pub mod Out
-pub mod Line
-pub mod Said
 pub mod Work
 pub mod Query
 pub mod Clock
@@ -23,7 +12,6 @@ pub mod Followed
 pub mod Trigger
 pub mod Objects
 pub mod Server
-pub mod Reading
 pub mod Begun
 pub mod Answer
 pub mod Moment
@@ -31,7 +19,7 @@ pub mod Round
 pub mod Taking
 pub mod Law
 pub mod Accepted
-pub mod HandedIn
 pub mod Prepared
 pub mod Reached
 pub mod Desk
+pub mod Views

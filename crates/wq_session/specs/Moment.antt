@@ -12,8 +12,8 @@ use Rattle.wq_clock.specs.declared.instance.Instance.{Instance}
 use Rattle.wq_follow.specs.Batch.{is_told}
 use Rattle.wq_follow.specs.Subscription.{SubscriptionData, canceled_data, caught_up, next_list}
 use Rattle.wq_view.specs.View.{ViewData}
+use Rattle.wq_ask.specs.Out.{OutData, tells_lists}
 use Rattle.wq_session.specs.At.{AtData}
-use Rattle.wq_session.specs.Out.{OutData, tells_lists}
 
 -- a root that is shown: its place, and its view
 abbrev pub Shown : Type 0
@@ -50,7 +50,8 @@ told_of root shown s =
 -- the lists of these, one after the other
 abbrev pub told_lists_of : ℕ → Shown → List SubscriptionData → List (List ℕ)
 told_lists_of root shown [] = []
-told_lists_of root shown (s ∷ later) = (told_of root shown s).lists ++ told_lists_of root shown later
+told_lists_of root shown (s ∷ later) =
+    (told_of root shown s).lists ++ told_lists_of root shown later
 
 -- the subscriptions that are left
 abbrev pub left_of : ℕ → Shown → List SubscriptionData → List SubscriptionData

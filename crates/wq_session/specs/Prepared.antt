@@ -18,11 +18,15 @@ use Rattle.wq_query.specs.declared.fault.QueryFault.{QueryFault}
 use Rattle.wq_registry.specs.CacheKey.{CacheKeyData, Says}
 use Rattle.wq_registry.specs.Kept.{StandsFor}
 use Rattle.wq_term.specs.Expr.{ExprData}
+use Rattle.wq_ask.specs.declared.ask.Ask.{Ask}
+use Rattle.wq_ask.specs.declared.ask.Ask.TheVariants.{OfRoot}
+use Rattle.wq_ask.specs.declared.ask.RootAsk.{RootAsk}
+use Rattle.wq_ask.specs.declared.ask.RootAsk.TheVariants.{Query as AsksQuery, Subscribe, AddTrigger}
+use Rattle.wq_ask.specs.declared.refusal.Refusal.{Refusal}
+use Rattle.wq_ask.specs.declared.refusal.Refusal.TheVariants.{NoMemory, Query}
 use Rattle.wq_session.specs.At.{AtData, at_data}
 use Rattle.wq_session.specs.Moment.{Shown, shown_in}
 use Rattle.wq_session.specs.Trigger.{defined_by}
-use Rattle.wq_session.specs.declared.ask.Ask.{Ask}
-use Rattle.wq_session.specs.declared.ask.Ask.TheVariants.{Query as AsksQuery, Subscribe, AddTrigger}
 use Rattle.wq_session.specs.declared.lookup.Lookup.{Lookup}
 use Rattle.wq_session.specs.declared.prepared.Prepared.{Prepared}
 use Rattle.wq_session.specs.declared.read_object.ReadObject.{ReadObject}
@@ -32,8 +36,6 @@ use Rattle.wq_session.specs.declared.read_object.ReadObject.TheVariants.{Trigger
 use Rattle.wq_session.specs.declared.read_object.ReadObject.TheVariants.{Refused as ObjectRefused}
 use Rattle.wq_session.specs.declared.read_query.ReadQuery.{ReadQuery}
 use Rattle.wq_session.specs.declared.read_trigger.ReadTrigger.{ReadTrigger}
-use Rattle.wq_session.specs.declared.refusal.Refusal.{Refusal}
-use Rattle.wq_session.specs.declared.refusal.Refusal.TheVariants.{NoMemory, Query}
 
 -- the knowledge of the program of an expression: whether the program would be too large, the key
 -- that says the expression, and a program that answers what the expression means. The last two may
@@ -89,11 +91,16 @@ pub data ObjectData : Type 0 where
   -- a trigger
   asks_trigger : Data → ObjectData
 
+-- the object of an ask of a root
+abbrev pub object_of : RootAsk → ObjectData
+object_of (AsksQuery q) = asks_query (data_of q)
+object_of (Subscribe name q) = asks_subscription (data_of q)
+object_of (AddTrigger t) = asks_trigger (data_of t)
+object_of _ = asks_nothing
+
 -- the object of an ask
 abbrev pub object_in : Ask → ObjectData
-object_in (AsksQuery root crawl q) = asks_query (data_of q)
-object_in (Subscribe root name q) = asks_subscription (data_of q)
-object_in (AddTrigger root t) = asks_trigger (data_of t)
+object_in (OfRoot root crawl what) = object_of what
 object_in _ = asks_nothing
 
 -- the object of an ask, if it has one, was read at an instance

@@ -1,14 +1,9 @@
--- `query`: the files of a root, or those that changed. This is what the query takes from the shelf,
--- and leaves there: its program and its cursor.
--- From Watchman's documentation of `query`, of synchronisation (`sync_timeout`) and of named
--- cursors; programs are this server's own.
-use Rattle.std.specs.Prelude.{◌≡◌, ℕ, pos, Bool, true, false, not, List, codes}
+-- The beginning of `query`, the files of a root, or those that changed. This is what the query takes
+-- from the shelf, and leaves there: its program and its cursor.
+-- From Watchman's documentation of `query` and of named cursors; programs are this server's own.
+use Rattle.std.specs.Prelude.{ℕ, Bool, true, not, List}
 use Rattle.std.specs.Prelude.{Option, Some, None, Result, Ok}
-use Rattle.std.specs.Option.{option_map_or}
-use Rattle.std.specs.Ordering.{int_eq}
-use Rattle.serde_json.specs.Data.{Data, string, object, Items, no_items, item}
-use Rattle.serde_json.specs.Find.{get}
-use Rattle.serde_json.specs.View.{view as data_of}
+use Rattle.serde_json.specs.Data.{Data}
 use Rattle.wq_base.specs.Fault.{or_fault, or_its_fault, or_own_fault, unless_fault}
 use Rattle.wq_clock.specs.declared.bound.Bound.{Bound}
 use Rattle.wq_clock.specs.declared.bound.Bound.TheVariants.{Fresh, Tick}
@@ -19,43 +14,12 @@ use Rattle.wq_query.specs.Reading.{asks as query_of}
 use Rattle.wq_registry.specs.Limit.{max_cursors}
 use Rattle.wq_registry.specs.ByName.{has_no_place, under}
 use Rattle.wq_registry.specs.Shelf.{cursor_used, cursors_of}
-use Rattle.wq_term.specs.Argument.{whole_number_of}
-use Rattle.wq_session.specs.Argument.{RequestData, queries}
-use Rattle.wq_session.specs.At.{AtData, ShelfNow, watched}
-use Rattle.wq_session.specs.Root.{root_named}
+use Rattle.wq_ask.specs.declared.cursor.Cursor.{Cursor}
+use Rattle.wq_ask.specs.declared.refusal.Refusal.{Refusal}
+use Rattle.wq_ask.specs.declared.refusal.Refusal.TheVariants.{NotWatched, Query}
+use Rattle.wq_ask.specs.declared.refusal.Refusal.TheVariants.{NoSuchProgram, ProgramTooLarge, ShelfFull}
+use Rattle.wq_session.specs.At.{AtData, ShelfNow}
 use Rattle.wq_session.specs.Work.{BegunData, evaluates}
-use Rattle.wq_session.specs.declared.ask.Ask.{Ask}
-use Rattle.wq_session.specs.declared.ask.Ask.TheVariants.{Query as AsksQuery}
-use Rattle.wq_session.specs.declared.cursor.Cursor.{Cursor}
-use Rattle.wq_session.specs.declared.refusal.Refusal.{Refusal}
-use Rattle.wq_session.specs.declared.refusal.Refusal.TheVariants.{WrongArguments, NotWatched, Query}
-use Rattle.wq_session.specs.declared.refusal.Refusal.TheVariants.{NoSuchProgram, ProgramTooLarge, ShelfFull}
-
--- the root and the object of `query`
-abbrev pub query_arguments : Items → Option (List ℕ × Data)
-query_arguments (item (string root) (item (object members) no_items)) =
-    Some (root, object members)
-query_arguments _ = None
-
--- whether the server crawls before it answers a query: unless the key says 0, or is no whole number
-abbrev pub synchronises : Option Data → Bool
-synchronises None = true
-synchronises (Some d) = option_map_or (λ n. not (int_eq n (pos 0))) (whole_number_of d) false
-
--- whether the server crawls before it answers the query of an object
-abbrev pub crawls_first : Data → Bool
-crawls_first d = synchronises (get (codes "sync_timeout") d)
-
--- `query` requests the files of a root
-abbrev pub query_request : Items → Result RequestData Refusal
-query_request arguments =
-    or_fault WrongArguments (query_arguments arguments) (λ (root, d).
-    Ok (queries (root_named root) (crawls_first d) d))
-
--- the ask of a query for files
-abbrev pub IsQuerying : List ℕ → Bool → Data → Ask → Type 0
-IsQuerying root crawl d (AsksQuery r c q) = (r ≡ root) × (c ≡ crawl) × (data_of q ≡ d)
-IsQuerying root crawl d _ = ⊥
 
 -- the program of a name, if a query has one; without a name its expression needs a program
 abbrev pub program_named : Option (List ℕ) → QueryData → ShelfNow → Result (Option Raw) Refusal
@@ -108,10 +72,9 @@ begun_query root tick q shelf =
       shelf = used_at root q.since tick shelf;
     })))
 
--- the beginning of `query`
-abbrev pub try_query : List ℕ → Data → Option AtData → ShelfNow → Result BegunData Refusal
-try_query root d at shelf =
-    or_fault NotWatched (watched root at shelf) (λ at.
+-- the beginning of `query` at its root
+abbrev pub try_query : Data → AtData → ShelfNow → Result BegunData Refusal
+try_query d at shelf =
     or_fault NotWatched at.view (λ view.
     or_its_fault Query (query_of at.instance d) (λ q.
-    begun_query (at.instance).root view.tick q shelf)))
+    begun_query (at.instance).root view.tick q shelf))

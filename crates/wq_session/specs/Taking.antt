@@ -9,11 +9,11 @@ use Rattle.wq_compile.specs.Large.{is_too_large}
 use Rattle.wq_compile.specs.Meaning.{AnswersMeaning}
 use Rattle.wq_query.specs.Query.{QueryData, SinceData}
 use Rattle.wq_registry.specs.ByName.{under}
+use Rattle.wq_ask.specs.declared.refusal.Refusal.{Refusal}
+use Rattle.wq_ask.specs.declared.refusal.Refusal.TheVariants.{NoSuchProgram, ProgramTooLarge}
+use Rattle.wq_ask.specs.declared.refusal.Refusal.TheVariants.{ShelfFull, NoMemory}
 use Rattle.wq_session.specs.At.{ShelfNow}
 use Rattle.wq_session.specs.Query.{program_for, bound_at, has_place, used_at}
-use Rattle.wq_session.specs.declared.refusal.Refusal.{Refusal}
-use Rattle.wq_session.specs.declared.refusal.Refusal.TheVariants.{NoSuchProgram, ProgramTooLarge}
-use Rattle.wq_session.specs.declared.refusal.Refusal.TheVariants.{ShelfFull, NoMemory}
 
 -- the program of a query: the one that the query names, or one that answers what its expression
 -- means; or the reason why there is none; or memory ran out

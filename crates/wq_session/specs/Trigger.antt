@@ -1,15 +1,12 @@
--- `trigger`, `trigger-list` and `trigger-del`: the server starts commands for the files of a root,
--- lists them, and no longer starts them.
+-- The beginnings of `trigger`, `trigger-list` and `trigger-del`: the server starts commands for the
+-- files of a root, lists them, and no longer starts them.
 -- From Watchman's documentation of these commands; programs and the order of faults are this
 -- server's own.
-use Rattle.std.specs.Prelude.{◌≡◌, ℕ, Bool, true, false, not, List, codes, map}
-use Rattle.std.specs.Prelude.{Option, Some, None, is_some, Result, Ok}
+use Rattle.std.specs.Prelude.{ℕ, Bool, not, List, map}
+use Rattle.std.specs.Prelude.{Option, is_some, Result, Ok}
 use Rattle.std.specs.Option.{option_and_then}
-use Rattle.serde_json.specs.Data.{Data, boolean, string, array, object, Items, no_items, item}
-use Rattle.serde_json.specs.Data.{no_members, member}
-use Rattle.serde_json.specs.View.{items_of, view as data_of}
+use Rattle.serde_json.specs.Data.{Data}
 use Rattle.wq_base.specs.Fault.{or_fault, or_its_fault, or_own_fault, unless_fault}
-use Rattle.wq_base.specs.Version.{version}
 use Rattle.wq_clock.specs.Instance.{InstanceData}
 use Rattle.wq_code.specs.declared.raw.Raw.{Raw}
 use Rattle.wq_follow.specs.Defining.{triggered}
@@ -21,47 +18,15 @@ use Rattle.wq_follow.specs.declared.fault.TriggerFault.TheVariants.{Query as Bad
 use Rattle.wq_registry.specs.ByName.{ByName, has_no_place, under, values}
 use Rattle.wq_registry.specs.Limit.{max_triggers}
 use Rattle.wq_registry.specs.Shelf.{trigger_added, trigger_removed, triggers_of}
-use Rattle.wq_session.specs.Argument.{RequestData, complete, triggers, one_text, two_texts}
-use Rattle.wq_session.specs.At.{AtData, ShelfNow, watched}
-use Rattle.wq_session.specs.Out.{replies}
-use Rattle.wq_session.specs.Program.{is_name}
+use Rattle.wq_ask.specs.Out.{replies}
+use Rattle.wq_ask.specs.Program.{is_name}
+use Rattle.wq_ask.specs.declared.refusal.Refusal.{Refusal}
+use Rattle.wq_ask.specs.declared.refusal.Refusal.TheVariants.{NotWatched, BadName}
+use Rattle.wq_ask.specs.declared.refusal.Refusal.TheVariants.{BadTrigger, Query, TooManyTriggers, NoMemory}
+use Rattle.wq_ask.specs.Trigger.{trigger_reply, triggers_reply, trigger_deleted_reply}
+use Rattle.wq_session.specs.At.{AtData, ShelfNow}
 use Rattle.wq_session.specs.Query.{program_for}
-use Rattle.wq_session.specs.Root.{root_named}
 use Rattle.wq_session.specs.Work.{BegunData, printing, says}
-use Rattle.wq_session.specs.declared.ask.Ask.{Ask}
-use Rattle.wq_session.specs.declared.ask.Ask.TheVariants.{AddTrigger, ListTriggers, DeleteTrigger}
-use Rattle.wq_session.specs.declared.refusal.Refusal.{Refusal}
-use Rattle.wq_session.specs.declared.refusal.Refusal.TheVariants.{WrongArguments, NotWatched, BadName}
-use Rattle.wq_session.specs.declared.refusal.Refusal.TheVariants.{BadTrigger, Query, TooManyTriggers, NoMemory}
-
--- the root and the object of `trigger`
-abbrev pub trigger_arguments : Items → Option (List ℕ × Data)
-trigger_arguments (item (string root) (item (object members) no_items)) =
-    Some (root, object members)
-trigger_arguments _ = None
-
--- `trigger` requests that the server starts a command for the files of a root, as an object says
-abbrev pub trigger_request : Items → Result RequestData Refusal
-trigger_request arguments =
-    or_fault WrongArguments (trigger_arguments arguments) (λ (root, d).
-    Ok (triggers (root_named root) d))
-
--- `trigger-list` requests the triggers of a root
-abbrev pub list_triggers_request : Items → Result RequestData Refusal
-list_triggers_request arguments =
-    or_fault WrongArguments (one_text arguments) (λ root.
-    Ok (complete (ListTriggers (root_named root))))
-
--- `trigger-del` requests that the server drops a trigger of a root
-abbrev pub delete_trigger_request : Items → Result RequestData Refusal
-delete_trigger_request arguments =
-    or_fault WrongArguments (two_texts arguments) (λ (root, name).
-    Ok (complete (DeleteTrigger (root_named root) name)))
-
--- an ask is for the trigger of an object, of a root
-abbrev pub IsTriggering : List ℕ → Data → Ask → Type 0
-IsTriggering root d (AddTrigger r t) = (r ≡ root) × (data_of t ≡ d)
-IsTriggering root d _ = ⊥
 
 -- the line is refused for this fault of a trigger's object
 abbrev pub trigger_refusal : TriggerFault → Refusal
@@ -90,34 +55,9 @@ has_no_trigger_place root name shelf = has_no_place max_triggers name (triggers_
 abbrev pub run_in : Option TriggerData → Option ℕ
 run_in replaced = option_and_then (λ t. t.running) replaced
 
--- the word for the change of the trigger
-abbrev pub disposition : Bool → List ℕ
-disposition false = codes "created"
-disposition true = codes "replaced"
-
--- the reply that there is a trigger of this name, and whether it replaced one
-abbrev pub trigger_reply : List ℕ → Bool → Data
-trigger_reply name replaced =
-    object (member (codes "disposition") (string (disposition replaced))
-    (member (codes "triggerid") (string name)
-    (member (codes "version") (string version) no_members)))
-
 -- the objects that define triggers, in their order
 abbrev pub objects_of : ByName TriggerData → List Data
 objects_of ts = map (λ t. t.object) (values ts)
-
--- the triggers of a root, by their objects
-abbrev pub triggers_reply : List Data → Data
-triggers_reply objects =
-    object (member (codes "triggers") (array (items_of objects))
-    (member (codes "version") (string version) no_members))
-
--- the reply that there is no trigger of this name, and whether there was one
-abbrev pub trigger_deleted_reply : List ℕ → Bool → Data
-trigger_deleted_reply name deleted =
-    object (member (codes "deleted") (boolean deleted)
-    (member (codes "trigger") (string name)
-    (member (codes "version") (string version) no_members)))
 
 -- the trigger of a definition, by its program, which takes over the run of the one that it replaces
 abbrev pub trigger_in : List ℕ → ℕ → DefinitionData → Option Raw → ShelfNow → TriggerData
@@ -141,28 +81,24 @@ abbrev pub begun_trigger : List ℕ → ℕ → DefinitionData → ShelfNow → 
 begun_trigger root number d shelf =
     or_own_fault (program_for d.query shelf) (λ program. put_trigger root number d program shelf)
 
--- the beginning of `trigger`
-abbrev pub try_trigger : List ℕ → Data → Option AtData → ShelfNow → Result BegunData Refusal
+-- the beginning of `trigger` at its root
+abbrev pub try_trigger : List ℕ → Data → AtData → ShelfNow → Result BegunData Refusal
 try_trigger root d at shelf =
-    or_fault NotWatched (watched root at shelf) (λ at.
     or_fault NotWatched at.view (λ view.
     or_own_fault (defined_by at.instance d) (λ definition.
-    begun_trigger root (at.instance).root definition shelf)))
+    begun_trigger root (at.instance).root definition shelf))
 
--- the beginning of `trigger-list`
-abbrev pub try_list_triggers : List ℕ → Option AtData → ShelfNow → Result BegunData Refusal
-try_list_triggers root at shelf =
-    or_fault NotWatched (watched root at shelf) (λ at.
-    Ok (printing (triggers_reply (objects_of (triggers_of (at.instance).root shelf))) shelf))
+-- the beginning of `trigger-list` at its root
+abbrev pub listing_triggers : AtData → ShelfNow → BegunData
+listing_triggers at shelf =
+    printing (triggers_reply (objects_of (triggers_of (at.instance).root shelf))) shelf
 
--- the beginning of `trigger-del`
-abbrev pub try_delete_trigger : List ℕ → List ℕ → Option AtData → ShelfNow
-    → Result BegunData Refusal
-try_delete_trigger root name at shelf =
-    or_fault NotWatched (watched root at shelf) (λ at.
+-- the beginning of `trigger-del` at its root
+abbrev pub try_delete_trigger : List ℕ → AtData → ShelfNow → Result BegunData Refusal
+try_delete_trigger name at shelf =
     unless_fault BadName (is_name name) (
     Ok (record {
       work = says (replies (trigger_deleted_reply name
           (is_some (trigger_called (at.instance).root name shelf))));
       shelf = trigger_removed (at.instance).root name shelf;
-    })))
+    }))

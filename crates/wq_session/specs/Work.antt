@@ -7,11 +7,11 @@ use Rattle.serde_json.specs.View.{view as data_of}
 use Rattle.wq_follow.specs.Followed.{subscription_data}
 use Rattle.wq_follow.specs.Subscription.{SubscriptionData}
 use Rattle.wq_query.specs.Query.{PlanData, planned}
+use Rattle.wq_ask.specs.Out.{OutData}
+use Rattle.wq_ask.specs.declared.cursor.Cursor.{Cursor}
+use Rattle.wq_ask.specs.declared.refusal.Refusal.{Refusal}
+use Rattle.wq_ask.specs.declared.refusal.Refusal.TheVariants.{NoMemory}
 use Rattle.wq_session.specs.At.{ShelfNow}
-use Rattle.wq_session.specs.Out.{OutData}
-use Rattle.wq_session.specs.declared.cursor.Cursor.{Cursor}
-use Rattle.wq_session.specs.declared.refusal.Refusal.{Refusal}
-use Rattle.wq_session.specs.declared.refusal.Refusal.TheVariants.{NoMemory}
 use Rattle.wq_session.specs.declared.work.Rest.{Rest}
 use Rattle.wq_session.specs.declared.work.Rest.TheVariants.{Says, Prints, Evaluates}
 use Rattle.wq_session.specs.declared.work.Rest.TheVariants.{Begins as BeginsFollowing, Drops}

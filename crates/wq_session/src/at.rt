@@ -4,7 +4,7 @@ ghost use Rattle.wq_registry.specs.Root.{numbered};
 ghost use Rattle.wq_session.specs.At.{at_data, watched};
 ghost use Rattle.wq_session.specs.Shelved.{shelf_data};
 
-use crate::root::RootText;
+use wq_ask::RootText;
 use wq_clock::Instance;
 use wq_follow::Trigger;
 use wq_registry::Shelf;

@@ -5,13 +5,13 @@ ghost use Rattle.wq_session.specs.Desk.{HoldsShelf, Unsets};
 ghost use Rattle.wq_session.specs.Prepared.{IsPrepared, asked, asked_at};
 ghost use Rattle.wq_session.specs.Work.{work_data};
 
-use crate::cursor::Cursor;
 use crate::turn::Turn;
 use crate::unset::Unset;
 use crate::work::Work;
 use std::sync::Arc;
+use wq_ask::Cursor;
 use wq_follow::Trigger;
-use wq_registry::{CacheKey, Compiled, Shelf};
+use wq_registry::{CacheKey, Compiled, Forgotten, Shelf};
 use wq_verify::Program;
 
 /// A session's way to the shelf. It is held for an ask, to unset a cursor, and to find a program in the cache or keep
@@ -31,8 +31,9 @@ pub trait Desk {
             StandsFor key.now.instance key.now.text program.value) }
         ensures same { shelf self.new ≡ shelf self.old };
 
-    /// Keeps a program in the shelf's cache ([`Cache::keep`](wq_registry::Cache::keep)).
-    fn keep(&mut self, compiled: Compiled)
+    /// Keeps a program in the shelf's cache ([`Cache::keep`](wq_registry::Cache::keep)). The caller frees what the
+    /// cache does not keep then, when the shelf is no longer held.
+    fn keep(&mut self, compiled: Compiled) -> Option<Forgotten>
         ensures { shelf self.new ≡ shelf self.old };
 
     /// Takes a session's turn ([`Turn::take`]) at the shelf as it is.
@@ -58,8 +59,8 @@ impl Desk for Shelf<Trigger> {
         self.cache().get(key)
     }
 
-    fn keep(&mut self, compiled: Compiled) {
-        self.cache().keep(compiled);
+    fn keep(&mut self, compiled: Compiled) -> Option<Forgotten> {
+        self.cache().keep(compiled)
     }
 
     fn hold(&mut self, turn: Turn<'_>) -> Work {

@@ -1,6 +1,5 @@
 //! Laws of answers, each a function without a body whose contract is the law.
 ghost use Rattle.wq_session.specs.Accepted.{AddedAreAsked, AnswersAreCalls};
-ghost use Rattle.wq_session.specs.HandedIn.{AsksHandInValid};
 ghost use Rattle.wq_session.specs.Law.{WatchingAgainChangesNothing};
 ghost use Rattle.wq_session.specs.Round.{FailedStartsAreCounted, RoundsAreCalls};
 
@@ -16,12 +15,6 @@ pub fn watching_again_changes_nothing()
 #[tactic(auto, using(crate::proofs::Accepting::answers_are_calls))]
 pub fn answers_are_calls()
     ensures { AnswersAreCalls }
-{}
-
-/// No ask of an event hands in a program that may not run.
-#[tactic(auto, using(crate::proofs::HandingIn::asks_hand_in_valid))]
-pub fn asks_hand_in_valid()
-    ensures { AsksHandInValid }
 {}
 
 /// A program that the accepted calls of an ask add to the shelf is the one that the ask hands in.

@@ -5,20 +5,19 @@ ghost use Rattle.wq_clock.specs.Instance.{instance_data};
 ghost use Rattle.wq_session.specs.Answer.{TakesAsk};
 ghost use Rattle.wq_session.specs.At.{at_data};
 ghost use Rattle.wq_session.specs.Prepared.{IsFoundFor, IsPrepared, IsReadAt, IsReadThere, asked, asked_at};
-ghost use Rattle.wq_session.specs.Prepared.{key_in, object_in};
+ghost use Rattle.wq_session.specs.Prepared.{key_in, object_in, object_of};
 ghost use Rattle.wq_session.specs.Shelved.{shelf_data};
 ghost use Rattle.wq_session.specs.Work.{work_data};
 
-use crate::ask::Ask;
 use crate::at::At;
 use crate::command::tried;
-use crate::outcome::Out;
 use crate::read_object::ReadObject;
 use crate::read_query::ReadQuery;
 use crate::read_trigger::ReadTrigger;
 use crate::work::{Rest, Work};
 use std::alloc::Global;
 use std::sync::Arc;
+use wq_ask::{Ask, Out, RootAsk};
 use wq_clock::Instance;
 use wq_follow::Trigger;
 use wq_registry::{CacheKey, Compiled, Shelf};
@@ -32,24 +31,18 @@ pub struct Prepared<'a> {
     pub(crate) read: ReadObject,
 }
 
-impl Ask {
+impl<'a> Prepared<'a> {
     /// Reads all of the ask that it can read without the shelf: its query or its trigger, at the instance that is
     /// looked at. If that has a fault, or memory runs out, [`take`](Prepared::take) says so.
-    pub fn prepare(self, alloc: Global, at: Option<At<'_>>) -> Prepared<'_>
+    pub fn of(alloc: Global, ask: Ask, at: Option<At<'a>>) -> Prepared<'a>
         ensures prepared { IsPrepared result }
-        ensures ask { asked result ≡ self }
+        ensures ask { asked result ≡ ask }
         ensures at { asked_at result ≡ option_map at_data at.entry }
     {
-        let read = read_at(alloc, &self, at);
-        Prepared {
-            ask: self,
-            at,
-            read,
-        }
+        let read = read_at(alloc, &ask, at);
+        Prepared { ask, at, read }
     }
-}
 
-impl<'a> Prepared<'a> {
     /// The expression that needs a program. There is none if the ask has no expression, or its key could not be made.
     pub fn key(&self) -> Option<&CacheKey>
         ensures { option_map (λ key. key.now) result ≡ key_in self.now }
@@ -90,12 +83,12 @@ impl Prepared<'_> {
             (work_data result) (shelf_data shelf.new) }
     {
         let Prepared { ask, at, read } = self;
-        let (begun, object) = tried(alloc, ask, at, read, shelf);
+        let (begun, ask) = tried(alloc, ask, at, read, shelf);
         let rest = match begun {
             Ok(rest) => rest,
             Err(refusal) => Rest::Says(Out::refused(alloc, refusal)),
         };
-        Work { rest, object }
+        Work { rest, ask }
     }
 }
 
@@ -118,11 +111,21 @@ fn read_there(alloc: Global, ask: &Ask, instance: &Instance) -> ReadObject
     ensures { IsReadThere (object_in ask.now) (instance_data instance.now) result }
 {
     match ask {
-        Ask::Query { query, .. } => ReadObject::of_query(ReadQuery::read(alloc, query, instance)),
-        Ask::Subscribe { query, .. } => {
+        Ask::OfRoot { what, .. } => read_in(alloc, what, instance),
+        _ => ReadObject::None,
+    }
+}
+
+/// The object of an ask of a root, if it has one, at this instance of the server.
+fn read_in(alloc: Global, what: &RootAsk, instance: &Instance) -> ReadObject
+    ensures { IsReadThere (object_of what.now) (instance_data instance.now) result }
+{
+    match what {
+        RootAsk::Query(query) => ReadObject::of_query(ReadQuery::read(alloc, query, instance)),
+        RootAsk::Subscribe { query, .. } => {
             ReadObject::of_query(ReadQuery::read_subscription(alloc, query, instance))
         }
-        Ask::AddTrigger { trigger, .. } => {
+        RootAsk::AddTrigger(trigger) => {
             ReadObject::of_trigger(ReadTrigger::read(alloc, trigger, instance))
         }
         _ => ReadObject::None,

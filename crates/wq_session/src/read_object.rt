@@ -1,17 +1,17 @@
 //! The object of an ask, read before the shelf is held.
-ghost use Rattle.std.specs.Prelude.{◌≡◌, Result, option_map};
+ghost use Rattle.std.specs.Prelude.{◌≡◌, IfOk, Result, option_map};
 ghost use Rattle.wq_follow.specs.Definition.{DefinitionData};
 ghost use Rattle.wq_query.specs.Query.{QueryData};
 ghost use Rattle.wq_query.specs.declared.fault.QueryFault.{QueryFault};
+ghost use Rattle.wq_ask.specs.declared.refusal.Refusal.{Refusal};
 ghost use Rattle.wq_session.specs.Prepared.{AreRead, GivesDefined, GivesDefinedObject, GivesRead};
-ghost use Rattle.wq_session.specs.Prepared.{GivesReadObject, IsFoundFor, IsReadAgain, key_of_read};
-ghost use Rattle.wq_session.specs.declared.refusal.Refusal.{Refusal};
+ghost use Rattle.wq_session.specs.Prepared.{GivesReadObject, IsFoundFor, IsRead, IsReadAgain, IsReadTrigger, key_of_read};
 
 use crate::read_query::ReadQuery;
 use crate::read_trigger::ReadTrigger;
-use crate::refusal::Refusal;
 use std::alloc::Global;
 use std::sync::Arc;
+use wq_ask::Refusal;
 use wq_registry::{CacheKey, Compiled};
 use wq_verify::Program;
 
@@ -48,6 +48,34 @@ impl ReadObject {
         match read {
             Ok(read) => ReadObject::Trigger(read),
             Err(refusal) => ReadObject::Refused(refusal),
+        }
+    }
+
+    /// The query that was read, or the reason to refuse the ask. An object is not read if no view is shown.
+    pub(crate) fn query(self) -> Result<ReadQuery, Refusal>
+        requires { AreRead self }
+        ensures read { IfOk result IsRead }
+        ensures said { (said : Result QueryData QueryFault) → GivesReadObject said self
+            → GivesRead result said }
+    {
+        match self {
+            ReadObject::Query(read) => Ok(read),
+            ReadObject::Refused(refusal) => Err(refusal),
+            ReadObject::Trigger(_) | ReadObject::None => Err(Refusal::NotWatched),
+        }
+    }
+
+    /// The trigger that was read, or the reason to refuse the ask. An object is not read if no view is shown.
+    pub(crate) fn trigger(self) -> Result<ReadTrigger, Refusal>
+        requires { AreRead self }
+        ensures read { IfOk result IsReadTrigger }
+        ensures said { (said : Result DefinitionData Refusal) → GivesDefinedObject said self
+            → GivesDefined result said }
+    {
+        match self {
+            ReadObject::Trigger(read) => Ok(read),
+            ReadObject::Refused(refusal) => Err(refusal),
+            ReadObject::Query(_) | ReadObject::None => Err(Refusal::NotWatched),
         }
     }
 

@@ -10,10 +10,10 @@ ghost use Rattle.wq_query.specs.declared.fault.QueryFault.{QueryFault};
 ghost use Rattle.wq_session.specs.Prepared.{GivesRead, IsFoundFor, IsRead};
 
 use crate::lookup::Lookup;
-use crate::refusal::Refusal;
 use serde_json::Value;
 use std::alloc::Global;
 use std::sync::Arc;
+use wq_ask::Refusal;
 use wq_clock::Instance;
 use wq_query::{Query, QueryFault};
 use wq_registry::Compiled;

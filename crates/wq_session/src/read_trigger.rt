@@ -7,10 +7,10 @@ ghost use Rattle.wq_session.specs.Prepared.{GivesDefined, IsFoundFor, IsReadTrig
 ghost use Rattle.wq_session.specs.Trigger.{defined_by};
 
 use crate::lookup::Lookup;
-use crate::refusal::Refusal;
 use serde_json::Value;
 use std::alloc::Global;
 use std::sync::Arc;
+use wq_ask::Refusal;
 use wq_clock::Instance;
 use wq_follow::{Definition, TriggerFault};
 use wq_registry::Compiled;

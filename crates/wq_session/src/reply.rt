@@ -1,29 +1,18 @@
-//! Replies as values, and how they are printed: as compact JSON with keys in byte order.
+//! Replies that are printed as the work of an answer.
 ghost use Rattle.std.specs.Prelude.{◌≡◌, List, Option, false, IfOk};
 ghost use Rattle.serde_json.specs.View.{view as data_of};
 ghost use Rattle.serde_json.specs.Written.{has_float};
 ghost use Rattle.wq_follow.specs.Subscription.{SubscriptionData};
+ghost use Rattle.wq_ask.specs.Out.{replies};
 ghost use Rattle.wq_session.specs.Answer.{Finishes};
 ghost use Rattle.wq_session.specs.At.{AtData};
-ghost use Rattle.wq_session.specs.Out.{replies};
-ghost use Rattle.wq_session.specs.Reply.{IsReply, error_data};
 ghost use Rattle.wq_session.specs.Work.{prints, rest_data, says};
 
-use crate::outcome::Out;
 use crate::plain::Plain;
-use crate::refusal::Refusal;
 use crate::work::Rest;
-use serde_json::{Value, json};
+use serde_json::Value;
 use std::alloc::{AllocError, Global};
-use wq_base::VERSION;
-
-/// A reply without floats, and then the session goes on.
-pub(crate) fn print(alloc: Global, reply: &Value) -> Result<Out, AllocError>
-    ensures { has_float (data_of reply.now) ≡ false
-        → IfOk result (λ out. out ≡ replies (data_of reply.now)) }
-{
-    Out::of_text(reply.to_vec(alloc)?)
-}
+use wq_ask::{Out, print};
 
 /// The output of this reply without floats, with no work left.
 pub(crate) fn saying(alloc: Global, reply: &Value) -> Result<Rest, AllocError>
@@ -42,12 +31,4 @@ pub(crate) fn printed(alloc: Global, reply: &Plain) -> Out
         Ok(out) => out,
         Err(_) => Out::runs_out(None),
     }
-}
-
-/// The reply that refuses a line.
-pub(crate) fn error_reply(alloc: Global, refusal: Refusal) -> Result<Value, AllocError>
-    ensures { IfOk result (IsReply (error_data refusal)) }
-{
-    let text = refusal.text(alloc)?;
-    json!(in alloc; { "error": text, "version": VERSION })
 }

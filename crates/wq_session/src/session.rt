@@ -4,24 +4,27 @@ ghost use Rattle.std.specs.Prelude.{◌≡◌, [], Some, map, option_map};
 ghost use Rattle.wq_clock.specs.Instance.{instance_data};
 ghost use Rattle.wq_follow.specs.Followed.{subscription_data};
 ghost use Rattle.wq_query.specs.Query.{planned};
-ghost use Rattle.wq_session.specs.Answer.{CanFinish, Finishes, settled};
+ghost use Rattle.wq_ask.specs.Out.{settled};
+ghost use Rattle.wq_ask.specs.Need.{need_of};
+ghost use Rattle.wq_session.specs.Answer.{CanFinish, Finishes};
 ghost use Rattle.wq_session.specs.At.{at_data};
-ghost use Rattle.wq_session.specs.Desk.{AnswersShelf, HoldsShelf};
+ghost use Rattle.wq_session.specs.Desk.{AnswersAt, AnswersShelf, HoldsShelf, stand};
 ghost use Rattle.wq_session.specs.Followed.{follows_of};
 ghost use Rattle.wq_session.specs.Prepared.{IsPrepared, asked, asked_at};
+ghost use Rattle.wq_session.specs.Views.{ReadyData, Replies, root_at_data};
 ghost use Rattle.wq_session.specs.Work.{evaluates, work_data};
 
-use crate::ask::Ask;
 use crate::at::At;
 use crate::command::listed;
-use crate::cursor::Cursor;
+use crate::crawl::crawl_refusal;
 use crate::desk::Desk;
-use crate::outcome::Out;
 use crate::prepared::Prepared;
 use crate::reply::printed;
 use crate::turn::Turn;
+use crate::views::{RootAt, Views};
 use crate::work::{Rest, Work};
 use std::alloc::Global;
+use wq_ask::{Ask, Cursor, Out, Refusal};
 use wq_clock::Instance;
 use wq_follow::Subscription;
 use wq_query::{Crew, Plan};
@@ -52,7 +55,7 @@ impl Session {
 
     /// The part of an answer that does not hold the shelf: a crew lists the files and makes the text. The session keeps a
     /// subscription once its first list is made, or ends it. The root is the one that the ask was
-    /// [prepared](crate::Ask::prepare) at.
+    /// [prepared](Prepared::of) at.
     ///
     /// If memory runs out, the output says so, and the subscriptions stay.
     pub fn finish<C: Crew>(
@@ -69,7 +72,7 @@ impl Session {
         let Work { rest, .. } = work;
         match rest {
             Rest::Says(mut out) => {
-                out.unset = None;
+                let _ = out.settle();
                 out
             }
             Rest::Prints(reply) => printed(alloc, &reply),
@@ -118,11 +121,50 @@ impl Session {
         ensures named { result ≡ out.old.unset }
         ensures taken { out.new ≡ settled out.old }
     {
-        out.unset.take()
+        out.settle()
+    }
+
+    /// The whole answer to an ask. The views meet the need of the ask, and the ask is answered at the
+    /// root that they give. If they refuse the need, the line is refused.
+    pub fn answer<V: Views, C: Crew, D: Desk>(
+        &mut self,
+        crew: &C,
+        alloc: Global,
+        ask: Ask,
+        views: V,
+        desk: &mut D,
+    ) -> (V, Out)
+        ensures { (ready : ReadyData) × V.readies views (need_of ask) ready result.0
+            × Replies ready ask (stand (D.shelf desk.old) (follows_of self.old)) result.1
+            (stand (D.shelf desk.new) (follows_of self.new)) }
+    {
+        let (views, ready) = views.ready(ask.need());
+        match ready {
+            Ok(root) => (views, self.answer_ready(crew, alloc, ask, root, desk)),
+            Err(fault) => (views, Out::refused(alloc, crawl_refusal(fault))),
+        }
+    }
+
+    /// The answer to an ask at a root with a share of its view, or at none.
+    fn answer_ready<C: Crew, D: Desk>(
+        &mut self,
+        crew: &C,
+        alloc: Global,
+        ask: Ask,
+        root: Option<RootAt>,
+        desk: &mut D,
+    ) -> Out
+        ensures { AnswersAt (stand (D.shelf desk.old) (follows_of self.old)) ask
+            (option_map root_at_data root) result (stand (D.shelf desk.new) (follows_of self.new)) }
+    {
+        match &root {
+            Some(root) => self.answer_at(crew, alloc, ask, Some(root.at()), desk),
+            None => self.answer_at(crew, alloc, ask, None, desk),
+        }
     }
 
     /// The whole answer to an ask, at a root or at none, at the shelf of a desk:
-    /// [`prepare`](Ask::prepare), [`take`](Prepared::take), [`finish`](Session::finish),
+    /// [`of`](Prepared::of), [`take`](Prepared::take), [`finish`](Session::finish),
     /// [`settle`](Session::settle), and the unsetting of the cursor that it names. The desk holds
     /// the shelf while the ask is taken, and not while it is finished.
     #[tactic(auto, using(crate::proofs::Held::held_finish))]
@@ -168,14 +210,14 @@ fn prepare_at<'a, D: Desk>(
     ensures at { asked_at result ≡ option_map at_data at.entry }
     ensures same { D.shelf desk.new ≡ D.shelf desk.old }
 {
-    let prepared = ask.prepare(alloc, at);
+    let prepared = Prepared::of(alloc, ask, at);
     let found = match prepared.key() {
         Some(key) => desk.find(key),
         None => None,
     };
     let (prepared, compiled) = prepared.compiled(alloc, found);
     if let Some(compiled) = compiled {
-        desk.keep(compiled);
+        let _ = desk.keep(compiled);
     }
     prepared
 }

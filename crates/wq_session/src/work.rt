@@ -1,19 +1,17 @@
 //! The rest of the work of an answer, when the shelf is no longer held.
 
-use crate::cursor::Cursor;
-use crate::outcome::Out;
 use crate::plain::Plain;
-use serde_json::Value;
+use wq_ask::{Cursor, Out, RootAsk};
 use wq_base::Text;
 use wq_follow::Subscription;
 use wq_query::Plan;
 
-/// The rest of the work of an answer, and the object of its ask. The object is freed when the work is finished, and not
-/// while the shelf is held.
+/// The rest of the work of an answer, and its ask if that is of a root. The object of the ask is freed when the work is
+/// finished, and not while the shelf is held.
 #[derive(Drop)]
 pub struct Work {
     pub(crate) rest: Rest,
-    pub(crate) object: Option<Value>,
+    pub(crate) ask: Option<RootAsk>,
 }
 
 /// The rest of the work of an answer.

@@ -10,13 +10,14 @@ use std::io::Write;
 use std::marker::Brand;
 use std::sync::{Arc, Mutex, Wait};
 use std::thread::Threads;
+use wq_ask::Cursor;
 use wq_base::Workers;
 use wq_clock::Run;
 use wq_crawl::{CrawlFault, Crawler, LockRoots, Roots, SharedCrawler};
 use wq_live::{Blank, Named, Told};
-use wq_registry::{Cache, CacheKey, Compiled};
-use wq_serve::{LockDesk, MemoryInbox, SharedShelf, serve};
-use wq_session::{Cursor, Desk, Turn, Unset, Work};
+use wq_registry::{Cache, CacheKey, Compiled, Forgotten};
+use wq_serve::{LockDesk, MemoryInbox, SeatViews, SharedShelf, serve};
+use wq_session::{Desk, Turn, Unset, Work};
 use wq_stream::Splitter;
 use wq_verify::Program;
 
@@ -75,9 +76,9 @@ impl<N: Named, R: Wait + Drop> Desk for Holding<N, R> {
         self.desk.find(key)
     }
 
-    fn keep(&mut self, compiled: Compiled) {
+    fn keep(&mut self, compiled: Compiled) -> Option<Forgotten> {
         publish_twice(&mut self.roots);
-        self.desk.keep(compiled);
+        self.desk.keep(compiled)
     }
 
     fn hold(&mut self, turn: Turn<'_>) -> Work {
@@ -142,20 +143,12 @@ fn talk<N: Named, R: Threads + Wait + Copy + Drop + Sync>(
         desk: LockDesk::new(shared_shelf(alloc)?, rt),
         roots: LockRoots::new(Arc::try_clone(&crawler).ok()?, rt, Workers { count: 1 }),
     };
-    let mut roots = Publishing {
+    let roots = Publishing {
         roots: LockRoots::new(crawler, rt, Workers { count: 1 }),
     };
     let run = Run::new(7, 9);
-    let ended = serve(
-        &rt,
-        alloc,
-        run,
-        &mut inbox,
-        &mut writer,
-        seat,
-        &mut roots,
-        &mut desk,
-    );
+    let views = SeatViews { run, seat, roots };
+    let ended = serve(&rt, alloc, &mut inbox, &mut writer, views, &mut desk);
     if ended.fault {
         return None;
     }

@@ -13,7 +13,7 @@ use wq_crawl::{Crawler, MemoryRoots, Roots};
 use wq_follow::Trigger;
 use wq_live::{Blank, Named, Seat};
 use wq_registry::Shelf;
-use wq_serve::{MemoryInbox, serve};
+use wq_serve::{MemoryInbox, SeatViews, serve};
 use wq_stream::Splitter;
 
 /// The lines of one client, and the lines that are written to it.
@@ -49,23 +49,15 @@ fn talk_at<N: Named, R: Threads + Wait + Drop + Sync>(
     desk: &mut Shelf<Trigger>,
     talk: &Talk,
 ) -> Option<(Ends<N, R>, bool)> {
-    let Ends { seat, mut roots } = ends;
+    let Ends { seat, roots } = ends;
     let events = Splitter::new(alloc).feed(talk.0).ok()?;
     let mut inbox = MemoryInbox::new(VecDeque::from(events));
     let mut writer = Vec::new(alloc);
     let run = Run::new(7, 9);
-    let ended = serve(
-        rt,
-        alloc,
-        run,
-        &mut inbox,
-        &mut writer,
-        seat,
-        &mut roots,
-        desk,
-    );
-    let seat = ended.seat;
+    let views = SeatViews { run, seat, roots };
+    let ended = serve(rt, alloc, &mut inbox, &mut writer, views, desk);
     let is_right = !ended.fault && writer.as_slice() == talk.1;
+    let SeatViews { seat, roots, .. } = ended.views;
     Some((Ends { seat, roots }, is_right))
 }
 

@@ -6,11 +6,11 @@ use itoa::Buffer;
 use std::alloc::{AllocError, Global};
 use std::process::Abort;
 use std::test::Fail;
+use wq_ask::Ask;
 use wq_base::{Table, Text};
 use wq_clock::Run;
 use wq_crawl::CrawlFault;
 use wq_replay::{Happening, Sent, Told, World};
-use wq_session::Ask;
 use wq_stream::Event;
 use wq_view::Pass;
 
@@ -104,7 +104,7 @@ fn crawl<'a>(
     root: &str,
     seen: Result<&'a Pass, CrawlFault>,
 ) -> Result<Happening<'a>, AllocError> {
-    let root = Text::from_string(String::from_str(alloc, root)?);
+    let root = Text::copied(alloc, root)?;
     Ok(Happening::Crawl { root, seen })
 }
 
@@ -113,12 +113,12 @@ fn watch<'a>(
     root: &str,
     seen: Result<&'a Pass, CrawlFault>,
 ) -> Result<Happening<'a>, AllocError> {
-    let root = Text::from_string(String::from_str(alloc, root)?);
+    let root = Text::copied(alloc, root)?;
     Ok(Happening::Watch { root, seen })
 }
 
 fn round<'a>(alloc: Global, root: &str, succeeds: bool) -> Result<Happening<'a>, AllocError> {
-    let root = Text::from_string(String::from_str(alloc, root)?);
+    let root = Text::copied(alloc, root)?;
     Ok(Happening::Round { root, succeeds })
 }
 

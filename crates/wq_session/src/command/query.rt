@@ -1,116 +1,54 @@
 //! `query`: the files of a root, or those that changed. The query is read, and its expression compiled, before the
 //! shelf is held. The shelf is held to look up a program by its name and to move the cursor, and not to list the files.
-ghost use Rattle.std.specs.Prelude.{◌≡◌, List, Some, false, is_none, option_map, IfOk};
+ghost use Rattle.std.specs.Prelude.{◌≡◌, List, Some, false, is_none, IfOk};
 ghost use Rattle.serde_json.specs.Data.{Data};
-ghost use Rattle.serde_json.specs.View.{view as data_of, items_view};
 ghost use Rattle.wq_clock.specs.Instance.{instance_data};
 ghost use Rattle.wq_follow.specs.Subscription.{SubscriptionData};
 ghost use Rattle.wq_query.specs.Query.{asked_of, planned};
 ghost use Rattle.wq_registry.specs.Root.{numbered};
 ghost use Rattle.wq_session.specs.Answer.{Finishes};
-ghost use Rattle.wq_session.specs.Argument.{behind};
 ghost use Rattle.wq_session.specs.At.{at_data};
-ghost use Rattle.wq_session.specs.Query.{begun_query, crawls_first, moved_cursor, query_arguments, query_request};
+ghost use Rattle.wq_session.specs.Query.{begun_query, moved_cursor, try_query};
 ghost use Rattle.wq_session.specs.Prepared.{AreRead, IsLookup, IsRead, IsReadAt, asks_query};
-ghost use Rattle.wq_session.specs.Query.{synchronises, try_query};
-ghost use Rattle.wq_session.specs.Reading.{Requests};
 ghost use Rattle.wq_session.specs.Shelved.{shelf_data};
 ghost use Rattle.wq_session.specs.Taking.{FindsCompiled, FindsNamed, FindsProgram, MovesCursor};
 ghost use Rattle.wq_session.specs.Work.{Begins, evaluates};
 
-use crate::ask::Ask;
-use crate::at::{At, watched};
-use crate::cursor::Cursor;
+use crate::at::At;
 use crate::lookup::Lookup;
-use crate::outcome::Out;
 use crate::read_object::ReadObject;
 use crate::read_query::ReadQuery;
-use crate::refusal::Refusal;
-use crate::root::RootText;
 use crate::shelving::swap_cursor;
-use crate::words::{text, two_behind};
 use crate::work::Rest;
-use serde_json::Value;
 use std::alloc::{AllocError, Global};
 use std::sync::Arc;
+use wq_ask::{Cursor, Out, Refusal};
 use wq_base::Text;
 use wq_clock::{Bound, Instance};
 use wq_follow::Trigger;
 use wq_query::{Crew, Plan, Query, answer_bytes};
 use wq_registry::{Shelf, ShelfFault};
-use wq_term::whole_number;
 use wq_verify::Program;
 use wq_view::View;
 
-/// The ask of `query` with these words.
-pub(super) fn ask_query(alloc: Global, words: Vec<Value>) -> Result<Ask, Refusal>
-    ensures { Requests (query_request (behind (items_view words.items))) result }
-{
-    let Some((root, query)) = query_arguments(words) else {
-        return Err(Refusal::WrongArguments);
-    };
-    let root = RootText::named(alloc, root)?;
-    let crawl = crawls_first(&query);
-    Ok(Ask::Query { root, crawl, query })
-}
-
-/// The root and the object of `query`.
-fn query_arguments(words: Vec<Value>) -> Option<(Text, Value)>
-    ensures { option_map (λ (root, query). (root, data_of query)) result
-        ≡ query_arguments (behind (items_view words.items)) }
-{
-    let (root, query) = two_behind(words)?;
-    if !query.is_object() {
-        return None;
-    }
-    Some((text(root)?, query))
-}
-
-/// Whether the server crawls before it answers the query of an object.
-fn crawls_first(query: &Value) -> bool
-    ensures { result ≡ crawls_first (data_of query.now) }
-{
-    synchronises(query.get("sync_timeout"))
-}
-
-/// Whether the server crawls before it answers a query: unless its key is 0, or no whole number.
-fn synchronises(value: Option<&Value>) -> bool
-    ensures { result ≡ synchronises (option_map (λ v. data_of v.now) value.entry) }
-{
-    match value {
-        None => true,
-        Some(value) => match whole_number(value) {
-            None => false,
-            Some(number) => number != 0,
-        },
-    }
-}
-
-/// `query`, of the root that it names, as it was read at the root that is looked at.
+/// `query`, of the root that is looked at, as it was read there.
 pub(super) fn begin_query(
     alloc: Global,
-    root: &RootText,
     read: ReadObject,
-    at: Option<At<'_>>,
+    at: At<'_>,
     shelf: &mut Shelf<Trigger>,
 ) -> Result<Rest, Refusal>
-    requires { AreRead read }
-    ensures { (d : Data) → IsReadAt (asks_query d) (option_map at_data at.entry) read
-        → Begins (try_query root.now d (option_map at_data at.entry) (shelf_data shelf.old))
-        (shelf_data shelf.old) result (shelf_data shelf.new) }
+    requires read { AreRead read }
+    requires watched { is_none (numbered at.instance.root shelf.old.roots) ≡ false }
+    ensures { (d : Data) → IsReadAt (asks_query d) (Some (at_data at.entry)) read
+        → Begins (try_query d (at_data at.entry) (shelf_data shelf.old)) (shelf_data shelf.old) result
+        (shelf_data shelf.new) }
 {
-    let Some(at) = watched(root, at, shelf) else {
-        return Err(Refusal::NotWatched);
-    };
     let Some(view) = at.view else {
         return Err(Refusal::NotWatched);
     };
-    match read {
-        ReadObject::Query(read) => begin_read(alloc, read, at.instance.root, view.tick(), shelf),
-        ReadObject::Refused(refusal) => Err(refusal),
-        ReadObject::Trigger(_) => Err(Refusal::NotWatched),
-        ReadObject::None => Err(Refusal::NotWatched),
-    }
+    let read = read.query()?;
+    begin_read(alloc, read, at.instance.root, view.tick(), shelf)
 }
 
 /// A query that was read, at a tick of its root.
@@ -179,7 +117,7 @@ fn cursor_of(alloc: Global, query: &Query, root: u64) -> Result<Option<Cursor>, 
         None => Ok(None),
         Some(name) => Ok(Some(Cursor {
             root,
-            name: Text::from_string(String::from_str(alloc, name)?),
+            name: Text::copied(alloc, name)?,
         })),
     }
 }

@@ -1,119 +1,59 @@
 //! `trigger`, `trigger-list` and `trigger-del`: the server starts commands if files of a root changed. The object of
 //! `trigger` is read, and its expression compiled, before the shelf is held. The shelf is held to look up a program by
 //! its name, and to put the trigger under its own.
-ghost use Rattle.std.specs.Prelude.{◌≡◌, None, false, is_none, map, option_map, IfOk};
+ghost use Rattle.std.specs.Prelude.{◌≡◌, None, Ok, Some, false, is_none, map, option_map, IfOk};
 ghost use Rattle.serde_json.specs.Data.{Data};
-ghost use Rattle.serde_json.specs.View.{items_of, items_view, view as data_of};
+ghost use Rattle.serde_json.specs.View.{items_of, view as data_of};
 ghost use Rattle.serde_json.specs.Written.{items_have_float};
 ghost use Rattle.wq_compile.specs.Meaning.{AnswersMeaning};
 ghost use Rattle.wq_follow.specs.Defined.{definition_data};
 ghost use Rattle.wq_registry.specs.Root.{numbered};
 ghost use Rattle.wq_registry.specs.Shelf.{triggers_of};
-ghost use Rattle.wq_session.specs.Argument.{behind};
+ghost use Rattle.wq_ask.specs.Trigger.{trigger_deleted_reply, trigger_reply, triggers_reply};
 ghost use Rattle.wq_session.specs.At.{at_data};
 ghost use Rattle.wq_session.specs.Prepared.{AreRead, IsReadAt, IsReadTrigger, asks_trigger};
-ghost use Rattle.wq_session.specs.Reading.{Requests};
-ghost use Rattle.wq_session.specs.Reply.{IsReply};
 ghost use Rattle.wq_session.specs.Shelved.{shelf_data};
 ghost use Rattle.wq_session.specs.Objects.{AreObjects};
-ghost use Rattle.wq_session.specs.Trigger.{begun_trigger, delete_trigger_request, list_triggers_request};
-ghost use Rattle.wq_session.specs.Trigger.{objects_of, put_trigger, trigger_arguments, trigger_deleted_reply};
-ghost use Rattle.wq_session.specs.Trigger.{trigger_reply, trigger_request, triggers_reply};
-ghost use Rattle.wq_session.specs.Trigger.{try_delete_trigger, try_list_triggers, try_trigger};
+ghost use Rattle.wq_session.specs.Trigger.{begun_trigger, objects_of, put_trigger};
+ghost use Rattle.wq_session.specs.Trigger.{listing_triggers, try_delete_trigger, try_trigger};
 ghost use Rattle.wq_session.specs.Work.{Begins};
 
-use crate::ask::Ask;
-use crate::at::{At, watched};
-use crate::command::program::is_name;
+use crate::at::At;
 use crate::command::query::program_for;
-use crate::command::subscribe::copy;
 use crate::plain::Plain;
 use crate::read_object::ReadObject;
 use crate::read_trigger::ReadTrigger;
-use crate::refusal::Refusal;
 use crate::reply::saying;
-use crate::root::RootText;
 use crate::shelving::{add_trigger, has_trigger, remove_trigger, run_of};
-use crate::words::{one_text, text, two_behind, two_texts};
 use crate::work::Rest;
-use serde_json::{Value, json};
+use serde_json::Value;
 use std::alloc::{AllocError, Global};
 use std::sync::Arc;
-use wq_base::{Text, VERSION};
+use wq_ask::{Refusal, RootText, is_name, trigger_deleted_reply, trigger_reply, triggers_reply};
+use wq_base::Text;
 use wq_follow::{Definition, Trigger};
 use wq_registry::{Root, Shelf, ShelfFault};
 use wq_verify::Program;
 
-/// The ask of `trigger` with these words.
-pub(super) fn ask_trigger(alloc: Global, words: Vec<Value>) -> Result<Ask, Refusal>
-    ensures { Requests (trigger_request (behind (items_view words.items))) result }
-{
-    let Some((root, trigger)) = trigger_arguments(words) else {
-        return Err(Refusal::WrongArguments);
-    };
-    let root = RootText::named(alloc, root)?;
-    Ok(Ask::AddTrigger { root, trigger })
-}
-
-/// The root and the object of `trigger`.
-fn trigger_arguments(words: Vec<Value>) -> Option<(Text, Value)>
-    ensures { option_map (λ (root, trigger). (root, data_of trigger)) result
-        ≡ trigger_arguments (behind (items_view words.items)) }
-{
-    let (root, trigger) = two_behind(words)?;
-    if !trigger.is_object() {
-        return None;
-    }
-    Some((text(root)?, trigger))
-}
-
-/// The ask of `trigger-list` with these words.
-pub(super) fn ask_list_triggers(alloc: Global, words: Vec<Value>) -> Result<Ask, Refusal>
-    ensures { Requests (list_triggers_request (behind (items_view words.items))) result }
-{
-    let Some(root) = one_text(words) else {
-        return Err(Refusal::WrongArguments);
-    };
-    let root = RootText::named(alloc, root)?;
-    Ok(Ask::ListTriggers { root })
-}
-
-/// The ask of `trigger-del` with these words.
-pub(super) fn ask_delete_trigger(alloc: Global, words: Vec<Value>) -> Result<Ask, Refusal>
-    ensures { Requests (delete_trigger_request (behind (items_view words.items))) result }
-{
-    let Some((root, name)) = two_texts(words) else {
-        return Err(Refusal::WrongArguments);
-    };
-    let root = RootText::named(alloc, root)?;
-    Ok(Ask::DeleteTrigger { root, name })
-}
-
-/// `trigger`, of the root that it names, as its object was read at the root that is looked at.
+/// `trigger`, of the root that is looked at, as its object was read there.
 pub(super) fn begin_trigger(
     alloc: Global,
     root: &RootText,
     read: ReadObject,
-    at: Option<At<'_>>,
+    at: At<'_>,
     shelf: &mut Shelf<Trigger>,
 ) -> Result<Rest, Refusal>
-    requires { AreRead read }
-    ensures { (d : Data) → IsReadAt (asks_trigger d) (option_map at_data at.entry) read
-        → Begins (try_trigger root.now d (option_map at_data at.entry) (shelf_data shelf.old))
-        (shelf_data shelf.old) result (shelf_data shelf.new) }
+    requires read { AreRead read }
+    requires watched { is_none (numbered at.instance.root shelf.old.roots) ≡ false }
+    ensures { (d : Data) → IsReadAt (asks_trigger d) (Some (at_data at.entry)) read
+        → Begins (try_trigger root.now d (at_data at.entry) (shelf_data shelf.old)) (shelf_data shelf.old)
+        result (shelf_data shelf.new) }
 {
-    let Some(at) = watched(root, at, shelf) else {
-        return Err(Refusal::NotWatched);
-    };
     let Some(_) = at.view else {
         return Err(Refusal::NotWatched);
     };
-    match read {
-        ReadObject::Trigger(read) => begin_read(alloc, root, read, at.instance.root, shelf),
-        ReadObject::Refused(refusal) => Err(refusal),
-        ReadObject::Query(_) => Err(Refusal::NotWatched),
-        ReadObject::None => Err(Refusal::NotWatched),
-    }
+    let read = read.trigger()?;
+    begin_read(alloc, root, read, at.instance.root, shelf)
 }
 
 /// The trigger that was read, of the root with this text and number.
@@ -132,7 +72,7 @@ fn begin_read(
 {
     let ReadTrigger { definition, lookup } = read;
     let program = program_for(definition.query(), &lookup, shelf)?;
-    let root = copy(alloc, root.as_str())?;
+    let root = Text::copied(alloc, root.as_str())?;
     add(alloc, root, definition, program, number, shelf)
 }
 
@@ -153,7 +93,7 @@ fn add(
         (option_map (λ _. program.value) ((definition_data definition).query).program)
         (shelf_data shelf.old)) (shelf_data shelf.old) result (shelf_data shelf.new) }
 {
-    let name = copy(alloc, definition.name())?;
+    let name = Text::copied(alloc, definition.name())?;
     let name = name.as_str();
     let reply = trigger_reply(alloc, name, has_trigger(shelf, number, name))?;
     let rest = saying(alloc, &reply)?;
@@ -167,39 +107,19 @@ fn add(
     }
 }
 
-/// The reply that there is a trigger of this name, and whether it replaced one.
-fn trigger_reply(alloc: Global, name: &str, replaced: bool) -> Result<Value, AllocError>
-    ensures { IfOk result (IsReply (trigger_reply name.now replaced)) }
-{
-    let disposition = if replaced { "replaced" } else { "created" };
-    json!(in alloc; { "disposition": disposition, "triggerid": name, "version": VERSION })
-}
-
 /// `trigger-list`. The reply is printed when the shelf is no longer held.
 #[tactic(auto, using(crate::proofs::Triggers::plain_triggers))]
 pub(super) fn begin_list_triggers(
     alloc: Global,
-    root: &RootText,
-    at: Option<At<'_>>,
+    at: At<'_>,
     shelf: &Shelf<Trigger>,
 ) -> Result<Rest, Refusal>
-    ensures { Begins (try_list_triggers root.now (option_map at_data at.entry) (shelf_data shelf.now))
-        (shelf_data shelf.now) result (shelf_data shelf.now) }
+    ensures { Begins (Ok (listing_triggers (at_data at.entry) (shelf_data shelf.now))) (shelf_data shelf.now)
+        result (shelf_data shelf.now) }
 {
-    let Some(at) = watched(root, at, shelf) else {
-        return Err(Refusal::NotWatched);
-    };
     let objects = objects_on(alloc, shelf, at.instance.root)?;
     let value = triggers_reply(alloc, objects)?;
     Ok(Rest::Prints(Plain { value }))
-}
-
-/// The triggers of a root, by their objects.
-fn triggers_reply(alloc: Global, objects: Vec<Value>) -> Result<Value, AllocError>
-    ensures { IfOk result (λ value. data_of value ≡ triggers_reply (map data_of objects.items)) }
-{
-    let objects = Value::Array(objects);
-    json!(in alloc; { "triggers": objects, "version": VERSION })
 }
 
 /// The objects of the triggers of the root of this number.
@@ -228,28 +148,16 @@ fn objects_of(alloc: Global, root: &Root<Trigger>) -> Result<Vec<Value>, AllocEr
     Ok(objects)
 }
 
-/// The reply that there is no trigger of this name, and whether there was one.
-fn trigger_deleted_reply(alloc: Global, name: &str, deleted: bool) -> Result<Value, AllocError>
-    ensures { IfOk result (IsReply (trigger_deleted_reply name.now deleted)) }
-{
-    json!(in alloc; { "deleted": deleted, "trigger": name, "version": VERSION })
-}
-
 /// `trigger-del`. The reply is made first, so that the trigger stays if memory runs out.
 pub(super) fn begin_delete_trigger(
     alloc: Global,
-    root: &RootText,
     name: &Text,
-    at: Option<At<'_>>,
+    at: At<'_>,
     shelf: &mut Shelf<Trigger>,
 ) -> Result<Rest, Refusal>
-    ensures { Begins
-        (try_delete_trigger root.now name.now (option_map at_data at.entry) (shelf_data shelf.old))
+    ensures { Begins (try_delete_trigger name.now (at_data at.entry) (shelf_data shelf.old))
         (shelf_data shelf.old) result (shelf_data shelf.new) }
 {
-    let Some(at) = watched(root, at, shelf) else {
-        return Err(Refusal::NotWatched);
-    };
     if !is_name(name) {
         return Err(Refusal::BadName);
     }

@@ -1,76 +1,27 @@
-//! `watch`, `watch-project`, `watch-list` and `watch-del`: the server watches roots, lists them, and no longer watches
-//! them.
+//! The beginnings of `watch`, `watch-project`, `watch-list` and `watch-del`: the server watches roots, lists them, and
+//! no longer watches them.
 ghost use Rattle.std.specs.Prelude.{◌≡◌, ◌⊎◌, Ok, false, map, option_map, true, IfErr, IfOk, OnErr, OnOk};
 ghost use Rattle.serde_json.specs.Data.{string};
-ghost use Rattle.serde_json.specs.View.{view as data_of, items_view};
+ghost use Rattle.serde_json.specs.View.{view as data_of};
 ghost use Rattle.wq_registry.specs.Shelf.{root_added, root_has_no_place};
-ghost use Rattle.wq_session.specs.Argument.{behind};
+ghost use Rattle.wq_ask.specs.Watch.{roots_data};
+ghost use Rattle.wq_ask.specs.declared.refusal.Refusal.TheVariants.{NoMemory, TooManyRoots};
 ghost use Rattle.wq_session.specs.At.{at_data};
-ghost use Rattle.wq_session.specs.Reading.{Requests};
-ghost use Rattle.wq_session.specs.Reply.{IsReply};
 ghost use Rattle.wq_session.specs.Shelved.{shelf_data};
-ghost use Rattle.wq_session.specs.Watch.{list_request, unwatch_request, watch_request};
-ghost use Rattle.wq_session.specs.Watch.{root_deleted_data, root_texts, roots_data, watch_data};
-ghost use Rattle.wq_session.specs.Watch.{listing_roots, try_unwatch, try_watch};
+ghost use Rattle.wq_session.specs.Watch.{root_texts, listing_roots, try_unwatch, try_watch};
 ghost use Rattle.wq_session.specs.Work.{Begins};
-ghost use Rattle.wq_session.specs.declared.refusal.Refusal.TheVariants.{NoMemory, TooManyRoots};
 
-use crate::ask::Ask;
 use crate::at::{At, watched};
 use crate::plain::Plain;
-use crate::refusal::Refusal;
 use crate::reply::saying;
-use crate::root::{RootText, is_absolute};
 use crate::shelving::{add_root, remove_root};
-use crate::words::{are_none, one_text};
 use crate::work::Rest;
 use serde_json::{Value, json};
 use std::alloc::{AllocError, Global};
+use wq_ask::{Refusal, RootText, unwatch_reply, watch_reply};
 use wq_base::VERSION;
 use wq_follow::Trigger;
 use wq_registry::{Root, Shelf, ShelfFault};
-
-/// The ask of `watch` and `watch-project` with these words.
-pub(super) fn ask_watch(alloc: Global, words: Vec<Value>) -> Result<Ask, Refusal>
-    ensures { Requests (watch_request (behind (items_view words.items))) result }
-{
-    let Some(root) = one_text(words) else {
-        return Err(Refusal::WrongArguments);
-    };
-    if !is_absolute(&root) {
-        return Err(Refusal::RootNotAbsolute);
-    }
-    let root = RootText::named(alloc, root)?;
-    Ok(Ask::Watch { root })
-}
-
-/// The ask of `watch-list` with these words.
-pub(super) fn ask_list(words: &[Value]) -> Result<Ask, Refusal>
-    ensures { Requests (list_request (behind (items_view words.now))) result }
-{
-    if !are_none(words) {
-        return Err(Refusal::WrongArguments);
-    }
-    Ok(Ask::ListRoots)
-}
-
-/// The ask of `watch-del` with these words.
-pub(super) fn ask_unwatch(alloc: Global, words: Vec<Value>) -> Result<Ask, Refusal>
-    ensures { Requests (unwatch_request (behind (items_view words.items))) result }
-{
-    let Some(root) = one_text(words) else {
-        return Err(Refusal::WrongArguments);
-    };
-    let root = RootText::named(alloc, root)?;
-    Ok(Ask::Unwatch { root })
-}
-
-/// The reply that a root is watched.
-fn watch_reply(alloc: Global, root: &str) -> Result<Value, AllocError>
-    ensures { IfOk result (IsReply (watch_data root.now)) }
-{
-    json!(in alloc; { "version": VERSION, "watch": root, "watcher": "poll" })
-}
 
 /// The reply with the watched roots, by their texts.
 fn list_reply(alloc: Global, shelf: &Shelf<Trigger>) -> Result<Value, AllocError>
@@ -98,13 +49,6 @@ fn texts(alloc: Global, roots: &[Root<Trigger>]) -> Result<Vec<Value>, AllocErro
         values.push(Value::try_from_str(alloc, root.text())?)?;
     }
     Ok(values)
-}
-
-/// The reply that a root is no longer watched.
-fn unwatch_reply(alloc: Global, root: &str) -> Result<Value, AllocError>
-    ensures { IfOk result (IsReply (root_deleted_data root.now)) }
-{
-    json!(in alloc; { "root": root, "version": VERSION, "watch-del": true })
 }
 
 /// `watch` and `watch-project`: the root that is looked at is on the shelf as this root. The reply is made first, so

@@ -1,31 +1,29 @@
 -- The share is that of the root whose number was found.
 use Rattle.std.proofs.Common.{ap, option_map, subst}
 use Rattle.wq_clock.specs.Instance.{instance_data}
-use Rattle.wq_session.specs.Need.{need_of}
-use Rattle.wq_serve.specs.Answering.{ShowsNeeded, shared_data}
-use Rattle.wq_serve.specs.Run.{ShowsNumber}
-use Rattle.wq_serve.proofs.Shown.{IsNumbered, even_err, needed_by_number, none_needed, one_needed, still_ok}
+use Rattle.wq_serve.specs.Run.{ShowsAt, ShowsNumber}
+use Rattle.wq_session.specs.Views.{root_at_data}
+use Rattle.wq_serve.proofs.Shown.{IsNumbered, even_err, none_there, one_shown, shows_by_number, still_ok}
 use Rattle.wq_serve.proofs.looking.share_for.Goals as goal
 
 pub returns-in-Some-clause-shared : goal.returns-in-Some-clause-shared
 returns-in-Some-clause-shared g c =
-    let need = need_of c.args.ask.now in
-    let it = one_needed c.args.run need c.args.look.now (instance_data c.in-Some.instance)
-    (subst (λ i. IsNumbered (ShowsNeeded c.args.run need c.args.look.now) (option_map instance_data i)) c.in-Some.is c.number_in.ensures) in
-    still_ok (λ at. ShowsNumber c.args.run c.in-Some.instance.root c.args.look.now (option_map shared_data at))
-    (λ at. ShowsNeeded c.args.run need c.args.look.now (option_map shared_data at)) c.share_of_number.result
-    (λ at. needed_by_number c.args.run c.args.look.now c.in-Some.instance.root it.0 (ap (λ i. i.root) it.2) need (option_map shared_data at) it.1)
+    let shows = ShowsAt c.args.run c.args.root.now c.args.look.now in
+    let it = one_shown shows (instance_data c.in-Some.instance)
+    (subst (λ i. IsNumbered shows (option_map instance_data i)) c.in-Some.is c.number_of.ensures) in
+    still_ok (λ at. ShowsNumber c.args.run c.in-Some.instance.root c.args.look.now (option_map root_at_data at))
+    (λ at. shows (option_map root_at_data at)) c.share_of_number.result
+    (λ at. shows_by_number c.args.run c.args.look.now c.in-Some.instance.root it.0 (ap (λ i. i.root) it.2) c.args.root.now (option_map root_at_data at) it.1)
     c.share_of_number.ensures
 
 pub returns-in-Some-clause-short : goal.returns-in-Some-clause-short
 returns-in-Some-clause-short g c =
-    let need = need_of c.args.ask.now in
-    let it = one_needed c.args.run need c.args.look.now (instance_data c.in-Some.instance)
-    (subst (λ i. IsNumbered (ShowsNeeded c.args.run need c.args.look.now) (option_map instance_data i)) c.in-Some.is c.number_in.ensures) in
+    let shows = ShowsAt c.args.run c.args.root.now c.args.look.now in
+    let it = one_shown shows (instance_data c.in-Some.instance)
+    (subst (λ i. IsNumbered shows (option_map instance_data i)) c.in-Some.is c.number_of.ensures) in
     even_err _ c.share_of_number.result (it.0, it.1)
 
 pub returns-in-None-clause-shared : goal.returns-in-None-clause-shared
 returns-in-None-clause-shared g c =
-    let need = need_of c.args.ask.now in
-    none_needed c.args.run need c.args.look.now
-    (subst (λ i. IsNumbered (ShowsNeeded c.args.run need c.args.look.now) (option_map instance_data i)) c.in-None.is c.number_in.ensures)
+    let shows = ShowsAt c.args.run c.args.root.now c.args.look.now in
+    none_there shows (subst (λ i. IsNumbered shows (option_map instance_data i)) c.in-None.is c.number_of.ensures)

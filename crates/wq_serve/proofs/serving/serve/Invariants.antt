@@ -8,7 +8,7 @@ use Rattle.wq_serve.specs.Serving.{GoesOn, place}
 use Rattle.wq_serve.proofs.serving.serve.Given as goal
 
 abbrev pub invariant-loop : goal.invariant-loop
-invariant-loop g l = (l.client.run ≡ l.fn.run) × (events : List Event) × (lines : List ℕ) × (length events ≡ l.counter)
-    × GoesOn (basis_of l.fn.run (g.N.Witness.published g.N.Named.book) (g.N.Witness.refused g.N.Named.book)) (place (g.I.Inbox.left l.fn.inbox) (g.R.Roots.crawler l.fn.roots) l.fn.seat (g.D.Desk.shelf l.fn.desk) []) events lines
-    (place (g.I.Inbox.left l.inbox) (g.R.Roots.crawler l.roots) l.seat (g.D.Desk.shelf l.desk) (follows_of l.client.session))
+invariant-loop g l = (l.views.run ≡ l.fn.views.run) × (events : List Event) × (lines : List ℕ) × (length events ≡ l.counter)
+    × GoesOn (basis_of l.fn.views.run (g.N.Witness.published g.N.Named.book) (g.N.Witness.refused g.N.Named.book)) (place (g.I.Inbox.left l.fn.inbox) (g.R.Roots.crawler l.fn.views.roots) l.fn.views.seat (g.D.Desk.shelf l.fn.desk) []) events lines
+    (place (g.I.Inbox.left l.inbox) (g.R.Roots.crawler l.views.roots) l.views.seat (g.D.Desk.shelf l.desk) (follows_of l.session))
     × Appends (g.W.Write.contents l.fn.writer) (g.W.Write.contents l.writer) lines

@@ -1,49 +1,36 @@
--- The answer is the refusal of the crawl or the watching, the answer of a root that ends, or any
--- other answer.
+-- The roots of the world met the need, and the session of the client answered.
+use Rattle.std.proofs.Common.{ℤ, Some, ap, option_map, refl, subst, sym, ◌∙◌}
 use mir.Facts.{to_z-of_z}
-use Rattle.std.proofs.Common.{ℤ, IfOk, subst, option_map, sym, ap, ◌∙◌}
-use Rattle.wq_clock.specs.Instance.{instance_data}
-use Rattle.wq_session.specs.Need.{need_of}
-use Rattle.wq_session.specs.Needed.{need_data}
-use Rattle.wq_clock.specs.Run.{instance_of, run_data}
-use Rattle.wq_replay.specs.Stands.{Stands, refused_data}
-use Rattle.wq_replay.specs.Gets.{AnswersInWorld, EndsAt, looked}
-use Rattle.wq_replay.specs.World.{WorldData, unrefused}
-use Rattle.wq_replay.proofs.Worlds.{ended_gets, ends_none, ends_some, fault_is, gets_refused, looked_gets}
+use Rattle.wq_clock.specs.Run.{run_data}
+use Rattle.wq_live.specs.Table.{IsTableOf}
+use Rattle.wq_ask.specs.Need.{need_of}
+use Rattle.wq_session.specs.Desk.{stand}
+use Rattle.wq_session.specs.Shelved.{shelf_data}
+use Rattle.wq_session.specs.Views.{Replies}
+use Rattle.wq_replay.specs.Client.{follows_in}
+use Rattle.wq_replay.specs.Clients.{FollowsNow}
+use Rattle.wq_replay.specs.Gets.{kept}
+use Rattle.wq_replay.specs.Tables.{refused_data}
+use Rattle.wq_replay.specs.declared.table_views.TableViews.{TableViews}
+use Rattle.wq_replay.proofs.Needs.{met_here}
+use Rattle.wq_replay.proofs.Worlds.{answers_well}
 use Rattle.wq_replay.proofs.world.World.answer.Goals as goal
 
-pub returns-in-Some : goal.returns-in-Some
-returns-in-Some c = λ before stands.
-    let fault = fault_is (need_data c.need.result) (need_of c.args.ask) c.args.self.now.table (option_map refused_data c.take-refused.result) before.refused c.fault_for.result
-    c.fault_for.ensures c.need.ensures (stands.refused ∙ ap (option_map refused_data) (sym c.take-refused.ensures.value)) in (
-      unrefused before,
-      gets_refused before c.args.client c.args.ask c.refused.result c.args.self.now.table c.in-Some.fault c.from.result stands.roots (fault ∙ c.in-Some.is) c.from.ensures c.refused.ensures,
-      record { run = stands.run; roots = stands.roots; shelf = stands.shelf; follows = stands.follows; runs = stands.runs; refused = sym (ap (option_map refused_data) c.take-refused.ensures.after); whole = stands.whole },
-    )
-
-pub returns-in-Some-ending : goal.returns-in-Some-ending
-returns-in-Some-ending c = λ before stands.
-    let fault = fault_is (need_data c.need.result) (need_of c.args.ask) c.args.self.now.table (option_map refused_data c.take-refused.result) before.refused c.fault_for.result
-    c.fault_for.ensures c.need.ensures (stands.refused ∙ ap (option_map refused_data) (sym c.take-refused.ensures.value)) in
-    let mid : Stands (unrefused before) (record c.args.self.now { refused = c.take-refused.new.self }) = record { run = stands.run; roots = stands.roots; shelf = stands.shelf; follows = stands.follows; runs = stands.runs; refused = sym (ap (option_map refused_data) c.take-refused.ensures.after); whole = stands.whole } in
-    let instance = c.in-Some-ending.instance in
-    let found = ends_some (run_data c.args.self.now.run) (need_data c.need-2.result) (need_of c.args.ask) c.args.self.now.table (instance_data instance)
-    (sym (ap (option_map instance_data) c.in-Some-ending.is) ∙ c.ending.ensures) c.need-2.ensures in
-    ended_gets before c.args.client c.args.ask c.args.self.now.table c.in-Some-ending.instance.root c.answer_ended.new.self c.answer_ended.result
-    stands.roots (fault ∙ c.in_default.is) found.0
-    (subst (λ (client : ℤ). IfOk c.answer_ended.result (λ out. (after : WorldData)
-    × EndsAt client c.in-Some-ending.instance.root (unrefused before) c.args.ask out after × Stands after c.answer_ended.new.self)) (to_z-of_z c.ranges.client)
-    (c.answer_ended.ensures (unrefused before) mid (found.1 ∙ ap (λ run. instance_of run c.in-Some-ending.instance.root) (sym stands.run))))
-
-pub returns-in-None : goal.returns-in-None
-returns-in-None c = λ before stands.
-    let fault = fault_is (need_data c.need.result) (need_of c.args.ask) c.args.self.now.table (option_map refused_data c.take-refused.result) before.refused c.fault_for.result
-    c.fault_for.ensures c.need.ensures (stands.refused ∙ ap (option_map refused_data) (sym c.take-refused.ensures.value)) in
-    let mid : Stands (unrefused before) (record c.args.self.now { refused = c.take-refused.new.self }) = record { run = stands.run; roots = stands.roots; shelf = stands.shelf; follows = stands.follows; runs = stands.runs; refused = sym (ap (option_map refused_data) c.take-refused.ensures.after); whole = stands.whole } in
-    let none = ends_none (run_data c.args.self.now.run) (need_data c.need-2.result) (need_of c.args.ask) c.args.self.now.table
-    (sym (ap (option_map instance_data) c.in-None.is) ∙ c.ending.ensures) c.need-2.ensures in
-    looked_gets before c.args.client c.args.ask c.args.self.now.table c.answer_at.new.self c.answer_at.result
-    stands.roots (fault ∙ c.in_default.is) none
-    (subst (λ (client : ℤ). IfOk c.answer_at.result (λ out. (after : WorldData)
-    × AnswersInWorld client (looked (need_of c.args.ask) before.run c.args.self.now.table) (unrefused before) c.args.ask out after × Stands after c.answer_at.new.self))
-    (to_z-of_z c.ranges.client) (c.answer_at.ensures (unrefused before) mid))
+pub returns : goal.returns
+returns c = λ before stands.
+    let had = c.args.self.now.clients.items in
+    let number = to_z-of_z c.ranges.client in
+    let taken = c.replace-views.result in
+    let value = c.replace-views.ensures.value in
+    let out = (c.in_ok-answered.answered).1 in
+    let it = c.in_ok-answered.ensures in
+    let replies = subst (λ (client : ℤ). Replies it.0 c.args.ask (stand (Some (shelf_data c.args.self.now.shelf)) (follows_in client had)) out
+    (stand (Some (shelf_data c.answer.new.shelf)) it.1)) number it.3 in
+    let follows = subst (λ (client : ℤ). FollowsNow client (kept out.goes_on it.1) had c.answer.new.clients.items) number it.4 in
+    let run = stands.run ∙ ap (λ (v : TableViews). run_data v.run) (sym value) in
+    let refused = stands.refused ∙ ap (λ (v : TableViews). option_map refused_data v.refused) (sym value) in
+    let met = (it.2).2 before.events (subst (λ (v : TableViews). IsTableOf before.events v.table) (sym value) stands.roots) in
+    let meets = met_here (need_of c.args.ask) before.run (run_data taken.run) before.refused (option_map refused_data taken.refused) before.events it.0 met.0 run refused met.1 in
+    answers_well before c.args.client c.args.ask it.0 met.0 (shelf_data c.args.self.now.shelf) (shelf_data c.answer.new.shelf) had it.1 out
+    (record c.args.self.now { views = (c.in_ok-answered.answered).0; clients = c.answer.new.clients; shelf = c.answer.new.shelf }) stands.shelf stands.follows meets replies
+    follows (run ∙ ap run_data (sym (it.2).0)) met.2 refl stands.runs (ap (option_map refused_data) (sym (it.2).1)) stands.whole

@@ -17,6 +17,6 @@ returns c = λ before stands.
     × Idles c.args.root (option_map at_data c.numbered-at.result) (follows_in client had) out left
     × FollowsNow client left had c.idle.new.clients.items)) (to_z-of_z c.ranges.client) c.idle.ensures in
     rests_well before c.args.client c.args.root (option_map at_data c.numbered-at.result) had
-    (record c.args.self.now { clients = c.idle.new.clients; refused = None }) c.idle.result
-    (c.numbered-at.ensures before.events stands.roots ∙ ap (λ run. numbered c.args.root run c.args.self.now.table) (sym stands.run))
+    (record c.args.self.now { clients = c.idle.new.clients; views = record c.args.self.now.views { refused = None } }) c.idle.result
+    (c.numbered-at.ensures before.events stands.roots ∙ ap (λ run. numbered c.args.root run c.args.self.now.views.table) (sym stands.run))
     stands.follows stands.run stands.roots stands.shelf stands.runs refl stands.whole idles

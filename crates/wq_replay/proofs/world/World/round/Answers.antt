@@ -19,10 +19,10 @@ pub returns-in_default : goal.returns-in_default
 returns-in_default c = λ before stands. (
   unrefused before,
   (
-    c.args.self.now.table,
+    c.args.self.now.views.table,
     stands.roots,
-    subst (λ text. RoundsAt (root_by_text text c.args.self.now.table) c.args.succeeds before (map sent_note c.new.result) (unrefused before)) c.as_str.ensures
-        (rounds_none (root_by_text c.as_str.result.now c.args.self.now.table) c.args.succeeds before c.new.result c.in_default.ensures.number c.new.ensures),
+    subst (λ text. RoundsAt (root_by_text text c.args.self.now.views.table) c.args.succeeds before (map sent_note c.new.result) (unrefused before)) c.as_str.ensures
+        (rounds_none (root_by_text c.as_str.result.now c.args.self.now.views.table) c.args.succeeds before c.new.result c.in_default.ensures.number c.new.ensures),
   ),
   record { run = stands.run; roots = stands.roots; shelf = stands.shelf; follows = stands.follows; runs = stands.runs; refused = refl; whole = stands.whole },
 )
@@ -39,10 +39,10 @@ returns c = λ before stands.
     let after = fired left (runs_after c.args.succeeds before.runs (runs_data launcher.runs)) before in (
       after,
       (
-        c.args.self.now.table,
+        c.args.self.now.views.table,
         stands.roots,
-        subst (λ text. RoundsAt (root_by_text text c.args.self.now.table) c.args.succeeds before (map sent_note c.in_ok-lines.lines) after) c.as_str.ensures
-            (rounds_found (root_by_text c.as_str.result.now c.args.self.now.table) c.in-Some.number c.in-Some.view.now (instance_data c.instance-instance.result) c.args.succeeds before
+        subst (λ text. RoundsAt (root_by_text text c.args.self.now.views.table) c.args.succeeds before (map sent_note c.in_ok-lines.lines) after) c.as_str.ensures
+            (rounds_found (root_by_text c.as_str.result.now c.args.self.now.views.table) c.in-Some.number c.in-Some.view.now (instance_data c.instance-instance.result) c.args.succeeds before
             (map sent_note c.in_ok-lines.lines) after c.in-Some.ensures.number c.in-Some.ensures.view
             (c.instance-instance.ensures ∙ ap (λ run. instance_of run c.in-Some.number) (sym stands.run)) had),
       ),

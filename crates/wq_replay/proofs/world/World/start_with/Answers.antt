@@ -8,7 +8,7 @@ use Rattle.wq_replay.proofs.world.World.start_with.Goals as goal
 
 pub returns-in-Ok : goal.returns-in-Ok
 returns-in-Ok c = λ before stands.
-    let text = subst (λ text. IsTableOf (before.events ++ start_events (c.args.self.now.table.given + 1) text c.args.pass.now) c.in-Ok.table) c.as_str.ensures (c.in-Ok.ensures.started before.events stands.roots) in (
+    let text = subst (λ text. IsTableOf (before.events ++ start_events (c.args.self.now.views.table.given + 1) text c.args.pass.now) c.in-Ok.table) c.as_str.ensures (c.in-Ok.ensures.started before.events stands.roots) in (
       unrefused (at_events (with_start c.args.root c.args.pass.now before.events) before),
       refl,
       record {

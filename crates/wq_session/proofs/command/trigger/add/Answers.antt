@@ -3,10 +3,11 @@ use Rattle.std.proofs.Common.{rules, ◌≡◌, false, is_some, option_map}
 use Rattle.wq_follow.specs.Defined.{definition_data}
 use Rattle.wq_follow.specs.Followed.{trigger_data}
 use Rattle.wq_registry.specs.Shelf.{trigger_added}
+use Rattle.wq_ask.specs.Out.{replies}
+use Rattle.wq_ask.specs.Trigger.{trigger_reply}
 use Rattle.wq_session.proofs.Triggers.{trigger_put}
-use Rattle.wq_session.specs.Out.{replies}
 use Rattle.wq_session.specs.Shelved.{shelf_data}
-use Rattle.wq_session.specs.Trigger.{defined_name, has_no_trigger_place, trigger_called, trigger_in, trigger_reply}
+use Rattle.wq_session.specs.Trigger.{defined_name, has_no_trigger_place, trigger_called, trigger_in}
 use Rattle.wq_session.specs.Work.{says, rest_data}
 use Rattle.wq_session.proofs.command.trigger.add.Goals as goal
 

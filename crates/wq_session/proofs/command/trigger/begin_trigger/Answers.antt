@@ -1,39 +1,29 @@
 -- The object was read at the root that is looked at.
-use Rattle.std.proofs.Common.{rules, ◌≡◌, ap, option_map, subst, sym}
+use Rattle.std.proofs.Common.{rules, ◌≡◌, Result, Err, ap, option_map, subst, sym}
+use Rattle.wq_ask.specs.declared.refusal.Refusal.{Refusal}
 use Rattle.wq_session.proofs.Before.{begins_defined, object_there, refuses_defined}
 use Rattle.wq_session.specs.At.{at_data}
-use Rattle.wq_session.specs.Prepared.{IsReadAt, asks_trigger}
+use Rattle.wq_session.specs.Prepared.{asks_trigger}
 use Rattle.wq_session.specs.Shelved.{shelf_data}
-use Rattle.wq_session.specs.declared.read_object.ReadObject.TheVariants.{None as Unread, Query as QueryRead, Refused as ObjectRefused, Trigger as TriggerRead}
+use Rattle.wq_session.specs.Trigger.{defined_by, try_trigger}
+use Rattle.wq_session.specs.Work.{Begins}
+use Rattle.wq_session.specs.declared.work.Rest.{Rest}
 use Rattle.wq_session.proofs.command.trigger.begin_trigger.Goals as goal
 
-pub returns-in-Trigger : goal.returns-in-Trigger
-returns-in-Trigger c d said =
-    let is : c.args.read ≡ TriggerRead c.in-Trigger.read = search rules in
-    begins_defined c.args.root.now d (option_map at_data c.args.at) (shelf_data c.args.shelf.now) (at_data c.in-Some.at)
-    (sym c.in-Some.ensures.value) c.in-Some-view.field-0.now
-    (ap (option_map (λ view. view.now)) c.in-Some-view.is) c.in-Trigger.read
-    (subst (IsReadAt (asks_trigger d) (option_map at_data c.args.at)) is said) c.begin_read.result (shelf_data c.begin_read.new.shelf)
-    c.begin_read.ensures
-
-pub returns-in-Refused : goal.returns-in-Refused
-returns-in-Refused c d said =
-    let is : c.args.read ≡ ObjectRefused c.in-Refused.refusal = search rules in
-    refuses_defined c.args.root.now d (option_map at_data c.args.at) (shelf_data c.args.shelf.now) (at_data c.in-Some.at)
-    (sym c.in-Some.ensures.value) c.in-Some-view.field-0.now
-    (ap (option_map (λ view. view.now)) c.in-Some-view.is) c.in-Refused.refusal
-    (subst (IsReadAt (asks_trigger d) (option_map at_data c.args.at)) is said)
-
-pub returns-in-Query : goal.returns-in-Query
-returns-in-Query c d said =
-    let is : c.args.read ≡ QueryRead c.in-Query.field-0 = search rules in
-    absurd (object_there (asks_trigger d) c.args.root.now (option_map at_data c.args.at) (shelf_data c.args.shelf.now) (at_data c.in-Some.at)
-    c.in-Some-view.field-0.now (sym c.in-Some.ensures.value) (ap (option_map (λ view. view.now)) c.in-Some-view.is)
-    (QueryRead c.in-Query.field-0) (subst (IsReadAt (asks_trigger d) (option_map at_data c.args.at)) is said))
+pub returns-in_err-read : goal.returns-in_err-read
+returns-in_err-read c d said =
+    let view = ap (option_map (λ view. view.now)) c.in-Some.is in
+    let is : c.from_residual.result ≡ Err c.in_err-read.field-0.0 = search rules in
+    subst (λ (r : Result Rest Refusal). Begins (try_trigger c.args.root.now d (at_data c.args.at) (shelf_data c.args.shelf.now))
+    (shelf_data c.args.shelf.now) r (shelf_data c.args.shelf.now)) (sym is)
+    (refuses_defined c.args.root.now d (shelf_data c.args.shelf.now) (at_data c.args.at) c.in-Some.field-0.now view c.in_err-read.field-0.0
+    (c.in_err-read.ensures.said (defined_by (at_data c.args.at).instance d)
+    (object_there (asks_trigger d) (at_data c.args.at) c.in-Some.field-0.now view c.args.read said)))
 
 pub returns : goal.returns
 returns c d said =
-    let is : c.args.read ≡ Unread = search rules in
-    absurd (object_there (asks_trigger d) c.args.root.now (option_map at_data c.args.at) (shelf_data c.args.shelf.now) (at_data c.in-Some.at)
-    c.in-Some-view.field-0.now (sym c.in-Some.ensures.value) (ap (option_map (λ view. view.now)) c.in-Some-view.is)
-    Unread (subst (IsReadAt (asks_trigger d) (option_map at_data c.args.at)) is said))
+    let view = ap (option_map (λ view. view.now)) c.in-Some.is in
+    begins_defined c.args.root.now d (shelf_data c.args.shelf.now) (at_data c.args.at) c.in-Some.field-0.now view c.in_ok-read.read
+    (c.in_ok-read.ensures.said (defined_by (at_data c.args.at).instance d)
+    (object_there (asks_trigger d) (at_data c.args.at) c.in-Some.field-0.now view c.args.read said))
+    c.begin_read.result (shelf_data c.begin_read.new.shelf) c.begin_read.ensures

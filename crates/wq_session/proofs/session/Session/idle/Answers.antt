@@ -2,10 +2,10 @@
 use Rattle.std.proofs.Common.{rules, ◌≡◌, ◌<◌, ◌++◌, length, map, option_map, Result, Ok, Err, ap, sym, subst, ◌∙◌, arith, ℕ}
 use Rattle.std.specs.declared.alloc.AllocError.{AllocError}
 use Rattle.wq_follow.specs.Followed.{subscription_data}
+use Rattle.wq_ask.specs.Out.{tells_lists}
 use Rattle.wq_session.specs.At.{at_data}
 use Rattle.wq_session.specs.Followed.{follows_of}
 use Rattle.wq_session.specs.Moment.{Idles, Shown, TellsOne, left_of, shown_data, shown_in}
-use Rattle.wq_session.specs.Out.{tells_lists}
 use Rattle.wq_session.specs.declared.session.Session.{Session}
 use Rattle.wq_session.proofs.Moments.{all_told, has_next, length_made, next_one, ran_out, told_one}
 use Rattle.wq_session.proofs.session.Session.idle.Goals as goal

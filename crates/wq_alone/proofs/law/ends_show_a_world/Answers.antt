@@ -1,6 +1,0 @@
--- The law by its lemma.
-use Rattle.wq_alone.proofs.Sessions.{ends_show_a_world}
-use Rattle.wq_alone.proofs.law.ends_show_a_world.Goals as goal
-
-pub returns : goal.returns
-returns c = ends_show_a_world

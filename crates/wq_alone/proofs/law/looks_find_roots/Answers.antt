@@ -1,6 +1,0 @@
--- The law by its lemma, which takes that a history has one view.
-use Rattle.wq_alone.proofs.Looks.{looks_find_roots}
-use Rattle.wq_alone.proofs.law.looks_find_roots.Goals as goal
-
-pub returns : goal.returns
-returns c = looks_find_roots c.history_has_one_view.ensures

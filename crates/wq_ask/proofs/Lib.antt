@@ -1,0 +1,5 @@
+mod Behind
+mod Texts
+mod Constants
+mod HandingIn
+mod Newlines

@@ -1,5 +1,0 @@
-mod Contents
-mod Lexemes
-mod Values
-mod Terms
-mod Lines
