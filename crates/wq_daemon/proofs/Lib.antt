@@ -1,2 +1,3 @@
 pub mod Sharing
+mod Levels
 mod Shares

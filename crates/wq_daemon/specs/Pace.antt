@@ -1,7 +1,10 @@
 -- The pace of the rounds of crawls that nobody asked for. It is the server's own, and from no public document.
-use Rattle.std.specs.Prelude.{ℕ, ◌*◌, ◌+◌, ◌≤◌}
+use Rattle.std.specs.Prelude.{ℕ, ◌*◌, ◌+◌, ◌≤◌, min, List, sum_by}
 
--- rounds take at most this share of a processor in percent: a round keeps so many threads busy for so long, and none
--- is busy in the pause after it
-abbrev pub KeepsShare : ℕ → ℕ → ℕ → ℕ → Type 0
-KeepsShare percent threads round pause = round * (threads * 100) ≤ percent * (round + pause)
+-- the walks of a root take at most this part of a processor in millionths: a walk takes so long, and then comes a pause
+abbrev pub KeepsPart : ℕ → ℕ → ℕ → Type 0
+KeepsPart part walk pause = walk * 1_000_000 ≤ part * (walk + pause)
+
+-- needs of which none gets more than a level, in all
+abbrev pub cut_to : ℕ → List ℕ → ℕ
+cut_to level needs = sum_by (λ need. min need level) needs

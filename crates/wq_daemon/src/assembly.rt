@@ -11,7 +11,7 @@ use std::io;
 use std::sync::atomic::AtomicU64;
 use std::sync::{Arc, Wait};
 use std::thread::Threads;
-use std::time::Clock;
+use std::time::{Clock, CpuClock};
 use wq_base::Workers;
 use wq_clock::Run;
 use wq_crawl::{Crawler, Seconds, Tree};
@@ -38,7 +38,7 @@ pub struct Parts<T: Tree + Drop, S: Seconds + Drop, O: Notices + Drop, P: Spawn 
     pub spawn: P,
     /// The name of the socket that clients are told.
     pub sockname: String,
-    /// How long the server waits between two rounds of crawls. Sessions get idle moments after each round.
+    /// How long the server waits until it crawls a root again. Sessions get idle moments after each round.
     pub pace: Pace,
     /// How many threads may look for the files of a query.
     pub workers: Workers,
@@ -59,7 +59,7 @@ pub fn serve_clients<N, R, T, S, O, P>(
 ) -> io::Result<()>
 where
     N: Named + Send + Sync + 'static,
-    R: Threads + Wait + Clock + Copy + Drop + Send + Sync + 'static,
+    R: Threads + Wait + Clock + CpuClock + Copy + Drop + Send + Sync + 'static,
     T: Tree + Drop + Send + 'static,
     S: Seconds + Drop + Send + 'static,
     O: Notices + Drop + Send + Sync + 'static,

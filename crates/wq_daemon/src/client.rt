@@ -11,7 +11,7 @@ use std::os::unix::net::UnixStream;
 use std::sync::{Arc, Wait};
 use std::thread::{self, JoinHandle, Threads};
 use std::time::Clock;
-use wq_session::Refusal;
+use wq_ask::Refusal;
 
 /// Runs a client's session to its end, with a thread that reads its stream. If the session asked
 /// for it, the server ends. The handle of the client's stream is given back when the session has

@@ -11,7 +11,7 @@ use std::os::unix::net::UnixStream;
 use std::sync::{Arc, Wait};
 use std::thread::{self, JoinHandle, Threads};
 use std::time::{Clock, Duration};
-use wq_session::Refusal;
+use wq_ask::Refusal;
 
 /// How many clients may be connected at once.
 pub const MAX_SESSIONS: usize = 32;

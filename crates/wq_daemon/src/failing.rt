@@ -1,59 +1,50 @@
-//! The roots that could not be crawled in this round and in the one before, and why. So the operator hears of each
-//! fault once.
+//! The roots that could not be crawled by a round when it last tried, and why. So the operator hears of each fault once.
 
 use std::alloc::Global;
-use std::mem;
 use wq_crawl::CrawlFault;
 
 /// A root that could not be crawled.
 #[derive(Drop)]
 struct Failed {
-    root: String,
+    number: u64,
     fault: CrawlFault,
 }
 
 /// Roots that could not be crawled.
 #[derive(Drop)]
 pub(crate) struct Failing {
-    alloc: Global,
-    /// In the round before.
-    before: Vec<Failed>,
-    /// In this round.
-    found: Vec<Failed>,
+    failed: Vec<Failed>,
 }
 
 impl Failing {
     /// No roots. This takes no memory.
     pub(crate) fn new(alloc: Global) -> Failing {
         Failing {
-            alloc,
-            before: Vec::new(alloc),
-            found: Vec::new(alloc),
+            failed: Vec::new(alloc),
         }
     }
 
-    /// A round of crawls begins.
-    pub(crate) fn begin_round(&mut self) {
-        self.before = mem::replace(&mut self.found, Vec::new(self.alloc));
+    /// Forgets the roots that are not shown any more.
+    pub(crate) fn forget_others(&mut self, shown: &[u64]) {
+        self.failed.retain(|it| shown.contains(&it.number));
     }
 
-    /// Adds a root and its fault. If memory runs out for that, the operator hears of the root again after the next
-    /// crawl.
-    pub(crate) fn add(&mut self, root: &str, fault: CrawlFault) {
-        if let Ok(root) = String::from_str(self.alloc, root) {
-            let _ = self.found.push(Failed { root, fault });
-        }
-    }
-
-    /// Whether a root could not be crawled in the round before.
-    pub(crate) fn had_any(&self, root: &str) -> bool {
-        self.before.iter().any(|it| it.root.as_str() == root)
-    }
-
-    /// Whether a root had this fault in the round before.
-    pub(crate) fn had(&self, root: &str, fault: CrawlFault) -> bool {
-        self.before
+    /// Keeps that the root of this number could not be crawled, and says whether that is new. If memory runs out for
+    /// that, the operator hears of the root again after the next crawl.
+    pub(crate) fn add(&mut self, number: u64, fault: CrawlFault) -> bool {
+        let is_new = !self
+            .failed
             .iter()
-            .any(|it| it.root.as_str() == root && it.fault == fault)
+            .any(|it| it.number == number && it.fault == fault);
+        self.failed.retain(|it| it.number != number);
+        let _ = self.failed.push(Failed { number, fault });
+        is_new
+    }
+
+    /// Keeps that the root of this number was crawled, and says whether it could not be before.
+    pub(crate) fn remove(&mut self, number: u64) -> bool {
+        let count = self.failed.len();
+        self.failed.retain(|it| it.number != number);
+        self.failed.len() < count
     }
 }

@@ -4,10 +4,10 @@ ghost use Rattle.std.specs.Thread.{IsSync};
 
 use crate::moments::RootNumbers;
 use crate::stop::Stop;
+use crate::timing::Worked;
 use std::io::Write;
 use std::sync::Arc;
 use std::thread::Threads;
-use std::time::Duration;
 use wq_launch::{Run, Runs};
 use wq_serve::Inbox;
 
@@ -29,15 +29,18 @@ pub(crate) trait Host {
     /// The roots that are shown now; none if memory runs out for them.
     fn numbers(&self) -> Option<RootNumbers>;
 
-    /// Begins a round of crawls.
-    fn begin_round(&self);
+    /// Begins a round of crawls, when the roots of these numbers are shown.
+    fn begin_round(&self, shown: &[u64]);
+
+    /// Whether a root has triggers.
+    fn has_triggers(&self) -> bool;
 
     /// Crawls the root of this number, if it is shown, and then has a round of its triggers. The
-    /// caller then takes the commands that were started. Returns how long it worked: waiting for
-    /// clients is no work.
+    /// caller then takes the commands that were started. Returns how long it worked by the
+    /// clock: waiting for clients is no work.
     ///
     /// The crawl gives way to clients that wait for one. If the server is to end, it does no more.
-    fn crawl(&self, number: u64, stop: &Stop) -> Duration;
+    fn crawl(&self, number: u64, stop: &Stop) -> Worked;
 
     /// Has the walk of a round end before its time, since the server ends.
     fn end_walk(&self);

@@ -6,6 +6,7 @@ mod assembly;
 mod callers;
 mod client;
 mod clients;
+mod crawling;
 mod failing;
 mod host;
 mod lines;
@@ -27,6 +28,7 @@ mod stream_reader;
 mod timing;
 mod told_tree;
 mod waiting_roots;
+mod walks;
 
 pub use assembly::{Parts, SEATS, serve_clients};
 pub use clients::MAX_SESSIONS;

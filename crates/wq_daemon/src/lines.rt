@@ -27,7 +27,7 @@ pub(crate) fn slow_line(alloc: Global, root: &str, seconds: u64) -> Result<Strin
     Ok(format!(in alloc; "{root}: a walk took {seconds} seconds")?)
 }
 
-/// What the walks of a root leave out.
+/// The line about files that walks of a root leave out.
 pub(crate) fn left_out_line(
     alloc: Global,
     root: &str,

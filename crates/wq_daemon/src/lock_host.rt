@@ -10,7 +10,7 @@ use crate::moments::RootNumbers;
 use crate::refusal::refuse;
 use crate::rounds::Rounds;
 use crate::stop::Stop;
-use crate::timing::time_since;
+use crate::timing::{Worked, time_since};
 use crate::waiting_roots::WaitingRoots;
 use std::alloc::{AllocError, Global};
 use std::io::Write;
@@ -18,14 +18,14 @@ use std::sync::atomic::AtomicU64;
 use std::sync::{Arc, Mutex, Wait};
 use std::thread::Threads;
 use std::time::{Clock, Duration, Instant};
+use wq_ask::Refusal;
 use wq_base::Workers;
 use wq_clock::Run;
 use wq_crawl::{Asked, CrawlFault, Crawler, LockRoots, Seconds, SharedCrawler, Tree};
 use wq_follow::Trigger;
 use wq_launch::{MAX_RUNS, Notices, Run as StartedRun, Runs, Spawn};
 use wq_live::{Named, RootTable, Seat};
-use wq_serve::{Inbox, Kept, LockDesk, ReachedShelf, SharedShelf, serve};
-use wq_session::Refusal;
+use wq_serve::{Ended, Inbox, Kept, LockDesk, ReachedShelf, SeatViews, SharedShelf, serve};
 
 /// How many walks of a root a round gives up, before it waits for the crawler as a client does.
 const MOST_GIVEN_UP: usize = 4;
@@ -159,9 +159,9 @@ where
     /// crawl was of this root, it serves the round too. After four walks that it gave up, or if
     /// clients wait all the time, the round waits for the crawler as a client does. So clients of
     /// one root do not keep another root from being crawled.
-    fn crawl_in_round(&self, root: &str, stop: &Stop) -> (Duration, Result<(), CrawlFault>) {
+    fn crawl_in_round(&self, root: &str, stop: &Stop) -> (Worked, Result<(), CrawlFault>) {
         let asked = self.crawler.ask();
-        let mut worked = Duration::ZERO;
+        let mut worked = Worked::nothing();
         for _ in 0..MOST_GIVEN_UP {
             if stop.is_asked(&self.rt) {
                 return (worked, Err(CrawlFault::GaveWay));
@@ -173,7 +173,7 @@ where
                 break;
             }
             let (took, crawled) = self.crawl_since(asked, root);
-            worked = worked.saturating_add(took);
+            worked.whole = worked.whole.saturating_add(took);
             if crawled != Err(CrawlFault::GaveWay) {
                 return (worked, crawled);
             }
@@ -184,7 +184,9 @@ where
         self.callers.enter();
         let (took, crawled) = self.crawl_since(asked, root);
         self.callers.leave(&self.rt);
-        (worked.saturating_add(took), crawled)
+        worked.whole = worked.whole.saturating_add(took);
+        worked.shared = took;
+        (worked, crawled)
     }
 
     /// Crawls a root for a round that asked at this moment, and returns how long that took.
@@ -194,28 +196,20 @@ where
         (time_since(&self.rt, began), crawled.map(|_| ()))
     }
 
-    /// Tells the operator if a root can no longer be crawled.
-    fn note(&self, root: &str, fault: CrawlFault) {
-        self.tell_once(root, fault);
-        self.failing.lock(&self.rt).add(root, fault);
-    }
-
-    /// Tells the operator that a root is crawled again, if it could not be crawled in the last
-    /// round.
-    fn tell_if_back(&self, root: &str) {
-        if self.failing.lock(&self.rt).had_any(root)
+    /// Tells the operator that a root is crawled again, if it could not be crawled before.
+    fn tell_if_back(&self, number: u64, root: &str) {
+        if self.failing.lock(&self.rt).remove(number)
             && let Ok(line) = back_line(self.alloc, root)
         {
             self.notices.tell(&line);
         }
     }
 
-    /// Tells the operator that a root cannot be crawled, unless that was so in the last round already.
-    fn tell_once(&self, root: &str, fault: CrawlFault) {
-        if self.failing.lock(&self.rt).had(root, fault) {
-            return;
-        }
-        if let Ok(line) = fault_line(self.alloc, root, fault) {
+    /// Tells the operator that a root cannot be crawled, unless that was so the last time already.
+    fn tell_once(&self, number: u64, root: &str, fault: CrawlFault) {
+        if self.failing.lock(&self.rt).add(number, fault)
+            && let Ok(line) = fault_line(self.alloc, root, fault)
+        {
             self.notices.tell(&line);
         }
     }
@@ -324,7 +318,7 @@ where
         inbox: &mut I,
         writer: &mut W,
     ) -> bool {
-        let (Ok(mut roots), Ok(mut desk)) = (self.waiting_roots(), self.lock_desk()) else {
+        let (Ok(roots), Ok(mut desk)) = (self.waiting_roots(), self.lock_desk()) else {
             refuse(writer, Refusal::NoMemory);
             return false;
         };
@@ -332,12 +326,11 @@ where
             refuse(writer, Refusal::TooManySessions);
             return false;
         };
-        let (alloc, run) = (self.alloc, self.run);
-        let ended = serve(
-            threads, alloc, run, inbox, writer, seat, &mut roots, &mut desk,
-        );
-        self.give_seat(ended.seat);
-        ended.shut
+        let run = self.run;
+        let views = SeatViews { run, seat, roots };
+        let Ended { views, shut, .. } = serve(threads, self.alloc, inbox, writer, views, &mut desk);
+        self.give_seat(views.seat);
+        shut
     }
 
     fn numbers(&self) -> Option<RootNumbers> {
@@ -347,28 +340,34 @@ where
         numbers
     }
 
-    fn begin_round(&self) {
+    fn begin_round(&self, shown: &[u64]) {
         // The view of a root that is no longer watched stays in memory until this call.
         self.crawler.let_go(&self.rt);
-        self.failing.lock(&self.rt).begin_round();
+        self.failing.lock(&self.rt).forget_others(shown);
     }
 
-    fn crawl(&self, number: u64, stop: &Stop) -> Duration {
+    fn has_triggers(&self) -> bool {
+        let shelf = self.shelf.lock(&self.rt);
+        shelf.roots().iter().any(|root| root.trigger_count() > 0)
+    }
+
+    fn crawl(&self, number: u64, stop: &Stop) -> Worked {
         // If memory runs out for the text, the root is crawled in the next round.
         let Some(root) = self.text(number) else {
-            return Duration::ZERO;
+            return Worked::nothing();
         };
-        let (worked, crawled) = self.crawl_in_round(&root, stop);
+        let (mut worked, crawled) = self.crawl_in_round(&root, stop);
         match crawled {
-            Ok(()) => self.tell_if_back(&root),
+            Ok(()) => self.tell_if_back(number, &root),
             // The server ends.
             Err(CrawlFault::GaveWay) => return worked,
-            Err(fault) => self.note(&root, fault),
+            Err(fault) => self.tell_once(number, &root, fault),
         }
         let began = Instant::now(&self.rt);
         self.rounds.fire(number, &*self.shelf);
         self.tell_of_starts();
-        worked.saturating_add(time_since(&self.rt, began))
+        worked.whole = worked.whole.saturating_add(time_since(&self.rt, began));
+        worked
     }
 
     fn end_walk(&self) {

@@ -44,7 +44,7 @@ impl RootNumbers {
 
 /// After each round of crawls, puts an idle moment for each due root into the queue of each
 /// session, until the server ends. If a round takes longer than an interval, there is a moment
-/// before it ends.
+/// before it ends. If rounds have a share, there is none while no client is connected.
 ///
 /// If memory runs out for the roots, their moments are due a round later.
 pub(crate) fn bring_moments<R, H>(rt: &R, alloc: Global, server: &Server<H>)
@@ -56,6 +56,9 @@ where
     let mut then = RootNumbers::none(alloc);
     let mut beats = server.pulse.count(rt);
     for _ in rt.forever() {
+        if server.pace.share.is_some() {
+            server.links.wait_for_any(rt, &server.stop);
+        }
         beats = server.pulse.wait(rt, &server.stop, beats, patience);
         if server.stop.is_asked(rt) {
             return;

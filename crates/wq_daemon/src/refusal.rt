@@ -1,7 +1,7 @@
 //! The line to a client that gets no session.
 
 use std::io::Write;
-use wq_session::Refusal;
+use wq_ask::Refusal;
 
 /// Tells a client why there is no session for it: there are too many, or no memory or no thread is left. The line is a
 /// constant, and takes no memory.

@@ -2,6 +2,7 @@
 //! end.
 
 use crate::clients::Clients;
+use crate::crawling::crawl_always;
 use crate::host::Host;
 use crate::links::Links;
 use crate::moments::bring_moments;
@@ -14,13 +15,13 @@ use std::alloc::Global;
 use std::io;
 use std::sync::{Arc, Wait};
 use std::thread::{self, JoinHandle, Threads};
-use std::time::{Clock, Duration};
-use wq_launch::{MAX_RUNS, Notices, attend};
+use std::time::{Clock, CpuClock, Duration};
+use wq_launch::Notices;
 
 /// How many milliseconds the server waits after a connection that it could not accept.
 const PAUSE: u64 = 100;
 
-/// Serves clients, and crawls the watched roots in rounds of this pace. After the crawl of a
+/// Serves clients, and crawls the watched roots at this pace. After the crawl of a
 /// root it starts the commands of its triggers, and a session gets idle moments after each round. It returns when a
 /// client has asked that the server ends. All sessions have ended then, and all threads except those that attend
 /// commands, which go on.
@@ -36,7 +37,7 @@ pub(crate) fn run<R, H, O>(
     pace: Pace,
 ) -> io::Result<()>
 where
-    R: Threads + Wait + Clock + Copy + Drop + Send + Sync + 'static,
+    R: Threads + Wait + Clock + CpuClock + Copy + Drop + Send + Sync + 'static,
     H: Host + Drop + Send + Sync + 'static,
     O: Notices + Drop + Send + Sync + 'static,
 {
@@ -87,7 +88,7 @@ fn begin_crawling<R, H, O>(
     notices: &Arc<O>,
 ) -> io::Result<JoinHandle<()>>
 where
-    R: Threads + Wait + Clock + Copy + Drop + Send + Sync + 'static,
+    R: Threads + Wait + Clock + CpuClock + Copy + Drop + Send + Sync + 'static,
     H: Host + Drop + Send + Sync + 'static,
     O: Notices + Drop + Send + Sync + 'static,
 {
@@ -103,65 +104,4 @@ where
 {
     let server = server.clone()?;
     Ok(thread::spawn(&rt, move || { bring_moments(&rt, alloc, &*server) })?)
-}
-
-/// Crawls, and has commands of triggers started and attended, until the server ends.
-fn crawl_always<R, H, O>(rt: R, alloc: Global, server: &Server<H>, notices: &Arc<O>)
-where
-    R: Threads + Wait + Clock + Copy + Drop + Send + Sync + 'static,
-    H: Host + Drop,
-    O: Notices + Drop + Send + Sync + 'static,
-{
-    for _ in rt.forever() {
-        let worked = crawl_all(rt, alloc, server, notices);
-        server.pulse.beat(&rt);
-        let pause = server.pace.pause_after(worked);
-        if server.stop.wait(&rt, pause) {
-            return;
-        }
-    }
-}
-
-/// Crawls each root that is shown, with a round of its triggers after it. It stops if the server is
-/// to end. Returns how long it worked.
-fn crawl_all<R, H, O>(rt: R, alloc: Global, server: &Server<H>, notices: &Arc<O>) -> Duration
-where
-    R: Threads + Wait + Copy + Drop + Send + Sync + 'static,
-    H: Host + Drop,
-    O: Notices + Drop + Send + Sync + 'static,
-{
-    // Commands that could not be attended before are tried again, whether or not a root is watched.
-    attend_all(rt, alloc, &server.host, notices);
-    server.host.begin_round();
-    let mut worked = Duration::ZERO;
-    // If memory runs out for the roots, they are crawled in the next round.
-    let Some(roots) = server.host.numbers() else {
-        return worked;
-    };
-    for number in roots.shown {
-        if server.stop.is_asked(&rt) {
-            break;
-        }
-        worked = worked.saturating_add(server.host.crawl(number, &server.stop));
-        attend_all(rt, alloc, &server.host, notices);
-    }
-    worked
-}
-
-/// Starts a thread for each command that was started, which attends it. If no thread can be made, the commands wait.
-fn attend_all<R, H, O>(rt: R, alloc: Global, host: &H, notices: &Arc<O>)
-where
-    R: Threads + Wait + Copy + Drop + Send + Sync + 'static,
-    H: Host,
-    O: Notices + Drop + Send + Sync + 'static,
-{
-    for _ in 0..MAX_RUNS {
-        let Some(run) = host.take_run() else {
-            return;
-        };
-        if let Some(run) = attend(rt, alloc, host.runs(), notices, run) {
-            host.give_back(run);
-            return;
-        }
-    }
 }

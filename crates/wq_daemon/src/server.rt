@@ -12,9 +12,9 @@ use std::sync::Wait;
 pub(crate) struct Server<H: Host + Drop> {
     pub(crate) host: H,
     pub(crate) stop: Stop,
-    /// How long the server waits between two rounds of crawls.
+    /// How long the server waits until it crawls a root again.
     pub(crate) pace: Pace,
-    /// The pulse, which beats after each round. Sessions get their idle moments then.
+    /// The pulse, which beats after each round, and before a long walk. Sessions get their idle moments then.
     pub(crate) pulse: Pulse,
     /// The links to the clients.
     pub(crate) links: Links,
@@ -25,5 +25,6 @@ impl<H: Host + Drop> Server<H> {
     pub(crate) fn end<R: Wait>(&self, rt: &R) {
         self.stop.ask(rt);
         self.pulse.wake(rt);
+        self.links.wake(rt);
     }
 }

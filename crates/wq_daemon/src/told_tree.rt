@@ -13,10 +13,10 @@ use wq_crawl::{LeftOut, Tree, TreeFault};
 use wq_launch::Notices;
 use wq_view::{Seen, View};
 
-/// The operator is told of a listing that took so many seconds.
+/// The server tells its operator of a listing that took this many seconds.
 const LONG: u64 = 60;
 
-/// What the last listing of a root left out.
+/// The number of files that the last listing of a root left out.
 #[derive(Drop)]
 struct Known {
     root: String,
@@ -72,7 +72,7 @@ where
         }
     }
 
-    /// What the operator knows that listings of a root leave out.
+    /// The number of left-out files of a root that the operator knows.
     fn known_of(&self, root: &str) -> LeftOut {
         match self.known.iter().find(|it| it.root.as_str() == root) {
             Some(known) => known.left_out,

@@ -24,9 +24,6 @@ const MAX_PERCENT: u64 = 100;
 /// How many threads may walk a tree for which a client waits, unless more may look for the files of a query.
 const WALKERS: u32 = 2;
 
-/// How many threads walk a tree in a round of crawls that no client waits for.
-const ROUND_WALKERS: u32 = 1;
-
 /// The task that the command line asks for.
 #[derive(Debug, Drop)]
 pub(crate) enum Task {
@@ -100,7 +97,6 @@ fn share_of(given: &ArgMatches<'_>) -> Result<Option<Share>, CommandLineFault> {
     match unsigned_number(text, MAX_PERCENT) {
         Some(percent) if percent > 0 => Ok(Some(Share {
             percent: percent as u32,
-            threads: ROUND_WALKERS,
         })),
         _ => Err(CommandLineFault::Wrong),
     }

@@ -7,7 +7,7 @@ use std::process::ExitCode;
 use std::sync::atomic::AtomicU64;
 use std::sync::{Arc, Wait};
 use std::thread::Threads;
-use std::time::{Clock, Duration};
+use std::time::{Clock, CpuClock, Duration};
 use wq_base::Workers;
 use wq_clock::Run;
 use wq_crawl::{Seconds, Tree};
@@ -65,7 +65,7 @@ pub(crate) fn serve<R, T, S, O, P>(
     settings: Settings,
 ) -> ExitCode
 where
-    R: Threads + Wait + Clock + Copy + Drop + Send + Sync + 'static,
+    R: Threads + Wait + Clock + CpuClock + Copy + Drop + Send + Sync + 'static,
     T: Tree + Drop + Send + 'static,
     S: Seconds + Drop + Send + 'static,
     O: Notices + Drop + Send + Sync + 'static,
@@ -96,7 +96,7 @@ fn serve_socket<R, T, S, O, P>(
     settings: Settings,
 ) -> io::Result<()>
 where
-    R: Threads + Wait + Clock + Copy + Drop + Send + Sync + 'static,
+    R: Threads + Wait + Clock + CpuClock + Copy + Drop + Send + Sync + 'static,
     T: Tree + Drop + Send + 'static,
     S: Seconds + Drop + Send + 'static,
     O: Notices + Drop + Send + Sync + 'static,

@@ -1,6 +1,6 @@
 //! The file watch server's program: the command line, files, standard streams and exit statuses.
 //! `wq_daemon` has the server, `wq_walk` walks trees for it and `wq_launch` starts commands for it;
-//! `wq_replay` replays a script, and `wq_check` describes program files.
+//! `wq_replay` replays a script, and `wq_verify` describes program files.
 #![tactic(auto)]
 
 mod command_line;
@@ -15,10 +15,10 @@ use std::io::{self, BufReader, BufWriter, ErrorKind, Read, Write};
 use std::process::ExitCode;
 use std::sync::Arc;
 use std::sync::atomic::AtomicU64;
-use wq_check::{FAULT, MAX_FILE, check};
 use wq_crawl::MachineClock;
 use wq_launch::System;
 use wq_replay::{ReplayFault, replay};
+use wq_verify::{FAULT, MAX_FILE, check};
 use wq_walk::{FileDisk, Walker};
 
 /// The exit status after a wrong command line.

@@ -1,0 +1,105 @@
+"""With a share each root has a pace of its own, and a server that nobody needs rests."""
+
+import random
+import statistics
+import time
+from pathlib import Path
+from typing import List
+
+import built
+from client import Client, Server, query_of_names, same
+from shares import processor_seconds
+from yielding import fill
+
+# How long a root rests at least between two walks, in seconds, and how much of a processor rounds may take.
+INTERVAL = 0.5
+PERCENT = 10
+WRITES = 12
+# What a walk of the small root, its list and a busy machine add to one interval and a half, in seconds.
+LATE = 0.25
+# The server is asked nothing for so long, in seconds, and may take so much processor time of it: the clock has ticks.
+SPAN = 3.0
+A_TICK = 0.02
+A_SECOND = 1.0
+
+
+def check_a_pace_for_each_root(tally: built.Tally, room: Path) -> None:
+    """A small root is walked at each interval, though a large one beside it has to rest for longer."""
+    large, small = room / "large", room / "small"
+    fill(large)
+    small.mkdir()
+    with Server(room, interval=round(INTERVAL * 1000), share=PERCENT) as server, server.client() as client:
+        for root in (large, small):
+            client.ask("watch", str(root))
+        client.ask("subscribe", str(small), "changes", query_of_names())
+        client.reply()
+        took = [seconds_until_a_list(client, small, f"file{number}") for number in range(WRITES)]
+        before = processor_seconds(server.process.pid)
+        time.sleep(SPAN)
+        share = (processor_seconds(server.process.pid) - before) / SPAN
+        is_seen = sees_without_a_crawl(client, large)
+    lines = [f"{statistics.median(took):.3f} seconds at the median, {max(took):.3f} at most"]
+    # On a busy machine a walk of the large root may take longer than an interval, so the longest wait is no measure.
+    tally.check("a list of a small root beside a large one", statistics.median(took) < 1.5 * INTERVAL + LATE, lines)
+    tally.check("both roots keep to the share", share < 2 * PERCENT / 100, [f"{100 * share:.1f} percent of a processor"])
+    tally.check("the large root has its turn", is_seen)
+
+
+def seconds_until_a_list(client: Client, root: Path, name: str) -> float:
+    """How long it takes from a new file, at any moment of an interval, to the list that has it."""
+    time.sleep(random.uniform(0.0, 3 * INTERVAL))
+    (root / name).touch()
+    began = time.monotonic()
+    while name not in client.reply().get("files", []):
+        pass
+    return time.monotonic() - began
+
+
+def sees_without_a_crawl(client: Client, root: Path) -> bool:
+    """Whether rounds find a new file."""
+    (root / "new").touch()
+    query = {**query_of_names(), "expression": ["name", "new"], "sync_timeout": 0}
+    return bool(client.ask_until("query", str(root), query, lambda reply: reply["files"])["files"])
+
+
+def check_a_server_that_rests(tally: built.Tally, room: Path) -> None:
+    """While no client is connected there is no round. The next client has one made, and so has a trigger."""
+    root = room / "tree"
+    root.mkdir()
+    with Server(room, interval=10, share=100) as server:
+        with server.client() as client:
+            client.ask("watch", str(root))
+        check_that_it_rests(tally, server, "after its client went")
+        (root / "first").touch()
+        with server.client() as client:
+            found = names_without_a_crawl(client, root, 1)
+            same(tally, "a file that came while it rested", found, ["first"])
+            client.ask("trigger", str(root), {"name": "copy", "command": ["cp", "second", "third"], "expression": ["name", "second"]})
+        (root / "second").touch()
+        tally.check("a trigger without a client", comes(root / "third"))
+        with server.client_when_free() as client:
+            client.ask("trigger-del", str(root), "copy")
+        check_that_it_rests(tally, server, "after its trigger went")
+        with server.client_when_free() as client:
+            same(tally, "the end of a server that rested", server.shut_down(client), 0)
+
+
+def check_that_it_rests(tally: built.Tally, server: Server, name: str) -> None:
+    time.sleep(A_SECOND)
+    before = processor_seconds(server.process.pid)
+    time.sleep(SPAN)
+    took = processor_seconds(server.process.pid) - before
+    tally.check(f"it rests {name}", took < A_TICK, [f"{took:.2f} seconds of {SPAN}"])
+
+
+def names_without_a_crawl(client: Client, root: Path, count: int) -> List[str]:
+    query = {"sync_timeout": 0, **query_of_names()}
+    return client.ask_until("query", str(root), query, lambda reply: len(reply["files"]) == count)["files"]
+
+
+def comes(path: Path) -> bool:
+    """Whether a file comes before the patience ends."""
+    end = time.monotonic() + 10 * A_SECOND
+    while not path.exists() and time.monotonic() < end:
+        time.sleep(0.02)
+    return path.exists()
