@@ -17,7 +17,7 @@ FILES = 4_000
 
 
 def scripts() -> List[bytes]:
-    return [*[example.read(SCRIPTS / f"{name}{example.ENDING}").script for name in NAMES], long_script()]
+    return [*[example.find(SCRIPTS, name).script for name in NAMES], long_script()]
 
 
 def long_script() -> bytes:
