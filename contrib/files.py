@@ -47,6 +47,7 @@ BRIDGE_PACKAGES = ["bridge", "wqclient"]
 REFERENCE = {
     "wqd-programs": ("PROGRAMS.md", "programs with which clients of wqd filter files"),
     "wqd-protocol": ("PROTOCOL.md", "what a client of wqd may ask, and what it is answered"),
+    "wqd-reference": ("REFERENCE.md", "errors, limits and costs of the protocol of wqd"),
     "wqd-scripts": ("SCRIPTS.md", "scripts that wqd replays"),
 }
 LICENCES = "You may use wqd under the MIT license or under the Apache License, Version 2.0, whichever you like.\n\n"

@@ -18,6 +18,7 @@ PAGES = {
     "SERVER.md": "wqd(1)",
     "WQASM.md": "wqasm(1)",
     "PROTOCOL.md": "wqd-protocol(7)",
+    "REFERENCE.md": "wqd-reference(7)",
     "PROGRAMS.md": "wqd-programs(7)",
     "SCRIPTS.md": "wqd-scripts(7)",
 }

@@ -32,6 +32,7 @@ FILES = {
     "share/man/man1/wqd.1": 0o644,
     "share/man/man7/wqd-programs.7": 0o644,
     "share/man/man7/wqd-protocol.7": 0o644,
+    "share/man/man7/wqd-reference.7": 0o644,
     "share/man/man7/wqd-scripts.7": 0o644,
     "share/systemd/user/wqd.service": 0o644,
     "share/zsh/site-functions/_wq": 0o644,
