@@ -10,7 +10,7 @@ Those of a crate are in one file, one after the other below the headline of thei
     old: if second <= MAX_NUMBER {
     new: if second < MAX_NUMBER {
 
-CONTRIBUTING.md says what each line is.
+tests/README.md says what each line is.
 """
 
 import re
