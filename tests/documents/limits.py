@@ -14,25 +14,25 @@ class Said(NamedTuple):
 
 
 def said(page: str, text: str, *limits: str) -> Said:
-    return Said(f"docs/{page}.md", text, list(limits))
+    return Said(f"{page if '/' in page else f'docs/{page}'}.md", text, list(limits))
 
 
 SAID = [
-    said("DECISIONS", "a chunk has 1 to {} records", "wq_view max_chunk"),
-    said("DECISIONS", "**At most {} terms are inside one another.**", "wq_term max_depth"),
-    said("PROTOCOL", "| name of a file | 1 to {} bytes |", "wq_view max_name"),
-    said("PROTOCOL", "watched, as it is given | 1 to {} bytes |", "wq_session max_root_length"),
-    said("PROTOCOL", "| roots that are watched | {} |", "wq_base max_roots"),
-    said("PROTOCOL", "| rows of a pass | {} |", "wq_view max_listing_rows"),
-    said("PROTOCOL", "| records of a view | {} |", "wq_view max_records"),
-    said("PROTOCOL", "of a subscription and of a trigger | 1 to {} bytes |", "wq_clock max_cursor_name"),
-    said("PROTOCOL", "| cursors of a root, and programs that are kept | {} each |", "wq_registry max_cursors"),
-    said("PROTOCOL", "| subscriptions of a session, and triggers of a root | {} each |",
+    said("crates/wq_view/DECISIONS", "A chunk has 1 to {} records", "wq_view max_chunk"),
+    said("crates/wq_term/DECISIONS", "**At most {} terms are inside one another.**", "wq_term max_depth"),
+    said("REFERENCE", "| name of a file | 1 to {} bytes |", "wq_view max_name"),
+    said("REFERENCE", "watched, as it is given | 1 to {} bytes |", "wq_ask max_root_length"),
+    said("REFERENCE", "| roots that are watched | {} |", "wq_base max_roots"),
+    said("REFERENCE", "| rows of a pass | {} |", "wq_view max_listing_rows"),
+    said("REFERENCE", "| records of a view | {} |", "wq_view max_records"),
+    said("REFERENCE", "of a subscription and of a trigger | 1 to {} bytes |", "wq_clock max_cursor_name"),
+    said("REFERENCE", "| cursors of a root, and programs that are kept | {} each |", "wq_registry max_cursors"),
+    said("REFERENCE", "| subscriptions of a session, and triggers of a root | {} each |",
          "wq_session max_subscriptions"),
-    said("PROTOCOL", "| terms inside one another | {} |", "wq_term max_depth"),
-    said("PROTOCOL", "of an expression's program, with its end | {} |", "wq_code max_rows_in Second"),
-    said("PROTOCOL", "empty suffixes not counted | {} |", "wq_code max_entries_in Second"),
-    said("PROTOCOL", "has at most {} bytes, and a pattern at most {}.", "wq_term max_term_text",
+    said("REFERENCE", "| terms inside one another | {} |", "wq_term max_depth"),
+    said("REFERENCE", "of an expression's program, with its end | {} |", "wq_code max_rows_in Second"),
+    said("REFERENCE", "empty suffixes not counted | {} |", "wq_code max_entries_in Second"),
+    said("REFERENCE", "has at most {} bytes, and a pattern at most {}.", "wq_term max_term_text",
          "wq_glob max_pattern_length"),
     said("SERVER", "| roots | {} |", "wq_base max_roots"),
     said("SERVER", "| files and directories below a root | {} |", "wq_view max_listing_rows"),

@@ -1,11 +1,11 @@
-"""The recipes of CONTRIBUTING.md: each room that a table of them names is there, and has what its row says of it."""
+"""The recipes of docs/RECIPES.md: each room that a table of them names is there, and has what its row says of it."""
 
 import re
 from collections import defaultdict
 from pathlib import Path
 from typing import Dict, Iterator, List, NamedTuple, Set
 
-PAGE = "CONTRIBUTING.md"
+PAGE = "docs/RECIPES.md"
 CODE = re.compile(r"`([^`]+)`")
 # A row may say this of its files: a name of the code, or one with hyphens. `ask_..` and `NAME-found` are no names.
 WORD = re.compile(r"(?!NAME)[A-Za-z_][\w-]*")

@@ -1,0 +1,83 @@
+"""The words of the pages: how many a page has, how many sentences are long, and words that the pages no longer use."""
+
+import re
+from pathlib import Path
+from typing import Dict, Iterator, List
+
+# What follows this mark in a page is written from the sources.
+GENERATED = "<!-- docs/crates/generate writes what follows -->"
+# The most words of each page, or of several together. Shorten before you raise one.
+MOST = {
+    "README.md": 1600,
+    "CONTRIBUTING.md": 1750,
+    "CHANGELOG.md": 900,
+    "docs/ARCHITECTURE.md": 2600,
+    "docs/CLIENTS.md": 3700,
+    "docs/DECISIONS.md": 1150,
+    "crates/*/DECISIONS.md": 9100,
+    "docs/PROGRAMS.md": 5500,
+    "docs/PROOFS.md": 2400,
+    "docs/PROTOCOL.md": 9100,
+    "docs/REFERENCE.md": 3050,
+    "docs/RECIPES.md": 2000,
+    "docs/SCRIPTS.md": 1750,
+    "docs/SECURITY.md": 2250,
+    "docs/SERVER.md": 5950,
+    "docs/SPEED.md": 1300,
+    "docs/TROUBLESHOOTING.md": 1950,
+    "docs/TUTORIAL.md": 1150,
+    "docs/WQ.md": 1500,
+    "docs/WQASM.md": 1700,
+    "docs/crates": 3750,
+    "tests/README.md": 2050,
+}
+# A sentence of more words is long.
+LONG = 30
+# The most long sentences of all these pages.
+MOST_LONG = 34
+# Phrases that have a plainer form, each with that form.
+PLAINER = {
+    r"\bis told\b": "hears, gets",
+    r"\bare told\b": "hear, get",
+    r"\bso many\b": "a number",
+    r"\bas it stands\b": "as it is",
+    r"\bstands on\b": "rests on",
+}
+MOST_PLAINER = 7
+
+
+def wordy(top: Path) -> Iterator[str]:
+    """What is over its budget."""
+    texts = {name: text_of(top, name) for name in MOST}
+    for name, text in texts.items():
+        count = len(text.split())
+        if count > MOST[name]:
+            yield f"{name} has {count} words, and may have {MOST[name]}"
+    long = [f"{name}: {sentence}" for name, text in texts.items() for sentence in sentences(text)
+            if len(sentence.split()) > LONG]
+    if len(long) > MOST_LONG:
+        yield from (f"{len(long)} sentences have over {LONG} words, and {MOST_LONG} may", *long[-3:])
+    found = list(plainer(texts))
+    if len(found) > MOST_PLAINER:
+        yield from (f"{len(found)} phrases have a plainer form, and {MOST_PLAINER} may", *found[-3:])
+
+
+def text_of(top: Path, name: str) -> str:
+    """The words that are written by hand of a page, or of all pages of a pattern or a directory."""
+    pages = sorted(top.glob(f"{name}/*.md" if (top / name).is_dir() else name))
+    return "\n\n".join(page.read_text(encoding="utf-8").split(GENERATED)[0] for page in pages)
+
+
+def sentences(text: str) -> Iterator[str]:
+    """The sentences of a page, without blocks of code; a cell of a table and an item of a list end one."""
+    text = re.sub(r"(?ms)^```.*?^```$", "", text)
+    text = "\n".join(line for line in text.split("\n") if not line.startswith("    "))
+    for part in re.split(r"\n\s*\n|\n(?=[-*|] )|\n(?=\d+\. )|(?<=\s)\|(?=\s)", text):
+        yield from re.split(r"(?<=[.:;?!])\s+", " ".join(part.split()))
+
+
+def plainer(texts: Dict[str, str]) -> Iterator[str]:
+    for name, text in texts.items():
+        for phrase, form in PLAINER.items():
+            found: List[str] = re.findall(f".{{0,30}}{phrase}.{{0,20}}", text)
+            yield from (f"{name}: {words}: {form}" for words in found)
