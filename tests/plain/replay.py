@@ -2,7 +2,7 @@
 
     python3 tests/plain/replay.py < SCRIPT
 
-It follows docs/PROTOCOL.md, docs/SCRIPTS.md and docs/DEFINITIONS.md in words, and takes no care to be fast.
+It follows docs/PROTOCOL.md, docs/SCRIPTS.md and docs/crates in words, and takes no care to be fast.
 """
 
 import re
