@@ -2,6 +2,7 @@
 
 import random
 import statistics
+import threading
 import time
 from pathlib import Path
 from typing import List
@@ -21,6 +22,9 @@ LATE = 0.25
 SPAN = 3.0
 A_TICK = 0.02
 A_SECOND = 1.0
+# So many clients crawl a large root all the time. A round waits for them for a second and more before it walks a root.
+BUSY = 3
+LATE_BESIDE_CLIENTS = 6.0
 
 
 def check_a_pace_for_each_root(tally: built.Tally, room: Path) -> None:
@@ -60,6 +64,35 @@ def sees_without_a_crawl(client: Client, root: Path) -> bool:
     (root / "new").touch()
     query = {**query_of_names(), "expression": ["name", "new"], "sync_timeout": 0}
     return bool(client.ask_until("query", str(root), query, lambda reply: reply["files"])["files"])
+
+
+def check_a_pace_beside_clients(tally: built.Tally, room: Path) -> None:
+    """A small root does not pause for the crawls of clients that crawl a large root all the time."""
+    large, small, ended = room / "large", room / "small", threading.Event()
+    fill(large)
+    small.mkdir()
+    with Server(room, interval=100, share=PERCENT) as server, server.client() as client:
+        for root in (large, small):
+            client.ask("watch", str(root))
+        client.ask("subscribe", str(small), "changes", query_of_names())
+        client.reply()
+        busy = [threading.Thread(target=crawl_until, args=(server, large, ended)) for _ in range(BUSY)]
+        for thread in busy:
+            thread.start()
+        took = [seconds_until_a_list(client, small, f"file{number}") for number in range(WRITES // 2)]
+        ended.set()
+        for thread in busy:
+            thread.join()
+    lines = [f"{statistics.median(took):.3f} seconds at the median, {max(took):.3f} at most"]
+    tally.check("a list of a small root beside clients", statistics.median(took) < LATE_BESIDE_CLIENTS, lines)
+
+
+def crawl_until(server: Server, root: Path, ended: threading.Event) -> None:
+    """A client has a root crawled again and again."""
+    query = {**query_of_names(), "expression": ["name", "none"]}
+    with server.client() as client:
+        while not ended.is_set():
+            client.ask("query", str(root), query)
 
 
 def check_a_server_that_rests(tally: built.Tally, room: Path) -> None:

@@ -3,7 +3,7 @@
 use crate::host::Host;
 use crate::moments::RootNumbers;
 use crate::server::Server;
-use crate::timing::time_since;
+use crate::timing::{processor_time, time_since};
 use crate::walks::{Turn, Walks};
 use std::alloc::Global;
 use std::io;
@@ -117,7 +117,7 @@ where
 {
     let before = rt.thread_cpu_time();
     let worked = server.host.crawl(turn.number, &server.stop);
-    worked.processor_time(before, rt.thread_cpu_time())
+    processor_time(worked, before, rt.thread_cpu_time())
 }
 
 /// Starts a thread for each command that was started, which attends it, and says whether all are attended. If no thread

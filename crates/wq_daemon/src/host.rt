@@ -4,10 +4,10 @@ ghost use Rattle.std.specs.Thread.{IsSync};
 
 use crate::moments::RootNumbers;
 use crate::stop::Stop;
-use crate::timing::Worked;
 use std::io::Write;
 use std::sync::Arc;
 use std::thread::Threads;
+use std::time::Duration;
 use wq_launch::{Run, Runs};
 use wq_serve::Inbox;
 
@@ -40,7 +40,7 @@ pub(crate) trait Host {
     /// clock: waiting for clients is no work.
     ///
     /// The crawl gives way to clients that wait for one. If the server is to end, it does no more.
-    fn crawl(&self, number: u64, stop: &Stop) -> Worked;
+    fn crawl(&self, number: u64, stop: &Stop) -> Duration;
 
     /// Has the walk of a round end before its time, since the server ends.
     fn end_walk(&self);

@@ -10,7 +10,7 @@ use crate::moments::RootNumbers;
 use crate::refusal::refuse;
 use crate::rounds::Rounds;
 use crate::stop::Stop;
-use crate::timing::{Worked, time_since};
+use crate::timing::time_since;
 use crate::waiting_roots::WaitingRoots;
 use std::alloc::{AllocError, Global};
 use std::io::Write;
@@ -159,9 +159,9 @@ where
     /// crawl was of this root, it serves the round too. After four walks that it gave up, or if
     /// clients wait all the time, the round waits for the crawler as a client does. So clients of
     /// one root do not keep another root from being crawled.
-    fn crawl_in_round(&self, root: &str, stop: &Stop) -> (Worked, Result<(), CrawlFault>) {
+    fn crawl_in_round(&self, root: &str, stop: &Stop) -> (Duration, Result<(), CrawlFault>) {
         let asked = self.crawler.ask();
-        let mut worked = Worked::nothing();
+        let mut worked = Duration::ZERO;
         for _ in 0..MOST_GIVEN_UP {
             if stop.is_asked(&self.rt) {
                 return (worked, Err(CrawlFault::GaveWay));
@@ -173,7 +173,7 @@ where
                 break;
             }
             let (took, crawled) = self.crawl_since(asked, root);
-            worked.whole = worked.whole.saturating_add(took);
+            worked = worked.saturating_add(took);
             if crawled != Err(CrawlFault::GaveWay) {
                 return (worked, crawled);
             }
@@ -184,9 +184,7 @@ where
         self.callers.enter();
         let (took, crawled) = self.crawl_since(asked, root);
         self.callers.leave(&self.rt);
-        worked.whole = worked.whole.saturating_add(took);
-        worked.shared = took;
-        (worked, crawled)
+        (worked.saturating_add(took), crawled)
     }
 
     /// Crawls a root for a round that asked at this moment, and returns how long that took.
@@ -351,12 +349,12 @@ where
         shelf.roots().iter().any(|root| root.trigger_count() > 0)
     }
 
-    fn crawl(&self, number: u64, stop: &Stop) -> Worked {
+    fn crawl(&self, number: u64, stop: &Stop) -> Duration {
         // If memory runs out for the text, the root is crawled in the next round.
         let Some(root) = self.text(number) else {
-            return Worked::nothing();
+            return Duration::ZERO;
         };
-        let (mut worked, crawled) = self.crawl_in_round(&root, stop);
+        let (worked, crawled) = self.crawl_in_round(&root, stop);
         match crawled {
             Ok(()) => self.tell_if_back(number, &root),
             // The server ends.
@@ -366,8 +364,7 @@ where
         let began = Instant::now(&self.rt);
         self.rounds.fire(number, &*self.shelf);
         self.tell_of_starts();
-        worked.whole = worked.whole.saturating_add(time_since(&self.rt, began));
-        worked
+        worked.saturating_add(time_since(&self.rt, began))
     }
 
     fn end_walk(&self) {

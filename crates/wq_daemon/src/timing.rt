@@ -3,35 +3,16 @@
 use std::io;
 use std::time::{Clock, Duration, Instant};
 
-/// How long a crawl worked by the clock. Waiting for clients is no work.
-#[derive(Clone, Copy, Drop)]
-pub(crate) struct Worked {
-    /// All of it.
-    pub(crate) whole: Duration,
-    /// The part in which several threads may have walked.
-    pub(crate) shared: Duration,
-}
-
-impl Worked {
-    /// No work.
-    pub(crate) fn nothing() -> Worked {
-        Worked {
-            whole: Duration::ZERO,
-            shared: Duration::ZERO,
-        }
-    }
-
-    /// The processor time of this work, if this is what the thread had used before it and has used now. A walk that
-    /// several threads shared counts by the clock. So does all of it if the processor time is not known.
-    pub(crate) fn processor_time(
-        &self,
-        before: io::Result<Duration>,
-        after: io::Result<Duration>,
-    ) -> Duration {
-        match (before, after) {
-            (Ok(before), Ok(after)) => after.saturating_sub(before).max(self.shared),
-            _ => self.whole,
-        }
+/// The processor time of work that took so long by the clock, if this is what the thread had used before it and has used
+/// now. The work counts by the clock if the processor time is not known.
+pub(crate) fn processor_time(
+    worked: Duration,
+    before: io::Result<Duration>,
+    after: io::Result<Duration>,
+) -> Duration {
+    match (before, after) {
+        (Ok(before), Ok(after)) => after.saturating_sub(before),
+        _ => worked,
     }
 }
 

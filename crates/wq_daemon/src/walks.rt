@@ -58,7 +58,7 @@ impl Walks {
     }
 
     /// The roots of these that are due at this pace. Those with the shortest walks come first, so no root waits for a
-    /// long walk that can come after its own.
+    /// walk that was long and can come after its own. A new root comes first too.
     ///
     /// Without a share all of them are due.
     pub(crate) fn due<R: Clock>(
