@@ -69,7 +69,7 @@ prove_copy() {
 # Proves and builds the program. The copy is taken away in the end.
 prove_all() {
     began=$(date +%s)
-    echo "wqd: the program is proved and built; that takes about 40 minutes on four processors" >&2
+    echo "wqd: the program is proved and built; that takes about an hour on four processors" >&2
     copy=$(mktemp -d) || return 1
     trap 'kill "$prover" 2> /dev/null; rm -rf "$copy"; exit 1' HUP INT TERM
     if copy_crates "$copy" && prove_copy "$copy" && mkdir -p "${built%/*}" && mv "$copy/crates/wqd/out/wqd" "$built"; then

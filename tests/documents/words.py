@@ -23,7 +23,7 @@ MOST = {
     "docs/SCRIPTS.md": 1750,
     "docs/SECURITY.md": 2250,
     "docs/SERVER.md": 5950,
-    "docs/SPEED.md": 1300,
+    "docs/SPEED.md": 1450,
     "docs/TROUBLESHOOTING.md": 1950,
     "docs/TUTORIAL.md": 1150,
     "docs/WQ.md": 1500,

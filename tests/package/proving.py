@@ -52,7 +52,7 @@ wq_base: itoa
 wqd: wq_base clap
 Handles allowed: none.
 """
-BEGINS = "wqd: the program is proved and built; that takes about 40 minutes on four processors\n"
+BEGINS = "wqd: the program is proved and built; that takes about an hour on four processors\n"
 STEPS = r"wqd: wq_base is proved, 1 of 2 \(\d+ s so far.*\)\nwqd: wqd is proved, 2 of 2 \(\d+ s so far\)\n"
 
 
