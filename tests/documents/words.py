@@ -16,7 +16,7 @@ MOST = {
     "docs/DECISIONS.md": 1150,
     "crates/*/DECISIONS.md": 9100,
     "docs/PROGRAMS.md": 5500,
-    "docs/PROOFS.md": 2400,
+    "docs/PROOFS.md": 2450,
     "docs/PROTOCOL.md": 9100,
     "docs/REFERENCE.md": 3050,
     "docs/RECIPES.md": 2000,
