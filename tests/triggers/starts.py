@@ -2,10 +2,11 @@
 
 import json
 import os
+import threading
 from pathlib import Path
 
 import built
-from client import ENVIRONMENT, VERSION, same
+from client import ENVIRONMENT, VERSION, Client, query_of_names, same
 from scene import Run, Scene
 
 # The variables that sh sets itself.
@@ -57,6 +58,38 @@ def check_surroundings(tally: built.Tally, scene: Scene, run: Run) -> None:
     same(tally, "the environment of the server", found, servers)
     # ls itself has opened the directory that it lists.
     same(tally, "the handles of a command", run.handles, ["0", "1", "2", "3"])
+
+
+def check_directories_beside_walks(tally: built.Tally, room: Path) -> None:
+    """While another root is walked all the time, a command is found in its own root by a relative path, and runs there."""
+    large = room / "large"
+    for number in range(100):
+        (large / f"directory{number:02}").mkdir(parents=True)
+        for file in range(100):
+            (large / f"directory{number:02}" / f"file{file:02}").touch()
+    with Scene(room) as scene, scene.server.client() as other:
+        other.ask("watch", str(large))
+        script = scene.root / "script"
+        script.write_text(f"#!/bin/sh\npwd >> '{scene.out}/log'\n")
+        script.chmod(0o700)
+        ends = threading.Event()
+        walking = threading.Thread(target=walk_until, args=(ends, other, large))
+        walking.start()
+        try:
+            scene.register("t", ["./script"])
+            for number in range(3):
+                scene.make(f"a{number}")
+                tally.check(f"start {number} beside walks", scene.has_lines(number + 1))
+        finally:
+            ends.set()
+            walking.join()
+        same(tally, "the directories of commands beside walks", set(scene.lines()), {str(scene.root)})
+
+
+def walk_until(ends: threading.Event, client: Client, root: Path) -> None:
+    """Has a root walked again and again."""
+    while not ends.is_set():
+        client.ask("query", str(root), {"expression": "false", **query_of_names()})
 
 
 def check_inputs(tally: built.Tally, room: Path) -> None:

@@ -6,8 +6,10 @@ ghost use Rattle.wq_walk.specs.Directory.{names_left};
 ghost use Rattle.wq_walk.specs.Told.{IsFailure};
 
 use crate::names::{Block, Names, names_in};
+use crate::path::with_slash;
 use crate::stat::{Stat, stat_of};
 use crate::unseen::walk_fault;
+use std::env;
 use std::fs::Files;
 use wq_crawl::TreeFault;
 
@@ -42,12 +44,43 @@ pub trait Disk {
 #[derive(Drop)]
 pub struct FileDisk {
     files: HostRuntime,
+    /// The path of the root in which the process is, with a slash at its end. It is empty if the process is in none.
+    entered: String,
 }
 
 impl FileDisk {
     /// The disk that these files are on. The call takes no memory.
     pub fn new(files: &HostRuntime) -> FileDisk {
-        FileDisk { files: *files }
+        FileDisk {
+            files: *files,
+            entered: String::new(files.alloc()),
+        }
+    }
+
+    /// Makes a root the working directory of the process, so that the system begins each look below it there. If that
+    /// fails, it begins at `/`.
+    pub(crate) fn enter(&mut self, root: &str) {
+        let Ok(path) = with_slash(self.files.alloc(), root) else {
+            return;
+        };
+        if env::set_current_dir(&self.files, path.as_str()).is_ok() {
+            self.entered = path;
+        }
+    }
+
+    /// Makes `/` the working directory of the process, so that no file system stays in use.
+    pub(crate) fn leave(&mut self) {
+        self.entered.clear();
+        let _ = env::set_current_dir(&self.files, "/");
+    }
+
+    /// A path to the same file from the working directory. That of the root stays whole: a root that was deleted is
+    /// still the working directory, and only its whole path says that it went.
+    fn from_here<'a>(&self, path: &'a str) -> &'a str {
+        match path.strip_prefix(self.entered.as_str()) {
+            Some("") | None => path,
+            Some(rest) => rest,
+        }
     }
 }
 
@@ -61,11 +94,11 @@ impl Disk for FileDisk {
     ghost fails = { λ _. fails_here };
 
     fn names_in(&self, block: &mut Block, path: &str) -> Result<Option<Names>, TreeFault> {
-        names_in(&self.files, block, path)
+        names_in(&self.files, block, self.from_here(path))
     }
 
     fn stat(&self, path: &str) -> Result<Option<Stat>, TreeFault> {
-        match self.files.symlink_metadata(path) {
+        match self.files.symlink_metadata(self.from_here(path)) {
             Ok(metadata) => Ok(Some(stat_of(&metadata))),
             Err(error) => match walk_fault(&error) {
                 Some(fault) => Err(fault),

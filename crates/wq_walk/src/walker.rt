@@ -131,6 +131,8 @@ impl<T: Threads + Drop, D: Disk + Sync + Drop> Walker<T, D> {
     }
 }
 
+/// During a listing the root is the working directory of the process, and `/` after it. So one walker may list at a time,
+/// and nothing else may use a relative path.
 impl<T: Threads + Drop> Tree for Walker<T, FileDisk> {
     ghost failed = { λ walker. walker.failures };
 
@@ -142,7 +144,10 @@ impl<T: Threads + Drop> Tree for Walker<T, FileDisk> {
         ensures few { IfOk result (λ rows. length rows.items ≤ max_listing_rows) }
         ensures walked { IfOk result (λ rows. IsListedHere root.now rows.items) }
     {
-        self.walk(root)
+        self.disk.enter(root);
+        let listed = self.walk(root);
+        self.disk.leave();
+        listed
     }
 
     /// The rows of the files below a root on this machine, as [`Walker::walk_again`] gives them.
@@ -153,7 +158,10 @@ impl<T: Threads + Drop> Tree for Walker<T, FileDisk> {
         ensures few { IfOk result (λ rows. length rows.items ≤ max_listing_rows) }
         ensures walked { IfOk result (λ rows. IsListedHere root.now rows.items) }
     {
-        self.walk_again(root, last)
+        self.disk.enter(root);
+        let listed = self.walk_again(root, last);
+        self.disk.leave();
+        listed
     }
 
     fn failures(&self) -> u64 {
