@@ -37,7 +37,7 @@ pub use watch::{unwatch_reply, watch_reply};
 use watch::{ask_list, ask_unwatch, ask_watch};
 
 /// A command, by its name alone.
-#[derive(Clone, Copy, Debug, PartialEq, Eq)]
+#[derive(Clone, Copy, PartialEq, Eq)]
 pub(crate) enum Command {
     /// The server watches a root.
     Watch,

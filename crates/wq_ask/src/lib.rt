@@ -25,7 +25,7 @@ pub use command::{
     watch_reply,
 };
 pub use cursor::Cursor;
-pub use law::asks_hand_in_valid;
+pub use law::{asks_hand_in_valid, hands_in_valid};
 pub use line::Line;
 pub use need::Need;
 pub use outcome::Out;

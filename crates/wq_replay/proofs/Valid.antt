@@ -13,19 +13,12 @@ use Rattle.wq_ask.specs.declared.ask.Ask.{Ask}
 use Rattle.wq_ask.specs.declared.ask.Ask.TheVariants.{OfShelf}
 use Rattle.wq_ask.specs.declared.ask.ShelfAsk.TheVariants.{AddProgram}
 use Rattle.wq_session.specs.Accepted.{AddedAreAsked, CallNow}
-use Rattle.wq_session.specs.Round.{TriggerTurnData, turn_calls}
-use Rattle.wq_session.proofs.Adding.{one_of}
+use Rattle.wq_session.proofs.Adding.{one_of, turns_none}
 use Rattle.wq_verify.specs.Typing.{IsValid}
 use Rattle.wq_replay.specs.Accepted.{AcceptsAt, AcceptsOf, AcceptsRound, AcceptsUnless, RunsWith, ShelvesAreCalls}
 use Rattle.wq_replay.specs.Gets.{ending, fault_for}
 use Rattle.wq_replay.specs.Valid.{AreAsksOfEvents, IsOfEvent, ProgramsAreValid}
 use Rattle.wq_replay.specs.World.{crawl, watching, asked, idle, round, ended, HappeningData, SentData, WorldData, new_world, root_text}
-
--- the calls of turns add no program
-turns_none : (raw : Raw) (root : ℕ) (turns : List TriggerTurnData) → AddsOne raw (turn_calls root turns) → ⊥
-turns_none raw root [] one = one
-turns_none raw root (turn ∷ turns) (inl none) = none
-turns_none raw root (turn ∷ turns) (inr one) = turns_none raw root turns one
 
 module _ (added_are_asked : AddedAreAsked) (hand_in_valid : AsksHandInValid) (raw : Raw) where
   -- a program that an ask hands in may run

@@ -1,6 +1,6 @@
 mod Beginnings
 mod Shown
-mod Reaching
+pub mod Reaching
 mod Staying
 mod Needs
 mod Going

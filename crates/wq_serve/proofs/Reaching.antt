@@ -1,26 +1,32 @@
 -- Sessions and rounds at a shelf lead on from there, as accepted calls do.
-use Rattle.std.proofs.Common.{◌≡◌, ℕ, List, [], ◌∷◌, ◌++◌, Option, inl, refl, sym, ap, subst, ◌∙◌}
+use Rattle.std.proofs.Common.{◌≡◌, ◌⊎◌, ℕ, List, [], ◌∷◌, ◌++◌, Option, Some, inl, inr, refl, sym, ap, subst, ◌∙◌}
 use Rattle.wq_clock.specs.Instance.{InstanceData}
+use Rattle.wq_code.specs.declared.raw.Raw.{Raw}
 use Rattle.wq_follow.specs.Launcher.{LauncherData}
-use Rattle.wq_registry.specs.History.{after_all, unsets_cursor}
+use Rattle.wq_registry.specs.ByName.{under}
+use Rattle.wq_registry.specs.History.{AddsOne, after_all, unsets_cursor}
 use Rattle.wq_registry.specs.Shelf.{blank, cursor_unset}
+use Rattle.wq_registry.proofs.Added.{programs_were_added}
+use Rattle.wq_ask.specs.HandedIn.{HandsInValid}
 use Rattle.wq_ask.specs.Out.{settled}
-use Rattle.wq_session.specs.Accepted.{AnswersAreCalls, CallNow}
+use Rattle.wq_session.specs.Accepted.{AddedAreAsked, AnswersAreCalls, CallNow}
 use Rattle.wq_session.specs.Answer.{TakesAsk, finished}
 use Rattle.wq_session.specs.Round.{IsRound, RoundsAreCalls, turn_calls}
+use Rattle.wq_verify.specs.Typing.{IsValid}
 use Rattle.wq_view.specs.View.{ViewData}
 use Rattle.wq_ask.specs.declared.ask.Ask.{Ask}
 use Rattle.wq_session.specs.Work.{WorkData}
 use Rattle.wq_session.specs.At.{AtData, ShelfNow}
-use Rattle.wq_session.specs.Reached.{TurnData, takes, unsets, rounds, Turns, LeadsToShelf, IsReached, ReachedByCalls}
+use Rattle.wq_session.specs.Reached.{TurnData, takes, unsets, rounds, Turns, LeadsToShelf, IsReached, ReachedByCalls, ReachedProgramsAreValid}
+use Rattle.wq_session.proofs.Adding.{one_of, turns_none, unset_none}
 use Rattle.wq_session.proofs.Ending.{none_named}
 use Rattle.wq_session.proofs.Held.{none_unset}
 
 -- an ask is taken
 pub take_reached : (ask : Ask) (at : Option AtData) (shelf left : ShelfNow) (work : WorkData)
-    → TakesAsk ask at shelf work left → IsReached shelf → IsReached left
+    → HandsInValid ask → TakesAsk ask at shelf work left → IsReached shelf → IsReached left
 unfolding IsReached
-take_reached ask at shelf left work taken (sockname, turns, led) = (sockname, takes ask at work ∷ turns, (shelf, led, taken))
+take_reached ask at shelf left work valid taken (sockname, turns, led) = (sockname, takes ask at work ∷ turns, (shelf, led, (valid, taken)))
 
 -- a cursor is unset
 pub unset_reached : (root : ℕ) (name : List ℕ) (shelf : ShelfNow) → IsReached shelf → IsReached (cursor_unset root name shelf)
@@ -38,33 +44,62 @@ pub after_both : (first later : List CallNow) (shelf : ShelfNow) → after_all (
 after_both [] later shelf = refl
 after_both (c ∷ cs) later shelf = after_both cs later _
 
-module _ (answers_are_calls : AnswersAreCalls) (rounds_are_calls : RoundsAreCalls) where
-  -- the calls of a turn
-  calls : (turn : TurnData) (before after : ShelfNow) (sockname : List ℕ) (first : List CallNow) → before ≡ after_all first (blank sockname)
-      → Turns turn before after → (calls : List CallNow) × (after ≡ after_all calls before)
-  calls (takes ask at work) before after sockname first is taken =
+module _ (answers_are_calls : AnswersAreCalls) (rounds_are_calls : RoundsAreCalls) (added_are_asked : AddedAreAsked) where
+  -- calls that lead from one shelf to another; each program that they add may run
+  record Leads (before after : ShelfNow) : Type 0 where
+    calls : List CallNow
+    is : after ≡ after_all calls before
+    valid : (raw : Raw) → AddsOne raw calls → IsValid raw
+
+  -- the calls of an act
+  by_act : (turn : TurnData) (before after : ShelfNow) (sockname : List ℕ) (first : List CallNow) → before ≡ after_all first (blank sockname)
+      → Turns turn before after → Leads before after
+  by_act (takes ask at work) before after sockname first is (valid, taken) =
       let done = finished work at [] in
       let answers =
       none_unset ask at [] done.follows work done.out (settled done.out) before after taken (inl refl) refl (none_named work at []) in
       let it = answers_are_calls ask at before [] (settled done.out) after done.follows answers in
-      (it.0, it.2)
-  calls (unsets root name) before after sockname first is unset = (unsets_cursor root name ∷ [], unset)
-  calls (rounds instance view shown left) before after sockname first is round =
-      let r = subst (λ s. IsRound instance view s shown after left) is round in (
-        turn_calls instance.root r.turns,
-        rounds_are_calls instance view first sockname shown after left r ∙ ap (after_all (turn_calls instance.root r.turns)) (sym is),
-      )
+      record {
+        calls = it.0;
+        is = it.2;
+        valid = λ raw one. subst HandsInValid (added_are_asked ask at before [] (settled done.out) it.0 raw it.1 one).1 valid;
+      }
+  by_act (unsets root name) before after sockname first is unset = record {
+    calls = unsets_cursor root name ∷ [];
+    is = unset;
+    valid = λ raw one. absurd (unset_none raw (Some (record { root = root; name = name })) one);
+  }
+  by_act (rounds instance view shown left) before after sockname first is round =
+      let r = subst (λ s. IsRound instance view s shown after left) is round in record {
+        calls = turn_calls instance.root r.turns;
+        is = rounds_are_calls instance view first sockname shown after left r ∙ ap (after_all (turn_calls instance.root r.turns)) (sym is);
+        valid = λ raw one. absurd (turns_none raw instance.root r.turns one);
+      }
 
-  all_calls : (sockname : List ℕ) (turns : List TurnData) (shelf : ShelfNow) → LeadsToShelf sockname turns shelf
-      → (calls : List CallNow) × (shelf ≡ after_all calls (blank sockname))
-  all_calls sockname [] shelf is = ([], is)
-  all_calls sockname (last ∷ earlier) shelf (before, led, turned) =
-      let first = all_calls sockname earlier before led in
-      let one = calls last before shelf sockname first.0 first.1 turned in
-      (first.0 ++ one.0, one.1 ∙ ap (after_all one.0) first.1 ∙ sym (after_both first.0 one.0 (blank sockname)))
+  by_acts : (sockname : List ℕ) (turns : List TurnData) (shelf : ShelfNow) → LeadsToShelf sockname turns shelf → Leads (blank sockname) shelf
+  by_acts sockname [] shelf is = record { calls = []; is = is; valid = λ raw none. absurd none }
+  by_acts sockname (last ∷ earlier) shelf (before, led, turned) =
+      let first = by_acts sockname earlier before led in
+      let one = by_act last before shelf sockname first.calls first.is turned in
+      record {
+        calls = first.calls ++ one.calls;
+        is = one.is ∙ ap (after_all one.calls) first.is ∙ sym (after_both first.calls one.calls (blank sockname));
+        valid = λ raw some. either raw first.calls one.calls first.valid one.valid (one_of raw first.calls one.calls some);
+      }
+    where
+      either : (raw : Raw) (a b : List CallNow) → ((raw : Raw) → AddsOne raw a → IsValid raw) → ((raw : Raw) → AddsOne raw b → IsValid raw)
+          → AddsOne raw a ⊎ AddsOne raw b → IsValid raw
+      either raw a b mine others (inl one) = mine raw one
+      either raw a b mine others (inr one) = others raw one
 
-  -- the law
+  -- the laws
   pub reached_by_calls : ReachedByCalls
   unfolding IsReached
   reached_by_calls shelf (sockname, turns, led) =
-      let all = all_calls sockname turns shelf led in (sockname, all.0, all.1)
+      let all = by_acts sockname turns shelf led in (sockname, all.calls, all.is)
+
+  pub reached_programs_are_valid : ReachedProgramsAreValid
+  unfolding IsReached
+  reached_programs_are_valid shelf name raw (sockname, turns, led) is =
+      let all = by_acts sockname turns shelf led in
+      all.valid raw (programs_were_added all.calls sockname name raw (sym (ap (λ s. under name s.programs) all.is) ∙ is))

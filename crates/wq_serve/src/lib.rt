@@ -24,4 +24,4 @@ pub use law::accepted_stays;
 pub use lock_desk::LockDesk;
 pub use seat_views::SeatViews;
 pub use serving::{Ended, MAX_EVENTS, serve};
-pub use shared_shelf::{ReachedShelf, SharedShelf, reached_by_calls};
+pub use shared_shelf::{ReachedShelf, SharedShelf, reached_by_calls, reached_programs_are_valid};

@@ -3,7 +3,7 @@ ghost use Rattle.std.specs.Prelude.{◌≡◌, IfSome, string_bytes};
 ghost use Rattle.wq_clock.specs.Instance.{instance_data};
 ghost use Rattle.wq_registry.specs.Kept.{StandsFor};
 ghost use Rattle.wq_registry.specs.Shelf.{blank, cursor_unset};
-ghost use Rattle.wq_session.specs.Reached.{IsReached, ReachedByCalls};
+ghost use Rattle.wq_session.specs.Reached.{IsReached, ReachedByCalls, ReachedProgramsAreValid};
 ghost use Rattle.wq_session.specs.Answer.{TakesAsk};
 ghost use Rattle.wq_session.specs.Prepared.{IsPrepared, asked, asked_at};
 ghost use Rattle.wq_session.specs.Round.{IsCountedRound};
@@ -18,7 +18,7 @@ use wq_ask::Cursor;
 use wq_clock::Instance;
 use wq_follow::{Launch, Trigger};
 use wq_registry::{Cache, CacheKey, Compiled, Forgotten, Root, Shelf};
-use wq_session::{Turn, Unset, Work, answers_are_calls, round, rounds_are_calls};
+use wq_session::{Turn, Unset, Work, added_are_asked, answers_are_calls, round, rounds_are_calls};
 use wq_verify::Program;
 use wq_view::View;
 
@@ -127,4 +127,14 @@ pub fn reached_by_calls()
 {
     answers_are_calls();
     rounds_are_calls();
+    added_are_asked();
+}
+
+/// Each program under a name on such a shelf may run.
+pub fn reached_programs_are_valid()
+    ensures { ReachedProgramsAreValid }
+{
+    answers_are_calls();
+    rounds_are_calls();
+    added_are_asked();
 }

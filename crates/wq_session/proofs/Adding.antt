@@ -21,6 +21,7 @@ use Rattle.wq_session.specs.Accepted.{CallNow, AddedAreAsked, calls_of, cursor_c
 use Rattle.wq_session.specs.Trigger.{defined_by}
 use Rattle.wq_session.specs.At.{AtData, ShelfNow}
 use Rattle.wq_session.specs.Query.{program_for}
+use Rattle.wq_session.specs.Round.{TriggerTurnData, turn_calls}
 
 -- a call that adds a program is one of the first calls, or one of those after them
 pub one_of : (raw : Raw) (calls more : List CallNow) → AddsOne raw (calls ++ more) → AddsOne raw calls ⊎ AddsOne raw more
@@ -59,9 +60,15 @@ definition_none : (raw : Raw) (root : List ℕ) (number : ℕ) (d : Result Defin
 definition_none raw root number (Ok d) shelf one = made_none raw root number d (program_for d.query shelf) shelf one
 definition_none raw root number (Err refusal) shelf one = one
 
-unset_none : (raw : Raw) (cursor : Option Cursor) → AddsOne raw (unset_calls cursor) → ⊥
+pub unset_none : (raw : Raw) (cursor : Option Cursor) → AddsOne raw (unset_calls cursor) → ⊥
 unset_none raw None one = one
 unset_none raw (Some cursor) one = neither one
+
+-- nor do those of turns in a round
+pub turns_none : (raw : Raw) (root : ℕ) (turns : List TriggerTurnData) → AddsOne raw (turn_calls root turns) → ⊥
+turns_none raw root [] one = one
+turns_none raw root (turn ∷ turns) (inl none) = none
+turns_none raw root (turn ∷ turns) (inr one) = turns_none raw root turns one
 
 -- the calls of an ask of a root add none
 there_none : (raw : Raw) (what : RootAsk) (root : List ℕ) (at : AtData) (shelf : ShelfNow) → AddsOne raw (there_calls what root at shelf) → ⊥

@@ -17,7 +17,8 @@ abbrev pub HoldsShelf : Option ShelfNow → Ask → Option AtData → WorkData �
 HoldsShelf (Some shelf) ask at work after =
     (left : ShelfNow) × TakesAsk ask at shelf work left × (after ≡ Some left)
 HoldsShelf None ask at work after =
-    (shelf : ShelfNow) × (left : ShelfNow) × IsReached shelf × TakesAsk ask at shelf work left × (after ≡ None)
+    (shelf : ShelfNow) × (left : ShelfNow) × IsReached shelf × TakesAsk ask at shelf work left
+    × (after ≡ None)
 
 -- a cursor is unset on the shelf, if one is shown
 abbrev pub Unsets : Option ShelfNow → Cursor → Option ShelfNow → Type 0

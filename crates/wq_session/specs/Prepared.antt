@@ -18,6 +18,7 @@ use Rattle.wq_query.specs.declared.fault.QueryFault.{QueryFault}
 use Rattle.wq_registry.specs.CacheKey.{CacheKeyData, Says}
 use Rattle.wq_registry.specs.Kept.{StandsFor}
 use Rattle.wq_term.specs.Expr.{ExprData}
+use Rattle.wq_ask.specs.HandedIn.{HandsInValid}
 use Rattle.wq_ask.specs.declared.ask.Ask.{Ask}
 use Rattle.wq_ask.specs.declared.ask.Ask.TheVariants.{OfRoot}
 use Rattle.wq_ask.specs.declared.ask.RootAsk.{RootAsk}
@@ -143,9 +144,10 @@ asked prepared = prepared.ask
 abbrev pub asked_at : Prepared → Option AtData
 asked_at prepared = option_map at_data prepared.at
 
--- an ask was prepared: its object, if it has one, was read
-abbrev pub IsPrepared : Prepared → Type 0
-IsPrepared prepared = IsReadAt (object_in (asked prepared)) (asked_at prepared) prepared.read
+-- an ask was prepared: a program that it hands in may run, and its object, if it has one, was read
+pub record IsPrepared (prepared : Prepared) : Type 0 where
+  pub valid : HandsInValid (asked prepared)
+  pub read : IsReadAt (object_in (asked prepared)) (asked_at prepared) prepared.read
 
 -- the key that keeps the program of an object that was read
 abbrev pub key_of_read : ReadObject → Option CacheKeyData

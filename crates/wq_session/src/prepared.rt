@@ -17,7 +17,7 @@ use crate::read_trigger::ReadTrigger;
 use crate::work::{Rest, Work};
 use std::alloc::Global;
 use std::sync::Arc;
-use wq_ask::{Ask, Out, RootAsk};
+use wq_ask::{Ask, Out, RootAsk, hands_in_valid};
 use wq_clock::Instance;
 use wq_follow::Trigger;
 use wq_registry::{CacheKey, Compiled, Shelf};
@@ -39,6 +39,7 @@ impl<'a> Prepared<'a> {
         ensures ask { asked result ≡ ask }
         ensures at { asked_at result ≡ option_map at_data at.entry }
     {
+        hands_in_valid(&ask);
         let read = read_at(alloc, &ask, at);
         Prepared { ask, at, read }
     }

@@ -5,9 +5,11 @@ use Rattle.wq_session.proofs.prepared.Prepared.compiled.Goals as goal
 
 pub compiled-read-requires-clause-read : goal.compiled-read-requires-clause-read
 compiled-read-requires-clause-read c =
-    are_read (object_in c.args.self.ask) (asked_at c.args.self) c.args.self.read c.requires.prepared
+    are_read (object_in c.args.self.ask) (asked_at c.args.self) c.args.self.read c.requires.prepared.read
 
 pub returns-clause-prepared : goal.returns-clause-prepared
-returns-clause-prepared c =
-    read_again (object_in c.args.self.ask) (asked_at c.args.self) c.args.self.read c.compiled-read.result.0 c.requires.prepared
-    c.compiled-read.ensures
+returns-clause-prepared c = record {
+  valid = c.requires.prepared.valid;
+  read = read_again (object_in c.args.self.ask) (asked_at c.args.self) c.args.self.read c.compiled-read.result.0 c.requires.prepared.read
+      c.compiled-read.ensures;
+}
