@@ -12,3 +12,8 @@ mod Needs
 mod Asked
 mod Events
 mod Sessions
+mod Queries
+mod Worldly
+mod Moments
+mod Threads
+mod Clocks

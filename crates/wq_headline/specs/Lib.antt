@@ -3,3 +3,4 @@ pub mod TextBytes
 pub mod LineCost
 pub mod Lists
 pub mod Alone
+pub mod Exact
