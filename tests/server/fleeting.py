@@ -34,11 +34,11 @@ def make_deep_directories(root: Path) -> List[str]:
 
 
 def check_paths_that_are_too_long(tally: built.Tally, room: Path) -> None:
-    """Files whose path with that of the root the system takes are listed, and no others."""
+    """Files whose path from the root the system takes are listed, and no others."""
     root = room / "tree"
     root.mkdir()
     names = make_deep_directories(root)
-    short = sorted(name for name in names if len(str(root)) + 1 + len(name) <= LONGEST_PATH)
+    short = sorted(name for name in names if len(name) <= LONGEST_PATH)
     with Server(room) as server, server.client() as client:
         client.ask("watch", str(root))
         files = client.ask("query", str(root), query_of_names())["files"]

@@ -84,6 +84,28 @@ def check_a_root_that_goes_during_walks(tally: built.Tally, room: Path) -> None:
         tally.check("walks found it gone", server.says(told_of(root)))
 
 
+def check_a_root_that_is_deleted_during_walks(tally: built.Tally, room: Path) -> None:
+    """A root that is moved away while it is walked, and deleted there at once: no file of it is told as gone. Made again
+    of the same files, it is as it was."""
+    root, away = room / "tree", room / "away"
+    for number in range(40):
+        fill_directory(root / f"directory{number:02}", 100)
+    copies = [shutil.copytree(root, room / f"copy{number}") for number in range(3)]
+    with Server(room, interval=20) as server, server.client() as client:
+        client.ask("watch", str(root))
+        first = client.ask("clock", str(root))["clock"]
+        seconds = seconds_of_a_crawl(client, root)
+        for copy in copies:
+            root.rename(away)
+            shutil.rmtree(away)
+            time.sleep(max(1, 10 * seconds))
+            Path(copy).rename(root)
+            time.sleep(max(0.1, 2 * seconds))
+        reply = client.ask("query", str(root), {"since": first, **query_of_names()})
+        same(tally, "a root that was deleted during walks", (reply["files"], reply["clock"]), ([], first))
+        tally.check("walks found it deleted", server.says(told_of(root)))
+
+
 def told_of(root: Path) -> bytes:
     """The line by which the operator is told of a root that cannot be read."""
     return told(root, "the root cannot be read")

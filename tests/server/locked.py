@@ -5,7 +5,7 @@ from pathlib import Path
 from typing import Iterator, List
 
 import built
-from client import A_HOUR, Client, Server, same
+from client import A_HOUR, VERSION, Client, Server, query_of_names, same
 
 OPEN = ["locked", "open", "open/file"]
 BELOW = ["locked/directory", "locked/directory/file", "locked/file"]
@@ -38,6 +38,24 @@ def check_a_locked_directory(tally: built.Tally, room: Path) -> None:
     same(tally, "a locked directory", told(first), [(name, True) for name in OPEN])
     same(tally, "a directory that is no longer locked", told(second), [(name, True) for name in BELOW])
     same(tally, "a directory that is locked again", told(third), [(name, False) for name in BELOW])
+
+
+def check_a_root_that_cannot_be_entered(tally: built.Tally, room: Path) -> None:
+    """Of a root that can be read and not entered no file can be looked at: not even those with a name that is at the top of
+    the file system too. One that can be entered and not read is refused. When it can be both, all files are there."""
+    root = room / "tree"
+    (root / "etc").mkdir(parents=True)
+    (root / "etc" / "passwd").touch()
+    files = ["etc", "etc/passwd"]
+    with Server(room, interval=A_HOUR, is_plain=True) as server, server.client() as client:
+        client.ask("watch", str(root))
+        for mode, expected in ((0o500, files), (0o400, []), (0o700, files), (0o000, None), (0o100, None), (0o500, files)):
+            root.chmod(mode)
+            reply = client.ask("query", str(root), query_of_names())
+            same(tally, f"a root of mode {mode:03o}", reply.get("files"), expected)
+            if expected is None:
+                same(tally, f"the refusal of mode {mode:03o}", reply, {"error": "E11: root cannot be read", **VERSION})
+        root.chmod(0o700)
 
 
 def changes(client: Client, root: Path, **query: object) -> dict:

@@ -6,9 +6,11 @@ import subprocess
 from pathlib import Path
 
 import built
-from client import PATIENCE, VERSION, Server, same
+from client import PATIENCE, VERSION, Client, Server, query_of_names, same
 
 LEFT = 100
+# The whole path of a socket in a directory with this name is too long for a socket.
+LONG = "d" * 100
 
 
 def check_a_server_that_hangs(tally: built.Tally, room: Path) -> None:
@@ -56,3 +58,32 @@ def check_directories_that_were_left(tally: built.Tally, room: Path) -> None:
         same(tally, "what it makes beside them", len(os.listdir(room)), LEFT + 1)
         same(tally, "its end", server.shut_down(client), 0)
     same(tally, "the directories that were left", sorted(os.listdir(room)), sorted(one.name for one in left))
+
+
+def check_a_relative_path(tally: built.Tally, room: Path) -> None:
+    """A server whose socket has a path from the directory in which it was started. After a walk its working directory is `/`,
+    so that no file system stays in use, and even so it removes the socket when it ends."""
+    started, root = room / LONG, room / "tree"
+    started.mkdir()
+    root.mkdir()
+    (root / "a").touch()
+    command = [str(built.program_path()), "serve", "--sockname", "socket", "--start", "7", "--pid", "9"]
+    with subprocess.Popen(command, cwd=started, stderr=subprocess.PIPE) as server:
+        same(tally, "a socket by a relative path", server.stderr.readline(), b"listening on socket\n")
+        with connected(started) as client:
+            same(tally, "its name", client.ask("get-sockname"), {"sockname": "socket", **VERSION})
+            client.ask("watch", str(root))
+            same(tally, "a root beside it", client.ask("query", str(root), query_of_names())["files"], ["a"])
+            same(tally, "the directory after a walk", os.readlink(f"/proc/{server.pid}/cwd"), "/")
+            client.ask("shutdown-server")
+        same(tally, "its end", server.wait(PATIENCE), 0)
+    same(tally, "what is left of it", os.listdir(started), [])
+
+
+def connected(directory: Path) -> Client:
+    """A client of the socket in a directory, however long its path is."""
+    handle = os.open(directory, os.O_RDONLY)
+    try:
+        return Client(f"/proc/self/fd/{handle}/socket")
+    finally:
+        os.close(handle)

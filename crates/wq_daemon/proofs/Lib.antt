@@ -1,3 +1,4 @@
-pub mod Sharing
+mod Cycles
 mod Levels
+pub mod Sharing
 mod Shares

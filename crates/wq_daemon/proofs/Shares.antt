@@ -1,5 +1,5 @@
 -- Pauses with which the walks of a root keep their part of a processor.
-use Rattle.std.proofs.Common.{◌≡◌, ◌∙◌, ℕ, zero, ◌+◌, ◌*◌, ◌/◌, ◌<◌, ◌≤◌, add-mul, mul-add, ap, mul-le-mul_left, min, ◌-◌, subst, sym}
+use Rattle.std.proofs.Common.{◌≡◌, ◌∙◌, ℕ, zero, ◌+◌, ◌*◌, ◌/◌, ◌<◌, ◌≤◌, mul-add, ap, mul-le-mul_left, min, ◌-◌, subst, sym}
 use native.Mathlib.Omega.{arith}
 use Rattle.std.proofs.Math.Nat.{div-le_self, lt-mul-div-succ, mul_comm}
 use Rattle.wq_daemon.specs.Pace.{KeepsPart}

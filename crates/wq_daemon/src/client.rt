@@ -76,6 +76,6 @@ where
         refuse(&mut stream, Refusal::NoMemory);
         return false;
     };
-    let mut inbox = LinkInbox::new(theirs, rt);
+    let mut inbox = LinkInbox { link: theirs, rt };
     host.serve(&rt, &mut inbox, &mut stream)
 }

@@ -117,7 +117,7 @@ fn with_patience(stream: &UnixStream) -> io::Result<UnixStream> {
     stream.try_clone()
 }
 
-/// Starts the thread of a client's session.
+/// Starts the thread of a client's session. If that fails, no link to the client is left.
 fn start_session<R, H>(
     rt: R,
     alloc: Global,
@@ -130,13 +130,14 @@ where
 {
     let stream = Arc::new(alloc, stream)?;
     let link = Arc::new(alloc, Link::new(alloc, stream.clone()?)?)?;
-    server.links.add(&rt, link.clone()?)?;
-    let (theirs, server) = (link.clone()?, server.clone()?);
+    let (theirs, held, shared) = (link.clone()?, link.clone()?, server.clone()?);
+    server.links.add(&rt, held)?;
     let session = thread::spawn(&rt, move || {
-        run_client(rt, alloc, theirs, stream, &server)
+        run_client(rt, alloc, theirs, stream, &shared)
     });
     if session.is_err() {
         link.set_over(&rt);
+        server.links.forget_over(&rt);
     }
     Ok(Client {
         link,

@@ -1,19 +1,15 @@
 //! The thread that crawls: rounds of the roots that are due, and the commands of their triggers.
 
 use crate::host::Host;
-use crate::moments::RootNumbers;
 use crate::server::Server;
-use crate::timing::{processor_time, time_since};
-use crate::walks::{Turn, Walks};
+use crate::timing::{Took, time_since};
+use crate::walks::Walks;
 use std::alloc::Global;
 use std::io;
 use std::sync::{Arc, Wait};
 use std::thread::Threads;
 use std::time::{Clock, CpuClock, Duration, Instant};
 use wq_launch::{MAX_RUNS, Notices, attend};
-
-/// A walk that took this many milliseconds the last time is long: sessions get their idle moments before it.
-const LONG: u64 = 50;
 
 /// Crawls, and has commands of triggers started and attended, until the server ends. If rounds have a share, there is
 /// no round while nobody needs one.
@@ -52,21 +48,14 @@ where
         return;
     }
     // What only rounds let go of does not stay in memory meanwhile.
-    let _ = begin_round(&server.host);
+    let _ = server.host.begin_round();
     server.links.wait_for_another(&rt, &server.stop, count);
-}
-
-/// Begins a round, and gives the roots that are shown; none if memory runs out for them.
-fn begin_round<H: Host>(host: &H) -> Option<RootNumbers> {
-    let roots = host.numbers()?;
-    host.begin_round(&roots.shown);
-    Some(roots)
 }
 
 /// Crawls each root that is due, with a round of its triggers after it. It stops if the server is to end. Returns the
 /// pause until the next round.
 ///
-/// The pause begins before the first long walk, and so may be over after it. So a root with a short walk waits for a
+/// The pause begins before the last long walk, and so may be over after it. So a root with a short walk waits for a
 /// long one only as long as that goes on after the interval.
 fn crawl_due<R, H, O>(
     rt: R,
@@ -83,7 +72,7 @@ where
     // Commands that could not be attended before are tried again, whether or not a root is watched.
     attend_all(rt, alloc, &server.host, notices);
     // If memory runs out for the roots, they are crawled in the next round.
-    let Some(roots) = begin_round(&server.host) else {
+    let Some(roots) = server.host.begin_round() else {
         return server.pace.interval;
     };
     walks.forget_others(&roots.shown);
@@ -92,16 +81,17 @@ where
     };
     let mut short_ended: Option<io::Result<Instant>> = None;
     for turn in turns {
-        if server.stop.is_asked(&rt) {
-            break;
-        }
-        if turn.took >= Duration::from_millis(LONG) && short_ended.is_none() {
+        if turn.is_long() {
+            if short_ended.is_some() {
+                crawl_short(rt, alloc, server, notices, walks, &roots.shown);
+            }
             server.pulse.beat(&rt);
             short_ended = Some(Instant::now(&rt));
         }
-        let took = crawl_one(rt, server, turn);
-        walks.add(&rt, turn.number, took);
-        attend_all(rt, alloc, &server.host, notices);
+        if server.stop.is_asked(&rt) {
+            break;
+        }
+        crawl_one(rt, alloc, server, notices, walks, turn.number);
     }
     match short_ended {
         Some(ended) => server.pace.interval.saturating_sub(time_since(&rt, ended)),
@@ -109,15 +99,50 @@ where
     }
 }
 
-/// Crawls a root, and returns how much processor time that took.
-fn crawl_one<R, H>(rt: R, server: &Server<H>, turn: Turn) -> Duration
+/// Crawls the roots with short walks that became due during a long one, so that they wait for no second one.
+fn crawl_short<R, H, O>(
+    rt: R,
+    alloc: Global,
+    server: &Server<H>,
+    notices: &Arc<O>,
+    walks: &mut Walks,
+    shown: &[u64],
+)
 where
-    R: Wait + CpuClock + Copy,
+    R: Threads + Wait + Clock + CpuClock + Copy + Drop + Send + Sync + 'static,
     H: Host + Drop,
+    O: Notices + Drop + Send + Sync + 'static,
+{
+    // If memory runs out for the roots, they are crawled in the next round.
+    let Ok(turns) = walks.due(&rt, &server.pace, shown) else {
+        return;
+    };
+    for turn in turns {
+        if turn.is_long() || server.stop.is_asked(&rt) {
+            return;
+        }
+        crawl_one(rt, alloc, server, notices, walks, turn.number);
+    }
+}
+
+/// Crawls a root, keeps how long that took, and has the commands attended that were started.
+fn crawl_one<R, H, O>(
+    rt: R,
+    alloc: Global,
+    server: &Server<H>,
+    notices: &Arc<O>,
+    walks: &mut Walks,
+    number: u64,
+)
+where
+    R: Threads + Wait + Clock + CpuClock + Copy + Drop + Send + Sync + 'static,
+    H: Host + Drop,
+    O: Notices + Drop + Send + Sync + 'static,
 {
     let before = rt.thread_cpu_time();
-    let worked = server.host.crawl(turn.number, &server.stop);
-    processor_time(worked, before, rt.thread_cpu_time())
+    let time = server.host.crawl(number, &server.stop);
+    walks.add(&rt, number, Took::new(time, before, rt.thread_cpu_time()));
+    attend_all(rt, alloc, &server.host, notices);
 }
 
 /// Starts a thread for each command that was started, which attends it, and says whether all are attended. If no thread

@@ -29,8 +29,8 @@ pub(crate) trait Host {
     /// The roots that are shown now; none if memory runs out for them.
     fn numbers(&self) -> Option<RootNumbers>;
 
-    /// Begins a round of crawls, when the roots of these numbers are shown.
-    fn begin_round(&self, shown: &[u64]);
+    /// Begins a round of crawls, and gives the roots that are shown; none if memory runs out for them.
+    fn begin_round(&self) -> Option<RootNumbers>;
 
     /// Whether a root has triggers.
     fn has_triggers(&self) -> bool;

@@ -9,6 +9,7 @@ mod clients;
 mod crawling;
 mod failing;
 mod host;
+mod law;
 mod lines;
 mod link;
 mod link_inbox;
@@ -32,6 +33,7 @@ mod walks;
 
 pub use assembly::{Parts, SEATS, serve_clients};
 pub use clients::MAX_SESSIONS;
+pub use law::parts_make_share;
 pub use lock_host::LockHost;
 pub use pace::{Pace, Share};
 pub use socket::{Listening, listen, remove};

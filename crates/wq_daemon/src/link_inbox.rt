@@ -8,14 +8,8 @@ use wq_stream::Event;
 /// The events of a client, in their order. The contract does not show them.
 #[derive(Drop)]
 pub(crate) struct LinkInbox<R: Wait + Drop> {
-    link: Arc<Link>,
-    rt: R,
-}
-
-impl<R: Wait + Drop> LinkInbox<R> {
-    pub(crate) fn new(link: Arc<Link>, rt: R) -> LinkInbox<R> {
-        LinkInbox { link, rt }
-    }
+    pub(crate) link: Arc<Link>,
+    pub(crate) rt: R,
 }
 
 impl<R: Wait + Drop> Inbox for LinkInbox<R> {

@@ -24,7 +24,7 @@ use wq_clock::Run;
 use wq_crawl::{Asked, CrawlFault, Crawler, LockRoots, Seconds, SharedCrawler, Tree};
 use wq_follow::Trigger;
 use wq_launch::{MAX_RUNS, Notices, Run as StartedRun, Runs, Spawn};
-use wq_live::{Named, RootTable, Seat};
+use wq_live::{Named, Seat};
 use wq_serve::{Ended, Inbox, Kept, LockDesk, ReachedShelf, SeatViews, SharedShelf, serve};
 
 /// How many walks of a root a round gives up, before it waits for the crawler as a client does.
@@ -215,7 +215,8 @@ where
     /// Tells the operator of the triggers whose commands could not be started, once for each.
     fn tell_of_starts(&self) {
         for _ in 0..MAX_RUNS {
-            let Some(line) = self.rounds.next_line() else {
+            let next = self.rounds.launcher.lock(&self.rt).next_line();
+            let Ok(Some(line)) = next else {
                 return;
             };
             self.notices.tell(line.as_str());
@@ -234,8 +235,12 @@ where
     T: Tree + Drop,
     S: Seconds + Drop,
 {
+    let mut sessions = Vec::with_capacity(alloc, MAX_SESSIONS)?;
+    for _ in 0..MAX_SESSIONS {
+        sessions.push(crawler.seat()?).map_err(AllocError::from)?;
+    }
     let seats = Seats {
-        sessions: session_seats(alloc, &mut crawler)?,
+        sessions,
         idle: crawler.seat()?,
         rounds: crawler.seat()?,
     };
@@ -243,58 +248,37 @@ where
     Ok((seats, Arc::new(alloc, crawler)?))
 }
 
-/// A seat for each session that may be.
-fn session_seats<N, R, T, S>(
-    alloc: Global,
-    crawler: &mut Crawler<N, R, T, S>,
-) -> Result<Vec<Seat<N>>, AllocError>
-where
-    N: Named,
-    R: Wait + Copy + Drop,
-    T: Tree + Drop,
-    S: Seconds + Drop,
-{
-    let mut seats = Vec::with_capacity(alloc, MAX_SESSIONS)?;
-    for _ in 0..MAX_SESSIONS {
-        seats.push(crawler.seat()?).map_err(AllocError::from)?;
-    }
-    Ok(seats)
-}
-
 /// The text of the root of this number, if a seat sees it, and the seat. There is none if memory
 /// runs out for it, or if the look is refused.
 fn look_at_text<N: Named>(seat: Seat<N>, alloc: Global, number: u64) -> (Seat<N>, Option<String>) {
     match seat.look() {
         Ok(look) => {
-            let text = text_in(look.table(), alloc, number);
+            let text = match look.table().text(number) {
+                Some(text) => String::from_str(alloc, text).ok(),
+                None => None,
+            };
             (look.leave(), text)
         }
         Err(blind) => (blind.seat(), None),
     }
 }
 
-/// The text of the root of this number in a table.
-fn text_in(table: &RootTable, alloc: Global, number: u64) -> Option<String> {
-    String::from_str(alloc, table.text(number)?).ok()
-}
-
 /// The roots that a seat sees, and the seat. There are none if memory runs out for them, or if the look is refused.
 fn look_at_numbers<N: Named>(seat: Seat<N>) -> (Seat<N>, Option<RootNumbers>) {
     match seat.look() {
         Ok(look) => {
-            let numbers = numbers_in(look.table());
+            let table = look.table();
+            let numbers = match table.numbers() {
+                Ok(shown) => Some(RootNumbers {
+                    shown,
+                    given: table.given(),
+                }),
+                Err(_) => None,
+            };
             (look.leave(), numbers)
         }
         Err(blind) => (blind.seat(), None),
     }
-}
-
-/// The roots of a table.
-fn numbers_in(table: &RootTable) -> Option<RootNumbers> {
-    Some(RootNumbers {
-        shown: table.numbers().ok()?,
-        given: table.given(),
-    })
 }
 
 impl<N, R, T, S, O, P> Host for LockHost<N, R, T, S, O, P, Trigger>
@@ -338,10 +322,12 @@ where
         numbers
     }
 
-    fn begin_round(&self, shown: &[u64]) {
-        // The view of a root that is no longer watched stays in memory until this call.
+    fn begin_round(&self) -> Option<RootNumbers> {
+        // The view of a root that is no longer watched stays in memory until this call, which takes none.
         self.crawler.let_go(&self.rt);
-        self.failing.lock(&self.rt).forget_others(shown);
+        let roots = self.numbers()?;
+        self.failing.lock(&self.rt).forget_others(&roots.shown);
+        Some(roots)
     }
 
     fn has_triggers(&self) -> bool {
@@ -373,14 +359,14 @@ where
     }
 
     fn take_run(&self) -> Option<StartedRun> {
-        self.rounds.take_run()
+        self.rounds.launcher.lock(&self.rt).take()
     }
 
     fn give_back(&self, run: StartedRun) {
-        self.rounds.give_back(run);
+        self.rounds.launcher.lock(&self.rt).give_back(run);
     }
 
     fn runs(&self) -> &Arc<Runs> {
-        self.rounds.runs()
+        &self.rounds.runs
     }
 }

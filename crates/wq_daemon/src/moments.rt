@@ -19,14 +19,6 @@ pub(crate) struct RootNumbers {
 }
 
 impl RootNumbers {
-    /// The roots before any was started.
-    fn none(alloc: Global) -> RootNumbers {
-        RootNumbers {
-            shown: Vec::new(alloc),
-            given: 0,
-        }
-    }
-
     /// The numbers for which there is an idle moment when so many roots were ever started. First
     /// come those that were shown at this moment, and then those that were given since. No number
     /// is used again, so each root that is shown by then is among them.
@@ -53,8 +45,12 @@ where
     H: Host + Drop,
 {
     let patience = server.pace.interval.saturating_mul(2);
-    let mut then = RootNumbers::none(alloc);
-    let mut beats = server.pulse.count(rt);
+    // No root was started yet, and the pulse has not beaten.
+    let mut then = RootNumbers {
+        shown: Vec::new(alloc),
+        given: 0,
+    };
+    let mut beats = 0;
     for _ in rt.forever() {
         if server.pace.share.is_some() {
             server.links.wait_for_any(rt, &server.stop);

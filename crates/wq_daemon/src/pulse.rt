@@ -20,11 +20,6 @@ impl Pulse {
         }
     }
 
-    /// How many beats there were.
-    pub(crate) fn count<R: Wait>(&self, rt: &R) -> u64 {
-        *self.beats.lock(rt)
-    }
-
     /// Beats once: a round of crawls has ended.
     pub(crate) fn beat<R: Wait>(&self, rt: &R) {
         let mut beats = self.beats.lock(rt);

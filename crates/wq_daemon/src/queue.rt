@@ -29,14 +29,11 @@ struct Coming {
 }
 
 impl Coming {
-    /// Whether a thread that takes an event has to wait.
-    fn is_idle(&self) -> bool {
-        self.waiting.is_idle() && self.due.is_empty()
-    }
-
     /// Takes the next event.
     fn take(&mut self) -> Option<Event> {
-        if self.is_moment_next()
+        // A moment comes next, if one is due, unless one came last and the client's event waits.
+        if !self.waiting.is_closed()
+            && (!self.was_moment || self.waiting.is_idle())
             && let Some(number) = self.due.pop_front()
         {
             self.was_moment = true;
@@ -44,11 +41,6 @@ impl Coming {
         }
         self.was_moment = false;
         self.waiting.take()
-    }
-
-    /// Whether an idle moment comes next, if one is due.
-    fn is_moment_next(&self) -> bool {
-        !self.waiting.is_closed() && (!self.was_moment || self.waiting.is_idle())
     }
 
     /// Makes an idle moment of each of these roots due, unless the queue is closed.
@@ -101,7 +93,9 @@ impl Queue {
     /// Takes the next event as soon as there is one, or the end if the queue is closed.
     pub(crate) fn take<R: Wait>(&self, rt: &R) -> Event {
         let lock = self.coming.lock(rt);
-        let mut coming = self.changed.wait_while(rt, lock, |it| it.is_idle());
+        let mut coming = self.changed.wait_while(rt, lock, |it| {
+            it.waiting.is_idle() && it.due.is_empty()
+        });
         let event = coming.take();
         drop(coming);
         self.changed.notify_all();

@@ -3,9 +3,8 @@
 
 use std::alloc::{AllocError, Global};
 use std::sync::{Arc, Mutex, Wait};
-use wq_base::Text;
 use wq_clock::{Instance, Run};
-use wq_launch::{Launcher, Run as StartedRun, Runs, Spawn};
+use wq_launch::{Launcher, Runs, Spawn};
 use wq_live::{Named, Seat};
 use wq_serve::SharedShelf;
 use wq_view::View;
@@ -23,8 +22,9 @@ where
     run: Run,
     /// The seat of rounds. It is there whenever it is not locked.
     seat: Mutex<Option<Seat<N>>>,
-    launcher: Mutex<Launcher<P, R>>,
-    runs: Arc<Runs>,
+    pub(crate) launcher: Mutex<Launcher<P, R>>,
+    /// The commands that run.
+    pub(crate) runs: Arc<Runs>,
 }
 
 impl<N, P, R> Rounds<N, P, R>
@@ -51,26 +51,6 @@ where
             launcher: Mutex::new(launcher),
             runs,
         })
-    }
-
-    /// The commands that run.
-    pub(crate) fn runs(&self) -> &Arc<Runs> {
-        &self.runs
-    }
-
-    /// Takes the first command that was started and that nobody attends yet.
-    pub(crate) fn take_run(&self) -> Option<StartedRun> {
-        self.launcher.lock(&self.rt).take()
-    }
-
-    /// Keeps a command that could not be attended, until it is taken again.
-    pub(crate) fn give_back(&self, run: StartedRun) {
-        self.launcher.lock(&self.rt).give_back(run);
-    }
-
-    /// The line for the first failed start that the operator has not heard of yet; none if memory ran out.
-    pub(crate) fn next_line(&self) -> Option<Text> {
-        self.launcher.lock(&self.rt).next_line().ok()?
     }
 
     /// Has a round of the triggers of the root of this number on this shelf. It does not look at a

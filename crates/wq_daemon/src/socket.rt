@@ -3,6 +3,7 @@
 
 use mio::net::UnixStream;
 use std::alloc::{AllocError, Global};
+use std::env::{self, Env};
 use std::fs::{self, DirBuilder, Files, Permissions};
 use std::io::{self, Error, ErrorKind};
 use std::net::Net;
@@ -24,6 +25,7 @@ const DIRECTORY_MODE: u32 = 0o700;
 pub struct Listening {
     /// Accepts connections.
     pub listener: UnixListener,
+    /// Where the socket is. The server may have another working directory when it removes it.
     path: String,
     file: FileId,
 }
@@ -51,10 +53,10 @@ impl FileId {
 /// The directory has to exist. A socket at the path that nobody listens on is replaced. A socket
 /// that somebody listens on, and any other file, is an error and stays. The socket is made in a
 /// directory beside it that nobody else can enter, gets its mode there, and is then given its name.
-pub fn listen<R: Files + Net>(rt: &R, alloc: Global, path: &str) -> io::Result<Listening> {
+pub fn listen<R: Files + Net + Env>(rt: &R, alloc: Global, path: &str) -> io::Result<Listening> {
     // A path that is too long for clients is refused.
     SocketAddr::from_pathname(path)?;
-    let kept_path = String::from_str(alloc, path)?;
+    let kept_path = whole_path(rt, alloc, path)?;
     let directory = make_directory(rt, alloc, path)?;
     let listened = listen_in(rt, alloc, &directory, path);
     let _ = fs::remove_dir(rt, directory.as_str());
@@ -64,6 +66,18 @@ pub fn listen<R: Files + Net>(rt: &R, alloc: Global, path: &str) -> io::Result<L
         path: kept_path,
         file,
     })
+}
+
+/// The path of a file from `/` on. If the working directory has none, or one that is not UTF-8, it is
+/// the path that was given.
+fn whole_path<R: Env>(rt: &R, alloc: Global, path: &str) -> Result<String, AllocError> {
+    match env::current_dir(&(rt, alloc)) {
+        Ok(mut directory) => {
+            directory.push(path)?;
+            Ok(directory.into_string())
+        }
+        Err(_) => String::from_str(alloc, path),
+    }
 }
 
 /// Removes the file of a socket, unless another file is in its place. If no memory is left for

@@ -24,7 +24,8 @@ pub(crate) fn read_all<R: Wait + Clock, S: Read>(
     stream: &mut S,
     queue: &Queue,
 ) {
-    let Ok(mut piece) = room(alloc) else {
+    let room: Result<Vec<u8>, AllocError> = vec![in alloc; 0; PIECE];
+    let Ok(mut piece) = room else {
         queue.put(rt, Event::Fault);
         return;
     };
@@ -46,10 +47,6 @@ pub(crate) fn read_all<R: Wait + Clock, S: Read>(
             return;
         }
     }
-}
-
-fn room(alloc: Global) -> Result<Vec<u8>, AllocError> {
-    vec![in alloc; 0; PIECE]
 }
 
 /// Puts the events of a piece into the queue, and says whether the queue is open.

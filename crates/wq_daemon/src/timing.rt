@@ -3,16 +3,28 @@
 use std::io;
 use std::time::{Clock, Duration, Instant};
 
-/// The processor time of work that took so long by the clock, if this is what the thread had used before it and has used
-/// now. The work counts by the clock if the processor time is not known.
-pub(crate) fn processor_time(
-    worked: Duration,
-    before: io::Result<Duration>,
-    after: io::Result<Duration>,
-) -> Duration {
-    match (before, after) {
-        (Ok(before), Ok(after)) => after.saturating_sub(before),
-        _ => worked,
+/// How long a walk took.
+#[derive(Clone, Copy, Drop)]
+pub(crate) struct Took {
+    /// By the clock. Waiting for clients is no work, and is not in it.
+    pub(crate) time: Duration,
+    /// Of a processor. Waiting for a disk is not in it.
+    pub(crate) work: Duration,
+}
+
+impl Took {
+    /// A walk that took so long by the clock, if this is the processor time that the thread had used before it and has
+    /// used now. Its work is its time if the processor time is not known.
+    pub(crate) fn new(
+        time: Duration,
+        before: io::Result<Duration>,
+        after: io::Result<Duration>,
+    ) -> Took {
+        let work = match (before, after) {
+            (Ok(before), Ok(after)) => after.saturating_sub(before),
+            _ => time,
+        };
+        Took { time, work }
     }
 }
 

@@ -67,16 +67,13 @@ where
             self.notices.tell(&line);
         }
         let left_out = self.tree.left_out();
-        if is_listed && left_out != self.known_of(root) {
-            self.tell_left_out(root, left_out);
-        }
-    }
-
-    /// The number of left-out files of a root that the operator knows.
-    fn known_of(&self, root: &str) -> LeftOut {
-        match self.known.iter().find(|it| it.root.as_str() == root) {
+        // The operator knows what an earlier listing left out.
+        let known = match self.known.iter().find(|it| it.root.as_str() == root) {
             Some(known) => known.left_out,
             None => LeftOut::nothing(),
+        };
+        if is_listed && left_out != known {
+            self.tell_left_out(root, left_out);
         }
     }
 

@@ -25,7 +25,7 @@ const MAX_PERCENT: u64 = 100;
 const WALKERS: u32 = 2;
 
 /// The task that the command line asks for.
-#[derive(Debug, Drop)]
+#[derive(Drop)]
 pub(crate) enum Task {
     /// Replay a script.
     Replay,

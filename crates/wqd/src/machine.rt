@@ -16,7 +16,7 @@ use wq_launch::Spawn;
 use wq_live::Blank;
 
 /// The settings of the server that the command line gives.
-#[derive(Debug, Drop)]
+#[derive(Drop)]
 pub(crate) struct Settings {
     /// The path of its socket.
     pub(crate) sockname: String,

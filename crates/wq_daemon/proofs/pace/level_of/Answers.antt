@@ -17,7 +17,7 @@ loop-need-preserved c =
     elim c.if-need-even.branch [
       | then-need-even w ↦
           let small : need ≤ even = w.if-need-even.true in
-          let there : need ≤ left = is_left whole left others even i (length needs) need c.loop-need.invariant.enough c.even_part-even.ensures (omega (arith, below)) small in
+          let there : need ≤ left = is_left whole left others even i (length needs) need c.loop-need.invariant.enough c.even_part-even.ensures.part (omega (arith, below)) small in
           rw (w.left-is, w.others-is, w.saturating_sub-left.ensures)
           (record {
             given = λ level. takes_need whole left others level _ _ need (c.loop-need.invariant.given level) there (one_more needs i need level below refl);
