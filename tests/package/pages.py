@@ -42,7 +42,6 @@ def blocks(page: str, language: str) -> List[str]:
 def check_quotes(tally: built.Tally, room: Path) -> None:
     page = files.text("docs/SERVER.md")
     same(tally, "the unit on the page", blocks(page, "ini"), [files.text("contrib/wqd.service")])
-    same(tally, "the hook on the page", files.text("contrib/git-fsmonitor-hook") in blocks(page, "python"), True)
 
 
 def check_table_of_files(tally: built.Tally, room: Path) -> None:
