@@ -185,7 +185,7 @@ def check_ends_of_run(tally: built.Tally, room: Path) -> None:
         wrong(tally, scene, ["run", "--quiet", "x", "--", "true"],
               "argument --quiet: invalid int value: 'x'; `wq run --help` says which words there are")
         wrong(tally, scene, ["run", "--quiet=-1", "--", "true"], "--quiet takes a number of milliseconds from 0 on")
-        with scene.begin("run", "--", "sleep", "1000") as going:
-            going.waits_for(lambda _: scene.wq("roots").status == 0)
+        with scene.begin("run", "--", "sh", "-c", "echo begun; exec sleep 1000") as going:
+            tally.check("run begins its command", going.prints("begun"))
             scene.wq("stop")
             same(tally, "the end of the server ends run", (going.ends(), going.errors), (3, said("the server has ended")))
