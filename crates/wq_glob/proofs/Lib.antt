@@ -18,3 +18,4 @@ pub mod SeenLemmas
 pub mod CostLemmas
 pub mod SeekLemmas
 pub mod NameLemmas
+pub mod LeastLemmas

@@ -12,6 +12,7 @@ pub mod Pattern
 pub mod ByteSet
 pub mod Step
 pub mod Cell
+pub mod Least
 pub mod Leftmost
 pub mod Member
 pub mod Law

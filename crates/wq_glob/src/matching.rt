@@ -6,6 +6,7 @@ ghost use Rattle.std.specs.Bool.{MatchBool};
 ghost use Rattle.wq_glob.specs.Cell.{IsBlank, marks_at, marks_of, step_agrees, step_cells};
 ghost use Rattle.wq_glob.specs.Cell.{step_fits};
 ghost use Rattle.wq_glob.specs.Cost.{begins_literal, cost, differs_at_end, front};
+ghost use Rattle.wq_glob.specs.Least.{least_of};
 ghost use Rattle.wq_glob.specs.Step.{step_form};
 
 use crate::byte::lower_if;
@@ -186,15 +187,17 @@ pub(crate) fn hit_of(steps: &[Step], text: &[u8], rules: &Rules) -> Hit
     }
 }
 
-/// Whether the steps fit the text, without the cost: from left to right if that gives the answer,
-/// and else by rows.
+/// Whether the steps fit the text, without the cost. A text with fewer bytes than they need, or
+/// with another last byte, is refused first. The rest is done from left to right if that gives the
+/// answer, and else by rows.
 #[inline(always)]
-pub(crate) fn fits_of(steps: &[Step], text: &[u8], rules: &Rules) -> bool
+pub(crate) fn fits_of(steps: &[Step], least: usize, text: &[u8], rules: &Rules) -> bool
     requires small { length steps.now ≤ MAX_PATTERN }
+    requires least { least ≤ least_of steps.now }
     requires short { length text.now ≤ MAX_MATCHED_TEXT }
     ensures { result ≡ step_fits rules.now steps.now (marks_of rules.now text.now) }
 {
-    if differs_at_end(steps, text, rules) {
+    if text.len() < least || differs_at_end(steps, text, rules) {
         return false;
     }
     match answer_of(steps, text, rules) {

@@ -10,7 +10,7 @@ use crate::limit::MAX_PATTERN;
 use crate::matching::{Hit, fits_of, hit_of};
 use crate::reading::read_steps;
 use crate::rules::Rules;
-use crate::step::Step;
+use crate::step::{Step, least_of};
 use std::alloc::{AllocError, Global};
 use std::marker::Model;
 use thiserror::Error;
@@ -44,17 +44,22 @@ pub struct Pattern {
     text: Vec<u8>,
     rules: Rules,
     steps: Vec<Step>,
+    // How many bytes a text has at least that the pattern fits.
+    least: u8,
 }
 
 impl Model for Pattern {
     ghost use Rattle.wq_glob.specs.Pattern.{PatternData};
+    ghost use Rattle.wq_glob.specs.Least.{least_of};
     ghost use Rattle.wq_glob.specs.Step.{IsCompiled};
+    ghost use Rattle.std.specs.Prelude.{◌≡◌};
 
     ghost Value = { PatternData };
 
     ghost view = { λ p. record { text = p.text.items; flags = p.rules.flags } };
 
-    ghost invariant = { λ p. IsCompiled p.text.items p.rules p.steps.items };
+    ghost invariant = { λ p. IsCompiled p.text.items p.rules p.steps.items
+        × (p.least ≡ least_of p.steps.items) };
 }
 
 impl Clone for Pattern {
@@ -67,6 +72,7 @@ impl Clone for Pattern {
             text: self.text.clone()?,
             rules: self.rules.clone()?,
             steps: self.steps.clone()?,
+            least: self.least,
         })
     }
 }
@@ -113,10 +119,13 @@ impl Pattern {
         }
         let compiled = read_steps(alloc, text, flags)?;
         let text = Vec::from_slice(alloc, text)?;
+        // At most one for each byte of the pattern.
+        let least = least_of(compiled.steps.as_slice()) as u8;
         Ok(Pattern {
             text,
             rules: compiled.rules,
             steps: compiled.steps,
+            least,
         })
     }
 
@@ -181,6 +190,11 @@ impl Pattern {
         ensures test { result ≡ fits self.now text.now }
         ensures cuts { IsTrue result ↔ Fits self.now text.now }
     {
-        fits_of(self.steps.as_slice(), text, &self.rules)
+        fits_of(
+            self.steps.as_slice(),
+            usize::from(self.least),
+            text,
+            &self.rules,
+        )
     }
 }

@@ -1,7 +1,8 @@
 //! The form of a pattern that the matcher runs: one small step for each atom. `rules` has the sets
 //! of bytes that steps name.
-ghost use Rattle.std.specs.Prelude.{◌≡◌};
+ghost use Rattle.std.specs.Prelude.{◌≡◌, ◌≤◌, length};
 ghost use Rattle.wq_glob.specs.Cell.{may_be_empty};
+ghost use Rattle.wq_glob.specs.Least.{least_of};
 ghost use Rattle.wq_glob.specs.Step.{step_reach};
 
 /// The bytes of a text that an atom takes.
@@ -31,4 +32,12 @@ pub(crate) fn may_take_nothing(step: &Step) -> bool
     ensures { result ≡ may_be_empty (step_reach step.now) }
 {
     matches!(step, Step::Stars | Step::Below | Step::Tail)
+}
+
+/// How many bytes a text has at least if the steps fit it: one for each whose part is never empty.
+pub(crate) fn least_of(steps: &[Step]) -> usize
+    ensures value { result ≡ least_of steps.now }
+    ensures few { result ≤ length steps.now }
+{
+    steps.iter().filter(|step| !may_take_nothing(step)).count()
 }

@@ -7,11 +7,11 @@ use Rattle.wq_glob.proofs.pattern.Pattern.matches.Goals as goal
 use Rattle.wq_glob.proofs.pattern.Pattern.matches.Goals.{After-hit_of}
 
 tested : (c : After-hit_of) → c.hit_of.result.yes ≡ fits c.args.self.now c.args.text.now
-tested c = matched c.args.self.now c.args.text.now _ _ c.self.inside.steps.items c.as_slice.result.now _ c.self.view_is c.self.invariant c.as_slice.ensures.value (λ i. (c.type_inv.text i).fits) c.hit_of.ensures.yes
+tested c = matched c.args.self.now c.args.text.now _ _ c.self.inside.steps.items c.as_slice.result.now _ c.self.view_is c.self.invariant.0 c.as_slice.ensures.value (λ i. (c.type_inv.text i).fits) c.hit_of.ensures.yes
 
 pub hit_of-requires-clause-small : goal.hit_of-requires-clause-small
 hit_of-requires-clause-small c =
-    let few = steps_few c.args.self.now _ _ c.self.inside.steps.items c.self.view_is c.self.invariant in
+    let few = steps_few c.args.self.now _ _ c.self.inside.steps.items c.self.view_is c.self.invariant.0 in
     rw c.as_slice.ensures.value few
 
 pub returns-clause-test : goal.returns-clause-test
@@ -26,7 +26,7 @@ returns-clause-cuts c = (
 pub returns-clause-bounded : goal.returns-clause-bounded
 returns-clause-bounded c =
     subst (λ (m : ℕ). c.hit_of.result.cells ≤ (m + 1) * (length c.args.text.now + 1))
-    (ap (λ (l : List Step). length l) c.as_slice.ensures.value ∙ steps_count c.args.self.now _ _ c.self.inside.steps.items c.self.view_is c.self.invariant) c.hit_of.ensures.bounded
+    (ap (λ (l : List Step). length l) c.as_slice.ensures.value ∙ steps_count c.args.self.now _ _ c.self.inside.steps.items c.self.view_is c.self.invariant.0) c.hit_of.ensures.bounded
 
 pub returns-clause-cells : goal.returns-clause-cells
-returns-clause-cells c = cost_of c.args.self.now c.args.text.now _ _ c.self.inside.steps.items c.as_slice.result.now _ c.self.view_is c.self.invariant c.as_slice.ensures.value (λ i. (c.type_inv.text i).fits) c.hit_of.ensures.cells
+returns-clause-cells c = cost_of c.args.self.now c.args.text.now _ _ c.self.inside.steps.items c.as_slice.result.now _ c.self.view_is c.self.invariant.0 c.as_slice.ensures.value (λ i. (c.type_inv.text i).fits) c.hit_of.ensures.cells

@@ -1,5 +1,6 @@
-use Rattle.std.proofs.Common.{◌≡◌, ◌∙◌, List, ℕ, ap}
+use Rattle.std.proofs.Common.{◌≡◌, ◌∙◌, List, ℕ, ap, sym}
 use Rattle.std.specs.List.{each_same}
+use Rattle.wq_glob.specs.Least.{least_of}
 use Rattle.wq_glob.specs.declared.flag.Flags.{Flags}
 use Rattle.wq_glob.proofs.StepLemmas.{compiled_same}
 use Rattle.wq_glob.proofs.pattern.PatternClone.clone.Goals as goal
@@ -12,7 +13,10 @@ same_text c = each_same _ _ c.in_ok-clone.ensures.cases.0
 pub invariant_of-result : goal.invariant_of-result
 invariant_of-result c =
     let rules = c.in_ok-clone-2.ensures.cases in
-    compiled_same _ _ c.self.inside.rules c.in_ok-clone-2.field-0 _ _ (same_text c) rules.0 rules.1 (each_same _ _ c.in_ok-clone-3.ensures.cases.0) c.self.invariant
+    let steps = each_same _ _ c.in_ok-clone-3.ensures.cases.0 in (
+      compiled_same _ _ c.self.inside.rules c.in_ok-clone-2.field-0 _ _ (same_text c) rules.0 rules.1 steps c.self.invariant.0,
+      c.self.invariant.1 ∙ ap least_of (sym steps),
+    )
 
 pub returns : goal.returns
 returns c = record {
