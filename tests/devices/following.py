@@ -4,12 +4,11 @@ import time
 from pathlib import Path
 from typing import List, Optional, Set
 
-from client import VERSION, Client, Server
+from client import PATIENCE, VERSION, Client, Server
 
 READING = {**VERSION, "error": "E11: root cannot be read"}
 FIELDS = ["name", "exists"]
 TURNS = 12
-SECONDS = 10.0
 CURSOR = "n:follower"
 # Two calls fail, so the third crawl goes well.
 CRAWLS = 3
@@ -130,17 +129,16 @@ class Subscriber(Picture):
         self.client.send("subscribe", str(self.root), "s", {"fields": FIELDS, **since})
 
     def hear(self, truth: Set[str]) -> None:
-        """Hears lists until it knows all."""
-        end = time.monotonic() + SECONDS
+        """Hears lists until it knows all. Lists of walks from before may come first: what it knows may still be there."""
+        end, lawful = time.monotonic() + PATIENCE, truth | self.known
         while self.known != truth:
             if time.monotonic() > end:
                 self.wrong.append(f"it knows {sorted(self.known)} of {sorted(truth)}")
                 return
-            self.hear_line(truth)
+            self.hear_line(lawful)
 
-    def hear_line(self, truth: Set[str]) -> None:
+    def hear_line(self, lawful: Set[str]) -> None:
         try:
-            self.client.socket.settimeout(SECONDS)
             line = self.client.reply()
         except (ValueError, ConnectionResetError):
             if self.client.read:
@@ -150,6 +148,6 @@ class Subscriber(Picture):
             return
         if "files" in line:
             self.clock = line["clock"]
-            self.take(line["files"], truth)
+            self.take(line["files"], lawful)
         elif "subscribe" not in line:
             self.wrong.append(f"another line: {line}")

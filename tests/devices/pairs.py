@@ -5,26 +5,26 @@ import itertools
 import time
 from concurrent.futures import ThreadPoolExecutor
 from pathlib import Path
-from typing import Callable, Dict, Iterator, List, NamedTuple, Optional, Set, Tuple
+from typing import Callable, Dict, Iterator, List, NamedTuple, Optional, Sequence, Set, Tuple, Union
 
 import built
-from client import A_HOUR, Client, Server
+from client import A_HOUR, PATIENCE, Client, Server
 from following import Caller, Follower, Subscriber, watched
 from injected import STRACE, has_strace
 
 LANES = 4
 # How often one walk of the tree makes each call.
 WALK = {"openat": 2, "getdents64": 4, "statx": 4}
-# The first reply of each session is written, and the first line of each is read. A subscriber has its first list too.
-STREAM = range(2, 5)
-LISTS = range(3, 6)
+# The first reply of each session is written, and the first line of each is read. Before a reply with files a write of
+# nothing looks whether the client is there: that fails with the reply. A subscriber has its first list too.
+STREAMS: Dict[str, Sequence[Union[int, str]]] = {"recvfrom": range(2, 5), "sendto": ["3..4", "5..6", "7..8"]}
+LISTS: Dict[str, Sequence[Union[int, str]]] = {"sendto": range(3, 6)}
 # The first of these start the crawler, the thread of idle moments and a session, in the thread that accepts; the crawler's own
 # start commands.
 STARTS = {"openat": range(1, 7), "getdents64": range(1, 5), "clone3": range(4, 8)}
 INTERVAL = 10
-SECONDS = 10.0
 ERRORS = {"clone3": "EAGAIN"}
-Call = Tuple[str, int]
+Call = Tuple[str, Union[int, str]]
 
 
 class Pair(NamedTuple):
@@ -66,12 +66,12 @@ def walk_pairs() -> Iterator[Pair]:
         yield from (Pair((one, low), (other, high)) for low in range(1, count + 1) for high in range(1, others + 1))
 
 
-def stream_pairs(numbers: range, *streams: str) -> Iterator[Pair]:
+def stream_pairs(streams: Dict[str, Sequence[Union[int, str]]]) -> Iterator[Pair]:
     """A call of a walk and one of a stream, and one of each stream."""
-    for (call, count), stream in itertools.product(WALK.items(), streams):
+    for (call, count), (stream, numbers) in itertools.product(WALK.items(), streams.items()):
         yield from (Pair((call, low), (stream, high)) for low in range(1, count + 1) for high in numbers)
-    for one, other in itertools.combinations(streams, 2):
-        yield from (Pair((one, low), (other, high)) for low in numbers for high in numbers)
+    for (one, numbers), (other, others) in itertools.combinations(streams.items(), 2):
+        yield from (Pair((one, low), (other, high)) for low in numbers for high in others)
 
 
 def start_pairs() -> Iterator[Pair]:
@@ -89,8 +89,8 @@ def check_pairs(tally: built.Tally, room: Path) -> None:
     if not has_strace(tally):
         return
     parts: Dict[Part, List[Pair]] = {
-        queries: [*walk_pairs(), *stream_pairs(STREAM, "recvfrom", "sendto")],
-        subscriptions: [*walk_pairs(), *stream_pairs(LISTS, "sendto")],
+        queries: [*walk_pairs(), *stream_pairs(STREAMS)],
+        subscriptions: [*walk_pairs(), *stream_pairs(LISTS)],
         triggers: [*start_pairs()],
     }
     tasks = [(part, pair) for part, pairs in parts.items() for pair in pairs]
@@ -183,7 +183,7 @@ def triggers(room: Path, pair: Pair) -> List[str]:
 
 def come_to(told: Path, count: int) -> List[str]:
     """The lines of a file, when there are so many or the patience ends."""
-    end = time.monotonic() + SECONDS
+    end = time.monotonic() + PATIENCE
     while True:
         lines = told.read_text().splitlines() if told.exists() else []
         if len(lines) >= count or time.monotonic() > end:

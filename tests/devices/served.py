@@ -152,14 +152,15 @@ def check_streams_that_fail(tally: built.Tally, room: Path) -> None:
 
 
 def check_a_cursor_whose_reply_fails(tally: built.Tally, room: Path) -> None:
-    """Each thread's second write fails. A cursor whose reply was cut off has moved all the same."""
+    """Each thread's writes from the second on fail: the look for the client before the reply, and the reply. A cursor
+    whose reply was cut off has moved all the same."""
     if not has_strace(tally):
         return
     root = room / "tree"
     root.mkdir()
     (root / "a").touch()
     asked = {"since": "n:k", "sync_timeout": 0, "fields": ["name"]}
-    fault = Fault("sendto", "EIO", "2")
+    fault = Fault("sendto", "EIO", "2+")
     with Server(room, interval=A_HOUR, through=[*SERVED, "-o", "/dev/null", *fault.words()]) as server:
         with server.client() as client:
             client.ask("watch", str(root))

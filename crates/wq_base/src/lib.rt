@@ -1,9 +1,11 @@
 //! The parts that several crates of the server share: numbers in their one decimal text with their
 //! limit, comparisons of numbers and texts, names below a directory. The crate also has lists and
-//! texts that contracts see as plain lists, and writes bytes whole. `specs/` has the bytes and
-//! parts of paths, and the forms of definitions that more than one crate uses.
+//! texts that contracts see as plain lists, whoever asks for a search, and writes bytes whole.
+//! `specs/` has the bytes and parts of paths, and the forms of definitions that more than one crate
+//! uses.
 #![tactic(auto)]
 
+mod asker;
 mod compare;
 mod decimal;
 mod directory;
@@ -15,6 +17,7 @@ mod version;
 mod workers;
 mod writing;
 
+pub use asker::{Asker, FILES_BETWEEN_LOOKS, Stays};
 pub use compare::{Case, Relation, folded_order, is_suffix};
 pub use decimal::{signed_number, unsigned_number};
 pub use directory::{rest_below, slashes};

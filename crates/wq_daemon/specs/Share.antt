@@ -1,5 +1,5 @@
--- What it means that all roots together keep to a share of a processor in time. It is the server's
--- own, and from no public document.
+-- The share of a processor that all roots together keep to in time. It is the server's own, and
+-- from no public document.
 use Rattle.std.specs.Prelude.{ℕ, ◌*◌, ◌+◌, ◌/◌, ◌≤◌, List, All, sum_by}
 use Rattle.std.specs.Duration.{as_nanos}
 use Rattle.wq_daemon.specs.declared.pace.Cycle.{Cycle}

@@ -3,6 +3,7 @@
 use crate::host::Host;
 use crate::link::Link;
 use crate::link_inbox::LinkInbox;
+use crate::recipient::Recipient;
 use crate::refusal::refuse;
 use crate::server::Server;
 use crate::stream_reader::read_all;
@@ -77,5 +78,5 @@ where
         return false;
     };
     let mut inbox = LinkInbox { link: theirs, rt };
-    host.serve(&rt, &mut inbox, &mut stream)
+    host.serve(&rt, &Recipient::new(stream), &mut inbox, &mut stream)
 }

@@ -3,6 +3,7 @@
 use crate::client::run_client;
 use crate::host::Host;
 use crate::link::Link;
+use crate::patience::Patience;
 use crate::refusal::refuse;
 use crate::server::Server;
 use std::alloc::{AllocError, Global};
@@ -66,13 +67,16 @@ impl Clients {
         }
     }
 
-    /// Ends all sessions, and waits until they have ended.
-    pub(crate) fn end_all<R: Threads + Wait>(self, rt: &R) {
+    /// Ends all sessions, and waits until they have ended. If patience ends before, a session that still answers a
+    /// line is left alone: its client hears nothing more, and its thread ends with the process.
+    pub(crate) fn end_all<R: Threads + Wait + Clock>(self, rt: &R, patience: &Patience) {
         for client in &self.clients {
             client.link.end(rt);
         }
         for client in self.clients {
-            end(rt, client);
+            if client.link.wait_over(rt, patience.left(rt)) {
+                client.session.join(rt);
+            }
         }
     }
 

@@ -3,6 +3,7 @@
 ghost use Rattle.std.specs.Thread.{IsSync};
 
 use crate::moments::RootNumbers;
+use crate::recipient::Recipient;
 use crate::stop::Stop;
 use std::io::Write;
 use std::sync::Arc;
@@ -17,10 +18,11 @@ pub(crate) trait Host {
     fn greet(&self);
 
     /// Runs a session over all its events, and says whether it asked that the server ends. This handle starts the threads
-    /// that look for the files of its queries.
+    /// that look for the files of its queries, which give up if the recipient has gone.
     fn serve<T: Threads + Sync, I: Inbox, W: Write>(
         &self,
         threads: &T,
+        recipient: &Recipient<'_>,
         inbox: &mut I,
         writer: &mut W,
     ) -> bool

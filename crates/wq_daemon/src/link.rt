@@ -5,7 +5,8 @@ use std::alloc::{AllocError, Global};
 use std::net::Shutdown;
 use std::os::unix::net::UnixStream;
 use std::sync::atomic::{AtomicBool, Ordering};
-use std::sync::{Arc, Mutex, Wait};
+use std::sync::{Arc, Condvar, Mutex, Wait};
+use std::time::{Clock, Duration};
 
 /// A client's stream, the events that came from it, and whether its session is over.
 #[derive(Drop)]
@@ -13,6 +14,8 @@ pub(crate) struct Link {
     pub(crate) queue: Queue,
     /// The stream, until the session is over. The last share of it gives its handle back.
     stream: Mutex<Option<Arc<UnixStream>>>,
+    /// Wakes the thread that waits until the session is over.
+    over: Condvar,
     is_over: AtomicBool,
 }
 
@@ -22,6 +25,7 @@ impl Link {
         Ok(Link {
             queue: Queue::new(alloc)?,
             stream: Mutex::new(Some(stream)),
+            over: Condvar::new(),
             is_over: AtomicBool::new(false),
         })
     }
@@ -40,6 +44,16 @@ impl Link {
     pub(crate) fn set_over<R: Wait>(&self, rt: &R) {
         *self.stream.lock(rt) = None;
         self.is_over.store(true, Ordering::SeqCst);
+        self.over.notify_all();
+    }
+
+    /// Waits so long, but no longer than until the session is over. Says whether it is.
+    pub(crate) fn wait_over<R: Wait + Clock>(&self, rt: &R, time: Duration) -> bool {
+        let lock = self.stream.lock(rt);
+        let (stream, _) = self
+            .over
+            .wait_timeout_while(rt, lock, time, |stream| stream.is_some());
+        stream.is_none()
     }
 
     /// Whether the session's thread does nothing more.

@@ -7,6 +7,7 @@ use crate::failing::Failing;
 use crate::host::Host;
 use crate::lines::{back_line, fault_line};
 use crate::moments::RootNumbers;
+use crate::recipient::Recipient;
 use crate::refusal::refuse;
 use crate::rounds::Rounds;
 use crate::stop::Stop;
@@ -297,6 +298,7 @@ where
     fn serve<H: Threads + Sync, I: Inbox, W: Write>(
         &self,
         threads: &H,
+        recipient: &Recipient<'_>,
         inbox: &mut I,
         writer: &mut W,
     ) -> bool {
@@ -310,7 +312,9 @@ where
         };
         let run = self.run;
         let views = SeatViews { run, seat, roots };
-        let Ended { views, shut, .. } = serve(threads, self.alloc, inbox, writer, views, &mut desk);
+        let Ended { views, shut, .. } = serve(
+            threads, self.alloc, recipient, inbox, writer, views, &mut desk,
+        );
         self.give_seat(views.seat);
         shut
     }

@@ -4,9 +4,11 @@
 use crate::clients::Clients;
 use crate::crawling::crawl_always;
 use crate::host::Host;
+use crate::latch::Latch;
 use crate::links::Links;
 use crate::moments::bring_moments;
 use crate::pace::Pace;
+use crate::patience::Patience;
 use crate::pulse::Pulse;
 use crate::server::Server;
 use crate::socket::Listening;
@@ -21,10 +23,16 @@ use wq_launch::Notices;
 /// How many milliseconds the server waits after a connection that it could not accept.
 const PAUSE: u64 = 100;
 
+/// How many milliseconds the end of the server waits for threads that are at work.
+const PATIENCE: u64 = 500;
+
 /// Serves clients, and crawls the watched roots at this pace. After the crawl of a
 /// root it starts the commands of its triggers, and a session gets idle moments after each round. It returns when a
-/// client has asked that the server ends. All sessions have ended then, and all threads except those that attend
-/// commands, which go on.
+/// client has asked that the server ends.
+///
+/// No client is sent anything then. All threads have ended but those that attend commands, and those that were at work
+/// for longer than half a second after the end began: sessions that answer a line, and a crawl or a round of triggers.
+/// Those go on until the process ends.
 ///
 /// # Errors
 /// The server could not make a part that it needs, and served nobody.
@@ -50,6 +58,7 @@ where
             pace,
             pulse: Pulse::new(),
             links: Links::new(alloc)?,
+            crawled: Latch::new(),
         },
     )?;
     let mut clients = Clients::new(alloc)?;
@@ -74,8 +83,11 @@ where
     notices.tell("a client ended the server by shutdown-server");
     server.end(&rt);
     server.host.end_walk();
-    clients.end_all(&rt);
-    crawling.join(&rt);
+    let patience = Patience::new(&rt, Duration::from_millis(PATIENCE));
+    clients.end_all(&rt, &patience);
+    if server.crawled.wait(&rt, patience.left(&rt)) {
+        crawling.join(&rt);
+    }
     idling.join(&rt);
     Ok(())
 }
@@ -93,7 +105,10 @@ where
     O: Notices + Drop + Send + Sync + 'static,
 {
     let (server, notices) = (server.clone()?, notices.clone()?);
-    Ok(thread::spawn(&rt, move || { crawl_always(rt, alloc, &*server, &notices) })?)
+    Ok(thread::spawn(&rt, move || {
+        crawl_always(rt, alloc, &*server, &notices);
+        server.crawled.open(&rt);
+    })?)
 }
 
 /// Starts the thread that brings idle moments.

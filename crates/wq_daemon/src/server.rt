@@ -1,6 +1,7 @@
 //! The state that the threads of a server share.
 
 use crate::host::Host;
+use crate::latch::Latch;
 use crate::links::Links;
 use crate::pace::Pace;
 use crate::pulse::Pulse;
@@ -18,6 +19,8 @@ pub(crate) struct Server<H: Host + Drop> {
     pub(crate) pulse: Pulse,
     /// The links to the clients.
     pub(crate) links: Links,
+    /// Opens when the thread that crawls does nothing more.
+    pub(crate) crawled: Latch,
 }
 
 impl<H: Host + Drop> Server<H> {

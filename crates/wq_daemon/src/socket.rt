@@ -25,7 +25,7 @@ const DIRECTORY_MODE: u32 = 0o700;
 pub struct Listening {
     /// Accepts connections.
     pub listener: UnixListener,
-    /// Where the socket is. The server may have another working directory when it removes it.
+    /// The socket's path. The server may have another working directory when it removes it.
     path: String,
     file: FileId,
 }

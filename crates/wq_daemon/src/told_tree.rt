@@ -9,7 +9,7 @@ use std::io;
 use std::sync::Arc;
 use std::time::{Clock, Instant};
 use wq_base::MAX_ROOTS;
-use wq_crawl::{LeftOut, Tree, TreeFault};
+use wq_crawl::{LeftOut, Listing, Tree, TreeFault};
 use wq_launch::Notices;
 use wq_view::{Seen, View};
 
@@ -122,7 +122,7 @@ where
         listed
     }
 
-    fn list_again(&mut self, root: &str, last: &View) -> Result<Vec<Seen>, TreeFault> {
+    fn list_again(&mut self, root: &str, last: &View) -> Result<Listing, TreeFault> {
         let began = Instant::now(&self.rt);
         let listed = self.tree.list_again(root, last);
         self.tell(root, began, listed.is_ok());

@@ -4,14 +4,17 @@ ghost use Rattle.wq_eval.specs.Piece.{AreRight, AreSound, is_kept, piece_of};
 
 use crate::piece::{Done, Pieces};
 use std::alloc::{AllocError, Global};
+use wq_base::Asker;
 
 /// The positions that the program keeps of all pieces, in their order.
 ///
 /// The workers may have evaluated any pieces. This function evaluates a piece that is missing, takes
-/// one that is there twice only once, and drops one whose number no piece has.
+/// one that is there twice only once, and drops one whose number no piece has. If the asker goes it
+/// evaluates none, as if memory had run out.
 #[tactic(auto, using(crate::proofs::Whole::next_piece, crate::proofs::Whole::all_pieces))]
-pub fn collect(
+pub fn collect<A: Asker>(
     alloc: Global,
+    asker: &A,
     pieces: &Pieces<'_>,
     lists: Vec<Vec<Done>>,
 ) -> Result<Vec<u32>, AllocError>
@@ -24,7 +27,7 @@ pub fn collect(
     let mut at = 0;
     for number in 0..pieces.count() {
         at = first_from(&all, at, number);
-        append(&mut kept, alloc, pieces, &all, at, number)?;
+        append(&mut kept, alloc, asker, pieces, &all, at, number)?;
     }
     Ok(kept)
 }
@@ -69,9 +72,10 @@ fn first_from(all: &[Done], from: usize, number: u32) -> usize {
 
 /// Appends the positions that the program keeps of the piece of a number. It evaluates that piece if
 /// another one, or none, is at this place.
-fn append(
+fn append<A: Asker>(
     kept: &mut Vec<u32>,
     alloc: Global,
+    asker: &A,
     pieces: &Pieces<'_>,
     all: &[Done],
     at: usize,
@@ -87,6 +91,6 @@ fn append(
     {
         return kept.extend_from_slice(done.kept.as_slice());
     }
-    let done = pieces.evaluate(alloc, number)?;
+    let done = pieces.evaluate(alloc, asker, number)?;
     kept.extend_from_slice(done.kept.as_slice())
 }

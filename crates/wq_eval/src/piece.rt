@@ -4,6 +4,7 @@ ghost use Rattle.wq_eval.specs.Piece.{AreSound, IsRight, piece_of};
 
 use crate::evaluation::filter;
 use std::alloc::{AllocError, Global};
+use wq_base::Asker;
 use wq_verify::Program;
 use wq_view::View;
 
@@ -43,13 +44,19 @@ impl<'a> Pieces<'a> {
         piece_of(self.positions, self.size, number)
     }
 
-    /// Evaluates the piece of this number.
-    pub fn evaluate(&self, alloc: Global, number: u32) -> Result<Done, AllocError>
+    /// Evaluates the piece of this number, unless the asker goes.
+    pub fn evaluate<A: Asker>(
+        &self,
+        alloc: Global,
+        asker: &A,
+        number: u32,
+    ) -> Result<Done, AllocError>
         requires { AreSound self.now }
         ensures number { IfOk result (λ done. done.number ≡ number) }
         ensures kept { IfOk result (IsRight self.now) }
     {
-        let kept = filter(alloc, self.program, self.view, self.positions_of(number))?;
+        let positions = self.positions_of(number);
+        let kept = filter(alloc, asker, self.program, self.view, positions)?;
         Ok(Done { number, kept })
     }
 }

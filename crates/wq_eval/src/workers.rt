@@ -14,15 +14,18 @@ use crate::piece::{Done, Pieces};
 use std::alloc::{AllocError, Global};
 use std::sync::atomic::{AtomicU64, Ordering};
 use std::thread::{Threads, join};
+use wq_base::{Asker, Stays};
 use wq_verify::Program;
 use wq_view::View;
 
 /// The positions that [`filter`](crate::filter) gives, found by up to so many threads. Each takes
-/// pieces of so many positions until none is left, and calls the gate as it begins one.
-pub fn filter_workers<R: Threads, G: Gate + Sync>(
+/// pieces of so many positions until none is left, and calls the gate as it begins one. If the
+/// asker goes there are none, as if memory had run out.
+pub fn filter_workers<R: Threads, G: Gate + Sync, A: Asker>(
     rt: &R,
     alloc: Global,
     gate: &G,
+    asker: &A,
     workers: u32,
     piece: u32,
     program: &Program,
@@ -43,16 +46,18 @@ pub fn filter_workers<R: Threads, G: Gate + Sync>(
         size: piece,
     };
     let drawn = AtomicU64::new(0);
-    let done = drawn_by(rt, alloc, gate, &drawn, &pieces, workers)?;
-    collect(alloc, &pieces, done)
+    let done = drawn_by(rt, alloc, gate, asker, &drawn, &pieces, workers)?;
+    collect(alloc, asker, &pieces, done)
 }
 
 /// The pieces that so many threads draw and evaluate, this one among them: a list of each thread.
+/// Only this one looks whether the asker has gone, so that an asker crosses to no thread.
 #[cycle(threads)]
-fn drawn_by<R: Threads, G: Gate + Sync>(
+fn drawn_by<R: Threads, G: Gate + Sync, A: Asker>(
     rt: &R,
     alloc: Global,
     gate: &G,
+    asker: &A,
     drawn: &AtomicU64,
     pieces: &Pieces<'_>,
     threads: u32,
@@ -61,17 +66,17 @@ fn drawn_by<R: Threads, G: Gate + Sync>(
     ensures { IfOk result (λ lists. All (λ list. AreRight pieces.now list.items) lists.items) }
 {
     if threads <= 1 {
-        return Ok(vec![in alloc; work(alloc, gate, drawn, pieces)]?);
+        return Ok(vec![in alloc; work(alloc, gate, asker, drawn, pieces)]?);
     }
     let left = threads - 1;
     let other = || -> Vec<Done>
         requires { AreSound pieces.now }
         ensures { AreRight pieces.entry.now result.items }
-    { work(alloc, gate, drawn, pieces) };
+    { work(alloc, gate, &Stays {}, drawn, pieces) };
     let this = || -> Result<Vec<Vec<Done>>, AllocError>
         requires { IsSync G.row × AreSound pieces.now × 1 ≤ left }
         ensures { IfOk result (λ lists. All (λ list. AreRight pieces.entry.now list.items) lists.items) }
-    { drawn_by(rt, alloc, gate, drawn, pieces, left) };
+    { drawn_by(rt, alloc, gate, asker, drawn, pieces, left) };
     let (others, mine) = join(rt, other, this);
     let mut lists = mine?;
     lists.push(others)?;
@@ -79,8 +84,15 @@ fn drawn_by<R: Threads, G: Gate + Sync>(
 }
 
 /// Draws pieces as long as there are some, and evaluates them. If memory runs out it stops, and
-/// leaves its piece to the collector. Nothing rests on the numbers that are drawn.
-fn work<G: Gate>(alloc: Global, gate: &G, drawn: &AtomicU64, pieces: &Pieces<'_>) -> Vec<Done>
+/// leaves its piece to the collector. If the asker goes, no thread draws another one. Nothing rests
+/// on the numbers that are drawn.
+fn work<G: Gate, A: Asker>(
+    alloc: Global,
+    gate: &G,
+    asker: &A,
+    drawn: &AtomicU64,
+    pieces: &Pieces<'_>,
+) -> Vec<Done>
     requires { AreSound pieces.now }
     ensures { AreRight pieces.now result.items }
 {
@@ -92,7 +104,10 @@ fn work<G: Gate>(alloc: Global, gate: &G, drawn: &AtomicU64, pieces: &Pieces<'_>
             break;
         }
         gate.enter(number as u32);
-        let Ok(done) = pieces.evaluate(alloc, number as u32) else {
+        let Ok(done) = pieces.evaluate(alloc, asker, number as u32) else {
+            if asker.is_gone() {
+                drawn.store(u64::from(count), Ordering::SeqCst);
+            }
             break;
         };
         if all.push(done).is_err() {

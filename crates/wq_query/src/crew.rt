@@ -4,19 +4,21 @@ ghost use Rattle.serde_json.specs.Written.{compact_text};
 ghost use Rattle.wq_base.specs.Limit.{AreFew};
 ghost use Rattle.wq_clock.specs.Instance.{instance_data};
 ghost use Rattle.wq_eval.specs.Answer.{says_yes};
+ghost use Rattle.wq_gen.specs.Candidate.{is_candidate};
 ghost use Rattle.wq_query.specs.Listing.{AreWithin, files_of};
 ghost use Rattle.wq_query.specs.Query.{planned};
 ghost use Rattle.wq_query.specs.Reply.{reply_of};
 ghost use Rattle.wq_view.specs.Limit.{max_records};
-ghost use Rattle.wq_view.specs.Position.{passes_at, records_at};
+ghost use Rattle.wq_view.specs.Position.{passes_at, positions_of, records_at};
 
 use crate::query::Plan;
 use crate::reply::{text_by_several, text_of};
 use std::alloc::{AllocError, Global};
 use std::thread::Threads;
-use wq_base::Workers;
+use wq_base::{Asker, Stays, Workers};
 use wq_clock::Instance;
 use wq_eval::{OpenGate, filter, filter_workers};
+use wq_gen::{Generators, candidates};
 use wq_verify::Program;
 use wq_view::View;
 
@@ -35,11 +37,22 @@ pub trait Crew {
     ghost use Rattle.serde_json.specs.Written.{compact_text};
     ghost use Rattle.wq_clock.specs.Instance.{instance_data};
     ghost use Rattle.wq_eval.specs.Answer.{says_yes};
+    ghost use Rattle.wq_gen.specs.Candidate.{is_candidate};
     ghost use Rattle.wq_query.specs.Listing.{AreWithin, files_of};
     ghost use Rattle.wq_query.specs.Query.{planned};
     ghost use Rattle.wq_query.specs.Reply.{reply_of};
     ghost use Rattle.wq_view.specs.Limit.{max_records};
-    ghost use Rattle.wq_view.specs.Position.{passes_at, records_at};
+    ghost use Rattle.wq_view.specs.Position.{passes_at, positions_of, records_at};
+
+    /// The positions of the candidates, ascending, each once ([`candidates`](wq_gen::candidates)).
+    fn candidates(
+        &self,
+        alloc: Global,
+        view: &View,
+        generators: &Generators,
+    ) -> Result<Vec<u32>, AllocError>
+        ensures { IfOk result (λ found. found.items
+            ≡ positions_of (is_candidate generators.now) view.now.records) };
 
     /// The positions of those files for which the program answers yes, in the order in which they are given.
     fn filter(
@@ -77,6 +90,15 @@ pub trait Crew {
 pub struct Alone {}
 
 impl Crew for Alone {
+    fn candidates(
+        &self,
+        alloc: Global,
+        view: &View,
+        generators: &Generators,
+    ) -> Result<Vec<u32>, AllocError> {
+        candidates(alloc, &Stays {}, view, generators)
+    }
+
     fn filter(
         &self,
         alloc: Global,
@@ -84,7 +106,7 @@ impl Crew for Alone {
         view: &View,
         positions: &[u32],
     ) -> Result<Vec<u32>, AllocError> {
-        filter(alloc, program, view, positions)
+        filter(alloc, &Stays {}, program, view, positions)
     }
 
     fn print(
@@ -100,16 +122,19 @@ impl Crew for Alone {
 }
 
 /// Several threads, if there is enough to do for each: they find files if there are 16,384 candidates or more, and print
-/// if as many files are to be listed. Each has at least 4,096 of them.
+/// if as many files are to be listed. Each has at least 4,096 of them. If the asker goes they find none, as if memory had
+/// run out.
 #[derive(Drop)]
-pub struct Several<'a, R: Threads> {
+pub struct Several<'a, R: Threads, A: Asker> {
     /// The handle that starts the threads.
     pub rt: &'a R,
     /// How many there may be, the one that asks among them.
     pub workers: Workers,
+    /// Whoever waits for the reply.
+    pub asker: &'a A,
 }
 
-impl<R: Threads> Several<'_, R> {
+impl<R: Threads, A: Asker> Several<'_, R, A> {
     /// How many of the threads a query uses for this number of candidates, or of files to list.
     fn count_for(&self, files: usize) -> u32
         ensures { AreFew result }
@@ -126,7 +151,16 @@ impl<R: Threads> Several<'_, R> {
     }
 }
 
-impl<R: Threads> Crew for Several<'_, R> {
+impl<R: Threads, A: Asker> Crew for Several<'_, R, A> {
+    fn candidates(
+        &self,
+        alloc: Global,
+        view: &View,
+        generators: &Generators,
+    ) -> Result<Vec<u32>, AllocError> {
+        candidates(alloc, self.asker, view, generators)
+    }
+
     fn filter(
         &self,
         alloc: Global,
@@ -136,11 +170,18 @@ impl<R: Threads> Crew for Several<'_, R> {
     ) -> Result<Vec<u32>, AllocError> {
         let count = self.count_for(positions.len());
         if count == 1 {
-            return filter(alloc, program, view, positions);
+            return filter(alloc, self.asker, program, view, positions);
         }
-        let gate = OpenGate {};
         filter_workers(
-            self.rt, alloc, &gate, count, PIECE, program, view, positions,
+            self.rt,
+            alloc,
+            &OpenGate {},
+            self.asker,
+            count,
+            PIECE,
+            program,
+            view,
+            positions,
         )
     }
 

@@ -11,7 +11,7 @@ use crate::crew::Crew;
 use crate::query::Plan;
 use std::alloc::{AllocError, Global};
 use wq_clock::Bound;
-use wq_gen::{Generators, candidates};
+use wq_gen::Generators;
 use wq_view::{Record, View, positions_are_there, positions_filter};
 
 /// The places of the files that the plan lists, in the view's order, found by a crew.
@@ -67,12 +67,17 @@ fn matching<C: Crew>(
     ensures { IfOk result (λ places. places.items
         ≡ positions_of (is_match (planned plan.now)) view.now.records) }
 {
-    let places = candidates_of(alloc, plan, view)?;
+    let places = candidates_of(crew, alloc, plan, view)?;
     crew.filter(alloc, &plan.program, view, &places)
 }
 
 /// The places of the plan's candidates.
-fn candidates_of(alloc: Global, plan: &Plan, view: &View) -> Result<Vec<u32>, AllocError>
+fn candidates_of<C: Crew>(
+    crew: &C,
+    alloc: Global,
+    plan: &Plan,
+    view: &View,
+) -> Result<Vec<u32>, AllocError>
     ensures places { IfOk result (λ places. places.items
         ≡ positions_of (is_candidate (generators_of (planned plan.now))) view.now.records) }
     ensures within { IfOk result (λ places. AreWithin view.now.records places.items) }
@@ -81,7 +86,7 @@ fn candidates_of(alloc: Global, plan: &Plan, view: &View) -> Result<Vec<u32>, Al
     // Only the proof uses the contract of this call, which is about the length of a view.
     view.len();
     positions_are_there();
-    candidates(alloc, view, generators(plan))
+    crew.candidates(alloc, view, generators(plan))
 }
 
 /// The generators of the plan's candidates.

@@ -13,7 +13,7 @@ use std::alloc::Global;
 use std::io::Write;
 use std::thread::Threads;
 use wq_ask::{Ask, Out};
-use wq_base::Workers;
+use wq_base::{Asker, Workers};
 use wq_crawl::Roots;
 use wq_live::Named;
 use wq_query::Several;
@@ -48,12 +48,14 @@ pub struct Ended<N: Named, R: Roots<N> + Drop> {
 /// open while it makes them only if there is no share of the root's view.
 ///
 /// As many threads as the roots allow may look for the files of a query. The handle starts them, and they end before
-/// the reply is made.
+/// the reply is made. The asker is whoever reads the replies. If it has gone they give up, and the line is answered that
+/// memory ran out.
 ///
 /// It ends if the client has gone, after a line that ends a session, if the writer fails, and after 2^62 events.
-pub fn serve<T: Threads, N: Named, I: Inbox, W: Write, R: Roots<N> + Drop, D: Desk>(
+pub fn serve<T: Threads, A: Asker, N: Named, I: Inbox, W: Write, R: Roots<N> + Drop, D: Desk>(
     rt: &T,
     alloc: Global,
+    asker: &A,
     inbox: &mut I,
     writer: &mut W,
     views: SeatViews<N, R>,
@@ -71,6 +73,7 @@ pub fn serve<T: Threads, N: Named, I: Inbox, W: Write, R: Roots<N> + Drop, D: De
     let crew = Several {
         rt,
         workers: Workers { count },
+        asker,
     };
     let mut session = Session::new(alloc);
     let mut views = views;
@@ -101,8 +104,8 @@ pub fn serve<T: Threads, N: Named, I: Inbox, W: Write, R: Roots<N> + Drop, D: De
 }
 
 /// Takes the next event, and answers it.
-fn take_event<T: Threads, N: Named, I: Inbox, R: Roots<N> + Drop, D: Desk>(
-    crew: &Several<'_, T>,
+fn take_event<T: Threads, A: Asker, N: Named, I: Inbox, R: Roots<N> + Drop, D: Desk>(
+    crew: &Several<'_, T, A>,
     alloc: Global,
     session: &mut Session,
     inbox: &mut I,

@@ -4,4 +4,4 @@ use Rattle.wq_eval.specs.Piece.{is_kept}
 use Rattle.wq_eval.proofs.collecting.collect.Given as goal
 
 abbrev pub invariant-loop-number : goal.invariant-loop-number
-invariant-loop-number l = l.kept.items ≡ filter (is_kept l.pieces) (take (l.number * l.pieces.size) l.pieces.positions.now)
+invariant-loop-number g l = l.kept.items ≡ filter (is_kept l.pieces) (take (l.number * l.pieces.size) l.pieces.positions.now)

@@ -9,14 +9,14 @@ use Rattle.wq_query.specs.Query.{planned}
 use Rattle.wq_query.proofs.listing.candidates_of.Goals as goal
 
 pub returns-clause-places : goal.returns-clause-places
-returns-clause-places c =
+returns-clause-places g c =
     let records = c.args.view.now.records in
     let test = is_candidate (generators_of (planned c.args.plan.now)) in
     IfOk-weaker c.candidates.result _ (λ places. places.items ≡ positions_of test records)
     (λ places is. is ∙ ap (λ g. positions_of (is_candidate g) records) c.generators.ensures) c.candidates.ensures
 
 pub returns-clause-within : goal.returns-clause-within
-returns-clause-within c =
+returns-clause-within g c =
     let records = c.args.view.now.records in
     let test = is_candidate (generators_of (planned c.args.plan.now)) in
     IfOk-weaker c.candidates.result _ (λ places. AreWithin records places.items)
@@ -24,7 +24,7 @@ returns-clause-within c =
     (sym (is ∙ ap (λ g. positions_of (is_candidate g) records) c.generators.ensures)) (c.positions_are_there.ensures test records).0) c.candidates.ensures
 
 pub returns-clause-count : goal.returns-clause-count
-returns-clause-count c =
+returns-clause-count g c =
     let records = c.args.view.now.records in
     let test = is_candidate (generators_of (planned c.args.plan.now)) in
     let few = c.len.ensures.bound in

@@ -1,0 +1,22 @@
+//! Whoever asked for a search among files, and may go before it ends.
+
+/// How many files a search tries at most before it looks again whether its asker has gone. A look
+/// may call the system, and so take longer than a file.
+pub const FILES_BETWEEN_LOOKS: usize = 1024;
+
+/// Whoever waits for the answer of a search.
+pub trait Asker {
+    /// Whether nobody waits for the answer any more. The search then ends without one, as if memory
+    /// had run out.
+    fn is_gone(&self) -> bool;
+}
+
+/// An asker that waits for each answer.
+#[derive(Drop)]
+pub struct Stays {}
+
+impl Asker for Stays {
+    fn is_gone(&self) -> bool {
+        false
+    }
+}
