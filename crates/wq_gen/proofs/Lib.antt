@@ -4,9 +4,7 @@ pub mod Paths
 pub mod Whether
 pub mod Rising
 pub mod SinceTick
-pub mod SameSuffix
 pub mod Looks
-pub mod Prefixes
 pub mod Deep
 pub mod Between
 pub mod Holding

@@ -1,14 +1,13 @@
 -- A view whose looks are counted, and how many looks the candidates of generators may take. No
 -- public document defines them.
-use Rattle.std.specs.Prelude.{◌≡◌, ◌+◌, ◌-◌, ◌*◌, ◌^◌, ℕ, min, List, length, count_by, sum_by}
-use Rattle.std.specs.Prelude.{true, Option, Some, None}
+use Rattle.std.specs.Prelude.{◌+◌, ◌-◌, ◌*◌, ◌^◌, ℕ, min, List, length, count_by, sum_by}
+use Rattle.std.specs.Prelude.{Option, Some, None}
 use Rattle.wq_clock.specs.declared.bound.Bound.{Bound}
 use Rattle.wq_clock.specs.declared.bound.Bound.TheVariants.{Fresh, Tick, Second}
 use Rattle.wq_glob.specs.Pattern.{PatternData}
 use Rattle.wq_view.specs.Below.{is_below}
-use Rattle.wq_view.specs.Position.{passes_at}
 use Rattle.wq_view.specs.RecordData.{RecordData}
-use Rattle.wq_view.specs.Suffix.{has_suffix, passing_before}
+use Rattle.wq_view.specs.Suffix.{has_suffix}
 use Rattle.wq_view.specs.View.{ViewData}
 use Rattle.wq_gen.specs.declared.generators.Generators.{Generators}
 use Rattle.wq_gen.specs.declared.generators.PathGen.{PathGen}
@@ -23,6 +22,10 @@ pub record CountedData : Type 0 where
 -- the count with one look more; it stops at the greatest number
 abbrev pub one_more : ℕ → ℕ
 one_more count = min (count + 1) (2 ^ 64 - 1)
+
+-- the count with so many looks more; it stops at the greatest number
+abbrev pub with_looks : ℕ → ℕ → ℕ
+with_looks count looks = min (count + looks) (2 ^ 64 - 1)
 
 -- the looks that a bound may take: two for each file that changed after a tick, and two more; two
 -- for each file, if the bound is a second
@@ -60,10 +63,3 @@ abbrev pub allowed : Generators → List RecordData → ℕ
 allowed generators records =
     since_looks generators.since records + suffix_looks generators.suffix records
     + path_looks generators.path records + glob_looks generators.glob records
-
--- the record of the last search by suffix: it has a suffix that was sought, and so many records
--- with it are before the record
-pub record IsFound (records : List RecordData) (at before : ℕ) : Type 0 where
-  pub text : List ℕ
-  pub here : passes_at (has_suffix text) records at ≡ true
-  pub count : passing_before (has_suffix text) records at ≡ before

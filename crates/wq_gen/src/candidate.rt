@@ -14,6 +14,7 @@ use crate::position::union;
 use crate::since::changed_since;
 use crate::suffix::with_suffix;
 use std::alloc::{AllocError, Global};
+use wq_base::Asker;
 use wq_view::View;
 
 /// The positions of the candidates, ascending, each once. The candidates are the records that some
@@ -22,8 +23,11 @@ use wq_view::View;
 /// The cost grows with the number of candidates, and with the number of files below the paths. A
 /// bound that is a second looks at each record, and so do patterns, whatever their number. More than
 /// 16 suffixes do so too: the suffix of each record is found among them by a binary search.
-pub fn candidates(
+///
+/// If the asker goes while patterns are tried there are none, as if memory had run out.
+pub fn candidates<A: Asker>(
     alloc: Global,
+    asker: &A,
     view: &View,
     generators: &Generators,
 ) -> Result<Vec<u32>, AllocError>
@@ -31,12 +35,13 @@ pub fn candidates(
         ≡ positions_of (is_candidate generators.now) view.now.records) }
 {
     let mut counted = Counted::of(view);
-    candidates_counted(alloc, &mut counted, generators)
+    candidates_counted(alloc, asker, &mut counted, generators)
 }
 
 /// The positions of the candidates. The number of looks is bounded.
-pub fn candidates_counted(
+pub fn candidates_counted<A: Asker>(
     alloc: Global,
+    asker: &A,
     counted: &mut Counted<'_>,
     generators: &Generators,
 ) -> Result<Vec<u32>, AllocError>
@@ -52,7 +57,7 @@ pub fn candidates_counted(
     let changed = changed_since(alloc, counted, generators.since)?;
     let suffixed = with_suffix(alloc, counted, &generators.suffix)?;
     let on_path = with_path(alloc, counted, &generators.path)?;
-    let fitting = with_glob(alloc, counted, &generators.glob)?;
+    let fitting = with_glob(alloc, asker, counted, &generators.glob)?;
     let early = union(alloc, changed, suffixed)?;
     union(alloc, union(alloc, early, on_path)?, fitting)
 }

@@ -1,50 +1,34 @@
 //! A view whose looks are counted. So the cost of a search for candidates can be stated.
-ghost use Rattle.std.specs.Prelude.{◌≡◌, ◌≤◌, ◌<◌, ◌==◌, ◌&&◌, ℕ, false, map, nat_le, nat_lt, length, slice_get, IfSome, MatchOption, Some};
-ghost use Rattle.std.specs.List.Sorted.{IsSortedBy};
-ghost use Rattle.std.specs.Ordering.{is_lt};
+ghost use Rattle.std.specs.Prelude.{◌≡◌, ◌≤◌, ◌<◌, ◌+◌, ◌==◌, ◌&&◌, ℕ, false, count_by, nat_le, nat_lt, length, slice_get, IfOk, IfSome, MatchOption, Some};
 ghost use Rattle.wq_view.specs.Below.{is_below};
 ghost use Rattle.wq_view.specs.Limit.{max_records};
 ghost use Rattle.wq_view.specs.Order.{Known};
 ghost use Rattle.wq_view.specs.Position.{has_name, passes_at, positions_of};
-ghost use Rattle.wq_view.specs.Suffix.{IsNext, has_suffix, passing_before};
 ghost use Rattle.wq_view.specs.View.{newest_of};
-ghost use Rattle.wq_base.specs.Compare.{folded_order};
 ghost use Rattle.wq_gen.specs.Candidate.{suffix_is_among};
-ghost use Rattle.wq_gen.specs.Counted.{IsFound, one_more};
+ghost use Rattle.wq_gen.specs.Counted.{one_more, with_looks};
 
-use crate::among::is_among;
+use std::alloc::{AllocError, Global};
 use std::marker::Model;
-use wq_base::{Text, is_suffix};
-use wq_view::{Reader, Record, View};
-
-/// A record that was found by suffix, and the number of records with that suffix before it.
-#[derive(Clone, Copy)]
-struct Found {
-    at: usize,
-    before: usize,
-    ghost few: { at < max_records },
-}
+use wq_view::{Reader, Record, Suffixes, View};
 
 /// A view, through which each look is counted.
 #[derive(Drop)]
 pub struct Counted<'a> {
     view: &'a View,
     reader: Reader<'a>,
-    /// The record that was found by suffix last.
-    last: Option<Found>,
     count: u64,
 }
 
 impl<'a> Model for Counted<'a> {
-    ghost use Rattle.std.specs.Prelude.{◌≡◌, IfSome};
-    ghost use Rattle.wq_gen.specs.Counted.{CountedData, IsFound};
+    ghost use Rattle.std.specs.Prelude.{◌≡◌};
+    ghost use Rattle.wq_gen.specs.Counted.{CountedData};
 
     ghost Value = { CountedData };
 
     ghost view = { λ c. record { view = c.view.now; count = c.count } };
 
-    ghost invariant = { λ c. (c.reader ≡ c.view.now.records)
-        × IfSome c.last (λ last. IsFound c.view.now.records last.at last.before) };
+    ghost invariant = { λ c. c.reader ≡ c.view.now.records };
 }
 
 impl<'a> Counted<'a> {
@@ -55,7 +39,6 @@ impl<'a> Counted<'a> {
         Counted {
             view,
             reader: view.reader(),
-            last: None,
             count: 0,
         }
     }
@@ -101,39 +84,24 @@ impl<'a> Counted<'a> {
         self.view.newest(k)
     }
 
-    /// The position of a record with this suffix, if A to Z count as a to z: the one with so many such records before
-    /// it. No record has an empty suffix. A search for the next record goes on from the one before.
-    pub fn suffix_at(&mut self, text: &[u8], k: usize) -> Option<usize>
-        ensures value { result
-            ≡ slice_get (positions_of (has_suffix text.now) self.old.view.records) k }
-        ensures bound { IfSome result (λ i. i < length self.old.view.records) }
-        ensures few { IfSome result (λ i. i < max_records) }
+    /// The positions of the records whose suffix is one of these, ascending. Each of them is a look, and that there are
+    /// no others is one more.
+    pub fn with_suffix(
+        &mut self,
+        alloc: Global,
+        sought: &Suffixes<'_>,
+    ) -> Result<Vec<u32>, AllocError>
+        ensures found { IfOk result (λ found. found.items
+            ≡ positions_of (suffix_is_among sought.now) self.old.view.records) }
+        ensures count { IfOk result (λ found. self.new.count
+            ≡ with_looks self.old.count (length found.items + 1)) }
+        ensures few { self.new.count ≤ self.old.count
+            + (count_by (suffix_is_among sought.now) self.old.view.records + 1) }
         ensures same { self.new.view ≡ self.old.view }
-        ensures count { self.new.count ≡ one_more self.old.count }
     {
-        self.count = one_more(self.count);
-        let (place, before) = place_for(&mut self.reader, self.last, text, k);
-        let found = self.reader.suffix_from(text, place, before, k);
-        self.last = match found {
-            Some(at) => Some(Found { at, before: k }),
-            None => None,
-        };
-        found
-    }
-
-    /// The first position from one on whose record has a suffix that is among these texts. The call
-    /// looks for the suffix of each record up to that one among the texts.
-    pub(crate) fn next_among(&mut self, sorted: &[&Text], from: usize) -> Option<usize>
-        requires { IsSortedBy (λ s t. is_lt (folded_order s.now t.now)) sorted.now }
-        ensures next { IsNext (suffix_is_among (map (λ t. t.now) sorted.now))
-            self.old.view.records from result }
-        ensures few { IfSome result (λ i. i < max_records) }
-        ensures same { self.new.view ≡ self.old.view }
-        ensures count { self.new.count ≡ one_more self.old.count }
-    {
-        self.count = one_more(self.count);
-        let len = self.view.len();
-        next_among(&mut self.reader, len, sorted, from)
+        let found = self.view.with_suffix(alloc, sought)?;
+        self.count = one_more(self.count.saturating_add(found.len() as u64));
+        Ok(found)
     }
 
     /// The range of the positions of the records strictly below a directory. All records are below the empty one.
@@ -170,37 +138,4 @@ fn one_more(count: u64) -> u64
     ensures { result ≡ one_more count }
 {
     count.saturating_add(1)
-}
-
-/// The first position from one on whose record has a suffix that is among these texts.
-fn next_among(reader: &mut Reader<'_>, len: usize, sorted: &[&Text], from: usize) -> Option<usize>
-    requires len { len ≡ length reader.old }
-    requires sorted { IsSortedBy (λ s t. is_lt (folded_order s.now t.now)) sorted.now }
-    ensures next { IsNext (suffix_is_among (map (λ t. t.now) sorted.now)) reader.old from result }
-    ensures bound { IfSome result (λ i. i < len) }
-    ensures same { reader.new ≡ reader.old }
-{
-    for i in from..len {
-        if is_among(sorted, reader.get(i).suffix()) {
-            return Some(i);
-        }
-    }
-    None
-}
-
-/// A place from which a search by suffix may begin, and the number of records with the suffix before it. The record
-/// that was found last gives it, if it has the same suffix.
-fn place_for(reader: &mut Reader<'_>, last: Option<Found>, text: &[u8], k: usize) -> (usize, usize)
-    requires { IfSome last (λ last. IsFound reader.old last.at last.before) }
-    ensures before { passing_before (has_suffix text.now) reader.old result.0 ≡ result.1 }
-    ensures low { result.1 ≤ k }
-    ensures same { reader.new ≡ reader.old }
-{
-    let Some(last) = last else {
-        return (0, 0);
-    };
-    if last.before >= k || !is_suffix(text, reader.get(last.at).suffix()) {
-        return (0, 0);
-    }
-    (last.at + 1, last.before + 1)
 }

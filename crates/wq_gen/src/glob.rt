@@ -11,13 +11,14 @@ ghost use Rattle.wq_gen.specs.Counted.{glob_looks};
 use crate::counted::Counted;
 use crate::position::keep_if;
 use std::alloc::{AllocError, Global};
-use wq_base::Table;
+use wq_base::{Asker, FILES_BETWEEN_LOOKS, Table};
 use wq_glob::Pattern;
 use wq_view::Record;
 
 /// The positions of the files that exist and fit one of the patterns, if there are patterns.
-pub(crate) fn with_glob(
+pub(crate) fn with_glob<A: Asker>(
     alloc: Global,
+    asker: &A,
     counted: &mut Counted<'_>,
     patterns: &Option<Table<Pattern>>,
 ) -> Result<Vec<u32>, AllocError>
@@ -28,14 +29,16 @@ pub(crate) fn with_glob(
     ensures same { counted.new.view ≡ counted.old.view }
 {
     match patterns {
-        Some(patterns) => fitting(alloc, counted, patterns.as_slice()),
+        Some(patterns) => fitting(alloc, asker, counted, patterns.as_slice()),
         None => Ok(Vec::new(alloc)),
     }
 }
 
-/// The positions of the files that exist and fit one of these patterns.
-fn fitting(
+/// The positions of the files that exist and fit one of these patterns. If the asker goes there are
+/// none, as if memory had run out.
+fn fitting<A: Asker>(
     alloc: Global,
+    asker: &A,
     counted: &mut Counted<'_>,
     patterns: &[Pattern],
 ) -> Result<Vec<u32>, AllocError>
@@ -47,6 +50,9 @@ fn fitting(
 {
     let mut found = Vec::new(alloc);
     for i in 0..counted.len() {
+        if i % FILES_BETWEEN_LOOKS == 0 && asker.is_gone() {
+            return Err(AllocError);
+        }
         keep_if(is_fitting(patterns, counted.look(i)), &mut found, i)?;
     }
     Ok(found)

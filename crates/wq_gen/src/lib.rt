@@ -5,7 +5,6 @@
 //! crates read the client's texts.
 #![tactic(auto)]
 
-mod among;
 mod candidate;
 mod counted;
 mod depth;

@@ -12,7 +12,7 @@ mod Showing
 mod ViewSteps
 mod Lookups
 mod Located
-mod Suffixes
+mod AfterDot
 mod Positions
 mod NamesBelow
 mod Newest
@@ -23,5 +23,8 @@ mod LaterOrder
 mod LaterRising
 mod PassOrder
 mod MoveSteps
-mod Marks
-mod KthPlaces
+mod SuffixNumbers
+mod AmongSuffixes
+mod PositionRuns
+mod SeenAgain
+mod Unmoved

@@ -1,18 +1,18 @@
 -- A run of records in a pass: the rows after it, and the records that the pass makes of it.
-use Rattle.std.proofs.Common.{◌≡◌, ℕ, ℤ, Bool, true, false, not, ◌&&◌, if◌then◌else◌, IsTrue, List, [], ◌∷◌, ◌++◌, map, Option, Some, None, length, refl, sym, ap, ◌∙◌, append_assoc}
+use Rattle.std.proofs.Common.{◌≡◌, ℕ, ℤ, Bool, true, false, not, ◌&&◌, if◌then◌else◌, IsTrue, List, [], ◌∷◌, ◌++◌, map, Option, Some, None, refl, sym, ap, ◌∙◌, append_assoc}
 use mathlib.Core.Bool.{false≢true}
 use Rattle.std.specs.declared.cmp.Ordering.{Ordering}
 use Rattle.std.specs.declared.cmp.Ordering.TheVariants.{Less, Equal, Greater}
 use Rattle.std.specs.FinMap.Entries.{by_order}
 use Rattle.std.specs.List.{list_all}
-use Rattle.std.proofs.lemmas.List.{append-nil, length-map}
+use Rattle.std.proofs.lemmas.List.{append-nil}
 use Rattle.wq_view.specs.Seen.{SeenData, Stat, is_lawful_row, stat_of, same_stat}
 use Rattle.wq_view.specs.Listing.{name_cmp}
 use Rattle.wq_view.specs.RecordData.{RecordData, last_stat, record_after, after_change, after_creation, after_deletion}
 use Rattle.wq_view.specs.Merge.{PairData, record_alone, record_and_row, row_alone, pairs_from, pairs_of, has_record, is_unchanged, shows, pair_after, records_after}
 use Rattle.wq_view.specs.Pair.{has_lawful_row}
 use Rattle.wq_view.specs.Run.{run_pairs, rows_after, rows_behind, is_same_run, keeps_names, run_after}
-use Rattle.wq_view.specs.Suffix.{record_mark, marks_of}
+use Rattle.wq_view.specs.Suffix.{folded_suffix, folded_suffixes}
 use Rattle.wq_view.proofs.NameOrder.{both_true}
 
 -- pairs with later pairs in two parts
@@ -117,45 +117,40 @@ module _ (tick : ℕ) (second : ℤ) where
   same_after [] rows e = refl
   same_after (r ∷ rs) rows e = same_from r (run_pairs rs) rs (λ rows h. same_after rs rows h) rows e
 
-  -- a pass changes no name, so no mark
-  mark_stays : (r : RecordData) (seen : Option Stat) → record_mark (record_after r seen tick second) ≡ record_mark r
-  mark_stays r None = at r.exists
+  -- a pass changes no name, so no suffix
+  suffix_stays : (r : RecordData) (seen : Option Stat) → folded_suffix (record_after r seen tick second) ≡ folded_suffix r
+  suffix_stays r None = at r.exists
     where
-      at : (b : Bool) → record_mark (if b then after_deletion r tick second else r) ≡ record_mark r
+      at : (b : Bool) → folded_suffix (if b then after_deletion r tick second else r) ≡ folded_suffix r
       at true = refl
       at false = refl
-  mark_stays r (Some s) = at r.exists (same_stat (last_stat r) s)
+  suffix_stays r (Some s) = at r.exists (same_stat (last_stat r) s)
     where
-      at : (a b : Bool) → record_mark (if a then (if b then r else after_change r s tick second) else after_creation r s tick second) ≡ record_mark r
+      at : (a b : Bool) → folded_suffix (if a then (if b then r else after_change r s tick second) else after_creation r s tick second) ≡ folded_suffix r
       at true true = refl
       at true false = refl
       at false b = refl
 
-  marks_from : (r : RecordData) (later : List SeenData → List PairData) (marks : List ℕ) → ((rows : List SeenData) → list_all has_record (later rows) ≡ true → marks_of (map (pair_after tick second) (later rows)) ≡ marks) → (rows : List SeenData) → list_all has_record (pairs_from r later rows) ≡ true → marks_of (map (pair_after tick second) (pairs_from r later rows)) ≡ record_mark r ∷ marks
-  marks_from r later marks same [] e =
-      ap (λ m. m ∷ marks_of (map (pair_after tick second) (later []))) (mark_stays r None) ∙ ap (λ l. record_mark r ∷ l) (same [] e)
-  marks_from r later marks same (row ∷ rows) e = by (name_cmp r.name row.name) e
+  suffixes_from : (r : RecordData) (later : List SeenData → List PairData) (suffixes : List (List ℕ)) → ((rows : List SeenData) → list_all has_record (later rows) ≡ true → folded_suffixes (map (pair_after tick second) (later rows)) ≡ suffixes) → (rows : List SeenData) → list_all has_record (pairs_from r later rows) ≡ true → folded_suffixes (map (pair_after tick second) (pairs_from r later rows)) ≡ folded_suffix r ∷ suffixes
+  suffixes_from r later suffixes same [] e =
+      ap (λ m. m ∷ folded_suffixes (map (pair_after tick second) (later []))) (suffix_stays r None) ∙ ap (λ l. folded_suffix r ∷ l) (same [] e)
+  suffixes_from r later suffixes same (row ∷ rows) e = by (name_cmp r.name row.name) e
     where
-      by : (o : Ordering) → list_all has_record (by_order o (record_alone r ∷ later (row ∷ rows)) (record_and_row r row ∷ later rows) (row_alone row ∷ pairs_from r later rows)) ≡ true → marks_of (map (pair_after tick second) (by_order o (record_alone r ∷ later (row ∷ rows)) (record_and_row r row ∷ later rows) (row_alone row ∷ pairs_from r later rows))) ≡ record_mark r ∷ marks
-      by Less h = ap (λ m. m ∷ marks_of (map (pair_after tick second) (later (row ∷ rows)))) (mark_stays r None) ∙ ap (λ l. record_mark r ∷ l) (same (row ∷ rows) h)
-      by Equal h = ap (λ m. m ∷ marks_of (map (pair_after tick second) (later rows))) (mark_stays r (Some (stat_of row))) ∙ ap (λ l. record_mark r ∷ l) (same rows h)
+      by : (o : Ordering) → list_all has_record (by_order o (record_alone r ∷ later (row ∷ rows)) (record_and_row r row ∷ later rows) (row_alone row ∷ pairs_from r later rows)) ≡ true → folded_suffixes (map (pair_after tick second) (by_order o (record_alone r ∷ later (row ∷ rows)) (record_and_row r row ∷ later rows) (row_alone row ∷ pairs_from r later rows))) ≡ folded_suffix r ∷ suffixes
+      by Less h = ap (λ m. m ∷ folded_suffixes (map (pair_after tick second) (later (row ∷ rows)))) (suffix_stays r None) ∙ ap (λ l. folded_suffix r ∷ l) (same (row ∷ rows) h)
+      by Equal h = ap (λ m. m ∷ folded_suffixes (map (pair_after tick second) (later rows))) (suffix_stays r (Some (stat_of row))) ∙ ap (λ l. folded_suffix r ∷ l) (same rows h)
       by Greater h = absurd (false≢true h)
 
-  -- a run into which a pass brings no name has the same marks after it
-  pub marks_kept : (rs : List RecordData) (rows : List SeenData) → keeps_names rs rows ≡ true → marks_of (run_after tick second rs rows) ≡ marks_of rs
-  marks_kept [] rows e = refl
-  marks_kept (r ∷ rs) rows e = marks_from r (run_pairs rs) (marks_of rs) (λ rows h. marks_kept rs rows h) rows e
-
-  -- and as many records
-  pub count_kept : (rs : List RecordData) (rows : List SeenData) → keeps_names rs rows ≡ true → length (run_after tick second rs rows) ≡ length rs
-  count_kept rs rows e =
-      sym (length-map (run_after tick second rs rows) record_mark) ∙ ap length (marks_kept rs rows e) ∙ length-map rs record_mark
+  -- a run into which a pass brings no name has the same suffixes after it
+  pub suffixes_kept : (rs : List RecordData) (rows : List SeenData) → keeps_names rs rows ≡ true → folded_suffixes (run_after tick second rs rows) ≡ folded_suffixes rs
+  suffixes_kept [] rows e = refl
+  suffixes_kept (r ∷ rs) rows e = suffixes_from r (run_pairs rs) (folded_suffixes rs) (λ rows h. suffixes_kept rs rows h) rows e
 
   -- a chunk of what a pass makes of a run, if no name comes and no pair is left
-  pub all_kept : (rs made : List RecordData) (rows : List SeenData) (left : List PairData) → keeps_names rs rows ≡ true → left ≡ [] → made ++ map (pair_after tick second) left ≡ run_after tick second rs rows → (marks_of rs ≡ marks_of made) × (length made ≡ length rs)
+  pub all_kept : (rs made : List RecordData) (rows : List SeenData) (left : List PairData) → keeps_names rs rows ≡ true → left ≡ [] → made ++ map (pair_after tick second) left ≡ run_after tick second rs rows → folded_suffixes made ≡ folded_suffixes rs
   all_kept rs made rows left e none known =
       let is : made ≡ run_after tick second rs rows = sym (append-nil made) ∙ sym (ap (λ l. made ++ map (pair_after tick second) l) none) ∙ known in
-      (sym (marks_kept rs rows e) ∙ sym (ap marks_of is), ap length is ∙ count_kept rs rows e)
+      ap folded_suffixes is ∙ suffixes_kept rs rows e
 
   -- what is done and left, after the first pair that is left is done
   pub after_taken : (done : List RecordData) (r : RecordData) (p : PairData) (left next : List PairData) (all : List RecordData) → left ≡ p ∷ next → r ≡ pair_after tick second p → done ++ map (pair_after tick second) left ≡ all → (done ++ r ∷ []) ++ map (pair_after tick second) next ≡ all

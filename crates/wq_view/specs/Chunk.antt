@@ -6,7 +6,6 @@ use Rattle.std.specs.List.{flat_map}
 use Rattle.wq_view.specs.declared.chunk.Slot.{Slot}
 use Rattle.wq_view.specs.RecordData.{RecordData}
 use Rattle.wq_view.specs.Position.{passes_at}
-use Rattle.wq_view.specs.Suffix.{marks_of}
 
 -- the records of a slot
 abbrev pub slot_records : Slot → List RecordData
@@ -38,12 +37,10 @@ abbrev pub IsRunAt : List RecordData → ℕ → List RecordData → Type 0
 IsRunAt records start run =
     (i : ℕ) → i < length run → slice_get records (start + i) ≡ slice_get run i
 
--- records that are in a list one after the other, from a place on, and their marks
-pub record IsPiece (all : List RecordData) (start : ℕ) (run : List RecordData) (marks : List ℕ)
-    : Type 0 where
+-- records that are in a list one after the other, from a place on, and end within it
+pub record IsPiece (all : List RecordData) (start : ℕ) (run : List RecordData) : Type 0 where
   pub run_at : IsRunAt all start run
   pub fits : start + length run ≤ length all
-  pub marked : marks ≡ marks_of run
 
 -- whether the last record of a chunk passes a test
 abbrev pub is_chunk_before : (RecordData → Bool) → Slot → Bool

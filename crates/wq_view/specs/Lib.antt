@@ -19,3 +19,4 @@ pub mod Records
 pub mod Below
 pub mod Moves
 pub mod Suffix
+pub mod Again

@@ -1,6 +1,6 @@
 -- Positions of records: their places in the list of a view, from 0. They are this server's own.
-use Rattle.std.specs.Prelude.{◌≡◌, ◌<◌, ◌≤◌, ℕ, Bool, false, All, List, length, filter, slice_get}
-use Rattle.std.specs.Prelude.{bytes_eq}
+use Rattle.std.specs.Prelude.{◌≡◌, ◌<◌, ◌≤◌, ◌+◌, ℕ, Bool, false, All, List, length, map, filter}
+use Rattle.std.specs.Prelude.{bytes_eq, slice_get}
 use Rattle.std.specs.List.{filter_map, range_with_len}
 use Rattle.std.specs.Option.{option_map_or}
 use Rattle.wq_view.specs.RecordData.{RecordData}
@@ -20,6 +20,10 @@ all_positions records = range_with_len 0 (length records)
 -- the positions of the records that pass the test, ascending
 abbrev pub positions_of : (RecordData → Bool) → List RecordData → List ℕ
 positions_of test records = filter (passes_at test records) (all_positions records)
+
+-- the positions of the records that pass the test, if the first record has this position
+abbrev pub positions_from : ℕ → (RecordData → Bool) → List RecordData → List ℕ
+positions_from start test records = map (λ i. start + i) (positions_of test records)
 
 -- the records at these positions, in their order
 abbrev pub records_at : List RecordData → List ℕ → List RecordData

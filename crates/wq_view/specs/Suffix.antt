@@ -1,54 +1,76 @@
--- The records with a suffix, and the marks by which a view finds them. A mark is a byte that follows
--- from a suffix, and that two suffixes share if they differ in letter case alone. The marks are this
--- server's own.
-use Rattle.std.specs.Prelude.{◌≡◌, ◌≤◌, ◌<◌, ◌+◌, ◌*◌, ◌%◌, ◌^◌, ◌==◌, ℕ, Bool, true, false, List, [], ◌∷◌, length, get_or, filter, map, Option, MatchOption}
-use Rattle.std.specs.List.{range_with_len}
+-- The records with a suffix, and the numbers that a chunk gives to the suffixes of its records. The
+-- numbers are this server's own.
+use Rattle.std.specs.Prelude.{◌≡◌, ◌≤◌, ◌<◌, ◌&&◌, ◌==◌, ◌⊎◌, ◌++◌, ℕ, Bool, not, bytes_eq, List, [], ◌∷◌, length, get_or, map}
+use Rattle.std.specs.List.{list_any}
 use Rattle.std.specs.Str.{str_to_ascii_lowercase}
 use Rattle.wq_base.specs.Compare.{is_suffix}
 use Rattle.wq_base.specs.Name.{suffix_of}
+use Rattle.wq_view.specs.declared.suffix.First.{First}
 use Rattle.wq_view.specs.RecordData.{RecordData}
-use Rattle.wq_view.specs.Position.{passes_at}
 
 -- whether the suffix of the record's name is this text, if A to Z count as a to z; no record has an
 -- empty suffix
 abbrev pub has_suffix : List ℕ → RecordData → Bool
 has_suffix text r = is_suffix text (suffix_of r.name)
 
--- the mark with more bytes
-abbrev pub mark_from : ℕ → List ℕ → ℕ
-mark_from mark [] = mark
-mark_from mark (b ∷ bytes) = mark_from ((((mark * 31) % 2 ^ 8) + b) % 2 ^ 8) bytes
+-- whether a suffix is one of these texts, if A to Z count as a to z; an empty one is not
+abbrev pub is_one_of : List (List ℕ) → List ℕ → Bool
+is_one_of texts suffix = list_any (λ text. is_suffix text suffix) texts
 
--- the mark of a suffix
-abbrev pub mark_of : List ℕ → ℕ
-mark_of suffix = mark_from 0 (str_to_ascii_lowercase suffix)
+-- whether the suffix of the record's name is one of these texts
+abbrev pub has_suffix_of : List (List ℕ) → RecordData → Bool
+has_suffix_of texts r = is_one_of texts (suffix_of r.name)
 
--- the mark of the suffix of a record's name
-abbrev pub record_mark : RecordData → ℕ
-record_mark r = mark_of (suffix_of r.name)
+-- the suffix of a record's name with a to z for A to Z
+abbrev pub folded_suffix : RecordData → List ℕ
+folded_suffix r = str_to_ascii_lowercase (suffix_of r.name)
 
--- the marks of records
-abbrev pub marks_of : List RecordData → List ℕ
-marks_of = map record_mark
+-- the suffixes of records with a to z for A to Z
+abbrev pub folded_suffixes : List RecordData → List (List ℕ)
+folded_suffixes = map folded_suffix
 
--- the first place from one on with this byte
-abbrev pub IsNextByte : ℕ → List ℕ → ℕ → Option ℕ → Type 0
-IsNextByte byte bytes from result =
-    MatchOption result ((j : ℕ) → from ≤ j → j < length bytes → (get_or bytes j 0 == byte) ≡ false)
-    (λ i. (i < length bytes) × (from ≤ i) × ((get_or bytes i 0 == byte) ≡ true)
-    × ((j : ℕ) → from ≤ j → j < i → (get_or bytes j 0 == byte) ≡ false))
+-- whether a suffix with a to z for A to Z is one of these texts
+abbrev pub is_folded_of : List (List ℕ) → List ℕ → Bool
+is_folded_of texts suffix =
+    list_any (λ text. not (length text == 0) && bytes_eq (str_to_ascii_lowercase text) suffix) texts
 
--- the first position from one on whose record passes a test
-abbrev pub IsNext : (RecordData → Bool) → List RecordData → ℕ → Option ℕ → Type 0
-IsNext test records from result =
-    MatchOption result ((j : ℕ) → from ≤ j → passes_at test records j ≡ false)
-    (λ i. (i < length records) × (from ≤ i) × (passes_at test records i ≡ true)
-    × ((j : ℕ) → from ≤ j → j < i → passes_at test records j ≡ false))
+-- the most suffixes of a chunk that have a number
+abbrev pub max_numbered : ℕ
+max_numbered = 255
 
--- the number of records before a place that pass a test
-abbrev pub passing_before : (RecordData → Bool) → List RecordData → ℕ → ℕ
-passing_before test records place = length (filter (passes_at test records) (range_with_len 0 place))
+-- the places of the first records of suffixes
+abbrev pub first_places : List First → List ℕ
+first_places = map (λ first. first.at)
 
--- the position of a record that passes a test, as so many before it do
-abbrev pub IsKth : (RecordData → Bool) → List RecordData → ℕ → ℕ → Type 0
-IsKth test records k i = (passes_at test records i ≡ true) × (passing_before test records i ≡ k)
+-- places of so many records, for at most as many suffixes as have a number
+pub record ArePlaces (count : ℕ) (places : List ℕ) : Type 0 where
+  pub few : length places ≤ max_numbered
+  pub inside : (k : ℕ) → k < length places → get_or places k 0 < count
+
+-- the suffix of a number: that of the record at its place
+abbrev pub suffix_at : List (List ℕ) → List ℕ → ℕ → List ℕ
+suffix_at suffixes places number = get_or suffixes (get_or places number 0) []
+
+-- a number of this suffix: that of its place, or the last number, if all others are taken
+abbrev pub IsNumber : List (List ℕ) → List ℕ → ℕ → List ℕ → Type 0
+IsNumber suffixes places number suffix =
+    ((number < length places) × (suffix_at suffixes places number ≡ suffix))
+    ⊎ ((length places ≡ max_numbered) × (number ≡ max_numbered))
+
+-- the number for the suffix at a place; a new suffix gets a place of its own
+pub record IsNumberFor (suffixes : List (List ℕ)) (at : ℕ) (old new : List ℕ) (number : ℕ)
+    : Type 0 where
+  pub grown : (new ≡ old) ⊎ (new ≡ old ++ at ∷ [])
+  pub fits : ArePlaces (length suffixes) new
+  pub right : IsNumber suffixes new number (get_or suffixes at [])
+
+-- numbers of suffixes, one for each
+pub record IsNumbered (suffixes : List (List ℕ)) (places numbers : List ℕ) : Type 0 where
+  pub fits : ArePlaces (length suffixes) places
+  pub each : length numbers ≡ length suffixes
+  pub right : (i : ℕ) → i < length suffixes
+      → IsNumber suffixes places (get_or numbers i 0) (get_or suffixes i [])
+
+-- whether the suffixes at these places are sought
+abbrev pub sought_places : List (List ℕ) → List (List ℕ) → List ℕ → List Bool
+sought_places texts suffixes places = map (λ at. is_folded_of texts (get_or suffixes at [])) places

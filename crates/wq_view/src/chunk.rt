@@ -1,10 +1,12 @@
 //! A chunk of a view's records. Views share chunks.
-ghost use Rattle.std.specs.Prelude.{◌≡◌, ◌≤◌, length, IfOk};
-ghost use Rattle.wq_view.specs.Limit.{max_chunk};
-ghost use Rattle.wq_view.specs.Suffix.{marks_of};
+ghost use Rattle.std.specs.Prelude.{◌≡◌, ◌≤◌, ◌+◌, ◌++◌, length, IfOk, OnOk};
+ghost use Rattle.wq_view.specs.Limit.{max_chunk, max_records};
+ghost use Rattle.wq_view.specs.Position.{positions_from};
+ghost use Rattle.wq_view.specs.Suffix.{folded_suffixes, has_suffix_of};
 
 use crate::file_record::Record;
-use crate::suffix::marks_of;
+use crate::suffix::SuffixTable;
+use crate::suffixes::Suffixes;
 use std::alloc::{AllocError, Global};
 use std::marker::Model;
 use std::sync::Arc;
@@ -13,8 +15,7 @@ use std::sync::Arc;
 #[derive(Drop)]
 pub(crate) struct Chunk {
     records: Vec<Record>,
-    /// For each record the mark of its suffix.
-    marks: Vec<u8>,
+    suffixes: SuffixTable,
 }
 
 impl Model for Chunk {
@@ -22,7 +23,7 @@ impl Model for Chunk {
     ghost use Rattle.std.specs.Coded.{coded_list};
     ghost use Rattle.wq_view.specs.Limit.{max_chunk};
     ghost use Rattle.wq_view.specs.RecordData.{RecordData, record_code};
-    ghost use Rattle.wq_view.specs.Suffix.{marks_of};
+    ghost use Rattle.wq_view.specs.Suffix.{IsNumbered, folded_suffixes, first_places};
 
     ghost Value = { List RecordData };
 
@@ -30,7 +31,7 @@ impl Model for Chunk {
 
     ghost view = { λ c. c.records.items };
 
-    ghost invariant = { λ c. (1 ≤ vec_len c.records) × (vec_len c.records ≤ max_chunk) × (c.marks.items ≡ marks_of c.records.items) };
+    ghost invariant = { λ c. (1 ≤ vec_len c.records) × (vec_len c.records ≤ max_chunk) × IsNumbered (folded_suffixes c.records.items) (first_places c.suffixes.firsts.items) c.suffixes.numbers.items };
 }
 
 impl Chunk {
@@ -40,23 +41,21 @@ impl Chunk {
         requires few { length records.items ≤ max_chunk }
         ensures { IfOk result (λ chunk. chunk ≡ records.items) }
     {
-        let marks = marks_of(alloc, &records)?;
-        Ok(Chunk { records, marks })
+        let suffixes = SuffixTable::of(alloc, &records)?;
+        Ok(Chunk { records, suffixes })
     }
 
-    /// The chunk of these records, which have the marks of other records of the same names.
+    /// The chunk of these records, which have the names of this chunk.
     pub(crate) fn of_same_names(
+        &self,
         alloc: Global,
         records: Vec<Record>,
-        marks: &[u8],
     ) -> Result<Chunk, AllocError>
-        requires some { 1 ≤ length records.items }
-        requires few { length records.items ≤ max_chunk }
-        requires marks { marks.now ≡ marks_of records.items }
+        requires { folded_suffixes records.items ≡ folded_suffixes self.now }
         ensures { IfOk result (λ chunk. chunk ≡ records.items) }
     {
-        let marks = Vec::from_slice(alloc, marks)?;
-        Ok(Chunk { records, marks })
+        let suffixes = self.suffixes.copy(alloc)?;
+        Ok(Chunk { records, suffixes })
     }
 
     /// The records.
@@ -68,11 +67,21 @@ impl Chunk {
         &self.records
     }
 
-    /// The marks of the records.
-    pub(crate) fn marks(&self) -> &[u8]
-        ensures { result.now ≡ marks_of self.now }
+    /// Adds the positions of the records whose suffix is sought. The first record has this position. The flags are for
+    /// any use.
+    pub(crate) fn push_sought(
+        &self,
+        start: usize,
+        sought: &Suffixes<'_>,
+        flags: &mut Vec<bool>,
+        found: &mut Vec<u32>,
+    ) -> Result<(), AllocError>
+        requires { start + length self.now ≤ max_records }
+        ensures { OnOk result (found.new.items ≡ found.old.items
+            ++ positions_from start (has_suffix_of sought.now) self.now) }
     {
-        &self.marks
+        self.suffixes
+            .push_sought(&self.records, start, sought, flags, found)
     }
 }
 

@@ -6,13 +6,15 @@ ghost use Rattle.std.specs.List.Sorted.{IsPartitionedBy, IsPartitionPoint};
 ghost use Rattle.wq_view.specs.Chunk.{AreChunks, IsChunkAt, IsPiece, count_before, is_chunk_before, records_in};
 ghost use Rattle.wq_view.specs.Limit.{max_records};
 ghost use Rattle.wq_view.specs.RecordData.{RecordData};
+ghost use Rattle.wq_view.specs.Position.{positions_of};
 ghost use Rattle.wq_view.specs.Records.{records_left};
-ghost use Rattle.wq_view.specs.Suffix.{marks_of};
+ghost use Rattle.wq_view.specs.Suffix.{has_suffix_of};
 
 use crate::chunk::{Chunk, Slot};
 use crate::file_record::Record;
 use crate::limit::MAX_RECORDS;
 use crate::records::Records;
+use crate::suffixes::Suffixes;
 use std::alloc::{AllocError, Global};
 use std::marker::Model;
 use std::sync::Arc;
@@ -124,14 +126,14 @@ impl Chunks {
         requires { i < length self.now }
         ensures { slice_get self.now i ≡ Some result.now }
     {
-        let (start, records, _) = self.chunk_with(i);
+        let (start, records) = self.chunk_with(i);
         &records[i - start]
     }
 
-    /// The chunk that has the record at this position: the position of its first record, its records and their marks.
-    pub(crate) fn chunk_with(&self, i: usize) -> (usize, &[Record], &[u8])
+    /// The chunk that has the record at this position: the position of its first record, and its records.
+    pub(crate) fn chunk_with(&self, i: usize) -> (usize, &[Record])
         requires { i < length self.now }
-        ensures piece { IsPiece self.now result.0 result.1.now result.2.now }
+        ensures piece { IsPiece self.now result.0 result.1.now }
         ensures from { result.0 ≤ i }
         ensures to { i < result.0 + length result.1.now }
     {
@@ -146,10 +148,29 @@ impl Chunks {
             return Records::of(&[]);
         }
         let at = slot_with(&self.slots, i);
-        let (start, records, _) = chunk_at(&self.slots, at);
+        let (start, records) = chunk_at(&self.slots, at);
         let (_, records) = records.split_at(i - start);
         let (_, slots) = self.slots.split_at(at + 1);
         Records { records, slots }
+    }
+
+    /// The positions of the records whose suffix is one of these, ascending.
+    pub(crate) fn with_suffix(
+        &self,
+        alloc: Global,
+        sought: &Suffixes<'_>,
+    ) -> Result<Vec<u32>, AllocError>
+        ensures { IfOk result (λ found. found.items ≡ positions_of (has_suffix_of sought.now) self.now) }
+    {
+        let mut found = Vec::new(alloc);
+        let mut flags = Vec::new(alloc);
+        let mut start = 0usize;
+        for slot in self.slots() {
+            slot.chunk
+                .push_sought(start, sought, &mut flags, &mut found)?;
+            start = slot.end;
+        }
+        Ok(found)
     }
 
     /// The number of records that pass a test. Each of them must come before all records that do not pass it.
@@ -176,7 +197,7 @@ impl Chunks {
         if at == self.slots.len() {
             return self.len();
         }
-        let (start, records, _) = chunk_at(&self.slots, at);
+        let (start, records) = chunk_at(&self.slots, at);
         start + records.partition_point(is_before)
     }
 }
@@ -192,14 +213,13 @@ fn slot_with(slots: &[Slot], i: usize) -> usize
     slots.partition_point(|slot| slot.end <= i)
 }
 
-/// The chunk of the slot at this place: the number of records before it, its records and their marks.
-fn chunk_at(slots: &[Slot], at: usize) -> (usize, &[Record], &[u8])
+/// The chunk of the slot at this place: the number of records before it, and its records.
+fn chunk_at(slots: &[Slot], at: usize) -> (usize, &[Record])
     requires chunks { AreChunks 0 slots.now }
     requires bound { at < length slots.now }
-    ensures chunk { IsChunkAt slots.now at result.0 result.1.now }
-    ensures marks { result.2.now ≡ marks_of result.1.now }
+    ensures { IsChunkAt slots.now at result.0 result.1.now }
 {
     let slot = &slots[at];
     let records = slot.chunk.records();
-    (slot.end - records.len(), records, slot.chunk.marks())
+    (slot.end - records.len(), records)
 }

@@ -20,11 +20,6 @@ pub struct Known<'a> {
 }
 
 impl<'a> Known<'a> {
-    /// No records.
-    pub fn none() -> Known<'a> {
-        Known::of(Records::of(&[]))
-    }
-
     /// These records.
     pub fn of(mut records: Records<'a>) -> Known<'a> {
         Known {

@@ -12,6 +12,7 @@
 //! ```
 #![tactic(auto)]
 
+mod again;
 mod below;
 mod chunk;
 mod chunks;
@@ -31,8 +32,10 @@ mod reader;
 mod records;
 mod shared;
 mod suffix;
+mod suffixes;
 mod view;
 
+pub use again::Again;
 pub use file_record::Record;
 pub use kind::Kind;
 pub use known::Known;
@@ -46,4 +49,5 @@ pub use name::{MAX_NAME, Name, is_valid_name};
 pub use reader::Reader;
 pub use records::Records;
 pub use shared::SharedBytes;
+pub use suffixes::Suffixes;
 pub use view::{View, ViewFault};

@@ -3,7 +3,11 @@
 ghost use Rattle.std.specs.Prelude.{◌≡◌, ◌<◌, ◌↔◌, false, Some, None, MatchResult, IfSome, IfNone, IfErr, List, [], length, ◌≤◌, IfOk, map, take, bytes_eq, slice_get, IsTrue, IsPermutation};
 ghost use Rattle.std.specs.FinMap.{entries, is_sorted};
 ghost use Rattle.std.specs.List.{list_all, IsDistinct};
+ghost use Rattle.wq_view.specs.Again.{seen_rows};
+ghost use Rattle.wq_view.specs.History.{History, last_stats};
+ghost use Rattle.wq_view.specs.Limit.{max_listing_rows};
 ghost use Rattle.wq_view.specs.Seen.{entry_of, is_lawful_row, is_count, is_time};
+ghost use Rattle.wq_view.specs.View.{IsViewOf, ViewData};
 ghost use Rattle.wq_view.specs.Listing.{name_cmp, names_of, listing_of, listing_fault, is_of_whole, row_fault};
 
 use crate::kind::Kind;
@@ -131,6 +135,25 @@ impl Pass {
             return Err(PassFault::NameTwice);
         }
         Ok(Pass { rows, second })
+    }
+
+    /// The fault of a pass at this second whose rows say of the files just what a view says, if it has one. Such a pass
+    /// sees just the same as the last one.
+    pub fn fault_again(second: i64) -> Option<PassFault>
+        // For every view of a history:
+        ensures fault { (history : History) (view : ViewData) → IsViewOf history view
+            → IsTrue (list_all is_lawful_row (seen_rows view.records))
+            → length (seen_rows view.records) ≤ max_listing_rows
+            → result ≡ listing_fault (seen_rows view.records) second }
+        ensures same { (history : History) (view : ViewData) → IsViewOf history view
+            → last_stats history ≡ (listing_of (seen_rows view.records) second).stats }
+        ensures whole { IfSome result (λ fault. IsTrue (is_of_whole fault)) }
+    {
+        if is_count(second) {
+            None
+        } else {
+            Some(PassFault::OutOfRange)
+        }
     }
 
     /// The rows in the byte order of their names.

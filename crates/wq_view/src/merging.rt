@@ -193,7 +193,7 @@ fn push_after<'a>(
     Ok(seen.left)
 }
 
-/// A chunk after a pass that brings no name into it. Its marks stay as they are.
+/// A chunk after a pass that brings no name into it. Its suffixes stay as they are.
 fn chunk_after(
     alloc: Global,
     moves: &mut Moves,
@@ -215,7 +215,7 @@ fn chunk_after(
     while let Some(pair) = pairs.take() {
         records.push(note_after(moves, pair, at)?)?;
     }
-    Chunk::of_same_names(alloc, records, chunk.marks())
+    chunk.of_same_names(alloc, records)
 }
 
 /// Adds the records of a run as they are after a pass.

@@ -1,5 +1,5 @@
 //! The records of a view, or of a run of its positions, one after the other.
-ghost use Rattle.std.specs.Prelude.{◌≡◌, take, length};
+ghost use Rattle.std.specs.Prelude.{◌≡◌, [], take, length};
 ghost use Rattle.wq_view.specs.Chunk.{records_in};
 ghost use Rattle.wq_view.specs.Records.{records_left};
 
@@ -16,6 +16,13 @@ pub struct Records<'a> {
 }
 
 impl<'a> Records<'a> {
+    /// No records.
+    pub fn none() -> Records<'a>
+        ensures { records_left result ≡ [] }
+    {
+        Records::of(&[])
+    }
+
     /// The records in these slots.
     pub(crate) fn of(slots: &'a [Slot]) -> Records<'a>
         ensures { records_left result ≡ records_in slots.now }

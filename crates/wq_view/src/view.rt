@@ -12,7 +12,7 @@ ghost use Rattle.wq_view.specs.Limit.{max_records, max_tick};
 ghost use Rattle.wq_view.specs.Order.{Known};
 ghost use Rattle.wq_view.specs.Position.{has_name, passes_at, positions_of};
 ghost use Rattle.wq_view.specs.Records.{records_left};
-ghost use Rattle.wq_view.specs.Suffix.{has_suffix};
+ghost use Rattle.wq_view.specs.Suffix.{has_suffix_of};
 ghost use Rattle.wq_view.specs.View.{IsViewOf, NamesRise, newest_of};
 
 use crate::chunks::Chunks;
@@ -24,6 +24,7 @@ use crate::order::Order;
 use crate::pair::Moment;
 use crate::reader::Reader;
 use crate::records::Records;
+use crate::suffixes::Suffixes;
 use std::alloc::{AllocError, Global};
 use std::marker::Model;
 use thiserror::Error;
@@ -291,15 +292,19 @@ impl View {
         self.order.get(k)
     }
 
-    /// The position of a record with this suffix, if A to Z count as a to z: the one with so many such records before
-    /// it. No record has an empty suffix.
+    /// The positions of the records whose suffix is one of these, ascending. A to Z count as a to z, and no record has an
+    /// empty suffix.
     ///
-    /// The call goes over the marks of the records up to that one. A reader goes on from record to record.
-    pub fn suffix_at(&self, text: &[u8], k: usize) -> Option<usize>
-        ensures value { result ≡ slice_get (positions_of (has_suffix text.now) self.now.records) k }
-        ensures bound { IfSome result (λ i. i < length self.now.records) }
+    /// The call compares each suffix of a chunk once, and then reads a byte for each record. It takes memory for the
+    /// positions.
+    ///
+    /// # Errors
+    /// Memory ran out.
+    pub fn with_suffix(&self, alloc: Global, sought: &Suffixes<'_>) -> Result<Vec<u32>, AllocError>
+        ensures { IfOk result (λ found. found.items
+            ≡ positions_of (has_suffix_of sought.now) self.now.records) }
     {
-        self.reader().suffix_from(text, 0, 0, k)
+        self.chunks.with_suffix(alloc, sought)
     }
 
     /// An equal view. It shares its records with this view.

@@ -10,11 +10,11 @@ use Rattle.wq_gen.proofs.Unions.{union_found}
 use Rattle.wq_gen.proofs.candidate.candidates_counted.Goals as goal
 
 pub returns-then-not-is_any_there-clause-found : goal.returns-then-not-is_any_there-clause-found
-returns-then-not-is_any_there-clause-found c =
+returns-then-not-is_any_there-clause-found g c =
     IfOk-weaker c.all.result _ _ (λ found is. is ∙ ap (range_with_len 0) c.len.ensures.value ∙ none_there c.args.generators.now c.args.counted.now.view.records (sym c.is_any_there.ensures ∙ c.if-not-is_any_there.true)) c.all.ensures
 
 pub returns-clause-found : goal.returns-clause-found
-returns-clause-found c =
+returns-clause-found g c =
     let rs = c.args.counted.now.view.records in
     let generators = c.args.generators.now in
     let second = c.with_suffix.ensures.same ∙ c.changed_since.ensures.same in

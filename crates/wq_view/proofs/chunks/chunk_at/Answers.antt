@@ -1,7 +1,6 @@
 -- The slot says where its chunk ends.
-use Rattle.std.proofs.Common.{◌≡◌, ◌+◌, ◌-◌, length, sym, ap, ◌∙◌, arith}
+use Rattle.std.proofs.Common.{◌≡◌, ◌+◌, ◌-◌, length, ◌∙◌, arith}
 use Rattle.wq_view.specs.Chunk.{count_before}
-use Rattle.wq_view.specs.Suffix.{marks_of}
 use Rattle.wq_view.proofs.Located.{start_is, chunk_is}
 use Rattle.wq_view.proofs.chunks.chunk_at.Goals as goal
 
@@ -12,8 +11,5 @@ ends c = start_is c.args.slots.now c.requires.chunks c.args.at c.index-slots-at.
 pub overflow_sub-result : goal.overflow_sub-result
 overflow_sub-result c = omega (arith, ends c)
 
-pub returns-clause-chunk : goal.returns-clause-chunk
-returns-clause-chunk c = chunk_is c.args.slots.now c.requires.chunks c.args.at (c.index-slots-at.result.end - length c.records-records.result.now) c.index-slots-at.result c.records-records.result.now c.requires.bound c.index-slots-at.is (c.records-records.ensures.value ∙ c.deref.ensures) (omega (arith, start_is c.args.slots.now c.requires.chunks c.args.at c.index-slots-at.result c.records-records.result.now c.requires.bound c.index-slots-at.is (c.records-records.ensures.value ∙ c.deref.ensures)))
-
-pub returns-clause-marks : goal.returns-clause-marks
-returns-clause-marks c = c.marks.ensures ∙ ap marks_of (c.deref-2.ensures ∙ sym (c.records-records.ensures.value ∙ c.deref.ensures))
+pub returns : goal.returns
+returns c = chunk_is c.args.slots.now c.requires.chunks c.args.at (c.index-slots-at.result.end - length c.records-records.result.now) c.index-slots-at.result c.records-records.result.now c.requires.bound c.index-slots-at.is (c.records-records.ensures.value ∙ c.deref.ensures) (omega (arith, start_is c.args.slots.now c.requires.chunks c.args.at c.index-slots-at.result c.records-records.result.now c.requires.bound c.index-slots-at.is (c.records-records.ensures.value ∙ c.deref.ensures)))

@@ -1,11 +1,10 @@
 -- All pairs are left; when none is left, the chunk has the names of the one before.
-use Rattle.std.proofs.Common.{◌≡◌, ◌++◌, map, length, ap, ◌∙◌, arith}
+use Rattle.std.proofs.Common.{◌++◌, map, ap, ◌∙◌}
 use Rattle.std.specs.List.{list_all}
 use Rattle.wq_view.specs.Merge.{pair_after}
 use Rattle.wq_view.specs.Moves.{moves_data, with_pairs}
 use Rattle.wq_view.specs.Pair.{has_lawful_row, pairs_left}
 use Rattle.wq_view.specs.Run.{run_pairs}
-use Rattle.wq_view.specs.Suffix.{marks_of}
 use Rattle.wq_view.proofs.Runs.{all_kept, rows_lawful}
 use Rattle.wq_view.proofs.merging.chunk_after.Goals as goal
 
@@ -19,15 +18,5 @@ loop-pair-init c =
       moves = ap (λ ps. with_pairs ps (moves_data c.args.moves.now)) pairs;
     }
 
--- the marks and the number of the records
-kept : (c : goal.After-marks) → (marks_of c.args.chunk.now ≡ marks_of c.loop-pair.records.items) × (length c.loop-pair.records.items ≡ length c.args.chunk.now)
-kept c = all_kept c.args.at.now.tick c.args.at.now.second c.args.chunk.now c.loop-pair.records.items c.args.rows.now (pairs_left c.loop-pair.pairs) c.requires.names c.in_default.ensures.pairs.0 c.loop-pair.invariant.made
-
-pub of_same_names-requires-clause-some : goal.of_same_names-requires-clause-some
-of_same_names-requires-clause-some c = omega (arith, (kept c).1, c.records-known.ensures.some)
-
-pub of_same_names-requires-clause-few : goal.of_same_names-requires-clause-few
-of_same_names-requires-clause-few c = omega (arith, (kept c).1, c.records-known.ensures.few)
-
-pub of_same_names-requires-clause-marks : goal.of_same_names-requires-clause-marks
-of_same_names-requires-clause-marks c = c.marks.ensures ∙ (kept c).0
+pub of_same_names-requires : goal.of_same_names-requires
+of_same_names-requires c = all_kept c.args.at.now.tick c.args.at.now.second c.args.chunk.now c.loop-pair.records.items c.args.rows.now (pairs_left c.loop-pair.pairs) c.requires.names c.in_default.ensures.pairs.0 c.loop-pair.invariant.made

@@ -1,5 +1,5 @@
 use Rattle.std.proofs.Common.{sym, ◌∙◌}
-use Rattle.wq_view.proofs.Suffixes.{no_suffix, no_suffix_after, suffix_after}
+use Rattle.wq_view.proofs.AfterDot.{no_suffix, no_suffix_after, suffix_after}
 use Rattle.wq_view.proofs.name.suffix_of.Goals as goal
 
 pub returns-in_default : goal.returns-in_default

@@ -6,7 +6,7 @@ use Rattle.wq_view.proofs.chunks.Chunks.chunk_with.Goals as goal
 
 -- the chunk among those of the view
 chunk : (c : goal.After-chunk_at) → IsChunkAt c.self.inside.slots.items c.slot_with.result c.chunk_at.result.0 c.chunk_at.result.1.now
-chunk c = subst (λ s. IsChunkAt s c.slot_with.result c.chunk_at.result.0 c.chunk_at.result.1.now) c.deref.ensures.value c.chunk_at.ensures.chunk
+chunk c = subst (λ s. IsChunkAt s c.slot_with.result c.chunk_at.result.0 c.chunk_at.result.1.now) c.deref.ensures.value c.chunk_at.ensures
 
 within : (c : goal.After-chunk_at) → c.slot_with.result < length c.self.inside.slots.items
 within c = subst (λ s. c.slot_with.result < length s) c.deref-2.ensures.value c.slot_with.ensures.bound
@@ -19,7 +19,6 @@ returns-clause-piece c =
     record {
       run_at = subst (λ rs. IsRunAt rs start run) c.self.view_is (run_there slots c.self.invariant.0 c.slot_with.result start run (within c) (chunk c));
       fits = omega (arith, fits slots c.self.invariant.0 c.slot_with.result start run (within c) (chunk c), ap length c.self.view_is);
-      marked = c.chunk_at.ensures.marks;
     }
 
 pub returns-clause-from : goal.returns-clause-from

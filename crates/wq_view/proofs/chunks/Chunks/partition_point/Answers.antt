@@ -18,7 +18,7 @@ returns-then-at-len-clause-partitioned g c p by parted =
 
 -- the chunk that has the place, among those of the view
 chunk : (g : _) (c : goal.After-partition_point g) → IsChunkAt c.self.inside.slots.items c.partition_point-at.result c.chunk_at-start.result.0 c.chunk_at-start.result.1.now
-chunk g c = subst (λ s. IsChunkAt s c.partition_point-at.result c.chunk_at-start.result.0 c.chunk_at-start.result.1.now) c.deref-2.ensures.value c.chunk_at-start.ensures.chunk
+chunk g c = subst (λ s. IsChunkAt s c.partition_point-at.result c.chunk_at-start.result.0 c.chunk_at-start.result.1.now) c.deref-2.ensures.value c.chunk_at-start.ensures
 
 within : (g : _) (c : goal.After-partition_point g) → c.partition_point-at.result < length c.self.inside.slots.items
 within g c = omega (arith, c.partition_point-at.ensures.bound, c.deref.ensures.len, c.len.ensures, c.if-at-len.false)

@@ -8,7 +8,7 @@ pub split_at-requires : goal.split_at-requires
 split_at-requires c =
     let slots = c.self.inside.slots.items in
     let at = c.slot_with-at.result in
-    let chunk = subst (λ s. IsChunkAt s at c.chunk_at-start.result.0 c.chunk_at-start.result.1.now) c.deref-2.ensures.value c.chunk_at-start.ensures.chunk in
+    let chunk = subst (λ s. IsChunkAt s at c.chunk_at-start.result.0 c.chunk_at-start.result.1.now) c.deref-2.ensures.value c.chunk_at-start.ensures in
     let within : at < length slots = subst (λ s. at < length s) c.deref.ensures.value c.slot_with-at.ensures.bound in
     let to : c.args.i < count_before slots (at + 1) = subst (λ s. c.args.i < count_before s (at + 1)) c.deref.ensures.value c.slot_with-at.ensures.to in
     omega (arith, to, more slots c.self.invariant.0 at c.chunk_at-start.result.0 c.chunk_at-start.result.1.now within chunk)
@@ -19,7 +19,7 @@ returns c =
     let at = c.slot_with-at.result in
     let start = c.chunk_at-start.result.0 in
     let run = c.chunk_at-start.result.1.now in
-    let chunk = subst (λ s. IsChunkAt s at start run) c.deref-2.ensures.value c.chunk_at-start.ensures.chunk in
+    let chunk = subst (λ s. IsChunkAt s at start run) c.deref-2.ensures.value c.chunk_at-start.ensures in
     let within : at < length slots = subst (λ s. at < length s) c.deref.ensures.value c.slot_with-at.ensures.bound in
     let from : count_before slots at ≤ c.args.i = subst (λ s. count_before s at ≤ c.args.i) c.deref.ensures.value c.slot_with-at.ensures.from in
     let to : c.args.i < count_before slots (at + 1) = subst (λ s. c.args.i < count_before s (at + 1)) c.deref.ensures.value c.slot_with-at.ensures.to in
