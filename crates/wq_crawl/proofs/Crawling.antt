@@ -1,12 +1,40 @@
 -- The result for a root that was listed and then published.
-use Rattle.std.proofs.Common.{◌≡◌, ℕ, List, Result, Ok, Err, MatchResult, inl, inr, sym, ap, subst, ◌∙◌}
+use Rattle.std.proofs.Common.{◌≡◌, ◌≤◌, ℕ, ℤ, Bool, true, false, cond, List, [], ◌∷◌, length, find, Option, Some, None, option_map, Result, Ok, Err, IfOk, IsTrue, MatchResult, inl, inr, sym, refl, ap, subst, ◌∙◌}
+use mathlib.Core.Bool.{false≢true}
+use Rattle.std.specs.List.{All, AllByRecursion, list_all}
+use Rattle.std.proofs.lemmas.List.Elements.{recursion_from_All}
+use Rattle.std.proofs.lemmas.Option.{same_Some}
+use Rattle.wq_live.specs.Event.{passes_over}
+use Rattle.wq_live.specs.Table.{IsNoNews, IsTableOf, RootView, TableData, WantsForTicks, has_text, number_by_text, root_by_text}
+use Rattle.wq_view.specs.Again.{seen_rows}
+use Rattle.wq_view.specs.History.{History, last_stats}
+use Rattle.wq_view.specs.Limit.{max_listing_rows}
+use Rattle.wq_view.specs.Seen.{SeenData, is_lawful_row}
+use Rattle.wq_view.specs.View.{IsViewOf, ViewData}
+use Rattle.wq_view.specs.declared.listing.PassFault.{PassFault}
+use Rattle.wq_crawl.specs.declared.tree.Listing.{Listing}
+use Rattle.wq_crawl.specs.declared.tree.Listing.TheVariants.{Rows, Same}
+use Rattle.wq_crawl.specs.declared.tree.TreeFault.{TreeFault}
+use Rattle.wq_crawl.specs.Tree.{IsFew, ListedData, Lists, rows_given_again, rows_listed}
 use Rattle.wq_crawl.specs.Device.{Gave}
 use Rattle.wq_live.specs.declared.event.RootEvent.{RootEvent}
-use Rattle.wq_view.specs.Listing.{PassData}
+use Rattle.wq_view.specs.Listing.{PassData, is_of_whole, listing_fault, listing_of}
 use Rattle.wq_crawl.specs.declared.fault.CrawlFault.{CrawlFault}
 use Rattle.wq_crawl.specs.declared.fault.CrawlFault.TheVariants.{NoMemory}
-use Rattle.wq_crawl.specs.Crawl.{Began, CrawledAt, CrawlerData, IsNoPassOver, IsOfRows, IsPassOver}
+use Rattle.wq_crawl.specs.Crawl.{Began, CrawledAt, CrawlerData, IsNoPassOver, IsOfRows, IsPassOver, IsStillOver, ListsAgain, Shared, no_pass}
 use Rattle.wq_crawl.specs.Publish.{IsNotTakenIn, Passes, with_start}
+
+-- what a search finds passes a test of all
+found_passes : {A : Type 0} (P : A → Type 0) (test : A → Bool) (xs : List A) (x : A) → All P xs → find test xs ≡ Some x → P x
+found_passes P test xs x all is = at xs (recursion_from_All P xs all) is
+  where
+    at : (xs : List _) → AllByRecursion P xs → find test xs ≡ Some x → P x
+    at [] all is = absurd (cc)
+    at (y ∷ ys) all is = by (test y) (at ys all.1) is
+      where
+        by : (b : Bool) → (find test ys ≡ Some x → P x) → cond b (Some y) (find test ys) ≡ Some x → P x
+        by true later is = subst P (same_Some y x is) all.0
+        by false later is = later is
 
 -- a root that is shown, and over which there is no pass
 pub not_crawled_at : (text : List ℕ) (before after : CrawlerData) (number : ℕ) (result : Result (List RootEvent) CrawlFault)
@@ -14,6 +42,91 @@ pub not_crawled_at : (text : List ℕ) (before after : CrawlerData) (number : �
     → IsNoPassOver text before fault after → CrawledAt number text before result after
 not_crawled_at text before after number result told fault is same kept none =
     subst (λ r. CrawledAt number text before r after) (sym (is ∙ ap Err same)) (kept, inl none)
+
+-- a table shows the view of the passes over a root
+pub view_at : (events : List RootEvent) (table : TableData) (text : List ℕ) (number : ℕ) (view : ViewData) → IsTableOf events table
+    → Some number ≡ number_by_text text table → Some view ≡ option_map (λ root. root.view) (root_by_text text table)
+    → IsViewOf (passes_over number events) view
+view_at events table text number view of number_is view_is = at (root_by_text text table) refl number_is view_is
+  where
+    at : (found : Option RootView) → root_by_text text table ≡ found → Some number ≡ option_map (λ root. root.number) found
+        → Some view ≡ option_map (λ root. root.view) found → IsViewOf (passes_over number events) view
+    at None is n v = absurd (cc)
+    at (Some root) is n v =
+        let one = found_passes (λ (root : RootView). IsViewOf (passes_over root.number events) root.view) (has_text text) table.roots root of.views is in
+        subst (λ n. IsViewOf (passes_over n events) view) (sym (same_Some number root.number n))
+        (subst (λ v. IsViewOf (passes_over root.number events) v) (sym (same_Some view root.view v)) one)
+
+-- a tree that listed a root with this view
+pub lists_again : (number : ℕ) (text : List ℕ) (before after : CrawlerData) (view : ViewData) (result : Result Listing TreeFault)
+    → IsViewOf (passes_over number before.events) view
+    → IfOk result (λ listing. IsTrue (list_all is_lawful_row (rows_listed view.records listing)))
+    → IfOk result (IsFew view.records) → Lists before.listed text (rows_given_again view.records result) after.listed
+    → MatchResult result (λ listing. ListsAgain number text before listing after) (λ fault. Lists before.listed text (Err fault) after.listed)
+lists_again number text before after view (Ok (Rows rows)) is_view lawful few lists = (lists, lawful)
+lists_again number text before after view (Ok Same) is_view lawful few lists = (view, is_view, lists, lawful, few)
+lists_again number text before after view (Err fault) is_view lawful few lists = lists
+
+-- a pass of rows that were listed
+of_rows : (before after : Option (ℕ × ListedData)) (text : List ℕ) (rows : List SeenData) (second : ℤ) → Lists before text (Ok rows) after
+    → listing_fault rows second ≡ None → IsOfRows before text (listing_of rows second) after
+of_rows before None text rows second lists lawful = tt
+of_rows before (Some after) text rows second lists lawful = (rows, lists, lawful, refl)
+
+-- a root that was listed, and then the clock was asked
+module _ (number : ℕ) (text : List ℕ) (before begun mid shown : CrawlerData) (clock : Option (ℕ × ℤ)) (second : ℤ)
+    (kept : begun ≡ before) (is : shown ≡ mid) (waited : mid.clock ≡ begun.clock) (gave : Gave shown.clock second clock) where
+  gave_then : Gave before.clock second clock
+  gave_then = subst (λ k. Gave k second clock) (ap (λ (c : CrawlerData). c.clock) is ∙ waited ∙ ap (λ (c : CrawlerData). c.clock) kept) gave
+
+  lists_then : (rows : List SeenData) → Lists begun.listed text (Ok rows) mid.listed → Lists before.listed text (Ok rows) shown.listed
+  lists_then rows lists =
+      subst (λ l. Lists before.listed text (Ok rows) l) (sym (ap (λ (c : CrawlerData). c.listed) is))
+      (subst (λ l. Lists l text (Ok rows) mid.listed) (ap (λ (c : CrawlerData). c.listed) kept) lists)
+
+  -- it gave rows, and they make a pass
+  pub rows_over : (rows : List SeenData) (pass : PassData) → Lists begun.listed text (Ok rows) mid.listed → listing_fault rows second ≡ None
+      → pass ≡ listing_of rows second → IsPassOver text before pass (record shown { clock = clock })
+  rows_over rows pass lists lawful made =
+      subst (λ p. IsPassOver text before p (record shown { clock = clock })) (sym made)
+      (of_rows before.listed shown.listed text rows second (lists_then rows lists) lawful, gave_then)
+
+  -- it gave rows that make no pass
+  pub rows_fault : (rows : List SeenData) (why : PassFault) → Lists begun.listed text (Ok rows) mid.listed → IsTrue (list_all is_lawful_row rows)
+      → IsTrue (is_of_whole why) → listing_fault rows second ≡ Some why → IsNoPassOver text before (no_pass why) (record shown { clock = clock })
+  rows_fault rows why lists lawful whole fault = inr (rows, second, why, lists_then rows lists, gave_then, lawful, whole, fault, refl)
+
+  -- the files are those of the view: the pass is no news
+  pub still_over : ListsAgain number text begun Same mid
+      → ((history : History) (view : ViewData) → IsViewOf history view → IsTrue (list_all is_lawful_row (seen_rows view.records))
+      → length (seen_rows view.records) ≤ max_listing_rows → None ≡ listing_fault (seen_rows view.records) second)
+      → ((history : History) (view : ViewData) → IsViewOf history view → last_stats history ≡ (listing_of (seen_rows view.records) second).stats)
+      → IsStillOver number text before (record shown { clock = clock })
+  still_over (view, is_view, lists, lawful, few) fault same = (
+    listing_of (seen_rows view.records) second,
+    rows_over (seen_rows view.records) (listing_of (seen_rows view.records) second) lists (sym (fault _ view is_view lawful few)) refl,
+    inr (ap (λ (c : CrawlerData). last_stats (passes_over number c.events)) (sym kept) ∙ same _ view is_view),
+  )
+
+  -- the same if the pass has a fault
+  pub still_fault : (why : PassFault) → ListsAgain number text begun Same mid → IsTrue (is_of_whole why)
+      → ((history : History) (view : ViewData) → IsViewOf history view → IsTrue (list_all is_lawful_row (seen_rows view.records))
+      → length (seen_rows view.records) ≤ max_listing_rows → Some why ≡ listing_fault (seen_rows view.records) second)
+      → IsNoPassOver text before (no_pass why) (record shown { clock = clock })
+  still_fault why (view, is_view, lists, lawful, few) whole fault = rows_fault (seen_rows view.records) why lists lawful whole (sym (fault _ view is_view lawful few))
+
+-- what is no news is not refused for want of ticks
+no_want : (events : List RootEvent) (number : ℕ) (pass : PassData) → IsNoNews events number pass → WantsForTicks events number pass → ⊥
+no_want events number pass (inl hidden) wants = false≢true (sym hidden ∙ wants.0.0)
+no_want events number pass (inr same) wants = wants.0.1 same
+
+-- a root whose pass is no news, and the present list
+pub told_still : (number : ℕ) (text : List ℕ) (before mid after : CrawlerData) (result : Result (List RootEvent) CrawlFault)
+    → mid.events ≡ before.events → IsStillOver number text before mid → Shared mid result after → CrawledAt number text before result after
+told_still number text before mid after (Ok told) kept (pass, over, still) (is, same) =
+    subst (λ c. CrawledAt number text before (Ok told) c) (sym same) (is, pass, over, inl (still, kept))
+told_still number text before mid after (Err fault) kept (pass, over, still) (is, same) =
+    subst (λ c. CrawledAt number text before (Err fault) c) (sym same) (kept, inr (pass, over, inr (is, no_want before.events number pass still)))
 
 module _ (text : List ℕ) (before mid after : CrawlerData) (pass : PassData) where
   -- a pass over a root remains one if nothing more is listed, and the clock is not asked again

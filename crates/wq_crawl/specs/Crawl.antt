@@ -1,9 +1,12 @@
 -- Crawling, watching and unwatching a root: the list of events after each of them, and the reasons
 -- for a refusal. No public document defines it.
-use Rattle.std.specs.Prelude.{◌≡◌, ◌≤◌, ◌⊎◌, ℕ, ℤ, refl, List}
+use Rattle.std.specs.Prelude.{◌≡◌, ◌≤◌, ◌⊎◌, ℕ, ℤ, length, refl, List}
 use Rattle.std.specs.Prelude.{Option, Some, None, IsSome, IsTrue, Result, Ok, Err}
 use Rattle.std.specs.List.{list_all}
 use Rattle.std.specs.Coded.{Coded, code_by, coded×, coded_ℕ, coded_ℤ, coded_option}
+use Rattle.wq_view.specs.Again.{seen_rows}
+use Rattle.wq_view.specs.Limit.{max_listing_rows}
+use Rattle.wq_view.specs.View.{IsViewOf, ViewData}
 use Rattle.wq_view.specs.Listing.{PassData, is_of_whole, listing_fault, listing_of}
 use Rattle.wq_view.specs.Seen.{SeenData, is_lawful_row}
 use Rattle.wq_view.specs.declared.listing.PassFault.{PassFault}
@@ -11,9 +14,12 @@ use Rattle.wq_view.specs.declared.listing.PassFault.TheVariants.{TooManyRows}
 use Rattle.wq_live.specs.Log.{events_code}
 use Rattle.wq_live.specs.declared.event.RootEvent.{RootEvent}
 use Rattle.wq_crawl.specs.Device.{Gave}
-use Rattle.wq_live.specs.Event.{number_of}
+use Rattle.wq_live.specs.Event.{number_of, passes_over}
+use Rattle.wq_live.specs.Table.{IsNoNews}
 use Rattle.wq_crawl.specs.Publish.{EndsRoot, IsNotTakenIn, IsPlace, Passes, with_start}
 use Rattle.wq_crawl.specs.Tree.{IsCounted, ListedData, Lists, listed_code}
+use Rattle.wq_crawl.specs.declared.tree.Listing.{Listing}
+use Rattle.wq_crawl.specs.declared.tree.Listing.TheVariants.{Rows, Same}
 use Rattle.wq_crawl.specs.declared.tree.TreeFault.{TreeFault}
 use Rattle.wq_crawl.specs.declared.tree.TreeFault.TheVariants.{Unreadable as UnreadableTree}
 use Rattle.wq_crawl.specs.declared.tree.TreeFault.TheVariants.{TooManyRows as TooManyTreeRows}
@@ -90,6 +96,23 @@ IsNoPassOver text before fault after =
     × Lists before.listed text (Ok rows) after.listed × Gave before.clock second after.clock
     × IsTrue (list_all is_lawful_row rows) × IsTrue (is_of_whole why)
     × (listing_fault rows second ≡ Some why) × (fault ≡ no_pass why))
+
+-- a tree listed the root of this number: it gave these rows; or it found just the files that exist
+-- by the view of the passes over the root, which are no more than a pass takes
+abbrev pub ListsAgain : ℕ → List ℕ → CrawlerData → Listing → CrawlerData → Type 0
+ListsAgain number text before (Rows rows) after =
+    Lists before.listed text (Ok rows.items) after.listed
+    × IsTrue (list_all is_lawful_row rows.items)
+ListsAgain number text before Same after =
+    (view : ViewData) × IsViewOf (passes_over number before.events) view
+    × Lists before.listed text (Ok (seen_rows view.records)) after.listed
+    × IsTrue (list_all is_lawful_row (seen_rows view.records))
+    × (length (seen_rows view.records) ≤ max_listing_rows)
+
+-- there is a pass over the root of this number, and it is no news
+abbrev pub IsStillOver : ℕ → List ℕ → CrawlerData → CrawlerData → Type 0
+IsStillOver number text before after =
+    (pass : PassData) × IsPassOver text before pass after × IsNoNews before.events number pass
 
 -- a root that is shown was crawled: it was listed, a pass over it is added if that is news, and the
 -- list is returned. If the crawl is refused, nothing is added

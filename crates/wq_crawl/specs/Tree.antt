@@ -1,12 +1,17 @@
 -- The listings of a tree, as it shows them, and when it may call a root unreadable. No public
 -- document defines it.
-use Rattle.std.specs.Prelude.{◌≡◌, ◌<◌, ◌⊎◌, ◌^◌, ◌-◌, ℕ, List, Option, Result, Ok, Err}
-use Rattle.std.specs.Prelude.{Bool, true, false, IsTrue, Vec, refl}
+use Rattle.std.specs.Prelude.{◌≡◌, ◌<◌, ◌≤◌, ◌⊎◌, ◌^◌, ◌-◌, ℕ, List, Option, Result, Ok, Err}
+use Rattle.std.specs.Prelude.{Bool, true, false, IsTrue, Vec, length, refl}
 use Rattle.std.specs.Coded.{Coded, code_by, coded×, coded_ℕ, coded_list, coded_result}
 use Rattle.std.specs.declared.alloc.Global.{Global}
+use Rattle.wq_view.specs.Again.{seen_rows}
+use Rattle.wq_view.specs.Limit.{max_listing_rows}
+use Rattle.wq_view.specs.RecordData.{RecordData}
 use Rattle.wq_view.specs.Seen.{SeenData, Stat, entry_of, stat_code}
 use Rattle.wq_crawl.specs.Device.{Gave}
 use Rattle.wq_crawl.specs.contracts.tree.TreeFault.{the_row}
+use Rattle.wq_crawl.specs.declared.tree.Listing.{Listing}
+use Rattle.wq_crawl.specs.declared.tree.Listing.TheVariants.{Rows, Same}
 use Rattle.wq_crawl.specs.declared.tree.TreeFault.{TreeFault}
 use Rattle.wq_crawl.specs.declared.tree.TreeFault.TheVariants.{NoHandle, Unreadable}
 
@@ -55,6 +60,22 @@ listed_code =
 abbrev pub rows_given : Result (Vec SeenData Global) TreeFault → Result (List SeenData) TreeFault
 rows_given (Ok rows) = Ok rows.items
 rows_given (Err fault) = Err fault
+
+-- the rows of a listing of a root whose last view has these records
+abbrev pub rows_listed : List RecordData → Listing → List SeenData
+rows_listed records (Rows rows) = rows.items
+rows_listed records Same = seen_rows records
+
+-- the rows that were given for a root whose last view has these records
+abbrev pub rows_given_again : List RecordData → Result Listing TreeFault
+    → Result (List SeenData) TreeFault
+rows_given_again records (Ok listing) = Ok (rows_listed records listing)
+rows_given_again records (Err fault) = Err fault
+
+-- a listing that is the same has no more rows than a pass takes
+abbrev pub IsFew : List RecordData → Listing → Type 0
+IsFew records (Rows rows) = Unit {0}
+IsFew records Same = length (seen_rows records) ≤ max_listing_rows
 
 -- a tree lists a root, and gives these rows
 abbrev pub Lists : Option (ℕ × ListedData) → List ℕ → Result (List SeenData) TreeFault

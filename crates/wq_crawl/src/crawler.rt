@@ -1,23 +1,22 @@
 //! The crawler, which lists roots and publishes their passes. It has a tree, a clock and a publisher. Crawls use them
 //! one after the other.
-ghost use Rattle.std.specs.Prelude.{◌≡◌, ◌≢◌, ◌⊎◌, ◌↔◌, Err, IfErr, IfOk, IsTrue, MatchResult, None};
+ghost use Rattle.std.specs.Prelude.{◌≡◌, ◌≢◌, ◌⊎◌, ◌↔◌, Err, IfErr, IfOk, MatchOption, MatchResult, None};
 ghost use Rattle.wq_live.specs.Event.{IsFull, number_of};
-ghost use Rattle.std.specs.List.{list_all};
-ghost use Rattle.wq_view.specs.Seen.{is_lawful_row};
-ghost use Rattle.wq_crawl.specs.Tree.{IsCounted, Lists, rows_given};
+ghost use Rattle.wq_crawl.specs.Tree.{IsCounted, Lists};
 ghost use Rattle.wq_crawl.specs.Crawl.{Began, Crawled, CrawledAt, IsNoPassOver, IsPassOver};
+ghost use Rattle.wq_crawl.specs.Crawl.{IsStillOver, ListsAgain};
 ghost use Rattle.wq_crawl.specs.Crawl.{Shared, Unwatched, Watched};
 ghost use Rattle.wq_crawl.specs.Publish.{IsNotTakenIn, Passes, with_start};
 
 use crate::fault::{CrawlFault, no_pass, not_listed};
 use crate::place::{Place, place_for};
 use crate::seconds::Seconds;
-use crate::tree::{Tree, TreeFault};
+use crate::tree::{Listing, Tree, TreeFault};
 use std::alloc::AllocError;
 use std::marker::Model;
 use std::sync::Wait;
 use wq_live::{Named, Publisher, Seat, StartFault, Told};
-use wq_view::{Pass, Seen, ViewFault};
+use wq_view::{Pass, ViewFault};
 
 /// Lists roots, and publishes their passes. Contracts see the list of events that is published, and the state that the
 /// tree and the clock show.
@@ -140,8 +139,10 @@ impl<N: Named, R: Wait + Drop, T: Tree + Drop, S: Seconds + Drop> Crawler<N, R, 
     pub(crate) fn crawl_at(&mut self, number: u64, root: &str) -> Result<Told<N>, CrawlFault>
         ensures { CrawledAt number root.now self.old result self.new }
     {
-        let pass = self.list(root)?;
-        self.publish(number, pass)
+        match self.list_again(number, root)? {
+            Some(pass) => self.publish(number, pass),
+            None => self.told(),
+        }
     }
 
     /// Lists a root that is not shown, and starts it.
@@ -200,28 +201,60 @@ impl<N: Named, R: Wait + Drop, T: Tree + Drop, S: Seconds + Drop> Crawler<N, R, 
         // Otherwise memory would hold the views before the last ones beside the rows and the views that follow from
         // them.
         self.let_go();
-        let rows = match self.rows(root) {
+        let rows = match self.tree.list(root) {
             Ok(rows) => rows,
             Err(fault) => return Err(not_listed(fault)),
         };
-        let second = self.seconds.second();
-        match Pass::of_lawful(rows, second) {
+        let at = self.seconds.second();
+        match Pass::of_lawful(rows, at) {
             Ok(pass) => Ok(pass),
             Err(fault) => Err(no_pass(fault)),
         }
     }
 
-    /// The rows of a root, as the tree shows it now. They may share the names of its view.
-    fn rows(&mut self, root: &str) -> Result<Vec<Seen>, TreeFault>
+    /// The pass of the root of this number and text, as the tree shows it now. There is none if it would add nothing.
+    fn list_again(&mut self, number: u64, root: &str) -> Result<Option<Pass>, CrawlFault>
+        ensures kept { (self.new).events ≡ (self.old).events }
+        ensures listed { MatchResult result
+            (λ pass. MatchOption pass
+            (IsStillOver number root.now self.old self.new)
+            (λ pass. IsPassOver root.now self.old pass self.new))
+            (λ fault. IsNoPassOver root.now self.old fault self.new) }
+    {
+        // As for a root that is listed for the first time.
+        self.let_go();
+        let listing = match self.listing(number, root) {
+            Ok(listing) => listing,
+            Err(fault) => return Err(not_listed(fault)),
+        };
+        let second = self.seconds.second();
+        let Listing::Rows(rows) = listing else {
+            return match Pass::fault_again(second) {
+                None => Ok(None),
+                Some(fault) => Err(no_pass(fault)),
+            };
+        };
+        match Pass::of_lawful(rows, second) {
+            Ok(pass) => Ok(Some(pass)),
+            Err(fault) => Err(no_pass(fault)),
+        }
+    }
+
+    /// The listing of the root of this number and text, as the tree shows it now.
+    fn listing(&mut self, number: u64, root: &str) -> Result<Listing, TreeFault>
         ensures events { (self.new).events ≡ (self.old).events }
         ensures clock { (self.new).clock ≡ (self.old).clock }
         ensures counted { IfErr result (IsCounted (self.old).failed (self.new).failed) }
-        ensures lawful { IfOk result (λ rows. IsTrue (list_all is_lawful_row rows.items)) }
-        ensures listed { Lists (self.old).listed root.now (rows_given result) (self.new).listed }
+        ensures listed { MatchResult result
+            (λ listing. ListsAgain number root.now self.old listing self.new)
+            (λ fault. Lists (self.old).listed root.now (Err fault) (self.new).listed) }
     {
         match self.publisher.table().root(root) {
-            Some((_number, last)) => self.tree.list_again(root, last),
-            None => self.tree.list(root),
+            Some((shown, last)) if shown == number => self.tree.list_again(root, last),
+            _ => match self.tree.list(root) {
+                Ok(rows) => Ok(Listing::Rows(rows)),
+                Err(fault) => Err(fault),
+            },
         }
     }
 }

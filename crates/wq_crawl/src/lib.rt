@@ -23,4 +23,4 @@ pub use place::{Place, place_for};
 pub use roots::Roots;
 pub use seconds::Seconds;
 pub use shared_crawler::{Asked, SharedCrawler};
-pub use tree::{LeftOut, Tree, TreeFault};
+pub use tree::{LeftOut, Listing, Tree, TreeFault};

@@ -2,7 +2,7 @@
 ghost use Rattle.std.specs.Prelude.{◌≡◌, IfErr, IfOk, IsTrue};
 ghost use Rattle.std.specs.List.{list_all};
 ghost use Rattle.wq_view.specs.Seen.{is_lawful_row};
-ghost use Rattle.wq_crawl.specs.Tree.{IsCounted, Lists, rows_given};
+ghost use Rattle.wq_crawl.specs.Tree.{IsCounted, IsFew, Lists, rows_given, rows_given_again, rows_listed};
 
 use std::alloc::AllocError;
 use thiserror::Error;
@@ -59,6 +59,16 @@ impl LeftOut {
     }
 }
 
+/// The listing of a root that has a view.
+#[derive(Drop)]
+pub enum Listing {
+    /// These rows.
+    Rows(Vec<Seen>),
+    /// The files are just those that exist by the last view, and are as its records say. They are no more than a pass
+    /// takes.
+    Same,
+}
+
 /// A source of listings of roots.
 ///
 /// The source may show its last listing, and the number of its listings.
@@ -81,14 +91,18 @@ pub trait Tree {
         ensures lawful { IfOk result (λ rows. IsTrue (list_all is_lawful_row rows.items)) }
         ensures listed { Lists (listed self.old) root.now (rows_given result) (listed self.new) };
 
-    /// The rows of the files below a root, as [`Tree::list`] gives them. The rows may share the names of the root's
-    /// last view.
-    fn list_again(&mut self, root: &str, _last: &View) -> Result<Vec<Seen>, TreeFault>
+    /// The listing of the files below a root with this last view. Its rows are as [`Tree::list`] gives them. They may
+    /// share the names of the view.
+    fn list_again(&mut self, root: &str, last: &View) -> Result<Listing, TreeFault>
         ensures counted { IfErr result (IsCounted (failed self.old) (failed self.new)) }
-        ensures lawful { IfOk result (λ rows. IsTrue (list_all is_lawful_row rows.items)) }
-        ensures listed { Lists (listed self.old) root.now (rows_given result) (listed self.new) }
+        ensures lawful { IfOk result (λ listing.
+            IsTrue (list_all is_lawful_row (rows_listed last.now.records listing))) }
+        ensures few { IfOk result (IsFew last.now.records) }
+        ensures listed { Lists (listed self.old) root.now
+            (rows_given_again last.now.records result) (listed self.new) }
     {
-        self.list(root)
+        let _ = last;
+        Ok(Listing::Rows(self.list(root)?))
     }
 
     /// The number of failures of a device so far.

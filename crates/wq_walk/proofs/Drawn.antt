@@ -2,28 +2,19 @@
 use Rattle.std.proofs.Common.{◌≡◌, ℕ, suc, ◌<◌, ◌+◌, arith, get_or, List, [], ◌∷◌, ◌++◌, Some}
 use Rattle.std.proofs.Common.{take, drop, length, ap, sym, subst, ◌∙◌, slice_get, Ok, Vec}
 use Rattle.std.specs.declared.alloc.Global.{Global}
-use Rattle.std.proofs.lemmas.List.{length-map, map-append, take_all, take_more}
+use Rattle.std.proofs.lemmas.List.{map-append, take_all, take_more}
 use Rattle.std.proofs.lemmas.List.Elements.{All-append, All-drop, All-get_or, All-nil}
 use Rattle.std.proofs.lemmas.List.Elements.{All-push, All-take}
-use Rattle.std.proofs.lemmas.Option.{get_or_from_slice_get, slice_get-map, slice_get_within}
+use Rattle.std.proofs.lemmas.Option.{get_or_from_slice_get, slice_get_within}
 use Rattle.std.specs.List.{All, remove}
-use Rattle.std.specs.Option.{option_map}
-use Rattle.wq_walk.specs.declared.part.Part.{Part}
 use Rattle.wq_walk.specs.declared.piece.Piece.{Piece}
 use Rattle.wq_walk.specs.declared.rows.Rows.{Rows}
 use Rattle.wq_walk.specs.declared.walks.Walked.{Walked}
 use Rattle.wq_walk.specs.Listed.{AreOfPieces, AreWalks, IsDrawn, IsWalkOfPiece}
-use Rattle.wq_walk.specs.Listed.{piece_parts, walked_parts}
+use Rattle.wq_walk.specs.Listed.{walked_pieces}
+use Rattle.wq_walk.specs.Found.{found_rows}
 use Rattle.wq_walk.specs.Walk.{IsWalk}
 use Rattle.wq_walk.specs.Told.{GivesStat, Has}
-
--- the part of the piece at a place
-pub part_at : (pieces : List Piece) (place : ℕ) (piece : Piece) (part : Part)
-    → slice_get pieces place ≡ Some piece → part ≡ piece.part
-    → slice_get (piece_parts pieces) place ≡ Some part
-part_at pieces place piece part is same =
-    slice_get-map (λ (p : Piece). p.part) pieces place ∙ ap (option_map (λ (p : Piece). p.part)) is
-    ∙ ap Some (sym same)
 
 -- the first items of a list, and the next one
 pub take_next : {X : Type 0} (xs : List X) (n : ℕ) (x : X) → slice_get xs n ≡ Some x
@@ -36,24 +27,22 @@ take_next xs n x is =
 pub one_more : (says : GivesStat) (has : Has) (root : List ℕ) (walked new : List Rows) (rows : Rows)
     (pieces : List Piece) (place : ℕ) → new ≡ walked ++ (rows ∷ [])
     → IsWalkOfPiece says has root pieces place rows
-    → AreWalks says has root walked × (walked_parts walked ≡ take place (piece_parts pieces))
-    → AreWalks says has root new × (walked_parts new ≡ take (place + 1) (piece_parts pieces))
+    → AreWalks says has root walked × (walked_pieces walked ≡ take place pieces)
+    → AreWalks says has root new × (walked_pieces new ≡ take (place + 1) pieces)
 unfolding IsWalkOfPiece
-one_more says has root walked new rows pieces place is walk (walks, parts) = (
+one_more says has root walked new rows pieces place is walk (walks, of) = (
   subst (λ all. AreWalks says has root all) (sym is)
-      (All-push (λ (r : Rows). IsWalk says has root r.part r.rows.items) walked rows walks walk.0),
-  ap walked_parts is
-      ∙ map-append (λ (r : Rows). r.part) walked (rows ∷ [])
-      ∙ ap (λ all. all ++ (rows.part ∷ [])) parts
-      ∙ sym (take_next (piece_parts pieces) place rows.part walk.1),
+      (All-push (λ (r : Rows). IsWalk says has root r.piece.part (found_rows r.found)) walked rows walks walk.0),
+  ap walked_pieces is
+      ∙ map-append (λ (r : Rows). r.piece) walked (rows ∷ [])
+      ∙ ap (λ all. all ++ (rows.piece ∷ [])) of
+      ∙ sym (take_next pieces place rows.piece walk.1),
 )
 
--- the parts of all pieces
+-- all pieces
 pub whole : (walked : List Rows) (pieces : List Piece) (count : ℕ) → count ≡ length pieces
-    → walked_parts walked ≡ take count (piece_parts pieces) → walked_parts walked ≡ piece_parts pieces
-whole walked pieces count is parts =
-    parts ∙ take_all count (piece_parts pieces)
-    (omega (arith, is, length-map pieces (λ (p : Piece). p.part)))
+    → walked_pieces walked ≡ take count pieces → walked_pieces walked ≡ pieces
+whole walked pieces count is of = of ∙ take_all count pieces (omega (arith, is))
 
 -- the rows are those of a walk of the piece at their place
 abbrev Is : GivesStat → Has → List ℕ → List Piece → Walked → Type 0

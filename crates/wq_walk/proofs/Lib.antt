@@ -9,3 +9,6 @@ mod Drawn
 mod SameDirectory
 mod Accounts
 mod Once
+mod Tiles
+mod WalkedAgain
+mod Kept

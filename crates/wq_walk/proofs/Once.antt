@@ -14,6 +14,8 @@ use Rattle.wq_walk.specs.declared.piece.Piece.{Piece}
 use Rattle.wq_walk.specs.declared.rows.Rows.{Rows}
 use Rattle.wq_walk.specs.Accounts.{IsRowOfPath}
 use Rattle.wq_walk.specs.Entries.{AreDistinct, AreEntries, has_no_slash, is_entry}
+use Rattle.wq_walk.specs.Found.{found_rows}
+use Rattle.wq_walk.specs.Listed.{walked_pieces}
 use Rattle.wq_walk.specs.Once.{HaveOwnNames, ListingsListOnce, WalksListOnce}
 use Rattle.wq_walk.specs.Part.{is_in}
 use Rattle.wq_walk.specs.Told.{GivesStat, Has, HasEntries}
@@ -304,14 +306,14 @@ within_part says has root part rows walk name = at (is_in part name) refl
         )
 
 -- so the walks of several parts list a path as often as parts have its name, at most
-within_parts : (says : GivesStat) (has : Has) (root name : List ℕ) (walked : List Rows) → AllByRecursion (λ (rows : Rows). IsWalk says has root rows.part rows.rows.items) walked
-    → listed root (root ++ name) (flat_map (λ rows. rows.rows.items) walked) ≤ count (λ (rows : Rows). is_in rows.part name) walked
+within_parts : (says : GivesStat) (has : Has) (root name : List ℕ) (walked : List Rows) → AllByRecursion (λ (rows : Rows). IsWalk says has root rows.piece.part (found_rows rows.found)) walked
+    → listed root (root ++ name) (flat_map (λ rows. found_rows rows.found) walked) ≤ count (λ (rows : Rows). is_in rows.piece.part name) walked
 within_parts says has root name [] all = omega arith
 within_parts says has root name (rows ∷ walked) (one, all) =
     omega (
       arith,
-      count-append (λ row. same (root ++ row.name) (root ++ name)) rows.rows.items (flat_map (λ rows. rows.rows.items) walked),
-      within_part says has root rows.part rows.rows.items one name,
+      count-append (λ row. same (root ++ row.name) (root ++ name)) (found_rows rows.found) (flat_map (λ rows. found_rows rows.found) walked),
+      within_part says has root rows.piece.part (found_rows rows.found) one name,
       within_parts says has root name walked all,
     )
 
@@ -325,15 +327,16 @@ count_is test (x ∷ xs) = ap (λ n. once (test x) + n) (count_is test xs) ∙ s
 
 pub listings_list_once : (says : GivesStat) (has : Has) → ListingsListOnce says has
 listings_list_once says has root rows (path, pieces, of, shared, (walked, walks, parts, is)) =
-    subst HaveOwnNames (sym is) (own_names path (flat_map (λ rows. rows.rows.items) walked) few)
+    subst HaveOwnNames (sym is) (own_names path (flat_map (λ rows. found_rows rows.found) walked) few)
   where
-    few : (name : List ℕ) → listed path (path ++ name) (flat_map (λ rows. rows.rows.items) walked) ≤ 1
+    few : (name : List ℕ) → listed path (path ++ name) (flat_map (λ rows. found_rows rows.found) walked) ≤ 1
     few name =
         let test : Part → Bool = λ part. is_in part name in
         omega (
           arith,
-          within_parts says has path name walked (recursion_from_All (λ (rows : Rows). IsWalk says has path rows.part rows.rows.items) walked walks),
-          count_map test (λ (rows : Rows). rows.part) walked,
+          within_parts says has path name walked (recursion_from_All (λ (rows : Rows). IsWalk says has path rows.piece.part (found_rows rows.found)) walked walks),
+          count_map (λ (piece : Piece). is_in piece.part name) (λ (rows : Rows). rows.piece) walked,
+          count_map test (λ (piece : Piece). piece.part) (walked_pieces walked),
           ap (count test) parts,
           count_map test (λ (piece : Piece). piece.part) pieces,
           count_is (λ (piece : Piece). is_in piece.part name) pieces,

@@ -8,6 +8,7 @@ use Rattle.std.specs.Ordering.{is_lt}
 use Rattle.std.specs.Cmp.Lexicographic.{nat_list_cmp_total}
 use Rattle.std.proofs.lemmas.List.Sums.{sum_by-append}
 use Rattle.wq_view.specs.Listing.{name_cmp}
+use Rattle.wq_walk.specs.declared.part.Part.{Part}
 use Rattle.wq_walk.specs.declared.piece.Piece.{Piece}
 use Rattle.wq_walk.specs.Part.{is_in}
 use Rattle.wq_walk.specs.Pieces.{is_behind, pieces_with, IsSharedOut, IsSharedOutBelow}
@@ -40,12 +41,16 @@ none_and n = omega arith
 one_more : (name : List ℕ) (pieces : List Piece) (piece : Piece) → pieces_with name (pieces ++ (piece ∷ [])) ≡ pieces_with name pieces + cond (is_in piece.part name) 1 0
 one_more name pieces piece = sum_by-append (λ (p : Piece). cond (is_in p.part name) 1 0) pieces (piece ∷ []) ∙ ap (λ n. pieces_with name pieces + n) (none_and _)
 
+-- the number of pieces with a name if this is one more
+one_part : (name : List ℕ) (pieces : List Piece) (piece : Piece) (part : Part) → piece.part ≡ part → pieces_with name (pieces ++ (piece ∷ [])) ≡ pieces_with name pieces + cond (is_in part name) 1 0
+one_part name pieces piece part is = one_more name pieces piece ∙ ap (λ p. pieces_with name pieces + cond (is_in p name) 1 0) is
+
 -- the piece between the last cut and one after it
-pub shared_with_one : (pieces : List Piece) (last : Option (Bor (List ℕ))) (cut : Bor (List ℕ)) (known : _) (count : ℕ) → is_behind cut.now last ≡ true → IsSharedOutBelow last pieces → IsSharedOutBelow (Some cut) (pieces ++ (record { part = record { from = last; below = Some cut }; known = known; count = count } ∷ []))
-shared_with_one pieces None cut known count behind shared name = one_more name pieces _ ∙ rw (shared name) (none_and _)
-shared_with_one pieces (Some last) cut known count behind shared name = one_more name pieces _ ∙ rw (shared name) (one_of_two _ _ (below_both name last.now cut.now behind))
+pub shared_with_one : (pieces : List Piece) (last : Option (Bor (List ℕ))) (cut : Bor (List ℕ)) (piece : Piece) → piece.part ≡ record { from = last; below = Some cut } → is_behind cut.now last ≡ true → IsSharedOutBelow last pieces → IsSharedOutBelow (Some cut) (pieces ++ (piece ∷ []))
+shared_with_one pieces None cut piece is behind shared name = one_part name pieces piece _ is ∙ rw (shared name) (none_and _)
+shared_with_one pieces (Some last) cut piece is behind shared name = one_part name pieces piece _ is ∙ rw (shared name) (one_of_two _ _ (below_both name last.now cut.now behind))
 
 -- the piece after the last cut
-pub shared_with_rest : (pieces : List Piece) (last : Option (Bor (List ℕ))) (known : _) (count : ℕ) → IsSharedOutBelow last pieces → IsSharedOut (pieces ++ (record { part = record { from = last; below = None }; known = known; count = count } ∷ []))
-shared_with_rest pieces None known count shared name = one_more name pieces _ ∙ rw (shared name) refl
-shared_with_rest pieces (Some last) known count shared name = one_more name pieces _ ∙ rw (shared name) (one_of_rest _)
+pub shared_with_rest : (pieces : List Piece) (last : Option (Bor (List ℕ))) (piece : Piece) → piece.part ≡ record { from = last; below = None } → IsSharedOutBelow last pieces → IsSharedOut (pieces ++ (piece ∷ []))
+shared_with_rest pieces None piece is shared name = one_part name pieces piece _ is ∙ rw (shared name) refl
+shared_with_rest pieces (Some last) piece is shared name = one_part name pieces piece _ is ∙ rw (shared name) (one_of_rest _)

@@ -6,6 +6,7 @@ use Rattle.wq_walk.specs.declared.directory.Step.TheVariants.{Look, Enter, Leave
 use Rattle.wq_walk.specs.declared.names.Names.{Names}
 use Rattle.wq_walk.specs.declared.names.Place.{Place}
 use Rattle.wq_walk.specs.declared.rows.Rows.{Rows}
+use Rattle.wq_walk.specs.Found.{found_rows}
 use Rattle.wq_walk.specs.Names.{name_at, names_at}
 use Rattle.wq_walk.specs.Walk.{DirectoryData, IsDone, WalkData}
 
@@ -28,7 +29,7 @@ data_of directory = record {
 -- a walk in this directory, below these directories and with these rows, as definitions see it
 abbrev pub walk_of : List Directory → Directory → Rows → WalkData
 walk_of above here rows =
-    record { above = map data_of above; here = data_of here; rows = rows.rows.items }
+    record { above = map data_of above; here = data_of here; rows = found_rows rows.found }
 
 -- this was the next step in a directory, and the directory after it
 abbrev pub IsNextStep : Directory → Step → Directory → Type 0

@@ -11,3 +11,5 @@ pub mod System
 pub mod Listed
 pub mod Accounts
 pub mod Once
+pub mod Tiles
+pub mod Found

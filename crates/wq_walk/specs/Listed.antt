@@ -6,12 +6,15 @@ use Rattle.std.specs.Str.{byte}
 use Rattle.std.specs.declared.alloc.Global.{Global}
 use Rattle.wq_crawl.specs.declared.tree.TreeFault.{TreeFault}
 use Rattle.wq_crawl.specs.declared.tree.TreeFault.TheVariants.{Unreadable}
+use Rattle.wq_view.specs.Again.{seen_rows}
 use Rattle.wq_view.specs.Seen.{SeenData}
 use Rattle.wq_walk.specs.declared.part.Part.{Part}
 use Rattle.wq_walk.specs.declared.piece.Piece.{Piece}
 use Rattle.wq_walk.specs.declared.rows.Rows.{Rows}
 use Rattle.wq_walk.specs.declared.walks.Walked.{Walked}
+use Rattle.wq_walk.specs.Found.{found_rows}
 use Rattle.wq_walk.specs.Pieces.{IsSharedOut}
+use Rattle.wq_walk.specs.Tiles.{piece_records}
 use Rattle.wq_walk.specs.Told.{GivesStat, Has, HasStat, IsHandleFault, IsRootFault, IsUnreadable}
 use Rattle.wq_walk.specs.Walk.{IsWalk}
 
@@ -19,20 +22,32 @@ use Rattle.wq_walk.specs.Walk.{IsWalk}
 abbrev pub piece_parts : List Piece → List Part
 piece_parts pieces = map (λ piece. piece.part) pieces
 
+-- the pieces of these rows
+abbrev pub walked_pieces : List Rows → List Piece
+walked_pieces walked = map (λ rows. rows.piece) walked
+
 -- the parts of these rows
 abbrev pub walked_parts : List Rows → List Part
-walked_parts walked = map (λ rows. rows.part) walked
+walked_parts walked = piece_parts (walked_pieces walked)
+
+-- the rows that were found, one piece after the other
+abbrev pub walked_rows : List Rows → List SeenData
+walked_rows walked = flat_map (λ rows. found_rows rows.found) walked
+
+-- the rows that the records of all pieces say
+abbrev pub rows_of_pieces : List Rows → List SeenData
+rows_of_pieces walked = flat_map (λ rows. seen_rows (piece_records rows.piece)) walked
 
 -- rows that are each those of a walk of their part
 abbrev pub AreWalks : GivesStat → Has → List ℕ → List Rows → Type 0
 AreWalks says has root walked =
-    All (λ rows. IsWalk says has root rows.part rows.rows.items) walked
+    All (λ rows. IsWalk says has root rows.piece.part (found_rows rows.found)) walked
 
 -- the rows of a walk of the piece at a place
 unfoldable pub IsWalkOfPiece : GivesStat → Has → List ℕ → List Piece → ℕ → Rows → Type 0
 IsWalkOfPiece says has root pieces place rows =
-    IsWalk says has root rows.part rows.rows.items
-    × (slice_get (piece_parts pieces) place ≡ Some rows.part)
+    IsWalk says has root rows.piece.part (found_rows rows.found)
+    × (slice_get pieces place ≡ Some rows.piece)
 
 -- rows that are each those of a walk of the piece at their place
 unfoldable pub AreOfPieces : GivesStat → Has → List ℕ → List Piece → List Walked → Type 0
@@ -50,7 +65,7 @@ IsDrawn says has fails root pieces result =
 abbrev pub IsWalked : GivesStat → Has → List ℕ → List Part → List SeenData → Type 0
 IsWalked says has root parts rows =
     (walked : List Rows) × AreWalks says has root walked × (walked_parts walked ≡ parts)
-    × (rows ≡ flat_map (λ rows. rows.rows.items) walked)
+    × (rows ≡ walked_rows walked)
 
 -- the path of a root, like that of a directory: a slash may have been added to it
 abbrev pub IsPathOf : List ℕ → List ℕ → Type 0

@@ -1,11 +1,13 @@
 //! A listing of a tree, from pieces of it. Another module has threads walk the pieces.
 ghost use Rattle.std.specs.Prelude.{◌≡◌, false, ◌+◌, ◌≤◌, ◌<◌, ◌++◌, length, take, IfErr, IfOk, IsTrue};
-ghost use Rattle.std.specs.List.{flat_map, list_all};
+ghost use Rattle.std.specs.List.{list_all};
 ghost use Rattle.wq_crawl.specs.declared.tree.TreeFault.TheVariants.{TooManyRows};
-ghost use Rattle.wq_crawl.specs.Tree.{is_of_device};
+ghost use Rattle.wq_crawl.specs.Tree.{is_of_device, rows_listed};
 ghost use Rattle.wq_view.specs.Limit.{max_listing_rows};
 ghost use Rattle.wq_view.specs.Seen.{is_lawful_row};
-ghost use Rattle.wq_walk.specs.Listed.{IsListed, IsRooted, IsUnread, IsWalked, piece_parts};
+ghost use Rattle.wq_walk.specs.Listed.{AreWalks, IsListed, IsRooted, IsUnread, IsWalked, piece_parts};
+ghost use Rattle.wq_walk.specs.Listed.{rows_of_pieces, walked_pieces, walked_rows};
+ghost use Rattle.wq_walk.specs.Tiles.{AreTiles};
 ghost use Rattle.wq_walk.specs.Told.{HasStat, IsRootFault};
 
 use crate::disk::Disk;
@@ -18,7 +20,7 @@ use crate::walks::Walks;
 use std::alloc::{AllocError, Global};
 use std::thread::Threads;
 use wq_base::Workers;
-use wq_crawl::TreeFault;
+use wq_crawl::{Listing, TreeFault};
 use wq_view::{MAX_LISTING_ROWS, Seen, View};
 
 /// The rows of the files below a root that was not listed before.
@@ -44,7 +46,7 @@ pub(crate) fn first_rows<T: Threads, D: Disk + Sync>(
     rows_of(threads, walkers, progress, disk, alloc, &path, &pieces)
 }
 
-/// The rows of the files below a root with this last view. The rows share the names of its records.
+/// The listing of the files below a root with this last view. Rows that are made share the names of its records.
 pub(crate) fn rows_again<T: Threads, D: Disk + Sync>(
     threads: &T,
     walkers: Workers,
@@ -53,25 +55,24 @@ pub(crate) fn rows_again<T: Threads, D: Disk + Sync>(
     alloc: Global,
     root: &str,
     last: &View,
-) -> Result<Vec<Seen>, TreeFault>
-    ensures lawful { IfOk result (λ rows. IsTrue (list_all is_lawful_row rows.items)) }
-    ensures few { IfOk result (λ rows. length rows.items ≤ max_listing_rows) }
-    ensures listed { IfOk result (λ rows.
-        IsListed (D.says disk.now) (D.has disk.now) root.now rows.items) }
+) -> Result<Listing, TreeFault>
+    ensures lawful { IfOk result (λ listing.
+        IsTrue (list_all is_lawful_row (rows_listed last.now.records listing))) }
+    ensures few { IfOk result (λ listing.
+        length (rows_listed last.now.records listing) ≤ max_listing_rows) }
+    ensures listed { IfOk result (λ listing. IsListed (D.says disk.now) (D.has disk.now) root.now
+        (rows_listed last.now.records listing)) }
     ensures rooted { IfOk result (λ _. IsRooted (D.says disk.now) root.now) }
     ensures fault { IfErr result
         (IsUnread (D.says disk.now) (D.has disk.now) (D.fails disk.now) root.now) }
 {
     let path = with_slash(alloc, root)?;
     let pieces = pieces_of(alloc, walkers, last)?;
-    rows_of(threads, walkers, progress, disk, alloc, &path, &pieces)
+    let walked = walked(threads, walkers, progress, disk, alloc, &path, &pieces)?;
+    listing_of(alloc, last, walked)
 }
 
-/// The rows of the files below a root, from these pieces of its tree. They share the names of the pieces' records. The
-/// root's path ends in a slash.
-///
-/// If the root is deleted during the walk, the listing fails because the root cannot be read. Nothing is known then of
-/// the files that the walk has not looked at.
+/// The rows of the files below a root, from these pieces of its tree. The root's path ends in a slash.
 fn rows_of<T: Threads, D: Disk + Sync>(
     threads: &T,
     walkers: Workers,
@@ -89,6 +90,30 @@ fn rows_of<T: Threads, D: Disk + Sync>(
     ensures fault { IfErr result
         (IsRootFault (D.says disk.now) (D.has disk.now) (D.fails disk.now) root.now) }
 {
+    let walked = walked(threads, walkers, progress, disk, alloc, root, pieces)?;
+    joined(alloc, walked)
+}
+
+/// The rows of walks of these pieces of the tree below a root, piece by piece. The root's path ends in a slash.
+///
+/// If the root is deleted during the walk, the listing fails because the root cannot be read. Nothing is known then of
+/// the files that the walk has not looked at.
+fn walked<'a, T: Threads, D: Disk + Sync>(
+    threads: &T,
+    walkers: Workers,
+    progress: &Progress<'_>,
+    disk: &D,
+    alloc: Global,
+    root: &str,
+    pieces: &[Piece<'a>],
+) -> Result<Vec<Rows<'a>>, TreeFault>
+    ensures walks { IfOk result (λ walked.
+        AreWalks (D.says disk.now) (D.has disk.now) root.now walked.items) }
+    ensures pieces { IfOk result (λ walked. walked_pieces walked.items ≡ pieces.now) }
+    ensures rooted { IfOk result (λ _. HasStat (D.says disk.now) root.now) }
+    ensures fault { IfErr result
+        (IsRootFault (D.says disk.now) (D.has disk.now) (D.fails disk.now) root.now) }
+{
     let walks = Walks {
         disk,
         alloc,
@@ -96,26 +121,59 @@ fn rows_of<T: Threads, D: Disk + Sync>(
         pieces,
         progress,
     };
-    let rows = joined(alloc, walks.all(threads, walkers)?)?;
+    let walked = walks.all(threads, walkers)?;
     match disk.stat(root)? {
-        Some(_) => Ok(rows),
+        Some(_) => Ok(walked),
         None => Err(TreeFault::Unreadable),
     }
 }
 
+/// The listing of a root with this last view, from walks of its pieces.
+fn listing_of(alloc: Global, last: &View, walked: Vec<Rows<'_>>) -> Result<Listing, TreeFault>
+    requires { AreTiles last.now.records (walked_pieces walked.items) }
+    ensures all { IfOk result (λ listing.
+        rows_listed last.now.records listing ≡ walked_rows walked.entry.items) }
+    ensures lawful { IfOk result (λ listing.
+        IsTrue (list_all is_lawful_row (rows_listed last.now.records listing))) }
+    ensures few { IfOk result (λ listing.
+        length (rows_listed last.now.records listing) ≤ max_listing_rows) }
+    ensures fault { IfErr result (λ fault. is_of_device fault ≡ false) }
+{
+    let _ = last;
+    if are_again(&walked) {
+        return Ok(Listing::Same);
+    }
+    Ok(Listing::Rows(joined(alloc, walked)?))
+}
+
+/// Whether in each piece the files were found as its records say, and they are no more than a pass takes.
+fn are_again(walked: &[Rows<'_>]) -> bool
+    ensures same { IsTrue result → walked_rows walked.now ≡ rows_of_pieces walked.now }
+    ensures few { IsTrue result → length (walked_rows walked.now) ≤ max_listing_rows }
+{
+    let mut count = 0usize;
+    for rows in walked {
+        count += rows.len();
+        if count > MAX_LISTING_ROWS || !rows.are_again() {
+            return false;
+        }
+    }
+    true
+}
+
 /// The rows of these pieces, one piece after the other. The memory of a piece is freed as soon as its rows are added.
 fn joined(alloc: Global, pieces: Vec<Rows<'_>>) -> Result<Vec<Seen>, TreeFault>
-    ensures all { IfOk result (λ rows.
-        rows.items ≡ flat_map (λ piece. piece.rows.items) pieces.entry.items) }
+    ensures all { IfOk result (λ rows. rows.items ≡ walked_rows pieces.entry.items) }
     ensures many { IfErr result (λ fault. fault ≡ TooManyRows
-        → max_listing_rows < length (flat_map (λ piece. piece.rows.items) pieces.entry.items)) }
+        → max_listing_rows < length (walked_rows pieces.entry.items)) }
     ensures fault { IfErr result (λ fault. is_of_device fault ≡ false) }
     ensures lawful { IfOk result (λ rows. IsTrue (list_all is_lawful_row rows.items)) }
     ensures few { IfOk result (λ rows. length rows.items ≤ max_listing_rows) }
 {
     let mut rows = Vec::with_capacity(alloc, count_of(&pieces))?;
     for piece in pieces {
-        rows = with_rows(rows, piece.into_rows())?;
+        let more = piece.into_rows(alloc)?;
+        rows = with_rows(rows, more)?;
     }
     Ok(rows)
 }

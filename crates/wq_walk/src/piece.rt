@@ -1,13 +1,15 @@
 //! The pieces in which a tree is walked: parts of it, each with the records of its last view. Another module walks
 //! them.
 
-ghost use Rattle.std.specs.Prelude.{◌≡◌, ◌≤◌, IfOk};
+ghost use Rattle.std.specs.Prelude.{◌≡◌, ◌≤◌, ◌-◌, drop, length, take, IfOk};
+ghost use Rattle.wq_view.specs.Records.{records_left};
 ghost use Rattle.wq_walk.specs.Pieces.{IsSharedOut, IsSharedOutBelow, is_behind};
+ghost use Rattle.wq_walk.specs.Tiles.{AreTiles, cut_records, piece_records};
 
 use crate::part::Part;
 use std::alloc::{AllocError, Global};
 use wq_base::Workers;
-use wq_view::{Known, View};
+use wq_view::{Records, View};
 
 /// The greatest number of pieces. With more pieces threads end closer together, and more directories are read twice.
 pub(crate) const MOST_PIECES: usize = 32;
@@ -23,7 +25,7 @@ const USUAL: usize = 1000;
 pub(crate) struct Piece<'a> {
     pub(crate) part: Part<'a>,
     /// The records of the last view, from the first one in the part on.
-    pub(crate) known: Known<'a>,
+    pub(crate) records: Records<'a>,
     /// The number of these records that are in the part.
     pub(crate) count: usize,
 }
@@ -39,7 +41,9 @@ enum CutNames<'a> {
 
 impl<'a> CutNames<'a> {
     /// The number of names.
-    fn len(self) -> usize {
+    fn len(self) -> usize
+        ensures { length (cut_records self.entry) ≤ result }
+    {
         match self {
             CutNames::Last(view) => view.len(),
             CutNames::First(names) => names.len(),
@@ -56,15 +60,21 @@ impl<'a> CutNames<'a> {
     }
 
     /// The records of the last view from a place on.
-    fn known(self, place: usize) -> Known<'a> {
+    fn records(self, place: usize) -> Records<'a>
+        ensures { records_left result ≡ drop place (cut_records self.entry) }
+    {
         match self {
-            CutNames::Last(view) => Known::of(view.records_from(place)),
-            CutNames::First(_) => Known::none(),
+            CutNames::Last(view) => view.records_from(place),
+            CutNames::First(_) => Records::none(),
         }
     }
 
     /// The number of records that the last view has from one place up to another.
-    fn count(self, from: usize, to: usize) -> usize {
+    #[tactic(auto, using(crate::proofs::Tiles::none_taken))]
+    fn count(self, from: usize, to: usize) -> usize
+        ensures { take result (drop from (cut_records self.entry))
+            ≡ take (to - from) (drop from (cut_records self.entry)) }
+    {
         match self {
             CutNames::Last(_) => to.saturating_sub(from),
             CutNames::First(_) => 0,
@@ -72,53 +82,71 @@ impl<'a> CutNames<'a> {
     }
 }
 
-/// Pieces that were cut off a tree, in the order of names. Each name below the last cut is in exactly one of them.
+/// Pieces that were cut off a tree, in the order of names. Each name below the last cut is in exactly one of them, and
+/// so is each record up to there.
 #[derive(Drop)]
 struct Cuts<'a> {
+    names: CutNames<'a>,
     pieces: Vec<Piece<'a>>,
+    /// The place of the name of the last cut.
+    start: usize,
     last: Option<&'a [u8]>,
     ghost shared: { IsSharedOutBelow last pieces.items },
+    ghost tiled: { AreTiles (take start (cut_records names)) pieces.items },
 }
 
 impl<'a> Cuts<'a> {
-    /// A whole tree, with room for so many pieces of it.
-    fn new(alloc: Global, most: usize) -> Result<Cuts<'a>, AllocError> {
+    /// A whole tree with these names, with room for so many pieces of it.
+    fn new(alloc: Global, most: usize, names: CutNames<'a>) -> Result<Cuts<'a>, AllocError>
+        ensures { IfOk result (λ cuts. cuts.names ≡ names.entry) }
+    {
         Ok(Cuts {
+            names,
             pieces: Vec::with_capacity(alloc, most)?,
+            start: 0,
             last: None,
         })
     }
 
-    /// Cuts off the piece below a name if the name is after the last cut, and says whether it is. The piece's part has
-    /// the first `count` of these records.
-    fn cut(&mut self, name: &'a [u8], known: Known<'a>, count: usize) -> Result<bool, AllocError> {
-        if !is_behind(name, self.last) {
-            return Ok(false);
+    /// Cuts off the piece below the name at a place, if both are after the last cut.
+    fn cut(&mut self, name: &'a [u8], end: usize) -> Result<(), AllocError>
+        ensures { self.new.names ≡ self.old.names }
+    {
+        if end < self.start || !is_behind(name, self.last) {
+            return Ok(());
         }
-        self.pieces.push(Piece {
-            part: Part {
-                from: self.last,
-                below: Some(name),
-            },
-            known,
-            count,
-        })?;
+        let piece = self.piece(Some(name), end);
+        self.pieces.push(piece)?;
+        self.start = end;
         self.last = Some(name);
-        Ok(true)
+        Ok(())
     }
 
-    /// All pieces: the ones that were cut off, and the rest of the tree. The rest's part has the first `count` of these
-    /// records.
-    fn with_rest(self, known: Known<'a>, count: usize) -> Result<Vec<Piece<'a>>, AllocError>
-        ensures { IfOk result (λ pieces. IsSharedOut pieces.items) }
+    /// All pieces: the ones that were cut off, and the rest of the tree.
+    fn with_rest(self) -> Result<Vec<Piece<'a>>, AllocError>
+        ensures shared { IfOk result (λ pieces. IsSharedOut pieces.items) }
+        ensures tiled { IfOk result (λ pieces. AreTiles (cut_records self.entry.names) pieces.items) }
     {
-        let part = Part {
-            from: self.last,
-            below: None,
-        };
+        let piece = self.piece(None, self.names.len());
         let mut pieces = self.pieces;
-        pieces.push(Piece { part, known, count })?;
+        pieces.push(piece)?;
         Ok(pieces)
+    }
+
+    /// The piece from the last cut on below a name, if there is one, with the records up to a place.
+    fn piece(&self, below: Option<&'a [u8]>, end: usize) -> Piece<'a>
+        ensures part { result.part ≡ record { from = self.now.last; below = below.entry } }
+        ensures records { piece_records result
+            ≡ take (end - self.now.start) (drop self.now.start (cut_records self.now.names)) }
+    {
+        Piece {
+            part: Part {
+                from: self.last,
+                below,
+            },
+            records: self.names.records(self.start),
+            count: self.names.count(self.start, end),
+        }
     }
 }
 
@@ -133,13 +161,14 @@ fn most_pieces(walkers: Workers) -> usize
 }
 
 /// The pieces of a tree with this last view, for so many threads, in the order of names. Each name is in exactly one
-/// piece.
+/// piece, and so is each record.
 pub(crate) fn pieces_of(
     alloc: Global,
     walkers: Workers,
     last: &View,
 ) -> Result<Vec<Piece<'_>>, AllocError>
-    ensures { IfOk result (λ pieces. IsSharedOut pieces.items) }
+    ensures shared { IfOk result (λ pieces. IsSharedOut pieces.items) }
+    ensures tiled { IfOk result (λ pieces. AreTiles last.now.records pieces.items) }
 {
     let most = (last.len() / USUAL).clamp(1, most_pieces(walkers));
     pieces_cut(alloc, most, CutNames::Last(last))
@@ -163,20 +192,18 @@ pub(crate) fn first_pieces(
 /// The cut in the middle is made even so.
 fn pieces_cut(alloc: Global, most: usize, names: CutNames<'_>) -> Result<Vec<Piece<'_>>, AllocError>
     requires { 1 ≤ most }
-    ensures { IfOk result (λ pieces. IsSharedOut pieces.items) }
+    ensures shared { IfOk result (λ pieces. IsSharedOut pieces.items) }
+    ensures tiled { IfOk result (λ pieces. AreTiles (cut_records names.entry) pieces.items) }
 {
-    let mut cuts = Cuts::new(alloc, most)?;
-    let mut start = 0;
+    let mut cuts = Cuts::new(alloc, most, names)?;
     for number in 1..most {
         let end = names.len().saturating_mul(number) / most;
         let is_middle = number == most / 2;
-        if let Some(name) = cut_between(names, start, end, is_middle)
-            && cuts.cut(name, names.known(start), names.count(start, end))?
-        {
-            start = end;
+        if let Some(name) = cut_between(names, cuts.start, end, is_middle) {
+            cuts.cut(name, end)?;
         }
     }
-    cuts.with_rest(names.known(start), names.count(start, names.len()))
+    cuts.with_rest()
 }
 
 /// The name at the second of two places, if a piece that begins with the name at the first place ends before it.

@@ -3,74 +3,143 @@ ghost use Rattle.std.specs.Prelude.{◌≡◌, false, ◌≤◌, ◌++◌, ◌�
 ghost use Rattle.std.specs.List.{list_all};
 ghost use Rattle.wq_crawl.specs.declared.tree.TreeFault.TheVariants.{TooManyRows};
 ghost use Rattle.wq_crawl.specs.Tree.{is_of_device};
+ghost use Rattle.wq_view.specs.Again.{seen_rows};
 ghost use Rattle.wq_view.specs.Limit.{max_listing_rows};
 ghost use Rattle.wq_view.specs.Seen.{is_lawful_row};
-ghost use Rattle.wq_walk.specs.Part.{IsListing, is_row_in};
+ghost use Rattle.wq_walk.specs.Found.{AreRows, IsFoundOf, found_rows};
+ghost use Rattle.wq_walk.specs.Part.{IsListing, is_in, is_row_in};
+ghost use Rattle.wq_walk.specs.Tiles.{piece_records};
+ghost use Rattle.wq_walk.specs.Walk.{row_with_stat};
 
 use crate::part::Part;
+use crate::piece::Piece;
+use crate::stat::Stat;
 use std::alloc::{AllocError, Global};
 use wq_crawl::TreeFault;
-use wq_view::{MAX_LISTING_ROWS, Seen};
+use wq_view::{Again, Known, MAX_LISTING_ROWS, Seen};
 
-/// At most 1,000,000 rows of a part. A pass takes each of them.
+/// The files of a piece that were found so far.
+#[derive(Drop)]
+pub(crate) enum Found<'a> {
+    /// The first files of the piece's records, as the records say. No rows are made for them.
+    Again(Again<'a>),
+    /// These rows.
+    Rows(Vec<Seen>),
+}
+
+/// At most 1,000,000 rows of a piece. A pass takes each of them.
 #[derive(Drop)]
 pub(crate) struct Rows<'a> {
-    part: Part<'a>,
-    rows: Vec<Seen>,
-    ghost lawful: { IsTrue (list_all is_lawful_row rows.items) },
-    ghost few: { length rows.items ≤ max_listing_rows },
-    ghost within: { IsTrue (list_all (is_row_in part) rows.items) },
+    piece: Piece<'a>,
+    found: Found<'a>,
+    ghost lawful: { IsTrue (list_all is_lawful_row (found_rows found)) },
+    ghost few: { length (found_rows found) ≤ max_listing_rows },
+    ghost within: { IsTrue (list_all (is_row_in piece.part) (found_rows found)) },
+    ghost of_piece: { IsFoundOf piece found },
 }
 
 impl<'a> Rows<'a> {
-    /// No row of a part, with room for so many rows.
-    pub(crate) fn with_room(
-        alloc: Global,
-        part: Part<'a>,
-        room: usize,
-    ) -> Result<Rows<'a>, AllocError>
-        ensures { IfOk result (λ rows. (rows.part ≡ part.entry) × (rows.rows.items ≡ [])) }
+    /// No row of a piece.
+    pub(crate) fn of(piece: Piece<'a>) -> Rows<'a>
+        ensures piece { result.piece ≡ piece.entry }
+        ensures none { found_rows result.found ≡ [] }
     {
-        Ok(Rows {
-            part,
-            rows: Vec::with_capacity(alloc, room)?,
-        })
+        Rows {
+            piece,
+            found: Found::Again(Again::of(piece.records, piece.count)),
+        }
     }
 
     /// The part of the rows.
     pub(crate) fn part(&self) -> Part<'a>
-        ensures { result ≡ self.now.part }
+        ensures { result ≡ self.now.piece.part }
     {
-        self.part
+        self.piece.part
     }
 
     /// The number of rows.
-    pub(crate) fn len(&self) -> usize {
-        self.rows.len()
+    pub(crate) fn len(&self) -> usize
+        ensures { result ≡ length (found_rows self.now.found) }
+    {
+        match &self.found {
+            Found::Again(again) => again.len(),
+            Found::Rows(rows) => rows.len(),
+        }
     }
 
-    /// Adds a row after the others.
+    /// Adds a file after the others, if no rows were made so far and the piece's next record says just this of it.
+    /// Returns whether it was added.
+    pub(crate) fn keep(&mut self, name: &[u8], stat: &Stat) -> bool
+        requires { IsTrue (is_in self.old.piece.part name.now) }
+        ensures piece { self.new.piece ≡ self.old.piece }
+        ensures row { IsTrue result → found_rows self.new.found
+            ≡ found_rows self.old.found ++ (row_with_stat name.now stat.now ∷ []) }
+        ensures same { result ≡ false → found_rows self.new.found ≡ found_rows self.old.found }
+    {
+        if self.len() >= MAX_LISTING_ROWS {
+            return false;
+        }
+        match &mut self.found {
+            Found::Again(again) => again.keep(name, stat.kind, stat.size, stat.mtime_ms),
+            Found::Rows(_) => false,
+        }
+    }
+
+    /// Makes rows of the files that were found so far, if that was not done yet. Returns the records after theirs, if
+    /// it is done now.
+    pub(crate) fn unfold(&mut self, alloc: Global) -> Result<Option<Known<'a>>, AllocError>
+        ensures piece { self.new.piece ≡ self.old.piece }
+        ensures same { found_rows self.new.found ≡ found_rows self.old.found }
+        ensures rows { OnOk result (AreRows self.new.found) }
+    {
+        let Found::Again(again) = &self.found else {
+            return Ok(None);
+        };
+        let known = again.known();
+        self.found = Found::Rows(again.rows(alloc)?);
+        Ok(Some(known))
+    }
+
+    /// Adds a row after the others, which were made.
     pub(crate) fn add(&mut self, row: Seen) -> Result<(), TreeFault>
+        requires made { AreRows self.old.found }
         requires lawful { IsTrue (is_lawful_row row) }
-        requires within { IsTrue (is_row_in self.old.part row) }
-        ensures part { self.new.part ≡ self.old.part }
-        ensures row { OnOk result (self.new.rows.items ≡ self.old.rows.items ++ (row ∷ [])) }
+        requires within { IsTrue (is_row_in self.old.piece.part row) }
+        ensures piece { self.new.piece ≡ self.old.piece }
+        ensures row { OnOk result (found_rows self.new.found ≡ found_rows self.old.found ++ (row ∷ [])) }
         ensures many { IfErr result (λ fault. fault ≡ TooManyRows
-            → length self.old.rows.items ≡ max_listing_rows) }
+            → length (found_rows self.old.found) ≡ max_listing_rows) }
         ensures fault { IfErr result (λ fault. is_of_device fault ≡ false) }
     {
-        if self.rows.len() >= MAX_LISTING_ROWS {
+        if MAX_LISTING_ROWS <= self.len() {
             return Err(TreeFault::TooManyRows);
         }
-        self.rows.push(row).map_err(AllocError::from)?;
+        match &mut self.found {
+            Found::Again(_) => unreachable!(),
+            Found::Rows(rows) => rows.push(row).map_err(AllocError::from)?,
+        }
         Ok(())
     }
 
-    /// The rows, in the order in which they were added.
-    pub(crate) fn into_rows(self) -> Vec<Seen>
-        ensures all { result.items ≡ self.entry.rows.items }
-        ensures listing { IsListing self.entry.part result.items }
+    /// Whether no rows were made, and all files of the piece's records were found.
+    pub(crate) fn are_again(&self) -> bool
+        ensures { IsTrue result → found_rows self.now.found ≡ seen_rows (piece_records self.now.piece) }
     {
-        self.rows
+        match &self.found {
+            Found::Again(again) => again.is_whole(),
+            Found::Rows(_) => false,
+        }
+    }
+
+    /// The rows, in the order in which they were added.
+    pub(crate) fn into_rows(self, alloc: Global) -> Result<Vec<Seen>, AllocError>
+        ensures all { IfOk result (λ rows. rows.items ≡ found_rows self.entry.found) }
+        ensures listing { IfOk result (λ rows. IsListing self.entry.piece.part rows.items) }
+    {
+        let Rows { piece: _, found } = self;
+        match found {
+            Found::Again(again) => again.rows(alloc),
+            Found::Rows(rows) => Ok(rows),
+        }
     }
 }

@@ -7,6 +7,8 @@ ghost use Rattle.wq_view.specs.Name.{is_valid_name};
 ghost use Rattle.wq_view.specs.Seen.{SeenData, is_lawful_row};
 ghost use Rattle.wq_walk.specs.Directory.{data_of, entry_at, names_left, walk_of};
 ghost use Rattle.wq_walk.specs.Entries.{AreEntries};
+ghost use Rattle.wq_walk.specs.Found.{found_rows};
+ghost use Rattle.wq_walk.specs.Part.{is_in};
 ghost use Rattle.wq_walk.specs.Told.{HasEntries, IsFailure, IsRootFault};
 ghost use Rattle.wq_walk.specs.Walk.{IsDone, IsLooked, IsStep, IsWalk, WalkEnds};
 ghost use Rattle.wq_walk.specs.Walk.{after_look, fresh, name_of_path, row_with_stat, rows_of_file};
@@ -37,8 +39,9 @@ struct Walk<'a, 'p> {
     progress: &'p Progress<'p>,
 }
 
-/// The rows of the files below a root whose names are in a piece's part. A pass takes each row. The rows share the
-/// names of the piece's records, and from the start there is room for as many rows. The root's path ends in a slash.
+/// The rows of the files below a root whose names are in a piece's part. A pass takes each row. As long as the files
+/// are as the piece's records say, no rows are made. The rows that are made share the names of these records. The
+/// root's path ends in a slash.
 ///
 /// The walk reads each directory whole, and then looks at its entries. It follows no links, except one that is the
 /// root. It leaves out an entry at which it cannot look, such as one that is deleted meanwhile, and an entry whose name
@@ -55,9 +58,9 @@ pub(crate) fn rows_in<'a, D: Disk>(
     piece: Piece<'a>,
     progress: &Progress<'_>,
 ) -> Result<Rows<'a>, TreeFault>
-    ensures part { IfOk result (λ rows. rows.part ≡ piece.entry.part) }
+    ensures piece { IfOk result (λ rows. rows.piece ≡ piece.entry) }
     ensures walk { IfOk result (λ rows.
-        IsWalk (D.says disk.now) (D.has disk.now) root.now piece.entry.part rows.rows.items) }
+        IsWalk (D.says disk.now) (D.has disk.now) root.now piece.entry.part (found_rows rows.found)) }
     ensures fault { IfErr result
         (IsRootFault (D.says disk.now) (D.has disk.now) (D.fails disk.now) root.now) }
 {
@@ -68,8 +71,8 @@ pub(crate) fn rows_in<'a, D: Disk>(
         block,
         path: TreePath::new(alloc, root.len()),
         above: Vec::new(alloc),
-        rows: Rows::with_room(alloc, piece.part, piece.count)?,
-        known: piece.known,
+        rows: Rows::of(piece),
+        known: Known::of(piece.records),
         progress,
     };
     walk.run(disk, top)?;
@@ -99,11 +102,11 @@ fn top<D: Disk>(
 impl<'p> Walk<'_, 'p> {
     /// Continues from a directory to the end.
     fn run<D: Disk>(&mut self, disk: &D, mut here: Directory) -> Result<(), TreeFault>
-        ensures part { self.new.rows.part ≡ self.old.rows.part }
+        ensures piece { self.new.rows.piece ≡ self.old.rows.piece }
         ensures ends { OnOk result (WalkEnds (D.says disk.now) (D.has disk.now)
-            self.old.path.root_len self.old.rows.part
+            self.old.path.root_len self.old.rows.piece.part
             (walk_of self.old.above.items here self.old.rows)
-            self.new.rows.rows.items) }
+            (found_rows self.new.rows.found)) }
         ensures fault { IfErr result (IsFailure (D.fails disk.now)) }
     {
         for _ in 0..u64::MAX {
@@ -117,10 +120,10 @@ impl<'p> Walk<'_, 'p> {
 
     /// Does the next step in the directory in which the walk is, and returns whether there was one.
     fn take<D: Disk>(&mut self, disk: &D, here: &mut Directory) -> Result<bool, TreeFault>
-        ensures part { self.new.rows.part ≡ self.old.rows.part }
+        ensures piece { self.new.rows.piece ≡ self.old.rows.piece }
         ensures root { self.new.path.root_len ≡ self.old.path.root_len }
         ensures goes { IfOk result (λ goes. IsTrue goes → IsStep (D.says disk.now) (D.has disk.now)
-            self.old.path.root_len self.old.rows.part
+            self.old.path.root_len self.old.rows.piece.part
             (walk_of self.old.above.items here.old self.old.rows)
             (walk_of self.new.above.items here.new self.new.rows)) }
         ensures ends { IfOk result (λ goes. goes ≡ false → IsDone (data_of here.new)
@@ -148,13 +151,13 @@ impl<'p> Walk<'_, 'p> {
         here: &mut Directory,
         name: Place,
     ) -> Result<(), TreeFault>
-        ensures part { self.new.rows.part ≡ self.old.rows.part }
+        ensures piece { self.new.rows.piece ≡ self.old.rows.piece }
         ensures root { self.new.path.root_len ≡ self.old.path.root_len }
         ensures above { self.new.above ≡ self.old.above }
         ensures looked { OnOk result ((rows : List SeenData) × (enters : Bool)
-            × IsLooked (D.says disk.now) self.old.path.root_len self.old.rows.part
+            × IsLooked (D.says disk.now) self.old.path.root_len self.old.rows.piece.part
             ((data_of here.old).path ++ entry_at here.old name) rows enters
-            × (self.new.rows.rows.items ≡ self.old.rows.rows.items ++ rows)
+            × (found_rows self.new.rows.found ≡ found_rows self.old.rows.found ++ rows)
             × (data_of here.new ≡ after_look (data_of here.old) (data_of here.old).left
             (entry_at here.old name) enters)) }
         ensures fault { IfErr result (IsFailure (D.fails disk.now)) }
@@ -169,30 +172,29 @@ impl<'p> Walk<'_, 'p> {
     /// Looks at the file at the path, and adds its row if its name is in the part. Returns whether the walk enters the
     /// file. It does if the file is a directory below which names may be in the part.
     fn list<D: Disk>(&mut self, disk: &D, here: &mut Directory) -> Result<bool, TreeFault>
-        ensures part { self.new.rows.part ≡ self.old.rows.part }
+        ensures piece { self.new.rows.piece ≡ self.old.rows.piece }
         ensures path { self.new.path ≡ self.old.path }
         ensures above { self.new.above ≡ self.old.above }
         ensures directory { here.new.path ≡ here.old.path }
         ensures names { here.new.names ≡ here.old.names }
         ensures waiting { here.new.waiting ≡ here.old.waiting }
         ensures looked { IfOk result (λ enters. (rows : List SeenData)
-            × IsLooked (D.says disk.now) self.old.path.root_len self.old.rows.part
+            × IsLooked (D.says disk.now) self.old.path.root_len self.old.rows.piece.part
             self.old.path.bytes.items rows enters
-            × (self.new.rows.rows.items ≡ self.old.rows.rows.items ++ rows)) }
+            × (found_rows self.new.rows.found ≡ found_rows self.old.rows.found ++ rows)) }
         ensures fault { IfErr result (IsFailure (D.fails disk.now)) }
     {
         let reaches = self.rows.part().reaches(self.path.name());
         if !reaches && !self.rows.part().has(self.path.name()) {
             return Ok(false);
         }
-        let Some(name) = shared_name(self.alloc, &mut self.known, &self.path, here)? else {
+        let Some(stat) = stat_at(disk, &self.path)? else {
             self.count_name();
             return Ok(false);
         };
-        let Some(stat) = stat_at(disk, &self.path)? else {
+        if !self.add(here, &stat)? {
             return Ok(false);
-        };
-        self.add(name, &stat)?;
+        }
         Ok(reaches && stat.is_directory())
     }
 
@@ -213,21 +215,60 @@ impl<'p> Walk<'_, 'p> {
         }
     }
 
-    /// Adds the row of the file of this name, if the name is in the part, and counts it.
-    fn add(&mut self, name: SharedBytes, stat: &Stat) -> Result<(), TreeFault>
-        requires { IsTrue (is_valid_name name) }
-        ensures part { self.new.rows.part ≡ self.old.rows.part }
+    /// Adds the row of the file at the path, which has this stat, if the name is in the part. Returns whether a pass
+    /// takes the name.
+    fn add(&mut self, here: &mut Directory, stat: &Stat) -> Result<bool, TreeFault>
+        ensures piece { self.new.rows.piece ≡ self.old.rows.piece }
         ensures path { self.new.path ≡ self.old.path }
         ensures above { self.new.above ≡ self.old.above }
-        ensures row { OnOk result (self.new.rows.rows.items ≡ self.old.rows.rows.items
-            ++ rows_of_file self.old.rows.part name stat.now) }
+        ensures directory { here.new.path ≡ here.old.path }
+        ensures names { here.new.names ≡ here.old.names }
+        ensures waiting { here.new.waiting ≡ here.old.waiting }
+        ensures row { IfOk result (λ taken. IsTrue taken → found_rows self.new.rows.found
+            ≡ found_rows self.old.rows.found ++ rows_of_file self.old.rows.piece.part
+            (name_of_path self.old.path.root_len self.old.path.bytes.items) stat.now) }
+        ensures none { IfOk result (λ taken. taken ≡ false
+            → (is_valid_name (name_of_path self.old.path.root_len self.old.path.bytes.items) ≡ false)
+            × (found_rows self.new.rows.found ≡ found_rows self.old.rows.found)) }
         ensures fault { IfErr result (λ fault. is_of_device fault ≡ false) }
     {
-        if self.rows.part().has(name.as_slice()) {
-            self.rows.add(row_with_stat(name, stat))?;
-            self.progress.count(&self.rows)?;
+        if !self.rows.part().has(self.path.name()) {
+            return Ok(is_valid_name(self.path.name()));
         }
-        Ok(())
+        if !self.rows.keep(self.path.name(), stat) && !self.add_new(here, stat)? {
+            return Ok(false);
+        }
+        self.progress.count(&self.rows)?;
+        Ok(true)
+    }
+
+    /// Adds the row of the file at the path, which has this stat, if a pass takes its name, and returns whether one
+    /// does. From here on rows are made.
+    fn add_new(&mut self, here: &mut Directory, stat: &Stat) -> Result<bool, TreeFault>
+        requires { IsTrue (is_in self.old.rows.piece.part
+            (name_of_path self.old.path.root_len self.old.path.bytes.items)) }
+        ensures piece { self.new.rows.piece ≡ self.old.rows.piece }
+        ensures path { self.new.path ≡ self.old.path }
+        ensures above { self.new.above ≡ self.old.above }
+        ensures directory { here.new.path ≡ here.old.path }
+        ensures names { here.new.names ≡ here.old.names }
+        ensures waiting { here.new.waiting ≡ here.old.waiting }
+        ensures row { IfOk result (λ taken. IsTrue taken → found_rows self.new.rows.found
+            ≡ found_rows self.old.rows.found ++ (row_with_stat
+            (name_of_path self.old.path.root_len self.old.path.bytes.items) stat.now ∷ [])) }
+        ensures none { IfOk result (λ taken. taken ≡ false
+            → (is_valid_name (name_of_path self.old.path.root_len self.old.path.bytes.items) ≡ false)
+            × (found_rows self.new.rows.found ≡ found_rows self.old.rows.found)) }
+        ensures fault { IfErr result (λ fault. is_of_device fault ≡ false) }
+    {
+        if let Some(known) = self.rows.unfold(self.alloc)? {
+            self.known = known;
+        }
+        let Some(name) = shared_name(self.alloc, &mut self.known, &self.path, here)? else {
+            return Ok(false);
+        };
+        self.rows.add(row_with_stat(name, stat))?;
+        Ok(true)
     }
 
     /// Enters the directory of the name at a place in the directory in which the walk is.
@@ -237,7 +278,7 @@ impl<'p> Walk<'_, 'p> {
         here: &mut Directory,
         name: Place,
     ) -> Result<(), TreeFault>
-        ensures part { self.new.rows.part ≡ self.old.rows.part }
+        ensures piece { self.new.rows.piece ≡ self.old.rows.piece }
         ensures root { self.new.path.root_len ≡ self.old.path.root_len }
         ensures rows { self.new.rows ≡ self.old.rows }
         ensures above { OnOk result (self.new.above.items ≡ self.old.above.items ++ (here.old ∷ [])) }

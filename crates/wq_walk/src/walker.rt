@@ -1,7 +1,7 @@
 //! The tree on disk, for a server that lists roots again and again. The walker keeps nothing of the listings.
 ghost use Rattle.std.specs.Prelude.{◌≡◌, ◌≤◌, length, IfErr, IfOk, IsTrue};
 ghost use Rattle.std.specs.List.{list_all};
-ghost use Rattle.wq_crawl.specs.Tree.{IsCounted};
+ghost use Rattle.wq_crawl.specs.Tree.{IsCounted, rows_listed};
 ghost use Rattle.wq_view.specs.Limit.{max_listing_rows};
 ghost use Rattle.wq_view.specs.Seen.{is_lawful_row};
 ghost use Rattle.wq_walk.specs.Listed.{IsListed, IsRooted, IsUnread};
@@ -15,7 +15,7 @@ use std::sync::Arc;
 use std::sync::atomic::{AtomicU64, Ordering};
 use std::thread::Threads;
 use wq_base::Workers;
-use wq_crawl::{LeftOut, Tree, TreeFault};
+use wq_crawl::{LeftOut, Listing, Tree, TreeFault};
 use wq_view::{Seen, View};
 
 /// Walks the trees of a disk, and counts how often a root could not be read or no file handle was
@@ -73,7 +73,7 @@ impl<T: Threads + Drop, D: Disk + Drop> Walker<T, D> {
 
 /// How many listings failed because their root cannot be read or no file handle was left, after this one, if there
 /// were so many before.
-fn failures_after(before: u64, listed: &Result<Vec<Seen>, TreeFault>) -> u64
+fn failures_after<X>(before: u64, listed: &Result<X, TreeFault>) -> u64
     ensures { IfErr listed.now (IsCounted before result) }
 {
     match listed {
@@ -105,16 +105,20 @@ impl<T: Threads + Drop, D: Disk + Sync + Drop> Walker<T, D> {
         listed
     }
 
-    /// The rows of the files below a root, as above. They share the names of the records of its last view.
-    pub fn walk_again(&mut self, root: &str, last: &View) -> Result<Vec<Seen>, TreeFault>
+    /// The listing of the files below a root with this last view, as above. Rows that are made share the names of its
+    /// records.
+    pub fn walk_again(&mut self, root: &str, last: &View) -> Result<Listing, TreeFault>
         ensures counted { IfErr result (IsCounted self.old.failures self.new.failures) }
         ensures disk { self.new.disk ≡ self.old.disk }
         ensures unread { IfErr result (IsUnread (D.says self.old.disk) (D.has self.old.disk)
             (D.fails self.old.disk) root.now) }
-        ensures lawful { IfOk result (λ rows. IsTrue (list_all is_lawful_row rows.items)) }
-        ensures few { IfOk result (λ rows. length rows.items ≤ max_listing_rows) }
-        ensures walked { IfOk result (λ rows.
-            IsListed (D.says self.old.disk) (D.has self.old.disk) root.now rows.items) }
+        ensures lawful { IfOk result (λ listing.
+            IsTrue (list_all is_lawful_row (rows_listed last.now.records listing))) }
+        ensures few { IfOk result (λ listing.
+            length (rows_listed last.now.records listing) ≤ max_listing_rows) }
+        ensures walked { IfOk result (λ listing.
+            IsListed (D.says self.old.disk) (D.has self.old.disk) root.now
+            (rows_listed last.now.records listing)) }
         ensures rooted { IfOk result (λ _. IsRooted (D.says self.old.disk) root.now) }
     {
         let (walkers, way) = self.walkers_now();
@@ -131,8 +135,8 @@ impl<T: Threads + Drop, D: Disk + Sync + Drop> Walker<T, D> {
     }
 }
 
-/// During a listing the root is the working directory of the process, and `/` after it. So one walker may list at a time,
-/// and nothing else may use a relative path.
+/// During a listing the root is the working directory of the process, and `/` after it. So one walker may list at a
+/// time, and nothing else may use a relative path.
 impl<T: Threads + Drop> Tree for Walker<T, FileDisk> {
     ghost failed = { λ walker. walker.failures };
 
@@ -150,13 +154,16 @@ impl<T: Threads + Drop> Tree for Walker<T, FileDisk> {
         listed
     }
 
-    /// The rows of the files below a root on this machine, as [`Walker::walk_again`] gives them.
-    fn list_again(&mut self, root: &str, last: &View) -> Result<Vec<Seen>, TreeFault>
+    /// The listing of the files below a root on this machine, as [`Walker::walk_again`] gives them.
+    fn list_again(&mut self, root: &str, last: &View) -> Result<Listing, TreeFault>
         ensures counted { IfErr result (IsCounted self.old.failures self.new.failures) }
         ensures unread { IfErr result (IsUnreadHere root.now) }
-        ensures lawful { IfOk result (λ rows. IsTrue (list_all is_lawful_row rows.items)) }
-        ensures few { IfOk result (λ rows. length rows.items ≤ max_listing_rows) }
-        ensures walked { IfOk result (λ rows. IsListedHere root.now rows.items) }
+        ensures lawful { IfOk result (λ listing.
+            IsTrue (list_all is_lawful_row (rows_listed last.now.records listing))) }
+        ensures few { IfOk result (λ listing.
+            length (rows_listed last.now.records listing) ≤ max_listing_rows) }
+        ensures walked { IfOk result (λ listing.
+            IsListedHere root.now (rows_listed last.now.records listing)) }
     {
         self.disk.enter(root);
         let listed = self.walk_again(root, last);

@@ -2,8 +2,7 @@
 ghost use Rattle.std.specs.Prelude.{◌≡◌, ◌<◌, ◌≤◌, IfErr, IfOk, IfSome, get_or, length};
 ghost use Rattle.std.specs.Thread.{IsSync};
 ghost use Rattle.wq_walk.specs.declared.walks.Walked.{Walked};
-ghost use Rattle.wq_walk.specs.Listed.{AreOfPieces, AreWalks, IsDrawn, IsWalkOfPiece};
-ghost use Rattle.wq_walk.specs.Listed.{piece_parts, walked_parts};
+ghost use Rattle.wq_walk.specs.Listed.{AreOfPieces, AreWalks, IsDrawn, IsWalkOfPiece, walked_pieces};
 ghost use Rattle.wq_walk.specs.Told.{IsRootFault};
 
 use crate::disk::Disk;
@@ -47,8 +46,7 @@ impl<'a, D: Disk + Sync> Walks<'a, '_, D> {
         ensures walks { IfOk result (λ walked.
             AreWalks (D.says self.now.disk.now) (D.has self.now.disk.now) self.now.root.now
             walked.items) }
-        ensures parts { IfOk result (λ walked.
-            walked_parts walked.items ≡ piece_parts self.now.pieces.now) }
+        ensures pieces { IfOk result (λ walked. walked_pieces walked.items ≡ self.now.pieces.now) }
         ensures fault { IfErr result (IsRootFault (D.says self.now.disk.now)
             (D.has self.now.disk.now) (D.fails self.now.disk.now) self.now.root.now) }
     {
@@ -147,8 +145,7 @@ impl<'a, D: Disk> Walks<'a, '_, D> {
         ensures walks { IfOk result (λ walked.
             AreWalks (D.says self.now.disk.now) (D.has self.now.disk.now) self.now.root.now
             walked.items) }
-        ensures parts { IfOk result (λ walked.
-            walked_parts walked.items ≡ piece_parts self.now.pieces.now) }
+        ensures pieces { IfOk result (λ walked. walked_pieces walked.items ≡ self.now.pieces.now) }
         ensures fault { IfErr result (IsRootFault (D.says self.now.disk.now)
             (D.has self.now.disk.now) (D.fails self.now.disk.now) self.now.root.now) }
     {

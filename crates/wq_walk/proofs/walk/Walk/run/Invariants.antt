@@ -1,4 +1,4 @@
--- the part that is listed stays the same, and so many steps led here
+-- the piece that is listed stays the same, and so many steps led here
 use Rattle.std.proofs.Common.{◌≡◌, ℕ}
 use Rattle.wq_walk.specs.Directory.{walk_of}
 use Rattle.wq_walk.specs.Walk.{AreSteps}
@@ -6,7 +6,7 @@ use Rattle.wq_walk.proofs.walk.Walk.run.Given as goal
 
 abbrev pub invariant-loop : goal.invariant-loop
 invariant-loop g l =
-    (l.self.rows.part ≡ l.fn.self.rows.part)
+    (l.self.rows.piece ≡ l.fn.self.rows.piece)
     × (l.self.path.root_len ≡ l.fn.self.path.root_len)
-    × ((steps : ℕ) × AreSteps (g.D.Disk.says l.fn.disk) (g.D.Disk.has l.fn.disk) l.fn.self.path.root_len l.fn.self.rows.part steps
+    × ((steps : ℕ) × AreSteps (g.D.Disk.says l.fn.disk) (g.D.Disk.has l.fn.disk) l.fn.self.path.root_len l.fn.self.rows.piece.part steps
     (walk_of l.fn.self.above.items l.fn.here l.fn.self.rows) (walk_of l.self.above.items l.here l.self.rows))

@@ -1,0 +1,17 @@
+-- The listing of the root of this number beside its last view.
+use Rattle.std.proofs.Common.{◌≡◌, Some, Err, MatchResult, subst}
+use Rattle.wq_live.specs.Table.{number_by_text}
+use Rattle.wq_crawl.specs.Crawl.{CrawlerData, ListsAgain}
+use Rattle.wq_crawl.specs.Tree.{Lists}
+use Rattle.wq_crawl.proofs.Crawling.{lists_again, view_at}
+use Rattle.wq_crawl.proofs.crawler.Crawler.listing.Goals as goal
+
+pub returns-in-Some-clause-listed : goal.returns-in-Some-clause-listed
+returns-in-Some-clause-listed g c =
+    let it = c.self.inside in
+    let before : CrawlerData = record { events = it.publisher; clock = g.S.Seconds.told it.seconds; listed = g.T.Tree.listed it.tree; failed = g.T.Tree.failed it.tree } in
+    let after : CrawlerData = record { events = it.publisher; clock = g.S.Seconds.told it.seconds; listed = g.T.Tree.listed c.list_again.new.self; failed = g.T.Tree.failed c.list_again.new.self } in
+    let number_is : Some c.args.number ≡ number_by_text c.args.root.now c.table.result.now = subst (λ n. Some n ≡ number_by_text c.args.root.now c.table.result.now) c.if-shown-number.true c.in-Some.ensures.number in
+    let is_view = view_at it.publisher c.table.result.now c.args.root.now c.args.number c.in-Some.last.now c.table.ensures.table number_is c.in-Some.ensures.view in
+    subst (λ (b : CrawlerData). MatchResult c.list_again.result (λ listing. ListsAgain c.args.number c.args.root.now b listing after) (λ fault. Lists b.listed c.args.root.now (Err fault) after.listed)) c.self.view_is
+    (lists_again c.args.number c.args.root.now before after c.in-Some.last.now c.list_again.result is_view c.list_again.ensures.lawful c.list_again.ensures.few c.list_again.ensures.listed)

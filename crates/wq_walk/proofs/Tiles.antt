@@ -1,0 +1,52 @@
+-- The records of the pieces of a tree, one piece after the other.
+use Rattle.std.proofs.Common.{◌≡◌, ◌+◌, ◌-◌, ◌≤◌, ℕ, List, [], ◌∷◌, ◌++◌, map, filter, take, drop, length, sym, refl, ap, ◌∙◌, arith}
+use Rattle.std.proofs.Math.Seq.{drop-nil, take-add}
+use Rattle.std.proofs.lemmas.Grind.{flat_map-append}
+use Rattle.std.proofs.lemmas.List.{append-nil, length-drop, map-append, take-append-drop, take_all}
+use Rattle.std.proofs.lemmas.List.Elements.{filter-append}
+use Rattle.std.specs.List.{flat_map}
+use Rattle.wq_view.specs.Again.{seen_row, seen_rows}
+use Rattle.wq_view.specs.RecordData.{RecordData}
+use Rattle.wq_walk.specs.declared.piece.Piece.{Piece}
+use Rattle.wq_walk.specs.declared.rows.Rows.{Rows}
+use Rattle.wq_walk.specs.Listed.{rows_of_pieces, walked_pieces}
+use Rattle.wq_walk.specs.Tiles.{AreTiles, piece_records}
+
+-- no records are taken from none
+pub none_taken : (from n : ℕ) → take 0 (drop from []) ≡ take n (drop {A = RecordData} from [])
+none_taken from n =
+    let none : drop {A = RecordData} from [] ≡ [] = drop-nil from in
+    ap (take 0) none ∙ sym (take_all n [] (omega arith)) ∙ ap (take n) (sym none)
+
+-- the records with those of one more piece
+one_more : (pieces : List Piece) (piece : Piece) (front back : List RecordData) → AreTiles front pieces → piece_records piece ≡ back → AreTiles (front ++ back) (pieces ++ (piece ∷ []))
+one_more pieces piece front back are is =
+    flat_map-append piece_records pieces (piece ∷ []) ∙ ap (λ rs. flat_map piece_records pieces ++ rs) (append-nil (piece_records piece) ∙ is) ∙ ap (λ rs. rs ++ back) are
+
+-- the piece up to the next cut
+pub more_tiles : (records : List RecordData) (pieces : List Piece) (piece : Piece) (start end : ℕ) → start ≤ end → AreTiles (take start records) pieces
+    → piece_records piece ≡ take (end - start) (drop start records) → AreTiles (take end records) (pieces ++ (piece ∷ []))
+more_tiles records pieces piece start end rise are is =
+    let sum : start + (end - start) ≡ end = omega (arith, rise) in
+    one_more pieces piece (take start records) (take (end - start) (drop start records)) are is
+    ∙ sym (take-add start (end - start) records) ∙ ap (λ n. take n records) sum
+
+-- the piece after the last cut
+pub rest_tiles : (records : List RecordData) (pieces : List Piece) (piece : Piece) (start count : ℕ) → length records ≤ count → AreTiles (take start records) pieces
+    → piece_records piece ≡ take (count - start) (drop start records) → AreTiles records (pieces ++ (piece ∷ []))
+rest_tiles records pieces piece start count all are is =
+    let short : length (drop start records) ≤ count - start = omega (arith, all, length-drop start records) in
+    one_more pieces piece (take start records) (drop start records) are (is ∙ take_all (count - start) (drop start records) short)
+    ∙ take-append-drop start records
+
+-- the rows of two runs of records
+seen-append : (front back : List RecordData) → seen_rows (front ++ back) ≡ seen_rows front ++ seen_rows back
+seen-append front back = ap (map seen_row) (filter-append (λ (r : RecordData). r.exists) front back) ∙ map-append seen_row (filter (λ r. r.exists) front) (filter (λ r. r.exists) back)
+
+-- the rows of the pieces' files are those of all files
+seen_in : (walked : List Rows) → rows_of_pieces walked ≡ seen_rows (flat_map piece_records (walked_pieces walked))
+seen_in [] = refl
+seen_in (rows ∷ walked) = ap (λ rest. seen_rows (piece_records rows.piece) ++ rest) (seen_in walked) ∙ sym (seen-append (piece_records rows.piece) (flat_map piece_records (walked_pieces walked)))
+
+pub seen_tiles : (records : List RecordData) (walked : List Rows) → AreTiles records (walked_pieces walked) → rows_of_pieces walked ≡ seen_rows records
+seen_tiles records walked are = seen_in walked ∙ ap seen_rows are
