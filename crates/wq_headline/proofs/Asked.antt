@@ -1,9 +1,8 @@
 -- The reply to an ask of a session is one of the world to that ask.
-use Rattle.std.proofs.Common.{◌≡◌, ◌⊎◌, ℕ, ℤ, true, List, [], ◌∷◌, ◌++◌, cond, Option, Some, None, Ok, Err, inl, inr, refl, ap, sym, subst, ◌∙◌}
-use Rattle.std.proofs.lemmas.Bool.Decides.{Decides-int_eq}
+use Rattle.std.proofs.Common.{◌≡◌, ◌⊎◌, ℕ, ℤ, true, List, [], ◌∷◌, ◌++◌, Option, Some, None, Ok, Err, inl, inr, refl, ap, sym, subst, ◌∙◌}
 use Rattle.wq_follow.specs.Subscription.{SubscriptionData}
 use Rattle.wq_replay.proofs.Worlds.{runs_go_on, runs_one}
-use Rattle.wq_replay.specs.Gets.{answered, kept, with_follows}
+use Rattle.wq_replay.specs.Gets.{answered, kept}
 use Rattle.wq_replay.specs.Playing.{Runs, sent_to}
 use Rattle.wq_replay.specs.World.{HappeningData, WorldData, asked, at_events}
 use Rattle.wq_serve.specs.Basis.{Basis}
@@ -23,11 +22,8 @@ use Rattle.wq_session.specs.Views.{ReadyData, Replies}
 use Rattle.wq_session.specs.Work.{BegunData, WorkData, evaluates}
 use Rattle.wq_view.specs.View.{HasOneView}
 use Rattle.wq_headline.specs.Alone.{HappensFirst, IsCurrent, ShowsWorld}
+use Rattle.wq_headline.proofs.Idled.{own_follows}
 use Rattle.wq_headline.proofs.Needs.{IsReadyThere, MayRunOut, ShowsRoots}
-
--- the subscriptions of a client that were put to a world are those that the client has there
-pub own_follows : (client : ℤ) (left : List SubscriptionData) (follows : ℤ → List SubscriptionData) → with_follows client left follows client ≡ left
-own_follows client left follows = ap (λ b. cond b left (follows client)) ((Decides-int_eq client client).1 refl)
 
 -- work that was begun, of its parts
 abbrev begun_with : WorkData → ShelfNow → BegunData

@@ -22,7 +22,8 @@ use Rattle.wq_session.specs.Moment.{Idles}
 use Rattle.wq_stream.specs.declared.event.Event.{Event}
 use Rattle.wq_stream.specs.declared.event.Event.TheVariants.{Line, Long, Binary, Idle, End, Fault}
 use Rattle.wq_headline.specs.Alone.{EventsAreRuns, HappensFirst, HappensFor, IsCurrent, IsRunFor, ShowsWorld, WasBlind}
-use Rattle.wq_headline.proofs.Asked.{asks_well, exact_or_short, own_follows, short_of_watch}
+use Rattle.wq_headline.proofs.Asked.{asks_well, exact_or_short, short_of_watch}
+use Rattle.wq_headline.proofs.Idled.{own_follows}
 use Rattle.wq_headline.proofs.Lists.{some_same}
 use Rattle.wq_headline.proofs.Looks.{numbers_find_roots}
 use Rattle.wq_headline.proofs.Needs.{IsReadyAs, IsReadyThere, MayRunOut, ShowsRoots, readies_well}

@@ -15,5 +15,14 @@ mod Sessions
 mod Queries
 mod Worldly
 mod Moments
+mod Sent
+mod Growth
+mod Begins
+mod Accounts
+mod Followed
+mod Idled
+mod Starting
+mod Triggered
+mod Rounded
 mod Threads
 mod Clocks

@@ -48,7 +48,7 @@ root_of_text text (r ∷ roots) = by (bytes_eq r.text text) (root_of_text text r
     by false later = later
 
 -- an element that is found has each fact that holds of all
-found_holds : {X : Type 0} (p : X → Bool) (P : X → Type 0) (xs : List X) (x : X) → find p xs ≡ Some x → AllByRecursion P xs → P x
+pub found_holds : {X : Type 0} (p : X → Bool) (P : X → Type 0) (xs : List X) (x : X) → find p xs ≡ Some x → AllByRecursion P xs → P x
 found_holds p P [] x is all = absurd cc
 found_holds p P (y ∷ ys) x is all = by (p y) is (λ later. found_holds p P ys x later all.1)
   where

@@ -1,15 +1,12 @@
--- The lists of subscriptions at an idle moment.
-use Rattle.std.proofs.Common.{◌≡◌, ◌⊎◌, ℕ, Bool, true, false, nat_eq, cond, All, List, [], ◌∷◌, ◌++◌, Option, Some, None, inl, inr, refl, ap, sym, subst, ◌∙◌, append_assoc, arith}
-use Rattle.std.proofs.lemmas.Bool.Decides.{nat_tests}
+-- The lists of an idle moment: those of the subscriptions of its root, none of which is left out.
+use Rattle.std.proofs.Common.{◌≡◌, ℕ, Bool, true, false, cond, nat_eq, List, [], ◌∷◌, ◌++◌, Option, Some, None, inl, inr, refl, ap, sym, subst, ◌∙◌, arith}
+use mathlib.Core.Bool.{false≢true}
 use Rattle.std.specs.List.{AllByRecursion}
-use Rattle.std.proofs.lemmas.List.Elements.{All-from_recursion}
-use Rattle.serde_json.specs.Written.{compact_text}
+use Rattle.std.proofs.lemmas.Bool.Decides.{nat_tests}
 use Rattle.wq_ask.specs.Out.{OutData}
-use Rattle.wq_clock.specs.Instance.{InstanceData}
 use Rattle.wq_clock.specs.Run.{RunData, instance_of, run_data}
 use Rattle.wq_clock.specs.declared.run.Run.{Run}
-use Rattle.wq_follow.specs.Batch.{polled}
-use Rattle.wq_follow.specs.Subscription.{SubscriptionData, list_of, text_if_any}
+use Rattle.wq_follow.specs.Subscription.{SubscriptionData, next_list}
 use Rattle.wq_live.specs.Event.{is_shown, passes_over}
 use Rattle.wq_live.specs.declared.event.RootEvent.{RootEvent}
 use Rattle.wq_serve.specs.Basis.{Basis}
@@ -17,74 +14,82 @@ use Rattle.wq_serve.specs.Idling.{IsIdled}
 use Rattle.wq_serve.specs.Run.{ShowsNumber}
 use Rattle.wq_serve.specs.Serving.{PlaceData, stand_at}
 use Rattle.wq_session.specs.At.{AtData}
-use Rattle.wq_session.specs.Moment.{Shown, listed_once, shown_in, told_list_at, told_lists_of, told_of}
-use Rattle.wq_view.specs.RecordData.{RecordData}
-use Rattle.wq_view.specs.View.{IsViewOf, ViewData}
-use Rattle.wq_headline.specs.Exact.{AreListsOf, IsEndOf, IsListOf}
+use Rattle.wq_session.specs.Moment.{AreLeft, Idles, MayRunOut, Shown, ToldListData, left_of, listed_once, shown_in, told_list_at, told_lists_of, told_of}
+use Rattle.wq_view.specs.View.{IsViewOf}
+use Rattle.wq_headline.specs.Exact.{AreListsOf}
+use Rattle.wq_headline.specs.Moments.{GetInTurn, GetsLists, HasNews, TellsAll, Wait}
 
 -- a fact of all elements of two lists
-all_both : {A : Type 0} (P : A → Type 0) (xs ys : List A) → AllByRecursion P xs → AllByRecursion P ys → AllByRecursion P (xs ++ ys)
+pub all_both : {A : Type 0} (P : A → Type 0) (xs ys : List A) → AllByRecursion P xs → AllByRecursion P ys → AllByRecursion P (xs ++ ys)
 all_both P [] ys first later = later
 all_both P (x ∷ xs) ys first later = (first.0, all_both P xs ys first.1 later)
 
 -- the test of numbers is right
-same_number : (m n : ℕ) → nat_eq m n ≡ true → n ≡ m
+pub same_number : (m n : ℕ) → nat_eq m n ≡ true → n ≡ m
 same_number m n is = grind (arith, nat_tests)
 
-module _ (run : RunData) (number : ℕ) (events : List RootEvent) (follows : List SubscriptionData) where
-  -- a list of a subscription, or its end
-  abbrev Is : List ℕ → Type 0
-  Is list = IsListOf run number events follows list ⊎ IsEndOf number events follows list
+-- a subscription is told, if it is one of the root
+abbrev pub told_if : Shown → SubscriptionData → Bool → ToldListData
+told_if shown s b = cond b (told_list_at shown s) (record { lists = []; left = s ∷ [] })
 
-  -- what is shown of the root
-  abbrev IsShownAs : Shown → Type 0
-  IsShownAs None = is_shown events number ≡ false
-  IsShownAs (Some (instance, view)) = (instance ≡ instance_of run number) × IsViewOf (passes_over number events) view
+-- what is shown of a root
+abbrev pub IsShownAs : RunData → ℕ → List RootEvent → Shown → Type 0
+IsShownAs run number events None = is_shown events number ≡ false
+IsShownAs run number events (Some (instance, view)) = (instance ≡ instance_of run number) × IsViewOf (passes_over number events) view
 
-  module _ (s : SubscriptionData) (earlier later : List SubscriptionData) (there : follows ≡ earlier ++ s ∷ later) (same : s.number ≡ number) where
-    listed : (instance : InstanceData) (view : ViewData) → IsShownAs (Some (instance, view)) → (files : List RecordData) → (polled s.follower view).files ≡ files
-        → AllByRecursion Is (listed_once (text_if_any files (list_of instance view s)))
-    listed instance view shown [] none = tt
-    listed instance view shown (file ∷ files) are = (
-      inl (record {
-        s = s;
-        earlier = earlier;
-        later = later;
-        is_there = there;
-        of_root = same;
-        view = view;
-        seen = shown.1;
-        some = λ none. cc (sym are ∙ none);
-        told = ap (λ i. compact_text (list_of i view s)) shown.0;
-      }),
-      tt,
-    )
+number_itself : (n : ℕ) → nat_eq n n ≡ true
+number_itself n = grind (arith, nat_tests)
 
-    at_root : (shown : Shown) → IsShownAs shown → AllByRecursion Is (told_list_at shown s).lists
-    at_root None gone = (inr (record { s = s; earlier = earlier; later = later; is_there = there; of_root = same; gone = gone; told = refl }), tt)
-    at_root (Some (instance, view)) shown = listed instance view shown (polled s.follower view).files refl
+module _ (run : RunData) (number : ℕ) (events : List RootEvent) (shown : Shown) (is : IsShownAs run number events shown) where
+  news : (shown : Shown) → IsShownAs run number events shown → (s : SubscriptionData) → s.number ≡ number → MayRunOut shown s → HasNews events s
+  news None gone s same may = inl (subst (λ n. is_shown events n ≡ false) (sym same) gone)
+  news (Some (instance, view)) (of_root, viewed) s same may = inr (view, subst (λ n. IsViewOf (passes_over n events) view) (sym same) viewed, may)
 
-  one : (shown : Shown) → IsShownAs shown → (s : SubscriptionData) (earlier later : List SubscriptionData) → follows ≡ earlier ++ s ∷ later
-      → AllByRecursion Is (told_of number shown s).lists
-  one shown is s earlier later there = by (nat_eq number s.number) refl
-    where
-      by : (b : Bool) → nat_eq number s.number ≡ b → AllByRecursion Is (cond b (told_list_at shown s) (record { lists = []; left = s ∷ [] })).lists
-      by true same = at_root s earlier later there (same_number number s.number same) shown is
-      by false other = tt
+  waits : (later : List SubscriptionData) → AreLeft number shown later → Wait number events later
+  waits [] short = tt
+  waits (s ∷ later) (same, may) = (same_number number s.number same, news shown is s (same_number number s.number same) may)
 
-  all : (shown : Shown) → IsShownAs shown → (earlier these later : List SubscriptionData) → follows ≡ earlier ++ (these ++ later)
-      → AllByRecursion Is (told_lists_of number shown these)
-  all shown is earlier [] later there = tt
-  all shown is earlier (s ∷ these) later there =
-      all_both Is (told_of number shown s).lists (told_lists_of number shown these) (one shown is s earlier (these ++ later) there)
-      (all shown is (earlier ++ s ∷ []) these later (there ∙ sym (append_assoc earlier (s ∷ []) (these ++ later))))
+-- the lists of an idle moment
+module _ (run : RunData) (number : ℕ) (events : List RootEvent) where
+  gets : (b : Bool) (shown : Shown) → IsShownAs run number events shown → (s : SubscriptionData) → nat_eq number s.number ≡ b
+      → GetsLists run number events s (told_if shown s b).lists (told_if shown s b).left
+  gets true None gone s same = inr (inr (same_number number s.number same, gone, refl, refl))
+  gets true (Some (instance, view)) (of_root, viewed) s same =
+      inr (inl (same_number number s.number same, view, viewed, ap (λ i. listed_once (next_list i view s)) of_root, refl))
+  gets false shown is s other = inl ((λ here. absurd (false≢true (sym other ∙ ap (nat_eq number) here ∙ number_itself number))), refl, refl)
+
+  all_get : (shown : Shown) → IsShownAs run number events shown → (these : List SubscriptionData)
+      → GetInTurn run number events these (told_lists_of number shown these) (left_of number shown these)
+  all_get shown is [] = (refl, refl)
+  all_get shown is (s ∷ these) = (
+    (told_of number shown s).lists,
+    told_lists_of number shown these,
+    (told_of number shown s).left,
+    left_of number shown these,
+    gets (nat_eq number s.number) shown is s refl,
+    refl,
+    refl,
+    all_get shown is these,
+  )
+
+-- all of an idle moment
+pub tells_all : (run : RunData) (number : ℕ) (events : List RootEvent) (at : Option AtData) (follows left : List SubscriptionData) (out : OutData)
+    → IsShownAs run number events (shown_in at) → (idles : Idles number at follows out left) → TellsAll run number events follows (told_lists_of number (shown_in at) idles.polled) left
+tells_all run number events at follows left out shows idles = record {
+  first = idles.polled;
+  waiting = idles.later;
+  parts = idles.parts;
+  left = left_of number (shown_in at) idles.polled;
+  exact = all_get run number events (shown_in at) shows idles.polled;
+  is = idles.left;
+  wait = waits run number events (shown_in at) shows idles.later idles.short;
+}
 
 -- what is looked at is shown so
-shown_as : (run : Run) (number : ℕ) (events : List RootEvent) (follows : List SubscriptionData) (at : Option AtData) → ShowsNumber run number events at
-    → IsShownAs (run_data run) number events follows (shown_in at)
-shown_as run number events follows None (lawful, absent) = absent
-shown_as run number events follows (Some at) (lawful, (there, instance, view, viewed, views)) =
-    subst (λ v. IsShownAs (run_data run) number events follows (shown_in (Some (record { instance = at.instance; view = v })))) (sym viewed) (instance, views)
+shown_as : (run : Run) (number : ℕ) (events : List RootEvent) (at : Option AtData) → ShowsNumber run number events at → IsShownAs (run_data run) number events (shown_in at)
+shown_as run number events None (lawful, absent) = absent
+shown_as run number events (Some at) (lawful, (there, instance, view, viewed, views)) =
+    subst (λ v. IsShownAs (run_data run) number events (shown_in (Some (record { instance = at.instance; view = v })))) (sym viewed) (instance, views)
 
 pub lists_exact : (basis : Basis) (before after : PlaceData) (number : ℕ) (out : OutData)
     → IsIdled basis number before.known (stand_at before) out after.known (stand_at after) → AreListsOf basis before number out after
@@ -92,8 +97,7 @@ lists_exact basis before after number out (roots, shelf, inl (at, begins, sees, 
   begins,
   published,
   ap (λ (o : OutData). o.reply) idles.gives,
-  subst (λ (o : OutData). All (Is (run_data basis.run) number (after.known).seen before.follows) o.lists) (sym idles.gives)
-      (All-from_recursion (Is (run_data basis.run) number (after.known).seen before.follows) (told_lists_of number (shown_in at) idles.polled)
-      (all (run_data basis.run) number (after.known).seen before.follows (shown_in at) (shown_as basis.run number (after.known).seen before.follows at sees) [] idles.polled idles.later idles.parts)),
+  subst (λ (o : OutData). TellsAll (run_data basis.run) number (after.known).seen before.follows o.lists after.follows) (sym idles.gives)
+      (tells_all (run_data basis.run) number (after.known).seen at before.follows after.follows out (shown_as basis.run number (after.known).seen at sees) idles),
 )
-lists_exact basis before after number out (roots, shelf, inr (same, silent, left, refused)) = inr (silent, subst basis.refused (sym same) refused)
+lists_exact basis before after number out (roots, shelf, inr (same, silent, left, refused)) = inr (silent, left, subst basis.refused (sym same) refused)

@@ -1,13 +1,11 @@
 -- The replies to queries: each lists exactly the files that match, in a view of its root.
 -- From Watchman's documentation of `query`, of clocks and of synchronisation (`sync_timeout`);
 -- programs are this server's own.
-use Rattle.std.specs.Prelude.{◌≡◌, ◌≢◌, ◌⊎◌, ℕ, ℤ, Bool, true, false, List, [], ◌∷◌, ◌++◌, take}
-use Rattle.std.specs.Prelude.{All}
+use Rattle.std.specs.Prelude.{◌≡◌, ◌⊎◌, ℕ, ℤ, Bool, true, false, List, [], ◌∷◌, take}
 use Rattle.std.specs.Prelude.{Option, Some, None, Ok, Err, IfSome}
 use mathlib.Core.List.{IsPrefix}
 use mathlib.Core.Logic.{inl, inr}
 use Rattle.serde_json.specs.Data.{Data}
-use Rattle.serde_json.specs.Written.{compact_text}
 use Rattle.wq_ask.specs.Argument.{queries}
 use Rattle.wq_ask.specs.Out.{MayRefuse, OutData, refuses, replies, runs_out, silence}
 use Rattle.wq_ask.specs.Reading.{Asks, requested}
@@ -19,9 +17,7 @@ use Rattle.wq_clock.specs.Run.{RunData, instance_of, run_data}
 use Rattle.wq_code.specs.declared.raw.Raw.{Raw}
 use Rattle.wq_crawl.specs.Roots.{passing}
 use Rattle.wq_crawl.specs.declared.fault.CrawlFault.{CrawlFault}
-use Rattle.wq_follow.specs.Batch.{polled}
-use Rattle.wq_follow.specs.Subscription.{SubscriptionData, canceled_data, list_of}
-use Rattle.wq_live.specs.Event.{is_shown, number_of, passes_over}
+use Rattle.wq_live.specs.Event.{number_of, passes_over}
 use Rattle.wq_live.specs.declared.event.RootEvent.{RootEvent}
 use Rattle.wq_query.specs.Query.{QueryData}
 use Rattle.wq_query.specs.Reading.{asks as query_of}
@@ -41,6 +37,7 @@ use Rattle.wq_stream.specs.declared.event.Event.{Event}
 use Rattle.wq_stream.specs.declared.event.Event.TheVariants.{Line, Idle}
 use Rattle.wq_verify.specs.Typing.{IsValid}
 use Rattle.wq_view.specs.View.{IsViewOf, ViewData}
+use Rattle.wq_headline.specs.Moments.{TellsAll}
 
 -- a list of events shows this at the text of a root: nothing; or a root of this number, and the
 -- view of all passes over it
@@ -62,16 +59,17 @@ pub record ListsExactly (at : AtData) (shelf : ShelfNow) (d : Data) (out : OutDa
   pub program : Option Raw
   pub named : program_for query shelf ≡ Ok program
   pub valid : IfSome program IsValid
-  pub told : out ≡ replies (reply_of (plan_at (at.instance).root query program shelf) at.instance view)
+  pub told : out
+      ≡ replies (reply_of (plan_at (at.instance).root query program shelf) at.instance view)
 
--- a query is refused, for the first reason that the root and the shelf have
+-- a query is refused, for the first reason that there is at this root and this shelf
 abbrev pub IsRefused : List ℕ → Data → Option AtData → ShelfNow → OutData → Type 0
 IsRefused root d at shelf out = (refusal : Refusal)
     × (or_fault NotWatched (watched root at shelf) (λ at. try_query d at shelf) ≡ Err refusal)
     × (out ≡ refuses refusal)
 
--- the reply to a query of a root, at what is looked at there and a shelf: a list, a refusal, or that
--- memory ran out
+-- the reply to a query of a root, at what is looked at there and a shelf: a list, a refusal, or
+-- that memory ran out
 abbrev pub IsReplyAt : List ℕ → Data → Option AtData → ShelfNow → OutData → Type 0
 IsReplyAt root d at shelf out =
     ((here : AtData) × (watched root at shelf ≡ Some here) × ListsExactly here shelf d out)
@@ -88,8 +86,8 @@ IsReplyIn world root d out =
     × IsReplyAt root d at world.shelf out)
     ⊎ (out ≡ runs_out None)
 
--- whatever happened in a world before, asks of clients, crawls, rounds and ends: the reply to a line
--- that asks for files is exact
+-- whatever happened in a world before, asks of clients' events, crawls, rounds and ends: the reply
+-- to a line that asks for files is exact
 abbrev pub RepliesAreExact : Type 0
 RepliesAreExact = (run : RunData) (sockname : List ℕ) (earlier : List HappeningData)
     (lines sent : List SentData) (world after : WorldData) (client : ℤ) (line root : List ℕ)
@@ -119,8 +117,8 @@ abbrev pub IsNotCrawled : Bool → List ℕ → KnownData → CrawlFault → Kno
 IsNotCrawled crawl root before fault after =
     (crawl ≡ true) × Hears before (passing root) (Err fault) after
 
--- the reply of a session to a query of a root: at what it sees there, and the shelf that is shown,
--- or one that the acts of sessions and rounds lead to
+-- the reply of a session to a query of a root: at what it sees there, and at a shelf that the acts
+-- of sessions and rounds lead to. If a shelf is shown, that is it
 abbrev pub IsReplyOf : Basis → PlaceData → List ℕ → Bool → Data → OutData → PlaceData → Type 0
 IsReplyOf basis before root crawl d out after =
     ((fault : CrawlFault) × IsNotCrawled crawl root before.known fault after.known
@@ -131,42 +129,16 @@ IsReplyOf basis before root crawl d out after =
     × IsReplyAt root d at shelf out)
     ⊎ (out ≡ runs_out None)
 
--- one of these subscriptions, of the root of this number, has this list at the view of all passes
--- over the root: of exactly the files that its plan lists, of which there are some. The plan's bound
--- is the end of the subscription's last list
-pub record IsListOf (run : RunData) (number : ℕ) (events : List RootEvent)
-    (follows : List SubscriptionData) (list : List ℕ) : Type 0 where
-  pub s : SubscriptionData
-  pub earlier : List SubscriptionData
-  pub later : List SubscriptionData
-  pub is_there : follows ≡ earlier ++ s ∷ later
-  pub of_root : s.number ≡ number
-  pub view : ViewData
-  pub seen : IsViewOf (passes_over number events) view
-  pub some : (polled s.follower view).files ≢ []
-  pub told : list ≡ compact_text (list_of (instance_of run number) view s)
-
--- one of these subscriptions, of the root of this number, ends with this notice, since the root is
--- no longer watched
-pub record IsEndOf (number : ℕ) (events : List RootEvent) (follows : List SubscriptionData)
-    (list : List ℕ) : Type 0 where
-  pub s : SubscriptionData
-  pub earlier : List SubscriptionData
-  pub later : List SubscriptionData
-  pub is_there : follows ≡ earlier ++ s ∷ later
-  pub of_root : s.number ≡ number
-  pub gone : is_shown events number ≡ false
-  pub told : list ≡ compact_text (canceled_data s.root s.name)
-
--- the lists of an idle moment of the root of this number: each is of a subscription, or its end. If
--- the look was refused there are none
+-- the lists of an idle moment of the root of this number: the first subscriptions get theirs, none
+-- of which is left out, and the others wait. If the look was refused there are none, and all stay
 abbrev pub AreListsOf : Basis → PlaceData → ℕ → OutData → PlaceData → Type 0
 AreListsOf basis before number out after =
     (IsPrefix (before.known).seen (after.known).seen × basis.published (after.known).seen
     × (out.reply ≡ None)
-    × All (λ list. IsListOf (run_data basis.run) number (after.known).seen before.follows list
-    ⊎ IsEndOf number (after.known).seen before.follows list) out.lists)
-    ⊎ ((out ≡ silence true) × basis.refused (after.known).seen)
+    × TellsAll (run_data basis.run) number (after.known).seen before.follows out.lists
+    after.follows)
+    ⊎ ((out ≡ silence true) × (after.follows ≡ before.follows)
+    × basis.refused (after.known).seen)
 
 -- the output of a session for an event is exact, if the event is a line that asks for files, or an
 -- idle moment
@@ -194,8 +166,8 @@ AllAreExact basis before old new after how (inr full) =
     AreExact basis before full.events full.lines after full.goes_on
 
 -- whatever crawls, clients and workers come between: each reply of a session to a line that asks
--- for files is exact, and so is each list of a subscription. A shelf that is shown at first is one
--- that acts lead to
+-- for files is exact, and so are the lists of each idle moment. A shelf that is shown at first is
+-- one that acts lead to
 abbrev pub ServedRepliesAreExact : Basis → Type 0
 ServedRepliesAreExact basis = (before after : PlaceData) (old new : Option (List ℕ))
     (how : EndData) (served : IsServed basis before old new after how)

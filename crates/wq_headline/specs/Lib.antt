@@ -3,4 +3,7 @@ pub mod TextBytes
 pub mod LineCost
 pub mod Lists
 pub mod Alone
+pub mod Moments
 pub mod Exact
+pub mod Followers
+pub mod Triggers

@@ -3,13 +3,17 @@ ghost use Rattle.wq_clock.specs.declared.run.Run.{Run};
 ghost use Rattle.wq_serve.specs.Basis.{basis_of};
 ghost use Rattle.wq_headline.specs.Exact.{ClocksNameViews, RepliesAreExact, ServedRepliesAreExact};
 ghost use Rattle.wq_headline.specs.Headline.{ExpressionsCompile, ExpressionsSelect, ProgramsRun};
+ghost use Rattle.wq_headline.specs.Triggers.{FollowersAreExact};
 
 use wq_ask::asks_hand_in_valid;
 use wq_compile::expressions_compile;
 use wq_eval::{answers_are_said, runs_say, steps_are_said};
+use wq_follow::{intervals_adjoin, nothing_is_missed, views_are_reached};
 use wq_live::Named;
+use wq_query::subscriptions_are_plain;
 use wq_replay::programs_are_valid;
 use wq_serve::reached_programs_are_valid;
+use wq_session::answers_are_calls;
 use wq_verify::{runs_begin_well, steps_go_well};
 
 /// A program that may run, whoever wrote it, gives one answer on each file, within its budget, and
@@ -20,6 +24,9 @@ use wq_verify::{runs_begin_well, steps_go_well};
 /// that its clock names, or it says why there is no list. That holds of a session on threads,
 /// whatever crawls, clients and workers come between, and of each world in which a script plays. On
 /// threads each list of a subscription has exactly the files that changed since its last one.
+///
+/// In a world nothing is missed besides. The lists of each subscription together have each change
+/// once, and so have the starts of each trigger.
 pub fn headline<N: Named>()
     ensures programs { ProgramsRun }
     ensures compiled { ExpressionsCompile }
@@ -27,6 +34,7 @@ pub fn headline<N: Named>()
     ensures served { (run : Run) → ServedRepliesAreExact
         (basis_of run (N.published N.book) (N.refused N.book)) }
     ensures replies { RepliesAreExact }
+    ensures followers { FollowersAreExact }
     ensures clocks { ClocksNameViews }
 {
     runs_begin_well();
@@ -38,4 +46,9 @@ pub fn headline<N: Named>()
     asks_hand_in_valid();
     programs_are_valid();
     reached_programs_are_valid();
+    answers_are_calls();
+    subscriptions_are_plain();
+    intervals_adjoin();
+    nothing_is_missed();
+    views_are_reached();
 }
