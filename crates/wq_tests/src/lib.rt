@@ -1,22 +1,12 @@
-//! Tests of things that no script and no case shows: devices that fail, limits of a million, shared
-//! names, calls that no program makes, looks that are open at the wrong time, and workers that run
-//! at the same time. Worked examples are data: `tests/scripts` and `tests/cases`.
+//! Tests of things that no script and no case shows, with devices, clients and launchers of their own, which are proved
+//! to be lawful: devices that fail, looks that are open at the wrong time, and workers that run at the same time. Other
+//! calls are tested in `tests/calls`, and worked examples are data: `tests/scripts` and `tests/cases`.
 #![tactic(auto)]
 
 #[cfg(test)]
 mod device;
 #[cfg(test)]
-mod fault;
-#[cfg(test)]
-mod limit;
-#[cfg(test)]
-mod pattern;
-#[cfg(test)]
-mod program;
-#[cfg(test)]
 mod publishing;
-#[cfg(test)]
-mod query;
 #[cfg(test)]
 mod round;
 #[cfg(test)]
@@ -24,13 +14,7 @@ mod served;
 #[cfg(test)]
 mod session;
 #[cfg(test)]
-mod term;
-#[cfg(test)]
 mod tree;
-#[cfg(test)]
-mod trigger;
-#[cfg(test)]
-mod view;
 #[cfg(test)]
 mod workers;
 #[cfg(test)]

@@ -11,7 +11,7 @@ use std::marker::Brand;
 use std::sync::{Arc, Mutex, Wait};
 use std::thread::Threads;
 use wq_ask::Cursor;
-use wq_base::Workers;
+use wq_base::{Stays, Workers};
 use wq_clock::Run;
 use wq_crawl::{CrawlFault, Crawler, LockRoots, Roots, SharedCrawler};
 use wq_live::{Blank, Named, Told};
@@ -148,7 +148,15 @@ fn talk<N: Named, R: Threads + Wait + Copy + Drop + Sync>(
     };
     let run = Run::new(7, 9);
     let views = SeatViews { run, seat, roots };
-    let ended = serve(&rt, alloc, &mut inbox, &mut writer, views, &mut desk);
+    let ended = serve(
+        &rt,
+        alloc,
+        &Stays {},
+        &mut inbox,
+        &mut writer,
+        views,
+        &mut desk,
+    );
     if ended.fault {
         return None;
     }

@@ -8,6 +8,7 @@ use std::marker::Brand;
 use std::sync::Wait;
 use std::test::Fail;
 use std::thread::Threads;
+use wq_base::Stays;
 use wq_clock::Run;
 use wq_crawl::{Crawler, MemoryRoots, Roots};
 use wq_follow::Trigger;
@@ -55,7 +56,7 @@ fn talk_at<N: Named, R: Threads + Wait + Drop + Sync>(
     let mut writer = Vec::new(alloc);
     let run = Run::new(7, 9);
     let views = SeatViews { run, seat, roots };
-    let ended = serve(rt, alloc, &mut inbox, &mut writer, views, desk);
+    let ended = serve(rt, alloc, &Stays {}, &mut inbox, &mut writer, views, desk);
     let is_right = !ended.fault && writer.as_slice() == talk.1;
     let SeatViews { seat, roots, .. } = ended.views;
     Some((Ends { seat, roots }, is_right))

@@ -8,6 +8,7 @@ use crate::tree::file;
 use std::alloc::Global;
 use std::sync::atomic::{AtomicU64, Ordering};
 use std::thread::Threads;
+use wq_base::{Asker, Stays};
 use wq_compile::compile;
 use wq_eval::{Gate, OpenGate, Pieces, collect, filter_workers};
 use wq_gen::{Generators, candidates};
@@ -52,6 +53,16 @@ fn has_begun(begun: &AtomicU64) -> bool {
     false
 }
 
+/// An asker that has gone.
+#[derive(Drop)]
+struct Gone {}
+
+impl Asker for Gone {
+    fn is_gone(&self) -> bool {
+        true
+    }
+}
+
 /// A view of some files, and the program that says yes to each.
 #[derive(Drop)]
 struct Asked {
@@ -92,10 +103,11 @@ fn no_generators() -> Generators {
 }
 
 /// The positions that so many workers keep of files of these names, in pieces of this size.
-fn kept<R: Threads + Sync, G: Gate + Sync>(
+fn kept<R: Threads + Sync, G: Gate + Sync, A: Asker>(
     rt: &R,
     alloc: Global,
     gate: &G,
+    asker: &A,
     workers: u32,
     piece: u32,
     names: &[&[u8]],
@@ -107,8 +119,11 @@ fn kept<R: Threads + Sync, G: Gate + Sync>(
     // Only the proof uses the contracts of these calls: each position is one of a record.
     view.len();
     positions_are_there();
-    let positions = candidates(alloc, &view, &no_generators()).ok()?;
-    filter_workers(rt, alloc, gate, workers, piece, &program, &view, &positions).ok()
+    let positions = candidates(alloc, &Stays {}, &view, &no_generators()).ok()?;
+    filter_workers(
+        rt, alloc, gate, asker, workers, piece, &program, &view, &positions,
+    )
+    .ok()
 }
 
 /// The positions of five files in three pieces, of which a worker evaluated only the second one.
@@ -116,7 +131,7 @@ fn collected(alloc: Global) -> Option<Vec<u32>> {
     let Asked { view, program } = made(alloc, FIVE)?;
     view.len();
     positions_are_there();
-    let positions = candidates(alloc, &view, &no_generators()).ok()?;
+    let positions = candidates(alloc, &Stays {}, &view, &no_generators()).ok()?;
     let pieces = Pieces {
         program: &program,
         view: &view,
@@ -131,11 +146,11 @@ fn collected(alloc: Global) -> Option<Vec<u32>> {
 fn collected_of(alloc: Global, pieces: &Pieces<'_>) -> Option<Vec<u32>>
     requires { AreSound pieces.now }
 {
-    let strange = pieces.evaluate(alloc, 9).ok()?;
-    let first = pieces.evaluate(alloc, 1).ok()?;
-    let again = pieces.evaluate(alloc, 1).ok()?;
+    let strange = pieces.evaluate(alloc, &Stays {}, 9).ok()?;
+    let first = pieces.evaluate(alloc, &Stays {}, 1).ok()?;
+    let again = pieces.evaluate(alloc, &Stays {}, 1).ok()?;
     let list = vec![in alloc; strange, first, again].ok()?;
-    collect(alloc, pieces, vec![in alloc; list].ok()?).ok()
+    collect(alloc, &Stays {}, pieces, vec![in alloc; list].ok()?).ok()
 }
 
 /// Whether these positions are kept.
@@ -150,8 +165,13 @@ fn are(kept: Option<Vec<u32>>, want: &[u32]) -> bool {
 fn are_kept<R: Threads + Sync>(rt: &R, alloc: Global, workers: u32) -> bool
     requires { AreFew workers }
 {
-    are(kept(rt, alloc, &OpenGate {}, workers, 2, THREE), &[0, 1, 2])
-        && are(kept(rt, alloc, &OpenGate {}, workers, 2, &[]), &[])
+    are(
+        kept(rt, alloc, &OpenGate {}, &Stays {}, workers, 2, THREE),
+        &[0, 1, 2],
+    ) && are(
+        kept(rt, alloc, &OpenGate {}, &Stays {}, workers, 2, &[]),
+        &[],
+    )
 }
 
 #[test]
@@ -160,7 +180,7 @@ fn workers_at_once(rt: HostRuntime) {
         begun: AtomicU64::new(0),
         late: AtomicU64::new(0),
     };
-    assert!(rt; are(kept(&rt, rt.alloc(), &gate, 2, 1, TWO), &[0, 1]));
+    assert!(rt; are(kept(&rt, rt.alloc(), &gate, &Stays {}, 2, 1, TWO), &[0, 1]));
     assert_eq!(rt; gate.late.load(Ordering::SeqCst), 0);
 }
 
@@ -174,4 +194,12 @@ fn any_number_of_workers_keeps_the_same_files(rt: HostRuntime) {
     assert!(rt; are_kept(&rt, rt.alloc(), 1));
     assert!(rt; are_kept(&rt, rt.alloc(), 2));
     assert!(rt; are_kept(&rt, rt.alloc(), 16));
+}
+
+#[test]
+fn no_file_is_kept_for_an_asker_that_has_gone(rt: HostRuntime) {
+    let alone = kept(&rt, rt.alloc(), &OpenGate {}, &Gone {}, 1, 2, THREE);
+    let both = kept(&rt, rt.alloc(), &OpenGate {}, &Gone {}, 2, 1, THREE);
+    assert!(rt; alone.is_none());
+    assert!(rt; both.is_none());
 }
