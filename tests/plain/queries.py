@@ -3,6 +3,7 @@
 from typing import Any, Callable, Dict, List, NamedTuple, Optional
 
 from generators import Generators, candidate_test, read_generators
+from programs import require_program
 from servers import Server
 from views import View
 from wqprogram import clocks
@@ -39,6 +40,7 @@ class Query(NamedTuple):
     cursor: Optional[str] = None
     program: Optional[str] = None
     root: int = FIRST_ROOT
+    expression: Any = "true"
 
 
 def read_query(asked: Dict[str, Any], root: int = FIRST_ROOT, is_subscription: bool = False) -> Query:
@@ -50,7 +52,8 @@ def read_query(asked: Dict[str, Any], root: int = FIRST_ROOT, is_subscription: b
         raise Refused(LEFT_OUT_KEY)
     if "expression" in asked and "program" in asked:
         raise Refused(EXPRESSION_AND_PROGRAM)
-    matches = read_term(asked.get("expression", "true"), at_root(root))
+    expression = asked.get("expression", "true")
+    matches = read_term(expression, at_root(root))
     fields = read_fields(asked.get("fields", DEFAULT_FIELDS))
     if is_subscription and any(key in asked for key in ("suffix", "path", "glob")):
         raise Refused(BAD_GENERATOR)
@@ -73,7 +76,7 @@ def read_query(asked: Dict[str, Any], root: int = FIRST_ROOT, is_subscription: b
         raise Refused(WRONG_QUERY_VALUE)
     if not isinstance(is_empty_on_fresh, bool) or not is_whole_number(asked.get("sync_timeout", 0)):
         raise Refused(WRONG_QUERY_VALUE)
-    return Query(matches, fields, bound, is_empty_on_fresh, generators, cursor, program, root)
+    return Query(matches, fields, bound, is_empty_on_fresh, generators, cursor, program, root, expression)
 
 
 def read_fields(value: Any) -> List[str]:
@@ -88,6 +91,8 @@ def settled(query: Query, server: Server) -> Query:
     """The query with its program and with the bound of its cursor, which is moved."""
     if query.program is not None:
         query = query._replace(matches=server.program(query.program).matches)
+    else:
+        require_program(query.expression, query.root)
     if query.cursor is not None:
         query = query._replace(bound=server.use_cursor(query.cursor))
     return query

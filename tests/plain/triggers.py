@@ -3,6 +3,7 @@
 from typing import Any, Dict, List, NamedTuple, Optional
 
 from followers import changed_after
+from programs import require_program
 from queries import FIELDS, Query, file_of, listed_records
 from servers import Server
 from wqprogram.clocks import FRESH, Bound, at_root, clock_id
@@ -54,9 +55,12 @@ def read_trigger(asked: Dict[str, Any], root: str, number: int, server: Server) 
         raise Refused(BAD_TRIGGER)
     if "expression" in asked and "program" in asked:
         raise Refused(EXPRESSION_AND_PROGRAM)
-    matches = read_term(asked.get("expression", "true"), at_root(number))
+    expression = asked.get("expression", "true")
+    matches = read_term(expression, at_root(number))
     if "program" in asked:
         matches = server.program(asked["program"]).matches
+    else:
+        require_program(expression, number)
     stdin = asked.get("stdin")
     fields = stdin if isinstance(stdin, list) else ["name"]
     known = {key: asked[key] for key in KNOWN_KEYS if key in asked}
