@@ -13,6 +13,10 @@ from lists import move_in
 # So many files come while lists are held back and let go.
 DRAWS = 60
 NAMES: Dict[str, object] = {"fields": ["name"], "expression": ["type", "f"]}
+# How long nothing may change, for a query and for a subscription, in seconds.
+PERIOD, SETTLE = 0.3, 0.4
+# A machine may be too busy for a change to come in time, but not so often.
+TRIES = 20
 
 
 def subscribed(client: Client, root: Path, name: str, query: Dict[str, object]) -> Dict[str, object]:
@@ -111,20 +115,23 @@ def check_flushing(tally: built.Tally, room: Path) -> None:
 
 
 def check_source_control(tally: built.Tally, room: Path) -> None:
-    """No list comes while source control holds its lock, unless the subscription does not wait for it."""
+    """No list comes while source control holds its lock, unless the subscription does not wait for it. Of two
+    subscriptions the one that began first is told first. So if the list of the second is there, that of the first was
+    held back."""
     root = room.resolve() / "root"
     make_files(root, ["a", ".git/HEAD"])
-    with Bridge(room) as bridge, bridge.client() as client, bridge.client() as other:
+    with Bridge(room) as bridge, bridge.client() as client:
         query = {"expression": ["suffix", "c"], "fields": ["name"]}
-        client.ask("subscribe", str(root), "s", query)
-        other.ask("subscribe", str(root), "s", {**query, "defer_vcs": False})
+        client.ask("subscribe", str(root), "waits", query)
+        client.ask("subscribe", str(root), "goes on", {**query, "defer_vcs": False})
         (root / ".git" / "index.lock").touch()
-        move_in(room / "aside", root, ["b.c"])
-        same(tally, "a subscription that does not wait", other.reply()["files"], ["b.c"])
-        move_in(room / "aside", root, ["c.c"])
-        same(tally, "one that waits", is_silent(client), True)
+        for name in ("b.c", "c.c"):
+            move_in(room / "aside", root, [name])
+            found = client.reply()
+            same(tally, f"one that goes on gets {name}", (found["subscription"], found["files"]), ("goes on", [name]))
         (root / ".git" / "index.lock").unlink()
-        same(tally, "is told once", client.reply()["files"], ["b.c", "c.c"])
+        found = client.reply()
+        same(tally, "one that waits gets one list", (found["subscription"], found["files"]), ("waits", ["b.c", "c.c"]))
 
 
 def check_each_change_once(tally: built.Tally, room: Path) -> None:
@@ -167,23 +174,54 @@ def check_settling(tally: built.Tally, room: Path) -> None:
     """A query with `settle_period` waits until nothing changes, and so does a subscription of a root with `settle`."""
     root = room.resolve() / "root"
     make_files(root, ["a"])
-    (root / ".watchmanconfig").write_text('{"settle": 400}')
+    (root / ".watchmanconfig").write_text('{"settle": %d}' % round(SETTLE * 1000))
     with Bridge(room) as bridge, bridge.client() as client, bridge.client() as other:
         client.ask("watch", str(root))
-        began = time.monotonic()
-        client.send("query", str(root), {**NAMES, "settle_period": 300})
-        time.sleep(0.1)
-        move_in(room / "aside", root, ["b"])
-        same(tally, "a query that waits", client.reply()["files"], [".watchmanconfig", "a", "b"])
-        same(tally, "it waited twice", time.monotonic() - began > 0.6, True)
+        check_a_query_that_waits(tally, room, root, client)
         reply = client.ask("query", str(root), {**NAMES, "settle_period": 300, "settle_timeout": 100})
         same(tally, "a query that waits too long", reply.get("error"),
              "query failed: the root did not settle for 300 ms within 100 ms")
         subscribed(other, root, "s", {})
-        for name in ("c", "d"):
+        check_lists_that_wait(tally, room, root, other)
+
+
+def check_a_query_that_waits(tally: built.Tally, room: Path, root: Path, client: Client) -> None:
+    """The reply comes a period after the last change that it has. If a change came too late for the query, another is
+    tried."""
+    expected = [".watchmanconfig", "a"]
+    for turn in range(TRIES):
+        client.send("query", str(root), {**NAMES, "settle_period": round(PERIOD * 1000)})
+        time.sleep(PERIOD / 3)
+        expected.append(f"b{turn}")
+        changed = time.monotonic()
+        move_in(room / "aside", root, expected[-1:])
+        files = client.reply()["files"]
+        waited = time.monotonic() - changed
+        if expected[-1] in files:
+            break
+    same(tally, "a query that waits", files, expected)
+    tally.check("it waits for a period after a change", waited >= PERIOD, [f"{waited:.3f} seconds"])
+
+
+def check_lists_that_wait(tally: built.Tally, room: Path, root: Path, client: Client) -> None:
+    """No change is told before the root has settled. Two changes are in one list, if the second did not come too late
+    for it; then two others are tried."""
+    found: List[str] = []
+    for turn in range(TRIES):
+        names, moments = [f"c{turn}", f"d{turn}"], []
+        for name in names:
+            moments.append(time.monotonic())
             move_in(room / "aside", root, [name])
-            same(tally, f"{name} is not told at once", is_silent(other, 0.15), True)
-        same(tally, "one list comes when nothing changes", other.reply()["files"], ["c", "d"])
+            time.sleep(SETTLE / 3)
+        found = client.reply()["files"]
+        first, last = (time.monotonic() - moment for moment in moments)
+        tally.check(f"no list comes at once, {turn}", first >= SETTLE, [f"{found} after {first:.3f} seconds"])
+        if found == names and last >= SETTLE:
+            break
+        while found != names:
+            found += client.reply()["files"]
+    is_one = found == names and last >= SETTLE
+    tally.check("one list comes when nothing changes", is_one, [f"{found} after {last:.3f} seconds"])
 
 
 def check_many_subscriptions(tally: built.Tally, room: Path) -> None:

@@ -59,12 +59,12 @@ def check_outputs(tally: built.Tally, room: Path) -> None:
     make_files(root, ["a.c"])
     log, errors = room.resolve() / "log", room.resolve() / "errors"
     with Bridge(room) as bridge, bridge.client() as client:
-        definition = {"name": "t", "command": ["sh", "-c", "echo out; echo err >&2"], "expression": ["suffix", "c"],
+        definition = {"name": "t", "command": ["sh", "-c", "echo out; echo err >&2; echo end"], "expression": ["suffix", "c"],
                       "stdout": f">>{log}", "stderr": f">{errors}"}
         client.ask("trigger", str(root), definition)
-        text_of(errors, bool)
+        text_of(log, lambda text: text.count("end") == 1)
         move_in(room / "aside", root, ["b.c"])
-        same(tally, "an output is added", text_of(log, lambda text: text == "out\nout\n"), "out\nout\n")
+        same(tally, "an output is added", text_of(log, lambda text: text.count("end") == 2), "out\nend\n" * 2)
         same(tally, "and another is written anew", errors.read_text(), "err\n")
         same(tally, "the definition is listed as it was", client.ask("trigger-list", str(root))["triggers"], [definition])
         same(tally, "the same again", client.ask("trigger", str(root), definition),

@@ -7,7 +7,7 @@ from typing import Dict, List, Tuple
 
 import built
 from bridged import VERSION, Bridge, make_files
-from client import same
+from client import PATIENCE, same
 
 HAS = ("cmd-watch-project", "cmd-state-enter", "cmd-flush-subscriptions", "cmd-log-level", "relative_root", "wildmatch",
        "term-dirname", "suffix-set", "field-mode", "glob_generator")
@@ -210,6 +210,6 @@ def check_an_end(tally: built.Tally, room: Path) -> None:
             other.ask("version")
             same(tally, "shutdown-server", client.ask("shutdown-server"), {"shutdown-server": True, "version": VERSION})
             same(tally, "the stream of another client ends", other.rest(), b"")
-        same(tally, "the bridge ends", bridge.process.wait(10), 0)
-        same(tally, "the server ends", bridge.server.process.wait(10), 0)
+        same(tally, "the bridge ends", bridge.process.wait(PATIENCE), 0)
+        same(tally, "the server ends", bridge.server.process.wait(PATIENCE), 0)
         same(tally, "its socket is gone", os.path.exists(bridge.sockname), False)
