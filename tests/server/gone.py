@@ -65,7 +65,7 @@ def check_its_view(tally: built.Tally, client: Client, root: Path) -> None:
 
 
 def check_a_root_that_goes_during_walks(tally: built.Tally, room: Path) -> None:
-    """A root that goes while it is walked, and is away for longer than a walk: no file of it is told as gone. The
+    """A root that goes while it is walked, and is away for longer than a walk: no file of it is listed as gone. The
     operator is told that it could not be read."""
     root, away = room / "tree", room / "away"
     for number in range(40):
@@ -85,7 +85,7 @@ def check_a_root_that_goes_during_walks(tally: built.Tally, room: Path) -> None:
 
 
 def check_a_root_that_is_deleted_during_walks(tally: built.Tally, room: Path) -> None:
-    """A root that is moved away while it is walked, and deleted there at once: no file of it is told as gone. Made again
+    """A root that is moved away while it is walked, and deleted there at once: no file of it is listed as gone. Made again
     of the same files, it is as it was."""
     root, away = room / "tree", room / "away"
     for number in range(40):

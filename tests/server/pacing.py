@@ -10,6 +10,7 @@ from typing import List
 import built
 from client import Client, Server, query_of_names, same
 from shares import processor_seconds
+from traced import STRACE, has_strace
 from yielding import fill
 
 # How long a root rests at least between two walks, in seconds, and how much of a processor rounds may take.
@@ -25,6 +26,12 @@ A_SECOND = 1.0
 # So many clients crawl a large root all the time. A round waits for them for a second and more before it walks a root.
 BUSY = 3
 LATE_BESIDE_CLIENTS = 6.0
+# How many roots are on a slow disk, and for how long a walk of one waits in one call, in seconds. It takes next to no
+# processor time. Beside them a small root is walked once an interval of a second, or once a slow walk if that is longer.
+# If the interval began after the slow walks, or two came one after the other, it would be at least 1.6 times as long.
+SLOW = ((1, 0.9), (2, 1.5))
+LONGER = 1.4
+LISTS = 9
 
 
 def check_a_pace_for_each_root(tally: built.Tally, room: Path) -> None:
@@ -85,6 +92,57 @@ def check_a_pace_beside_clients(tally: built.Tally, room: Path) -> None:
             thread.join()
     lines = [f"{statistics.median(took):.3f} seconds at the median, {max(took):.3f} at most"]
     tally.check("a list of a small root beside clients", statistics.median(took) < LATE_BESIDE_CLIENTS, lines)
+
+
+def check_a_pace_beside_a_slow_disk(tally: built.Tally, room: Path) -> None:
+    """A walk that waits for a disk is long, though it takes little processor time. The interval begins before it, and a
+    small root is walked between two of them."""
+    if not has_strace(tally):
+        return
+    for count, delay in SLOW:
+        name, below = f"{count} on a slow disk", room / str(count)
+        below.mkdir()
+        gap = statistics.median(gaps_beside(below, [below / f"slow{number}" for number in range(count)], delay))
+        walks = (below / "log").read_bytes().count(b"(DELAYED)")
+        tally.check(f"walks of {name} are slow", walks > count, [f"{walks} walks"])
+        is_right = 0.9 * A_SECOND < gap < LONGER * max(A_SECOND, delay)
+        tally.check(f"a small root beside {name}", is_right, [f"{gap:.3f} seconds between two lists at the median"])
+
+
+def gaps_beside(room: Path, slow: List[Path], delay: float) -> List[float]:
+    """The seconds between lists of a small root beside slow ones, while files come into it all the time."""
+    small, ended = room / "small", threading.Event()
+    paths = [word for root in slow for word in ("-P", f"{root}/")]
+    delayed = ["-e", "trace=chdir", "-e", f"inject=chdir:delay_enter={round(delay * 1_000_000)}"]
+    for root in (*slow, small):
+        root.mkdir()
+    through = [*STRACE, "-o", str(room / "log"), *paths, *delayed]
+    with Server(room, interval=round(A_SECOND * 1000), share=PERCENT, through=through) as server:
+        with server.client() as client:
+            for root in (*slow, small):
+                client.ask("watch", str(root))
+            client.ask("subscribe", str(small), "changes", query_of_names())
+            writer = threading.Thread(target=write_until, args=(small, ended))
+            writer.start()
+            try:
+                moments = [moment_of_a_list(client) for _ in range(LISTS)]
+            finally:
+                ended.set()
+                writer.join()
+    return [later - moment for moment, later in zip(moments, moments[1:])]
+
+
+def write_until(root: Path, ended: threading.Event) -> None:
+    """Files come into a root all the time."""
+    number = 0
+    while not ended.wait(0.05):
+        (root / f"written{number}").touch()
+        number += 1
+
+
+def moment_of_a_list(client: Client) -> float:
+    client.reply()
+    return time.monotonic()
 
 
 def crawl_until(server: Server, root: Path, ended: threading.Event) -> None:
