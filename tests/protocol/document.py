@@ -7,15 +7,12 @@ A mark is an HTML comment, which a reader of the page does not see. It stands be
 
 A comment `<!-- script NAME: .. -->` gives a script a name and is not shown. In a cell of a table stand:
 
-    <!-- where: p = JSON -->    in the examples of this cell, p stands for this JSON value
     <!-- run: EXAMPLE -->       this is the example of the cell, and what the cell shows is not run
-    <!-- taken: EXAMPLE -->     this one is no fault
     <!-- not run: REASON -->    the row has no example that can be run
 
 In marks `{{TEXT*N}}` is the text, N times.
 """
 
-import json
 import re
 from typing import Dict, Iterator, List, NamedTuple, Optional
 
@@ -136,36 +133,12 @@ class Cell:
         return [mark[len(word) + 1:].strip() for mark in self.marks if mark.startswith(word + ":")]
 
     def codes(self) -> List[str]:
-        """What stands in code."""
+        """What is in code."""
         return CODE.findall(self.shown)
 
-    def placeholders(self) -> Dict[str, str]:
-        """For each placeholder the JSON value that it stands for."""
-        pairs = (mark.split(" = ", 1) for mark in self.marks_of("where"))
-        return {name: value for name, value in pairs}
-
-    def json_examples(self) -> List[str]:
-        """The examples in JSON, where a placeholder is the value that it stands for."""
-        return self.marks_of("run") or [self.with_values(code) for code in self.shown_examples()]
-
-    def text_examples(self) -> List[str]:
-        """The examples that are texts, where a placeholder is the text that it stands for."""
-        return self.marks_of("run") or [self.with_texts(code) for code in self.shown_examples()]
-
-    def shown_examples(self) -> List[str]:
-        """What stands in code, but for the placeholders alone."""
-        return [code for code in self.codes() if code not in self.placeholders()]
-
-    def with_values(self, code: str) -> str:
-        """In JSON a placeholder is a word that stands outside of texts."""
-        for name, value in self.placeholders().items():
-            code = re.sub(rf'(?<![\w"]){name}(?![\w"])', lambda found: value, code)
-        return code
-
-    def with_texts(self, code: str) -> str:
-        for name, value in self.placeholders().items():
-            code = code.replace(name, json.loads(value))
-        return code
+    def examples(self) -> List[str]:
+        """The examples: those of marks, or else what is in code."""
+        return self.marks_of("run") or self.codes()
 
 
 class Table:

@@ -2,15 +2,12 @@
 
 import json
 import re
-from typing import Any, Callable, Dict, Iterator, List, NamedTuple, Optional, Tuple
+from typing import Any, Callable, Iterator, List, NamedTuple, Optional, Tuple
 
-import built
 from document import Cell, Element, Page, Table
 from notation import file_of
 from sessions import commands_of
-from wqprogram.assembler import assembled
 from wqprogram.instructions import BY_NAME
-from wqprogram.source import TextFault
 
 
 class Example(NamedTuple):
@@ -86,18 +83,6 @@ def output_of(element: Element, page: Page) -> Examples:
     yield writes("the script before it", script_named(element, page)[0], "\n".join(element.lines) + "\n")
 
 
-def refusal_of(element: Element, page: Page) -> Examples:
-    """`refusal of NAME`: what the script writes, which is malformed: the last line is on standard error."""
-    *output, errors = [line + "\n" for line in element.lines]
-    yield writes("the script before it", script_named(element, page)[0], "".join(output))._replace(errors=errors)
-
-
-def output_of_last_line(element: Element, page: Page) -> Examples:
-    """`output of the last line of NAME`: what that line alone writes."""
-    last_line = script_named(element, page)[0].rstrip("\n").rsplit("\n", 1)[1]
-    yield writes(last_line, last_line, "\n".join(element.lines) + "\n")
-
-
 def line_with_answer(element: Element, page: Page) -> Examples:
     """`line`: what a client sends, and is answered."""
     for line in element.lines:
@@ -117,27 +102,15 @@ def malformed_lines(element: Element, page: Page) -> Examples:
             yield writes(line, line, "")._replace(errors="script line 1\n")
 
 
-# Tables of queries and lines.
+# Tables of queries.
 
 def queries_after(element: Element, page: Page) -> Examples:
     """`queries after NAME`: the files of a reply, and whether it is fresh (which it is without a column for it)."""
     script, passes = script_named(element, page)
     for row in Table(element.lines).examples():
         is_fresh = "fresh" not in row or row["fresh"].shown == "yes"
-        for asked in row["query"].json_examples():
+        for asked in row["query"].examples():
             yield writes(asked, script + query(asked), reply(passes, row["files"].codes()[0], is_fresh))
-
-
-def lines_after(element: Element, page: Page) -> Examples:
-    """`lines` or `lines after NAME`: a whole line, and its reply or its error."""
-    script = script_named(element, page)[0] if " after " in element.mark else ""
-    for row in Table(element.lines).examples():
-        line, answer = row.values()
-        said = answer.codes()[0]
-        if not said.startswith("{"):
-            said = error_reply(said)
-        for asked in line.json_examples():
-            yield writes(asked, script + ask(asked), f"1 {said}\n")
 
 
 # Tables of expressions.
@@ -151,7 +124,7 @@ def expressions_after(element: Element, page: Page) -> Examples:
     """`expressions after NAME`: the files that a fresh answer lists."""
     script, passes = script_named(element, page)
     for row in Table(element.lines).examples():
-        for expression in row["expression"].json_examples():
+        for expression in row["expression"].examples():
             yield writes(expression, script + by_expression(expression), reply(passes, names_in(row["matches"]), True))
 
 
@@ -159,7 +132,7 @@ def records_after(element: Element, page: Page) -> Examples:
     """`records after NAME`: the records that match, those of deleted files too, as all changed after tick 0."""
     script, passes = script_named(element, page)
     for row in Table(element.lines).examples():
-        for expression in row["expression"].json_examples():
+        for expression in row["expression"].examples():
             asked = by_expression(expression, since='"since":"c:7:9:1:0",')
             yield writes(expression, script + asked, reply(passes, names_in(row["matches"]), False))
 
@@ -170,7 +143,7 @@ def expressions_on_files(element: Element, page: Page) -> Examples:
     for row in Table(element.lines).examples():
         if row["files that exist"].shown != "the same":
             script = pass_of(row["files that exist"].shown)
-        for expression in row["expression"].json_examples():
+        for expression in row["expression"].examples():
             yield writes(expression, script + by_expression(expression), reply(1, names_in(row["matches"]), True))
 
 
@@ -184,32 +157,6 @@ def pass_of(shown: str) -> str:
 
 def listing(rows) -> str:
     return "pass 1\n" + "".join(f"{letter} 1 {mtime_ms} {name}\n" for letter, mtime_ms, name in rows) + "end\n"
-
-
-# Tables of faults. The column of the words may be the first or the second.
-
-def words_and_examples(row: Dict[str, Cell]) -> Tuple[str, Cell]:
-    words = next(name for name in ("fault", "words", "is refused with") if name in row)
-    examples = next(cell for name, cell in row.items() if name != words)
-    return row[words].codes()[0], examples
-
-
-def faults_of_expressions(element: Element, page: Page) -> Examples:
-    """`faults of expressions`: the expressions that are refused with these words."""
-    for row in Table(element.lines).examples():
-        words, examples = words_and_examples(row)
-        for expression in examples.json_examples():
-            yield is_refused(expression, by_expression(expression), words, page)
-        for expression in examples.marks_of("taken"):
-            yield is_taken(expression, by_expression(expression))
-
-
-def faults_of_queries(element: Element, page: Page) -> Examples:
-    """`faults of queries`: the objects of queries that are refused with these words."""
-    for row in Table(element.lines).examples():
-        words, examples = words_and_examples(row)
-        for asked in examples.json_examples():
-            yield is_refused(asked, query(asked), words, page)
 
 
 # Tables of patterns.
@@ -237,7 +184,7 @@ def patterns_on(element: Element, expression_of: Callable[[str], str]) -> Exampl
             yield writes(pattern, script + by_expression(expression_of(pattern)), reply(1, files, True))
 
 
-# Tables of clock specs, and of what passes saw.
+# Tables of clock specs.
 
 THREE_PASSES = "".join(
     f"pass {number}\n" + "".join(f"f 1 1 {name}\n" for name in "abc"[:number]) + "end\n" for number in (1, 2, 3)
@@ -247,7 +194,7 @@ THREE_PASSES = "".join(
 def clock_specs(element: Element, page: Page) -> Examples:
     """`clock specs`: what a text is in the key and in the term, at passes of which each sees one more of a, b, c."""
     for row in Table(element.lines).examples():
-        for text in row["text"].text_examples():
+        for text in row["text"].examples():
             spec = text_of(text)
             in_key = THREE_PASSES + query(f'{{"since":{spec},"fields":["name"]}}')
             in_term = THREE_PASSES + by_expression(f'["since",{spec}]')
@@ -272,37 +219,6 @@ def clock_spec(text: str, meaning: str, in_key: str, in_term: str, page: Page) -
         yield is_refused(f"{text}, in the term", in_term, "bad clockspec", page)
 
 
-def what_passes_saw(element: Element, page: Page) -> Examples:
-    """`what passes saw`: one file at the seconds 10, 20 and 30, and what its record tells."""
-    for row in Table(element.lines).examples():
-        seen, exists, created, changed = (cell.shown for cell in row.values())
-        (ctick, csec), (otick, osec) = moment(created), moment(changed)
-        script = script_of_sizes(seen)
-        passes = len(seen.split(", then "))
-        tells = text_of([{"cclock": f"c:7:9:1:{ctick}", "exists": exists == "yes", "oclock": f"c:7:9:1:{otick}"}])
-        asked = query('{"since":"c:7:9:1:0","fields":["exists","cclock","oclock"]}')
-        yield writes(seen, script + asked, reply(passes, tells, False))
-        for field, second in (("cclock", csec), ("oclock", osec)):
-            for bound, files in ((second - 1, '["x"]'), (second, "[]")):
-                asked = by_expression(f'["since",{bound},"{field}"]', since='"since":"c:7:9:1:0",')
-                yield writes(f"{seen}: {field} after {bound}", script + asked, reply(passes, files, False))
-
-
-def moment(shown: str) -> Tuple[int, int]:
-    tick, second = re.fullmatch(r"tick ([0-9]+), second ([0-9]+)", shown).groups()
-    return int(tick), int(second)
-
-
-def script_of_sizes(seen: str) -> str:
-    """The passes that see a file so. Where the row says nothing more, a pass sees what the one before it saw."""
-    sights: List[str] = []
-    for step in seen.split(", then "):
-        size = re.search("[0-9]+", step)
-        sights.append(f"f {size.group()} 0 x\n" if size else "")
-    sights += sights[-1:] * (3 - len(sights))
-    return "".join(f"pass {second}\n{sight}end\n" for second, sight in zip((10, 20, 30), sights))
-
-
 # Sessions of a shell, and texts of programs.
 
 def keep_file(element: Element, page: Page) -> Examples:
@@ -317,22 +233,6 @@ def session(element: Element, page: Page) -> Examples:
         yield writes(command.line, "", command.output)._replace(written=page.room.run(command.line))
 
 
-def errors_of_texts(element: Element, page: Page) -> Examples:
-    """`errors of texts`: the texts of programs, with `;` for the end of a line, that have these faults in their order."""
-    for row in Table(element.lines).examples():
-        names, texts = row["fault"].codes(), row["a text with it, `;` for the end of a line"].text_examples()
-        for name, text in zip(names * len(texts) if len(names) == 1 else names, texts):
-            yield writes(text, "", name)._replace(written=fault_of_text(text))
-
-
-def fault_of_text(text: str) -> str:
-    try:
-        assembled("".join(f"{line.strip()}\n" for line in text.split(";")).encode())
-    except TextFault as fault:
-        return fault.name
-    return "none"
-
-
 # Tables of program files.
 
 def says(name: str, file: bytes, line: str) -> Example:
@@ -343,7 +243,7 @@ def checks_of_programs(element: Element, page: Page) -> Examples:
     """`checks of programs`: a program in its notation, its constants, and the line."""
     for row in Table(element.lines).examples():
         tables = dict(code.split(": ", 1) for code in row["constants"].codes())
-        for program in row["program"].text_examples():
+        for program in row["program"].examples():
             for version in (1, 2):
                 yield says(program, file_of(program, **tables, version=version), row["line"].codes()[0])
 
@@ -356,37 +256,24 @@ def parts_of_file(element: Element, page: Page) -> Examples:
     yield says("the file without its last byte", file[:-1], "refused F3")
 
 
-def refused_files(element: Element, page: Page) -> Examples:
-    """`refused files`: files in hexadecimal that have this fault."""
-    for row in Table(element.lines).examples():
-        for digits in [*row["examples"].codes(), *row["examples"].marks_of("run")]:
-            yield says(digits, bytes.fromhex(digits), f"refused {row['fault'].codes()[0]}")
-
-
-def refused_programs(element: Element, page: Page) -> Examples:
-    """`refused programs`: programs in their notation that have this fault at this place."""
-    for row in Table(element.lines).examples():
-        for program in row["examples"].text_examples():
-            line = f"refused {row['fault'].codes()[0]} at {row['place'].shown}"
-            for version in (1, 2):
-                yield says(program or "no instruction", file_of(program, version=version), line)
-
-
 # Instructions that put a cell of a kind on the stack, and that make a flag of one.
 PUTS = {"flag": "exists", "number": "size", "text": "basename"}
+# What an operand names that has to be there.
+NAMED = {"number", "text", "list", "pattern", "set", "place"}
 MAKES_FLAG = {"flag": "not", "number": "size; cmp eq", "text": "basename; eq"}
 
 
 def instructions(element: Element, page: Page) -> Examples:
     """`instructions`: the table of instructions. Each takes its cells and none other, and leaves what it leaves."""
     for row in Table(element.lines).examples():
-        byte, name, takes, leaves = (row[key].shown.strip("`") for key in ("byte", "name", "takes", "leaves"))
+        (byte, name), operands = row["instruction"].codes(), row["operands"].shown.split(", ")
+        takes, leaves = row["takes"].shown, row["leaves"].shown
         assert BY_NAME[name].byte == int(byte, 16), f"another byte: {name}"
         for kinds in ([[kind] for kind in PUTS] if takes == "any" else [takes.split(", ") if takes else []]):
             before = [PUTS[kind] for kind in kinds]
-            operand = len(before) + 1 if row["b"].shown == "place" else 0
+            operand = len(before) + 1 if "place" in operands else 0
             after = MAKES_FLAG[leaves] if leaves else "exists"
-            code = before + [f"{name} {operand}" if row["b"].shown else name]
+            code = before + [f"{name} {operand}" if NAMED.intersection(operands) else name]
             whole = "; ".join(code if name == "ret" else code + [after, "ret"])
             yield Example(whole, "", "ok", lambda written: written.startswith("ok "), file_with_constants(whole))
             if kinds and name != "ret":
@@ -404,30 +291,21 @@ def file_with_constants(code: str) -> bytes:
 
 RULES: List[Tuple[str, Callable[[Element, Page], Examples]]] = [
     ("script ", keep_script),
-    ("output of the last line of ", output_of_last_line),
     ("output of ", output_of),
-    ("refusal of ", refusal_of),
     ("malformed lines", malformed_lines),
     ("reply to ", reply_to_line),
     ("queries after ", queries_after),
-    ("lines", lines_after),
     ("line", line_with_answer),
     ("expressions after ", expressions_after),
     ("expressions on files", expressions_on_files),
     ("records after ", records_after),
-    ("faults of expressions", faults_of_expressions),
-    ("faults of queries", faults_of_queries),
     ("patterns on basenames", patterns_on_basenames),
     ("patterns on whole names", patterns_on_whole_names),
     ("terms on names", terms_on_names),
     ("clock specs", clock_specs),
-    ("what passes saw", what_passes_saw),
     ("file ", keep_file),
     ("session", session),
-    ("errors of texts", errors_of_texts),
     ("checks of programs", checks_of_programs),
     ("parts of a file that says ", parts_of_file),
-    ("refused files", refused_files),
-    ("refused programs", refused_programs),
     ("instructions", instructions),
 ]
