@@ -8,7 +8,7 @@ from typing import Dict, List
 import built
 
 # All tests end within so many seconds.
-ENDS = 300
+ENDS = 600
 
 
 def run(directory: Path) -> None:
