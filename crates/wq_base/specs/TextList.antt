@@ -25,7 +25,8 @@ text_key text = key_from 2166136261 (str_to_ascii_lowercase text)
 
 -- the order of two texts, if A to Z count as a to z, and then that of their bytes as they are
 abbrev pub twofold_order : List ℕ → List ℕ → Ordering
-twofold_order first second = ordering_then (folded_order first second) (slice_cmp nat_cmp first second)
+twofold_order first second = ordering_then (folded_order first second)
+    (slice_cmp nat_cmp first second)
 
 -- the text at a place
 abbrev pub text_at : List (List ℕ) → ℕ → List ℕ
@@ -34,7 +35,8 @@ text_at texts place = slice_index_or texts place []
 -- the order of two places: that of their keys, and then that of their texts
 abbrev pub place_order : List (List ℕ) → Place → Place → Ordering
 place_order texts a b =
-    ordering_then (nat_cmp a.key b.key) (twofold_order (text_at texts a.place) (text_at texts b.place))
+    ordering_then (nat_cmp a.key b.key) (twofold_order (text_at texts a.place)
+    (text_at texts b.place))
 
 -- the places of all texts, each with the key of its text, in their order
 abbrev pub AreInOrder : List (List ℕ) → List Place → Type 0

@@ -167,7 +167,8 @@ pub fn decode(alloc: Global, bytes: &[u8]) -> Result<Raw, FileFault>
     // A raw that is spelled so is read, unless memory runs out.
     ensures only { (raw : Raw) → IsSpelling raw bytes.now → Gives (λ read. read) result (Ok raw) }
     // A file that was one while there was one version holds the same program.
-    ensures stays { (raw : FirstRaw) → first_file_at bytes.now ≡ Ok raw → Gives (λ read. read) result (Ok (migrate raw)) }
+    ensures stays { (raw : FirstRaw) → first_file_at bytes.now ≡ Ok raw
+        → Gives (λ read. read) result (Ok (migrate raw)) }
     // Which fault it is.
     ensures exact { Gives (λ raw. raw) result (file_at bytes.now) }
 {

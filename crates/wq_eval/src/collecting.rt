@@ -20,7 +20,8 @@ pub fn collect<A: Asker>(
 ) -> Result<Vec<u32>, AllocError>
     requires sound { AreSound pieces.now }
     requires right { All (λ list. AreRight pieces.now list.items) lists.items }
-    ensures { IfOk result (λ kept. kept.items ≡ filter (is_kept pieces.now) pieces.now.positions.now) }
+    ensures { IfOk result (λ kept. kept.items
+        ≡ filter (is_kept pieces.now) pieces.now.positions.now) }
 {
     let all = in_order(pieces, joined(alloc, pieces, lists)?);
     let mut kept = Vec::new(alloc);

@@ -75,7 +75,8 @@ fn drawn_by<R: Threads, G: Gate + Sync, A: Asker>(
     { work(alloc, gate, &Stays {}, drawn, pieces) };
     let this = || -> Result<Vec<Vec<Done>>, AllocError>
         requires { IsSync G.row × AreSound pieces.now × 1 ≤ left }
-        ensures { IfOk result (λ lists. All (λ list. AreRight pieces.entry.now list.items) lists.items) }
+        ensures { IfOk result (λ lists.
+            All (λ list. AreRight pieces.entry.now list.items) lists.items) }
     { drawn_by(rt, alloc, gate, asker, drawn, pieces, left) };
     let (others, mine) = join(rt, other, this);
     let mut lists = mine?;

@@ -21,8 +21,8 @@ use wq_view::View;
 /// generator gives, or all records if there is no generator.
 ///
 /// The cost grows with the number of candidates, and with the number of files below the paths. A
-/// bound that is a second looks at each record, and so do patterns, whatever their number. More than
-/// 16 suffixes do so too: the suffix of each record is found among them by a binary search.
+/// bound that is a second looks at each record, and so do patterns, whatever their number. Suffixes
+/// look at one byte for each record: the number of its suffix in its chunk of the view.
 ///
 /// If the asker goes while patterns are tried there are none, as if memory had run out.
 pub fn candidates<A: Asker>(

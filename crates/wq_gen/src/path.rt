@@ -150,7 +150,8 @@ fn pass_over(
     requires fits { end ≤ length counted.old.view.records }
     requires few { end ≤ max_records }
     requires there { passes_at (is_below directory.now) counted.old.view.records at ≡ true }
-    requires deep { (r : RecordData) → is_below directory.now r ≡ true → is_under path.now r ≡ false }
+    requires deep { (r : RecordData) → is_below directory.now r ≡ true
+        → is_under path.now r ≡ false }
     ensures on { IfOk result (λ next. (at < next) × (next ≤ end)) }
     ensures found { IfOk result (λ next. found.new.items ≡ found.old.items
         ++ under_between path.now counted.old.view.records at next) }

@@ -71,7 +71,8 @@ passes_over number events = filter_map (pass_in number) events
 -- event has a number beyond the last one. Each pass over a root saw something else than the one
 -- before
 pub record IsLawfulList (events : List RootEvent) : Type 0 where
-  pub numbers : map (λ root. root.number) (started events) ≡ range_with_len 1 (length (started events))
+  pub numbers : map (λ root. root.number) (started events)
+      ≡ range_with_len 1 (length (started events))
   pub known : All (λ event. number_in event ≤ length (started events)) events
   pub differ : (number : ℕ) → Differ (passes_over number events)
 

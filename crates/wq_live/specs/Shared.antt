@@ -12,7 +12,8 @@ Knows (Some seen) log = BeginsLog seen log
 
 -- each seat knows a beginning of the list that is shown
 abbrev pub AllBegin : LogData → List (Option LogData) → Type 0
-AllBegin log views = (seat : ℕ) (known : Option LogData) → get_elem? views seat ≡ some known → Knows known log
+AllBegin log views = (seat : ℕ) (known : Option LogData) → get_elem? views seat ≡ some known
+    → Knows known log
 
 -- the list that was known begins the list that is known afterwards, which is the one that is shown
 abbrev pub Sees : Option LogData → LogData → Option LogData → Type 0

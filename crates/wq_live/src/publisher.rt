@@ -190,7 +190,8 @@ impl<N: Named, R: Wait + Drop> Publisher<N, R> {
     pub fn end(&mut self, number: u64) -> Result<Told<N>, AllocError>
         ensures told { IfOk result (λ told. told ≡ self.new) }
         ensures published { N.published N.book self.new }
-        ensures added { IfOk result (λ _. ((is_shown self.old number ≡ false) × (self.new ≡ self.old))
+        ensures added { IfOk result (λ _. ((is_shown self.old number ≡ false)
+            × (self.new ≡ self.old))
             ⊎ ((is_shown self.old number ≡ true) × (self.new ≡ self.old ++ Ended number ∷ []))) }
         ensures err { IfErr result (λ _. self.new ≡ self.old) }
     {

@@ -259,7 +259,8 @@ impl RootTable {
             (λ table. IsNews events number pass.now
             × IsTableOf (events ++ Passed number pass.now ∷ []) table)) }
         ensures room { (events : List RootEvent) → IsTableOf events self.now
-            → IfOk result (λ next. IfSome next (λ _. length (passes_over number events) < max_tick)) }
+            → IfOk result (λ next.
+            IfSome next (λ _. length (passes_over number events) < max_tick)) }
         ensures spent { (events : List RootEvent) → IsTableOf events self.now
             → ((result ≡ Err ViewFault.TicksSpent) ↔ WantsForTicks events number pass.now) }
     {
@@ -296,7 +297,8 @@ impl RootTable {
         ensures { (events : List RootEvent) → IsTableOf events self.now
             → IfOk result (λ next. MatchOption next
             (is_shown events number ≡ false)
-            (λ table. (is_shown events number ≡ true) × IsTableOf (events ++ Ended number ∷ []) table)) }
+            (λ table. (is_shown events number ≡ true)
+            × IsTableOf (events ++ Ended number ∷ []) table)) }
     {
         if self.root_of_number(number).is_none() {
             return Ok(None);

@@ -105,8 +105,10 @@ impl<V: Drop> ByName<V> {
 
     /// The place of a name.
     fn place_of(&self, name: &str) -> Option<usize>
-        ensures place { IfSome result (λ k. (v : V) → put_at k v self.now ≡ put name.now v self.now) }
-        ensures value { IfSome result (λ k. slice_get (values self.now) k ≡ under name.now self.now) }
+        ensures place { IfSome result (λ k. (v : V) → put_at k v self.now
+            ≡ put name.now v self.now) }
+        ensures value { IfSome result (λ k. slice_get (values self.now) k
+            ≡ under name.now self.now) }
         ensures none { IfNone result (under name.now self.now ≡ None) }
     {
         self.entries.get_index_of(name)

@@ -28,3 +28,4 @@ mod AmongSuffixes
 mod PositionRuns
 mod SeenAgain
 mod Unmoved
+mod KeptRuns

@@ -47,7 +47,8 @@ NewestIsSorted = (t : ℕ) (ticks : List ℕ) → AllByRecursion (λ n. n ≤ t)
 -- the positions of the next ticks after one, as many as these; the latest tick comes first
 abbrev pub newer : ℕ → ℕ → List ℕ → List ℕ
 newer zero since ticks = []
-newer (suc more) since ticks = positions (λ n. n == suc (more + since)) ticks ++ newer more since ticks
+newer (suc more) since ticks =
+    positions (λ n. n == suc (more + since)) ticks ++ newer more since ticks
 
 -- the positions of what changed after a tick come first, and then those of the rest
 abbrev pub NewestIsSplit : Type 0
@@ -82,9 +83,11 @@ pub record OrderParts : Type 0 where
 -- the parts of an order as pairs
 abbrev pub order_code : Coded OrderParts
 order_code =
-    code_by (List ℕ × (List ℕ × ℕ)) (coded× (coded_list coded_ℕ) (coded× (coded_list coded_ℕ) coded_ℕ))
+    code_by (List ℕ × (List ℕ × ℕ))
+    (coded× (coded_list coded_ℕ) (coded× (coded_list coded_ℕ) coded_ℕ))
     (λ order. (order.later, (order.rising, order.count)))
-    (λ (later, (rising, count)). record { later = later; rising = rising; count = count }) (λ _. refl)
+    (λ (later, (rising, count)). record { later = later; rising = rising; count = count })
+    (λ _. refl)
 
 -- the positions of an order: those of the list, and then the others
 abbrev pub positions_in : OrderParts → List ℕ

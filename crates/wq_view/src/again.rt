@@ -1,6 +1,7 @@
 //! The first files of a piece of a view, as long as a listing finds them as their records say. For these files no rows
 //! are made. The crate of walks lists files.
-ghost use Rattle.std.specs.Prelude.{◌≡◌, ◌≤◌, ◌++◌, ◌∷◌, [], false, drop, length, take, IfNone, IfOk, IfSome, IsTrue};
+ghost use Rattle.std.specs.Prelude.{◌≡◌, ◌≤◌, ◌-◌, ◌++◌, ◌∷◌, [], false, drop, length, take, IfNone, IfOk, IfSome, IsTrue};
+ghost use Rattle.std.specs.List.{list_all};
 ghost use Rattle.wq_view.specs.Again.{rows_again, seen_row, seen_rows};
 ghost use Rattle.wq_view.specs.Records.{records_left};
 ghost use Rattle.wq_view.specs.Seen.{is_lawful_row};
@@ -48,7 +49,8 @@ impl<'a> Model for Again<'a> {
 impl<'a> Again<'a> {
     /// The piece of the first `count` of these records, before any file was found.
     pub fn of(records: Records<'a>, count: usize) -> Again<'a>
-        ensures { result ≡ record { records = take count (records_left records.entry); passed = 0 } }
+        ensures { result
+            ≡ record { records = take count (records_left records.entry); passed = 0 } }
     {
         Again {
             all: records,
@@ -95,6 +97,32 @@ impl<'a> Again<'a> {
         Some((record, after))
     }
 
+    /// The piece after the records from one place up to another were kept: their files count as found, and no disk was
+    /// asked. There is none if a file that exists is left before them.
+    pub fn kept(&self, start: usize, end: usize) -> Option<Again<'a>>
+        ensures records { IfSome result (λ after. after.records ≡ self.now.records) }
+        ensures rows { IfSome result (λ after. rows_again after
+            ≡ rows_again self.now ++ seen_rows (take (end - start) (drop start self.now.records))) }
+        ensures lawful { IfSome result (λ _. IsTrue (list_all is_lawful_row
+            (seen_rows (take (end - start) (drop start self.now.records))))) }
+    {
+        if start < self.passed || end < start || self.count < end {
+            return None;
+        }
+        let (gone, records) = existing_among(self.left, start - self.passed);
+        if gone > 0 {
+            return None;
+        }
+        let (kept, left) = existing_among(records, end - start);
+        Some(Again {
+            all: self.all,
+            count: self.count,
+            left,
+            passed: end,
+            len: self.len + kept,
+        })
+    }
+
     /// Whether no file of the piece is left.
     pub fn is_whole(&self) -> bool
         ensures { IsTrue result → rows_again self.now ≡ seen_rows self.now.records }
@@ -127,7 +155,8 @@ fn first_existing(records: Records<'_>, most: usize) -> Option<(&Record, usize, 
     ensures none { IfNone result (seen_rows (take most (records_left records.entry)) ≡ []) }
     ensures some { IfSome result (λ it. seen_rows (take it.1 (records_left records.entry))
         ≡ seen_row it.0.now ∷ []) }
-    ensures left { IfSome result (λ it. records_left it.2 ≡ drop it.1 (records_left records.entry)) }
+    ensures left { IfSome result (λ it.
+        records_left it.2 ≡ drop it.1 (records_left records.entry)) }
     ensures from { IfSome result (λ it. 1 ≤ it.1) }
     ensures to { IfSome result (λ it. it.1 ≤ most) }
 {
@@ -143,6 +172,46 @@ fn first_existing(records: Records<'_>, most: usize) -> Option<(&Record, usize, 
     None
 }
 
+/// The number of files that exist among the first `most` of these records, and the records after those.
+fn existing_among(records: Records<'_>, most: usize) -> (usize, Records<'_>)
+    ensures count { result.0 ≡ length (seen_rows (take most (records_left records.entry))) }
+    ensures left { records_left result.1 ≡ drop most (records_left records.entry) }
+    ensures lawful { IsTrue (list_all is_lawful_row
+        (seen_rows (take most (records_left records.entry)))) }
+{
+    let mut left = records;
+    let mut count = 0usize;
+    for _ in 0..most {
+        let Some(record) = left.next() else {
+            break;
+        };
+        if is_there(record) {
+            count += 1;
+        }
+    }
+    (count, left)
+}
+
+/// Whether a record's file exists.
+fn is_there(known: &Record) -> bool
+    ensures exists { result ≡ known.now.exists }
+    ensures lawful { IsTrue (is_lawful_row (seen_row known.now)) }
+{
+    known.exists
+}
+
+impl Records<'_> {
+    /// The rows of the files that exist among the first `count` records. They share the names of the records.
+    pub fn rows(self, alloc: Global, count: usize) -> Result<Vec<Seen>, AllocError>
+        ensures rows { IfOk result (λ rows.
+            rows.items ≡ seen_rows (take count (records_left self.entry))) }
+        ensures lawful { IfOk result (λ rows. IsTrue (list_all is_lawful_row rows.items)) }
+    {
+        let (room, _) = existing_among(self, count);
+        rows_of(alloc, self, count, room)
+    }
+}
+
 /// The rows of the files that exist among the first `passed` of these records, with room for so many rows.
 fn rows_of(
     alloc: Global,
@@ -150,7 +219,8 @@ fn rows_of(
     passed: usize,
     room: usize,
 ) -> Result<Vec<Seen>, AllocError>
-    ensures { IfOk result (λ rows. rows.items ≡ seen_rows (take passed (records_left records.entry))) }
+    ensures { IfOk result (λ rows. rows.items
+        ≡ seen_rows (take passed (records_left records.entry))) }
 {
     let mut rows = Vec::with_capacity(alloc, room)?;
     let mut left = records;

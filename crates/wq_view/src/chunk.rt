@@ -31,7 +31,9 @@ impl Model for Chunk {
 
     ghost view = { λ c. c.records.items };
 
-    ghost invariant = { λ c. (1 ≤ vec_len c.records) × (vec_len c.records ≤ max_chunk) × IsNumbered (folded_suffixes c.records.items) (first_places c.suffixes.firsts.items) c.suffixes.numbers.items };
+    ghost invariant = { λ c. (1 ≤ vec_len c.records) × (vec_len c.records ≤ max_chunk)
+        × IsNumbered (folded_suffixes c.records.items) (first_places c.suffixes.firsts.items)
+        c.suffixes.numbers.items };
 }
 
 impl Chunk {

@@ -38,7 +38,8 @@ impl Model for Chunks {
 
     ghost view = { λ c. records_in c.slots.items };
 
-    ghost invariant = { λ c. AreChunks 0 c.slots.items × (length (records_in c.slots.items) ≤ max_records) };
+    ghost invariant = { λ c. AreChunks 0 c.slots.items
+        × (length (records_in c.slots.items) ≤ max_records) };
 }
 
 impl Chunks {
@@ -111,7 +112,8 @@ impl Chunks {
 
     /// Takes the last chunk off if it has fewer records than so many.
     pub(crate) fn pop_below(&mut self, count: usize) -> Option<Arc<Chunk>>
-        ensures { MatchOption result (self.new ≡ self.old) (λ chunk. self.old ≡ self.new ++ arc_value chunk) }
+        ensures { MatchOption result (self.new ≡ self.old)
+            (λ chunk. self.old ≡ self.new ++ arc_value chunk) }
     {
         let last = self.slots.last()?;
         if last.chunk.records().len() >= count {
@@ -160,7 +162,8 @@ impl Chunks {
         alloc: Global,
         sought: &Suffixes<'_>,
     ) -> Result<Vec<u32>, AllocError>
-        ensures { IfOk result (λ found. found.items ≡ positions_of (has_suffix_of sought.now) self.now) }
+        ensures { IfOk result (λ found. found.items
+            ≡ positions_of (has_suffix_of sought.now) self.now) }
     {
         let mut found = Vec::new(alloc);
         let mut flags = Vec::new(alloc);

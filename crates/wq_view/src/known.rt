@@ -50,7 +50,8 @@ impl<'a> Known<'a> {
     /// The name with these bytes, as its record has it, if the record is not passed. The call passes the records below it.
     #[tactic(auto, using(crate::proofs::NameOrder::same_bytes, crate::proofs::NameOrder::same_valid))]
     fn find(&mut self, name: &[u8]) -> Option<&'a Name>
-        ensures { IfSome result (λ known. (known.now ≡ name.now) × IsTrue (is_valid_name name.now)) }
+        ensures { IfSome result (λ known. (known.now ≡ name.now)
+            × IsTrue (is_valid_name name.now)) }
     {
         while let Some(record) = self.next {
             let known = record.name.as_bytes();

@@ -35,7 +35,8 @@ impl Model for Seen {
 
     ghost Value = { SeenData };
 
-    ghost view = { λ s. record { name = s.name; kind = s.kind; size = s.size; mtime_ms = s.mtime_ms } };
+    ghost view = { λ s.
+        record { name = s.name; kind = s.kind; size = s.size; mtime_ms = s.mtime_ms } };
 }
 
 /// The reason for which rows make no pass.
@@ -75,7 +76,8 @@ impl Model for Pass {
 
     ghost coded = { pass_code };
 
-    ghost view = { λ p. record { stats = from_sorted (map entry_of p.rows.items); second = p.second } };
+    ghost view = { λ p.
+        record { stats = from_sorted (map entry_of p.rows.items); second = p.second } };
 
     ghost invariant = { λ p. IsPass p.rows.items p.second };
 }

@@ -123,7 +123,8 @@ pub(crate) fn chunks_after(
 
 /// Adds chunks as they are.
 fn share_all(filling: &mut Filling, moves: &mut Moves, slots: &[Slot]) -> Result<(), AllocError>
-    ensures records { OnOk result (filled filling.new ≡ filled filling.old ++ records_in slots.now) }
+    ensures records { OnOk result (filled filling.new
+        ≡ filled filling.old ++ records_in slots.now) }
     ensures moves { OnOk result (moves_data moves.new
         ≡ with_same (length (records_in slots.now)) (moves_data moves.old)) }
 {
@@ -146,7 +147,8 @@ fn push_all_after<'a>(
     requires tick { at.now.tick ≤ MAX_TICK }
     requires second { IsTrue (is_count at.now.second) }
     ensures records { IfOk result (λ left. filled filling.new
-        ≡ filled filling.old ++ run_after at.now.tick at.now.second (records_in slots.now) rows.now) }
+        ≡ filled filling.old ++ run_after at.now.tick at.now.second (records_in slots.now)
+        rows.now) }
     ensures left { IfOk result (λ left. left.now ≡ rows_behind (records_in slots.now) rows.now) }
     ensures moves { IfOk result (λ _. moves_data moves.new
         ≡ with_pairs (run_pairs (records_in slots.now) rows.now) (moves_data moves.old)) }
@@ -171,7 +173,8 @@ fn push_after<'a>(
     requires tick { at.now.tick ≤ MAX_TICK }
     requires second { IsTrue (is_count at.now.second) }
     ensures records { IfOk result (λ left. filled filling.new
-        ≡ filled filling.old ++ run_after at.now.tick at.now.second (slot_records slot.now) rows.now) }
+        ≡ filled filling.old ++ run_after at.now.tick at.now.second (slot_records slot.now)
+        rows.now) }
     ensures left { IfOk result (λ left. left.now ≡ rows_behind (slot_records slot.now) rows.now) }
     ensures moves { IfOk result (λ _. moves_data moves.new
         ≡ with_pairs (run_pairs (slot_records slot.now) rows.now) (moves_data moves.old)) }
@@ -205,7 +208,8 @@ fn chunk_after(
     requires tick { at.now.tick ≤ MAX_TICK }
     requires second { IsTrue (is_count at.now.second) }
     requires names { IsTrue (keeps_names chunk.now rows.now) }
-    ensures records { IfOk result (λ after. after ≡ run_after at.now.tick at.now.second chunk.now rows.now) }
+    ensures records { IfOk result (λ after.
+        after ≡ run_after at.now.tick at.now.second chunk.now rows.now) }
     ensures moves { IfOk result (λ _. moves_data moves.new
         ≡ with_pairs (run_pairs chunk.now rows.now) (moves_data moves.old)) }
 {
@@ -246,8 +250,10 @@ fn note_after(moves: &mut Moves, pair: Pair<'_>, at: &Moment) -> Result<Record, 
     requires lawful { IsTrue (has_lawful_row (pair_data pair)) }
     requires tick { at.now.tick ≤ MAX_TICK }
     requires second { IsTrue (is_count at.now.second) }
-    ensures made { IfOk result (λ r. r ≡ pair_after at.now.tick at.now.second (pair_data pair.entry)) }
-    ensures moves { IfOk result (λ _. moves_data moves.new ≡ with_pair (pair_data pair.entry) (moves_data moves.old)) }
+    ensures made { IfOk result (λ r.
+        r ≡ pair_after at.now.tick at.now.second (pair_data pair.entry)) }
+    ensures moves { IfOk result (λ _. moves_data moves.new
+        ≡ with_pair (pair_data pair.entry) (moves_data moves.old)) }
 {
     let stays = pair.is_unchanged();
     moves.note(pair, stays)?;

@@ -48,7 +48,8 @@ impl Moves {
     /// Notes the record of a pair, if it is known whether the pass leaves it as it is.
     pub(crate) fn note(&mut self, pair: Pair<'_>, stays: bool) -> Result<(), AllocError>
         requires stays { stays ≡ is_unchanged (pair_data pair) }
-        ensures { OnOk result (moves_data self.new ≡ with_pair (pair_data pair.entry) (moves_data self.old)) }
+        ensures { OnOk result (moves_data self.new
+            ≡ with_pair (pair_data pair.entry) (moves_data self.old)) }
     {
         match pair {
             Pair::New(_) => self.come(),

@@ -126,7 +126,8 @@ fn items(list: &Option<ArcSlice<u32>>) -> &[u32]
 
 /// The same list.
 fn shared(list: &Option<ArcSlice<u32>>) -> Result<Option<ArcSlice<u32>>, AllocError>
-    ensures { IfOk result (λ copy. option_map_or arc_slice_items copy [] ≡ option_map_or arc_slice_items list.now []) }
+    ensures { IfOk result (λ copy. option_map_or arc_slice_items copy []
+        ≡ option_map_or arc_slice_items list.now []) }
 {
     match list {
         Some(list) => Ok(Some(list.clone()?)),
@@ -139,7 +140,8 @@ fn push_moved(later: &mut Vec<u32>, moves: &Moves, old: &[u32]) -> Result<(), Al
     requires came { Rises (moves_data moves.now).came }
     requires changed { Rises (moves_data moves.now).changed }
     requires within { All (λ p. nth_outside (moves_data moves.now).came p < max_records) old.now }
-    ensures { OnOk result (later.new.items ≡ later.old.items ++ moved_of (moves_data moves.now) old.now) }
+    ensures { OnOk result (later.new.items
+        ≡ later.old.items ++ moved_of (moves_data moves.now) old.now) }
 {
     for position in old {
         let place = nth_outside(&moves.came, *position as usize) as u32;

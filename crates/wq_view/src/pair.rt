@@ -55,7 +55,8 @@ impl Pair<'_> {
         requires tick { at.now.tick ≤ MAX_TICK }
         requires second { IsTrue (is_count at.now.second) }
         requires stays { stays ≡ is_unchanged (pair_data self) }
-        ensures { IfOk result (λ r. r ≡ pair_after at.now.tick at.now.second (pair_data self.entry)) }
+        ensures { IfOk result (λ r.
+            r ≡ pair_after at.now.tick at.now.second (pair_data self.entry)) }
     {
         match self {
             Pair::Old(record) if stays => record.copy(),
@@ -69,7 +70,8 @@ impl Pair<'_> {
         requires lawful { IsTrue (has_lawful_row (pair_data self)) }
         requires tick { at.now.tick ≤ MAX_TICK }
         requires second { IsTrue (is_count at.now.second) }
-        ensures { IfOk result (λ r. r ≡ pair_after at.now.tick at.now.second (pair_data self.entry)) }
+        ensures { IfOk result (λ r.
+            r ≡ pair_after at.now.tick at.now.second (pair_data self.entry)) }
     {
         match self {
             Pair::Old(record) => {

@@ -68,7 +68,8 @@ impl SuffixTable {
         flags: &mut Vec<bool>,
         found: &mut Vec<u32>,
     ) -> Result<(), AllocError>
-        requires table { IsNumbered (folded_suffixes records.now) (first_places self.now.firsts.items)
+        requires table { IsNumbered (folded_suffixes records.now)
+            (first_places self.now.firsts.items)
             self.now.numbers.items }
         requires few { start + length records.now ≤ max_records }
         ensures { OnOk result (found.new.items ≡ found.old.items

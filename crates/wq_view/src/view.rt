@@ -71,7 +71,8 @@ impl Model for View {
 
     ghost view = { λ v. record { tick = v.tick; records = v.chunks } };
 
-    ghost invariant = { λ v. (v.tick ≤ max_tick) × NamesRise v.chunks × IsOrderOf v.tick v.chunks v.order };
+    ghost invariant = { λ v. (v.tick ≤ max_tick) × NamesRise v.chunks
+        × IsOrderOf v.tick v.chunks v.order };
 }
 
 impl View {
@@ -177,6 +178,11 @@ impl View {
             chunks,
             order,
         })
+    }
+
+    /// The allocator of the view's records.
+    pub(crate) fn allocator(&self) -> Global {
+        self.chunks.allocator()
     }
 
     /// The number of the last pass that moved the view, at most 2^62. It is 0 before any such pass.
