@@ -2,6 +2,7 @@
 -- for a refusal. No public document defines it.
 use Rattle.std.specs.Prelude.{◌≡◌, ◌≤◌, ◌⊎◌, ℕ, ℤ, length, refl, List}
 use Rattle.std.specs.Prelude.{Option, Some, None, IsSome, IsTrue, Result, Ok, Err}
+use Rattle.std.specs.Prelude.{Bool, true, false}
 use Rattle.std.specs.List.{list_all}
 use Rattle.std.specs.Coded.{Coded, code_by, coded×, coded_ℕ, coded_ℤ, coded_option}
 use Rattle.wq_view.specs.Again.{seen_rows}
@@ -139,6 +140,20 @@ Crawled text before result after =
     ((number_of text before.events ≡ None) × (result ≡ Ok None) × (after ≡ before))
     ⊎ ((number : ℕ) × (answer : Result (List RootEvent) CrawlFault)
     × (number_of text before.events ≡ Some number) × (result ≡ tells answer)
+    × CrawledAt number text before answer after)
+
+-- whether a glance was made that was not refused
+abbrev pub makes : Result (List RootEvent) CrawlFault → Result Bool CrawlFault
+makes (Ok told) = Ok true
+makes (Err fault) = Err fault
+
+-- a glance was made at a root: it was crawled, and of that list nothing is returned. Or there was
+-- no glance, and nothing changed
+abbrev pub Glanced : List ℕ → CrawlerData → Result Bool CrawlFault → CrawlerData → Type 0
+Glanced text before result after =
+    ((result ≡ Ok false) × (after ≡ before))
+    ⊎ ((number : ℕ) × (answer : Result (List RootEvent) CrawlFault)
+    × (number_of text before.events ≡ Some number) × (result ≡ makes answer)
     × CrawledAt number text before answer after)
 
 -- the present list is returned, unless memory ran out for that

@@ -1,10 +1,12 @@
 //! The crawler, which lists roots and publishes their passes. It has a tree, a clock and a publisher. Crawls use them
 //! one after the other.
-ghost use Rattle.std.specs.Prelude.{◌≡◌, ◌≢◌, ◌⊎◌, ◌↔◌, Err, IfErr, IfOk, MatchOption, MatchResult, None};
+ghost use Rattle.std.specs.Prelude.{◌≡◌, ◌≢◌, ◌⊎◌, ◌↔◌, Err, IfErr, IfOk, IsTrue, MatchOption, MatchResult, None};
+ghost use Rattle.std.specs.List.{list_all};
+ghost use Rattle.wq_view.specs.Seen.{is_lawful_row};
 ghost use Rattle.wq_live.specs.Event.{IsFull, number_of};
-ghost use Rattle.wq_crawl.specs.Tree.{IsCounted, Lists};
+ghost use Rattle.wq_crawl.specs.Tree.{IsCounted, IsFew, Lists, rows_given_again, rows_listed};
 ghost use Rattle.wq_crawl.specs.Crawl.{Began, Crawled, CrawledAt, IsNoPassOver, IsPassOver};
-ghost use Rattle.wq_crawl.specs.Crawl.{IsStillOver, ListsAgain};
+ghost use Rattle.wq_crawl.specs.Crawl.{Glanced, IsStillOver, ListsAgain};
 ghost use Rattle.wq_crawl.specs.Crawl.{Shared, Unwatched, Watched};
 ghost use Rattle.wq_crawl.specs.Publish.{IsNotTakenIn, Passes, with_start};
 
@@ -16,7 +18,7 @@ use std::alloc::AllocError;
 use std::marker::Model;
 use std::sync::Wait;
 use wq_live::{Named, Publisher, Seat, StartFault, Told};
-use wq_view::{Pass, ViewFault};
+use wq_view::{Pass, Recent, View, ViewFault};
 
 /// Lists roots, and publishes their passes. Contracts see the list of events that is published, and the state that the
 /// tree and the clock show.
@@ -85,8 +87,31 @@ impl<N: Named, R: Wait + Drop, T: Tree + Drop, S: Seconds + Drop> Crawler<N, R, 
         let Some(number) = self.publisher.find(root) else {
             return Ok(None);
         };
-        match self.crawl_at(number, root) {
+        match self.crawl_at(number, root, None) {
             Ok(told) => Ok(Some(told)),
+            Err(fault) => Err(fault),
+        }
+    }
+
+    /// Crawls the root of this text by a glance at it, publishes the pass, and returns whether it did. It does nothing if
+    /// the root is not shown, if nothing below it changed at this second of the Unix epoch or later, or if memory runs
+    /// out for finding that out.
+    ///
+    /// A refused crawl leaves the list as it is. The call waits as [`Crawler::crawl`] does.
+    pub fn glance(&mut self, root: &str, since: i64) -> Result<bool, CrawlFault>
+        ensures { Glanced root.now self.old result self.new }
+    {
+        let Some(number) = self.publisher.find(root) else {
+            return Ok(false);
+        };
+        let Ok(Some(view)) = self.publisher.table().share_of(number) else {
+            return Ok(false);
+        };
+        let Ok(Some(recent)) = Recent::of(&view, since) else {
+            return Ok(false);
+        };
+        match self.crawl_at(number, root, Some(&recent)) {
+            Ok(_) => Ok(true),
             Err(fault) => Err(fault),
         }
     }
@@ -135,11 +160,16 @@ impl<N: Named, R: Wait + Drop, T: Tree + Drop, S: Seconds + Drop> Crawler<N, R, 
         }
     }
 
-    /// Crawls the root of this number and text, which is shown.
-    pub(crate) fn crawl_at(&mut self, number: u64, root: &str) -> Result<Told<N>, CrawlFault>
+    /// Crawls the root of this number and text, which is shown. If there are recent directories, it crawls by a glance.
+    pub(crate) fn crawl_at(
+        &mut self,
+        number: u64,
+        root: &str,
+        recent: Option<&Recent<'_>>,
+    ) -> Result<Told<N>, CrawlFault>
         ensures { CrawledAt number root.now self.old result self.new }
     {
-        match self.list_again(number, root)? {
+        match self.list_again(number, root, recent)? {
             Some(pass) => self.publish(number, pass),
             None => self.told(),
         }
@@ -213,7 +243,12 @@ impl<N: Named, R: Wait + Drop, T: Tree + Drop, S: Seconds + Drop> Crawler<N, R, 
     }
 
     /// The pass of the root of this number and text, as the tree shows it now. There is none if it would add nothing.
-    fn list_again(&mut self, number: u64, root: &str) -> Result<Option<Pass>, CrawlFault>
+    fn list_again(
+        &mut self,
+        number: u64,
+        root: &str,
+        recent: Option<&Recent<'_>>,
+    ) -> Result<Option<Pass>, CrawlFault>
         ensures kept { (self.new).events ≡ (self.old).events }
         ensures listed { MatchResult result
             (λ pass. MatchOption pass
@@ -223,7 +258,7 @@ impl<N: Named, R: Wait + Drop, T: Tree + Drop, S: Seconds + Drop> Crawler<N, R, 
     {
         // As for a root that is listed for the first time.
         self.let_go();
-        let listing = match self.listing(number, root) {
+        let listing = match self.listing(number, root, recent) {
             Ok(listing) => listing,
             Err(fault) => return Err(not_listed(fault)),
         };
@@ -241,7 +276,12 @@ impl<N: Named, R: Wait + Drop, T: Tree + Drop, S: Seconds + Drop> Crawler<N, R, 
     }
 
     /// The listing of the root of this number and text, as the tree shows it now.
-    fn listing(&mut self, number: u64, root: &str) -> Result<Listing, TreeFault>
+    fn listing(
+        &mut self,
+        number: u64,
+        root: &str,
+        recent: Option<&Recent<'_>>,
+    ) -> Result<Listing, TreeFault>
         ensures events { (self.new).events ≡ (self.old).events }
         ensures clock { (self.new).clock ≡ (self.old).clock }
         ensures counted { IfErr result (IsCounted (self.old).failed (self.new).failed) }
@@ -250,11 +290,33 @@ impl<N: Named, R: Wait + Drop, T: Tree + Drop, S: Seconds + Drop> Crawler<N, R, 
             (λ fault. Lists (self.old).listed root.now (Err fault) (self.new).listed) }
     {
         match self.publisher.table().root(root) {
-            Some((shown, last)) if shown == number => self.tree.list_again(root, last),
+            Some((shown, last)) if shown == number => {
+                listed_again(&mut self.tree, root, last, recent)
+            }
             _ => match self.tree.list(root) {
                 Ok(rows) => Ok(Listing::Rows(rows)),
                 Err(fault) => Err(fault),
             },
         }
+    }
+}
+
+/// The listing of a root with this last view, or the one of a glance if there are recent directories.
+fn listed_again<T: Tree>(
+    tree: &mut T,
+    root: &str,
+    last: &View,
+    recent: Option<&Recent<'_>>,
+) -> Result<Listing, TreeFault>
+    ensures counted { IfErr result (IsCounted (T.failed tree.old) (T.failed tree.new)) }
+    ensures lawful { IfOk result (λ listing.
+        IsTrue (list_all is_lawful_row (rows_listed last.now.records listing))) }
+    ensures few { IfOk result (IsFew last.now.records) }
+    ensures listed { Lists (T.listed tree.old) root.now
+        (rows_given_again last.now.records result) (T.listed tree.new) }
+{
+    match recent {
+        Some(recent) => tree.glance(root, last, recent),
+        None => tree.list_again(root, last),
     }
 }

@@ -4,7 +4,7 @@ ghost use Rattle.std.specs.Prelude.{◌≡◌, None, nat_eq, nat_le, false};
 ghost use Rattle.std.specs.Option.{option_map_or};
 ghost use Rattle.std.specs.Map.{lookup};
 ghost use Rattle.wq_crawl.specs.Count.{Keeps, KeepsOf, KeepsRaised};
-ghost use Rattle.wq_crawl.specs.Crawl.{CrawledAt, CrawledOnce, Unwatched, Watched, tells};
+ghost use Rattle.wq_crawl.specs.Crawl.{CrawledAt, CrawledOnce, Glanced, Unwatched, Watched, tells};
 ghost use Rattle.wq_crawl.specs.Roots.{RootsGive, ending, passing, showing};
 
 use crate::begun::{Begun, Counts};
@@ -84,6 +84,12 @@ impl<N: Named, R: Wait + Drop, T: Tree + Drop, S: Seconds + Drop> SharedCrawler<
         crawl_since(&self.begun, &self.crawls, rt, asked.begun, root)
     }
 
+    /// Crawls the root of this text by a glance, and returns whether it did ([`Crawler::glance`]). No crawl for a client is
+    /// left out for it.
+    pub fn glance(&self, rt: &R, root: &str, since: i64) -> Result<bool, CrawlFault> {
+        self.crawls.lock(rt).glance(root, since)
+    }
+
     /// Finds the root of this text, or lists it and starts it, and returns the list of events.
     pub fn watch(&self, rt: &R, root: &str) -> Result<Told<N>, CrawlFault>
         ensures { RootsGive None (showing root.now) (tells result) None }
@@ -134,9 +140,17 @@ impl<N: Named, R: Wait + Drop, T: Tree + Drop, S: Seconds + Drop> LastCrawls<N, 
         ensures crawled { CrawledAt number root.now self.old.crawler result self.new.crawler }
         ensures kept { KeepsOf self.old.last number raised result self.new.last }
     {
-        let told = self.crawler.crawl_at(number, root)?;
+        let told = self.crawler.crawl_at(number, root, None)?;
         self.keep(number, raised);
         Ok(told)
+    }
+
+    /// Crawls the root of this text by a glance ([`Crawler::glance`]). The last crawls stay those that serve clients.
+    fn glance(&mut self, root: &str, since: i64) -> Result<bool, CrawlFault>
+        ensures glanced { Glanced root.now self.old.crawler result self.new.crawler }
+        ensures kept { self.new.last ≡ self.old.last }
+    {
+        self.crawler.glance(root, since)
     }
 
     /// Finds the root of this text, or lists it and starts it ([`Crawler::watch`]).

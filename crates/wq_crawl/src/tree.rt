@@ -6,7 +6,7 @@ ghost use Rattle.wq_crawl.specs.Tree.{IsCounted, IsFew, Lists, rows_given, rows_
 
 use std::alloc::AllocError;
 use thiserror::Error;
-use wq_view::{Seen, View};
+use wq_view::{Recent, Seen, View};
 
 /// The reason for which a tree gives no listing.
 #[derive(Clone, Copy, Debug, PartialEq, Eq, Drop, Error)]
@@ -103,6 +103,21 @@ pub trait Tree {
     {
         let _ = last;
         Ok(Listing::Rows(self.list(root)?))
+    }
+
+    /// A glance at the files below a root with this last view: a listing that may keep what the view has below
+    /// directories which are not recent. Its rows are as [`Tree::list`] gives them. A source that knows no glances lists
+    /// the whole root.
+    fn glance(&mut self, root: &str, last: &View, recent: &Recent<'_>) -> Result<Listing, TreeFault>
+        ensures counted { IfErr result (IsCounted (failed self.old) (failed self.new)) }
+        ensures lawful { IfOk result (λ listing.
+            IsTrue (list_all is_lawful_row (rows_listed last.now.records listing))) }
+        ensures few { IfOk result (IsFew last.now.records) }
+        ensures listed { Lists (listed self.old) root.now
+            (rows_given_again last.now.records result) (listed self.new) }
+    {
+        let _ = recent;
+        self.list_again(root, last)
     }
 
     /// The number of failures of a device so far.

@@ -33,7 +33,7 @@ file_rows says root part name stat told = at (is_in part name) refl
     at false e = All-nil (IsRowOfPath says root part)
 
 -- so are the rows of a look at a path below the root
-look_rows : (says : GivesStat) (root : List ℕ) (part : Part) (rest path : List ℕ) (rows : List SeenData)
+pub look_rows : (says : GivesStat) (root : List ℕ) (part : Part) (rest path : List ℕ) (rows : List SeenData)
     (enters : Bool) → path ≡ root ++ rest → IsLooked says (length root) part path rows enters
     → All (IsRowOfPath says root part) rows
 look_rows says root part rest path rows enters is (inl (over, none, not)) =

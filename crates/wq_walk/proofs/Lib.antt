@@ -12,3 +12,6 @@ mod Once
 mod Tiles
 mod WalkedAgain
 mod Kept
+mod BelowRun
+mod Glancing
+mod GlanceRows

@@ -13,3 +13,4 @@ pub mod Accounts
 pub mod Once
 pub mod Tiles
 pub mod Found
+pub mod Glance

@@ -1,6 +1,6 @@
 -- The part of a tree that a walk lists, and the listings of a part. No public document defines it.
 use Rattle.std.specs.Prelude.{◌≡◌, ℕ, Bool, List, ◌∷◌, ◌++◌, true, not, ◌&&◌, ◌≤◌, length}
-use Rattle.std.specs.Prelude.{IsTrue, IfSome}
+use Rattle.std.specs.Prelude.{IsTrue, IfSome, None}
 use Rattle.std.specs.List.{list_all}
 use Rattle.std.specs.Option.{option_map_or}
 use Rattle.std.specs.Ordering.{is_lt}
@@ -11,6 +11,10 @@ use Rattle.wq_view.specs.Listing.{name_cmp}
 use Rattle.wq_view.specs.Limit.{max_listing_rows}
 use Rattle.wq_view.specs.Seen.{SeenData, is_lawful_row}
 use Rattle.wq_walk.specs.declared.part.Part.{Part}
+
+-- the whole of a tree
+abbrev pub whole_part : Part
+whole_part = record { from = None; below = None }
 
 -- whether a name is in a part: from the first cut on and below the second one, if there are such
 -- cuts
@@ -39,7 +43,8 @@ name_below directory rest = directory ++ (byte "/" ∷ rest)
 abbrev pub IsOrderBelow : List ℕ → List ℕ → Ordering → Type 0
 IsOrderBelow directory cut Less = (rest : List ℕ) → name_cmp cut (name_below directory rest) ≡ Less
 IsOrderBelow directory cut Equal = (rest : List ℕ) × (cut ≡ name_below directory rest)
-IsOrderBelow directory cut Greater = (rest : List ℕ) → name_cmp cut (name_below directory rest) ≡ Greater
+IsOrderBelow directory cut Greater = (rest : List ℕ) → name_cmp cut (name_below directory rest)
+    ≡ Greater
 
 -- a part that may have names below a directory: its first cut is not after each of them, and its
 -- second one not before each

@@ -5,8 +5,10 @@ use Rattle.std.specs.Prelude.{◌≡◌, ℕ, ℤ, List, MatchOption}
 use Rattle.std.specs.Fs.{file_type, metadata_len}
 use Rattle.std.specs.declared.fs.Metadata.{Metadata}
 use Rattle.wq_crawl.specs.declared.tree.TreeFault.{TreeFault}
+use Rattle.wq_view.specs.RecordData.{RecordData}
 use Rattle.wq_view.specs.Seen.{SeenData, Stat}
 use Rattle.wq_walk.specs.Entries.{AreEntries}
+use Rattle.wq_walk.specs.Glance.{IsGlancedAt}
 use Rattle.wq_walk.specs.Listed.{IsListed, IsUnread}
 use Rattle.wq_walk.specs.Stat.{kind_of_mode, milliseconds_of, nearest_size}
 use Rattle.wq_walk.specs.Told.{GivesStat, Has}
@@ -37,6 +39,10 @@ fails_here path = HasFailed
 -- a listing of the tree below a root on this disk
 abbrev pub IsListedHere : List ℕ → List SeenData → Type 0
 IsListedHere root rows = IsListed says_here has_here root rows
+
+-- a glance at the tree below a root on this disk, beside a view with these records
+abbrev pub IsGlancedHere : List RecordData → List ℕ → List SeenData → Type 0
+IsGlancedHere records root rows = IsGlancedAt says_here has_here records root rows
 
 -- a fault of a listing on this disk: it says that the root cannot be read, or that no file handle is
 -- left, only if a call failed so

@@ -1,5 +1,6 @@
 //! Laws of walks. Each law is the contract of a function that does nothing, for the answers of any disk.
 ghost use Rattle.wq_walk.specs.Accounts.{NamesAreAccountedFor, RowsAreOfPaths};
+ghost use Rattle.wq_walk.specs.Glance.{GlanceRowsAreKnown};
 ghost use Rattle.wq_walk.specs.Once.{ListingsListOnce, WalksListOnce};
 
 use crate::disk::Disk;
@@ -30,6 +31,14 @@ pub fn walks_list_once<D: Disk>(disk: &D)
 /// No two rows of a listing have one name, though several threads walked its parts.
 pub fn listings_list_once<D: Disk>(disk: &D)
     ensures { ListingsListOnce (D.says disk.now) (D.has disk.now) }
+{
+    let _ = disk;
+}
+
+/// Each row of a glance is one that the last view has, or the disk gave that stat for the root's path and the name after
+/// it.
+pub fn glance_rows_are_known<D: Disk>(disk: &D)
+    ensures { GlanceRowsAreKnown (D.says disk.now) (D.has disk.now) }
 {
     let _ = disk;
 }

@@ -4,6 +4,7 @@
 
 mod directory;
 mod disk;
+mod glance;
 mod guess;
 mod law;
 mod listing;
@@ -21,7 +22,10 @@ mod walker;
 mod walks;
 
 pub use disk::{Disk, FileDisk};
-pub use law::{listings_list_once, names_are_accounted_for, rows_are_of_paths, walks_list_once};
+pub use law::{
+    glance_rows_are_known, listings_list_once, names_are_accounted_for, rows_are_of_paths,
+    walks_list_once,
+};
 pub use names::{Block, Names};
 pub use stat::Stat;
 pub use walker::Walker;

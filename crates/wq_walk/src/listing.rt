@@ -192,7 +192,8 @@ fn count_of(pieces: &[Rows<'_>]) -> usize {
 fn with_rows(mut first: Vec<Seen>, mut rest: Vec<Seen>) -> Result<Vec<Seen>, TreeFault>
     requires lawful { IsTrue (list_all is_lawful_row first.items)
         × IsTrue (list_all is_lawful_row rest.items) }
-    requires few { (length first.items ≤ max_listing_rows) × (length rest.items ≤ max_listing_rows) }
+    requires few { (length first.items ≤ max_listing_rows)
+        × (length rest.items ≤ max_listing_rows) }
     ensures all { IfOk result (λ rows. rows.items ≡ first.items ++ rest.items) }
     ensures many { IfErr result (λ fault. fault ≡ TooManyRows
         → max_listing_rows < length first.items + length rest.items) }

@@ -3,6 +3,7 @@
 
 ghost use Rattle.std.specs.Prelude.{◌≡◌, ◌≤◌, ◌-◌, drop, length, take, IfOk};
 ghost use Rattle.wq_view.specs.Records.{records_left};
+ghost use Rattle.wq_walk.specs.Part.{whole_part};
 ghost use Rattle.wq_walk.specs.Pieces.{IsSharedOut, IsSharedOutBelow, is_behind};
 ghost use Rattle.wq_walk.specs.Tiles.{AreTiles, cut_records, piece_records};
 
@@ -125,7 +126,8 @@ impl<'a> Cuts<'a> {
     /// All pieces: the ones that were cut off, and the rest of the tree.
     fn with_rest(self) -> Result<Vec<Piece<'a>>, AllocError>
         ensures shared { IfOk result (λ pieces. IsSharedOut pieces.items) }
-        ensures tiled { IfOk result (λ pieces. AreTiles (cut_records self.entry.names) pieces.items) }
+        ensures tiled { IfOk result
+            (λ pieces. AreTiles (cut_records self.entry.names) pieces.items) }
     {
         let piece = self.piece(None, self.names.len());
         let mut pieces = self.pieces;
@@ -147,6 +149,21 @@ impl<'a> Cuts<'a> {
             records: self.names.records(self.start),
             count: self.names.count(self.start, end),
         }
+    }
+}
+
+/// The whole of a tree with this last view.
+pub(crate) fn whole_piece(last: &View) -> Piece<'_>
+    ensures part { result.part ≡ whole_part }
+    ensures records { piece_records result ≡ last.now.records }
+{
+    Piece {
+        part: Part {
+            from: None,
+            below: None,
+        },
+        records: last.records(),
+        count: last.len(),
     }
 }
 

@@ -1,5 +1,5 @@
 //! The rows of a listing that is being made. Other modules find the files.
-ghost use Rattle.std.specs.Prelude.{◌≡◌, false, ◌≤◌, ◌++◌, ◌∷◌, [], length, IfErr, IfOk, OnOk, IsTrue};
+ghost use Rattle.std.specs.Prelude.{◌≡◌, false, ◌+◌, ◌-◌, ◌≤◌, ◌<◌, ◌++◌, ◌∷◌, [], drop, length, take, IfErr, IfOk, OnOk, IsTrue};
 ghost use Rattle.std.specs.List.{list_all};
 ghost use Rattle.wq_crawl.specs.declared.tree.TreeFault.TheVariants.{TooManyRows};
 ghost use Rattle.wq_crawl.specs.Tree.{is_of_device};
@@ -7,7 +7,7 @@ ghost use Rattle.wq_view.specs.Again.{seen_rows};
 ghost use Rattle.wq_view.specs.Limit.{max_listing_rows};
 ghost use Rattle.wq_view.specs.Seen.{is_lawful_row};
 ghost use Rattle.wq_walk.specs.Found.{AreRows, IsFoundOf, found_rows};
-ghost use Rattle.wq_walk.specs.Part.{IsListing, is_in, is_row_in};
+ghost use Rattle.wq_walk.specs.Part.{IsListing, is_in, is_row_in, whole_part};
 ghost use Rattle.wq_walk.specs.Tiles.{piece_records};
 ghost use Rattle.wq_walk.specs.Walk.{row_with_stat};
 
@@ -106,7 +106,8 @@ impl<'a> Rows<'a> {
         requires lawful { IsTrue (is_lawful_row row) }
         requires within { IsTrue (is_row_in self.old.piece.part row) }
         ensures piece { self.new.piece ≡ self.old.piece }
-        ensures row { OnOk result (found_rows self.new.found ≡ found_rows self.old.found ++ (row ∷ [])) }
+        ensures row { OnOk result (found_rows self.new.found
+            ≡ found_rows self.old.found ++ (row ∷ [])) }
         ensures many { IfErr result (λ fault. fault ≡ TooManyRows
             → length (found_rows self.old.found) ≡ max_listing_rows) }
         ensures fault { IfErr result (λ fault. is_of_device fault ≡ false) }
@@ -121,9 +122,61 @@ impl<'a> Rows<'a> {
         Ok(())
     }
 
+    /// Keeps the files of the piece's records from one place up to another, if no rows were made so far and no file that
+    /// exists is left before them.
+    pub(crate) fn pass(&mut self, start: usize, end: usize) -> bool
+        requires { self.old.piece.part ≡ whole_part }
+        ensures piece { self.new.piece ≡ self.old.piece }
+        ensures rows { IsTrue result → found_rows self.new.found ≡ found_rows self.old.found
+            ++ seen_rows (take (end - start) (drop start (piece_records self.old.piece))) }
+        ensures same { result ≡ false → found_rows self.new.found ≡ found_rows self.old.found }
+    {
+        let Found::Again(again) = &self.found else {
+            return false;
+        };
+        match again.kept(start, end) {
+            Some(after) if after.len() <= MAX_LISTING_ROWS => {
+                self.found = Found::Again(after);
+                true
+            }
+            _ => false,
+        }
+    }
+
+    /// Adds rows after the others, which were made.
+    pub(crate) fn add_all(&mut self, mut rest: Vec<Seen>) -> Result<(), TreeFault>
+        requires part { self.old.piece.part ≡ whole_part }
+        requires made { AreRows self.old.found }
+        requires lawful { IsTrue (list_all is_lawful_row rest.items) }
+        ensures piece { self.new.piece ≡ self.old.piece }
+        ensures rows { OnOk result (found_rows self.new.found
+            ≡ found_rows self.old.found ++ rest.items) }
+        ensures many { IfErr result (λ fault. fault ≡ TooManyRows
+            → max_listing_rows < length (found_rows self.old.found) + length rest.items) }
+        ensures fault { IfErr result (λ fault. is_of_device fault ≡ false) }
+    {
+        if self.len().saturating_add(rest.len()) > MAX_LISTING_ROWS {
+            return Err(TreeFault::TooManyRows);
+        }
+        match &mut self.found {
+            Found::Again(_) => unreachable!(),
+            Found::Rows(rows) => rows.append(&mut rest).map_err(AllocError::from)?,
+        }
+        Ok(())
+    }
+
+    /// The row that was added last, if rows were made.
+    pub(crate) fn last(&self) -> Option<&Seen> {
+        match &self.found {
+            Found::Again(_) => None,
+            Found::Rows(rows) => rows.last(),
+        }
+    }
+
     /// Whether no rows were made, and all files of the piece's records were found.
     pub(crate) fn are_again(&self) -> bool
-        ensures { IsTrue result → found_rows self.now.found ≡ seen_rows (piece_records self.now.piece) }
+        ensures { IsTrue result → found_rows self.now.found
+            ≡ seen_rows (piece_records self.now.piece) }
     {
         match &self.found {
             Found::Again(again) => again.is_whole(),

@@ -1,5 +1,5 @@
 //! The walk over a tree: from directory to directory, with a row for each file. The module of listings uses it.
-ghost use Rattle.std.specs.Prelude.{◌≡◌, ◌⊎◌, ◌++◌, ◌∷◌, [], ℕ, Bool, false, List, MatchOption};
+ghost use Rattle.std.specs.Prelude.{◌≡◌, ◌⊎◌, ◌++◌, ◌∷◌, [], ℕ, Bool, false, length, List, MatchOption};
 ghost use Rattle.std.specs.Prelude.{IfErr, IfOk, IsTrue, None, OnOk, Some};
 ghost use Rattle.std.specs.Str.{IsUtf8, byte};
 ghost use Rattle.wq_crawl.specs.Tree.{is_of_device};
@@ -26,17 +26,18 @@ use std::mem;
 use wq_crawl::TreeFault;
 use wq_view::{Known, Seen, SharedBytes, is_valid_name};
 
-/// A walk that has not ended yet.
+/// A walk that has not ended yet. A glance is a walk that need not enter each directory.
 #[derive(Drop)]
-struct Walk<'a, 'p> {
-    alloc: Global,
+pub(crate) struct Walk<'a, 'p> {
+    pub(crate) alloc: Global,
     block: Block,
-    path: TreePath,
+    pub(crate) path: TreePath,
     /// The directories above the one in which the walk is, from the root down.
-    above: Vec<Directory>,
-    rows: Rows<'a>,
-    known: Known<'a>,
-    progress: &'p Progress<'p>,
+    pub(crate) above: Vec<Directory>,
+    pub(crate) rows: Rows<'a>,
+    /// The records after those that the rows have, to share names with.
+    pub(crate) known: Known<'a>,
+    pub(crate) progress: &'p Progress<'p>,
 }
 
 /// The rows of the files below a root whose names are in a piece's part. A pass takes each row. As long as the files
@@ -64,17 +65,7 @@ pub(crate) fn rows_in<'a, D: Disk>(
     ensures fault { IfErr result
         (IsRootFault (D.says disk.now) (D.has disk.now) (D.fails disk.now) root.now) }
 {
-    let mut block = Block::new(alloc)?;
-    let top = top(disk, alloc, &mut block, root)?;
-    let mut walk = Walk {
-        alloc,
-        block,
-        path: TreePath::new(alloc, root.len()),
-        above: Vec::new(alloc),
-        rows: Rows::of(piece),
-        known: Known::of(piece.records),
-        progress,
-    };
+    let (mut walk, top) = Walk::begin(disk, alloc, root, piece, progress)?;
     walk.run(disk, top)?;
     Ok(walk.rows)
 }
@@ -87,7 +78,8 @@ fn top<D: Disk>(
     block: &mut Block,
     root: &str,
 ) -> Result<Directory, TreeFault>
-    ensures read { IfOk result (λ top. (names : List (List ℕ)) × D.has disk.now root.now (Some names)
+    ensures read { IfOk result (λ top. (names : List (List ℕ))
+        × D.has disk.now root.now (Some names)
         × AreEntries names × (data_of top ≡ fresh root.now names)) }
     ensures fault { IfErr result
         (IsRootFault (D.says disk.now) (D.has disk.now) (D.fails disk.now) root.now) }
@@ -99,7 +91,39 @@ fn top<D: Disk>(
     Ok(Directory::new(alloc, path, names))
 }
 
-impl<'p> Walk<'_, 'p> {
+impl<'a, 'p> Walk<'a, 'p> {
+    /// A walk of a piece that has made no step, and the root's directory. The root's path ends in a slash.
+    pub(crate) fn begin<D: Disk>(
+        disk: &D,
+        alloc: Global,
+        root: &str,
+        piece: Piece<'a>,
+        progress: &'p Progress<'p>,
+    ) -> Result<(Walk<'a, 'p>, Directory), TreeFault>
+        ensures piece { IfOk result (λ begun. begun.0.rows.piece ≡ piece.entry) }
+        ensures rows { IfOk result (λ begun. found_rows begun.0.rows.found ≡ []) }
+        ensures root { IfOk result (λ begun. begun.0.path.root_len ≡ length root.now) }
+        ensures above { IfOk result (λ begun. begun.0.above.items ≡ []) }
+        ensures read { IfOk result (λ begun. (names : List (List ℕ))
+            × D.has disk.now root.now (Some names) × AreEntries names
+            × (data_of begun.1 ≡ fresh root.now names)) }
+        ensures fault { IfErr result
+            (IsRootFault (D.says disk.now) (D.has disk.now) (D.fails disk.now) root.now) }
+    {
+        let mut block = Block::new(alloc)?;
+        let top = top(disk, alloc, &mut block, root)?;
+        let walk = Walk {
+            alloc,
+            block,
+            path: TreePath::new(alloc, root.len()),
+            above: Vec::new(alloc),
+            rows: Rows::of(piece),
+            known: Known::of(piece.records),
+            progress,
+        };
+        Ok((walk, top))
+    }
+
     /// Continues from a directory to the end.
     fn run<D: Disk>(&mut self, disk: &D, mut here: Directory) -> Result<(), TreeFault>
         ensures piece { self.new.rows.piece ≡ self.old.rows.piece }
@@ -145,7 +169,7 @@ impl<'p> Walk<'_, 'p> {
     }
 
     /// Looks at the name at a place in the directory in which the walk is, and adds its row.
-    fn look<D: Disk>(
+    pub(crate) fn look<D: Disk>(
         &mut self,
         disk: &D,
         here: &mut Directory,
@@ -228,7 +252,8 @@ impl<'p> Walk<'_, 'p> {
             ≡ found_rows self.old.rows.found ++ rows_of_file self.old.rows.piece.part
             (name_of_path self.old.path.root_len self.old.path.bytes.items) stat.now) }
         ensures none { IfOk result (λ taken. taken ≡ false
-            → (is_valid_name (name_of_path self.old.path.root_len self.old.path.bytes.items) ≡ false)
+            → (is_valid_name (name_of_path self.old.path.root_len self.old.path.bytes.items)
+            ≡ false)
             × (found_rows self.new.rows.found ≡ found_rows self.old.rows.found)) }
         ensures fault { IfErr result (λ fault. is_of_device fault ≡ false) }
     {
@@ -257,7 +282,8 @@ impl<'p> Walk<'_, 'p> {
             ≡ found_rows self.old.rows.found ++ (row_with_stat
             (name_of_path self.old.path.root_len self.old.path.bytes.items) stat.now ∷ [])) }
         ensures none { IfOk result (λ taken. taken ≡ false
-            → (is_valid_name (name_of_path self.old.path.root_len self.old.path.bytes.items) ≡ false)
+            → (is_valid_name (name_of_path self.old.path.root_len self.old.path.bytes.items)
+            ≡ false)
             × (found_rows self.new.rows.found ≡ found_rows self.old.rows.found)) }
         ensures fault { IfErr result (λ fault. is_of_device fault ≡ false) }
     {
@@ -272,7 +298,7 @@ impl<'p> Walk<'_, 'p> {
     }
 
     /// Enters the directory of the name at a place in the directory in which the walk is.
-    fn enter<D: Disk>(
+    pub(crate) fn enter<D: Disk>(
         &mut self,
         disk: &D,
         here: &mut Directory,
@@ -281,7 +307,8 @@ impl<'p> Walk<'_, 'p> {
         ensures piece { self.new.rows.piece ≡ self.old.rows.piece }
         ensures root { self.new.path.root_len ≡ self.old.path.root_len }
         ensures rows { self.new.rows ≡ self.old.rows }
-        ensures above { OnOk result (self.new.above.items ≡ self.old.above.items ++ (here.old ∷ [])) }
+        ensures above { OnOk result (self.new.above.items
+            ≡ self.old.above.items ++ (here.old ∷ [])) }
         ensures read { OnOk result ((names : List (List ℕ))
             × HasEntries (D.has disk.now) ((data_of here.old).path ++ entry_at here.old name) names
             × (data_of here.new ≡ fresh

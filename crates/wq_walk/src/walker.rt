@@ -4,10 +4,12 @@ ghost use Rattle.std.specs.List.{list_all};
 ghost use Rattle.wq_crawl.specs.Tree.{IsCounted, rows_listed};
 ghost use Rattle.wq_view.specs.Limit.{max_listing_rows};
 ghost use Rattle.wq_view.specs.Seen.{is_lawful_row};
+ghost use Rattle.wq_walk.specs.Glance.{IsGlancedAt};
 ghost use Rattle.wq_walk.specs.Listed.{IsListed, IsRooted, IsUnread};
-ghost use Rattle.wq_walk.specs.System.{IsListedHere, IsUnreadHere};
+ghost use Rattle.wq_walk.specs.System.{IsGlancedHere, IsListedHere, IsUnreadHere};
 
 use crate::disk::{Disk, FileDisk};
+use crate::glance::glanced;
 use crate::listing::{first_rows, rows_again};
 use crate::progress::{Progress, Way};
 use std::alloc::Global;
@@ -16,7 +18,7 @@ use std::sync::atomic::{AtomicU64, Ordering};
 use std::thread::Threads;
 use wq_base::Workers;
 use wq_crawl::{LeftOut, Listing, Tree, TreeFault};
-use wq_view::{Seen, View};
+use wq_view::{Recent, Seen, View};
 
 /// Walks the trees of a disk, and counts how often a root could not be read or no file handle was
 /// left. Several threads walk a large tree if somebody waits for its listing. A listing for which
@@ -135,6 +137,38 @@ impl<T: Threads + Drop, D: Disk + Sync + Drop> Walker<T, D> {
     }
 }
 
+impl<T: Threads + Drop, D: Disk + Drop> Walker<T, D> {
+    /// The listing of a glance at the files below a root with this last view, by one thread: a walk that need not enter a
+    /// directory which the view has and which is not recent, but keeps what the view has below it. What the last listing
+    /// left out stays as it was.
+    pub fn glance_at(
+        &mut self,
+        root: &str,
+        last: &View,
+        recent: &Recent<'_>,
+    ) -> Result<Listing, TreeFault>
+        ensures counted { IfErr result (IsCounted self.old.failures self.new.failures) }
+        ensures disk { self.new.disk ≡ self.old.disk }
+        ensures unread { IfErr result (IsUnread (D.says self.old.disk) (D.has self.old.disk)
+            (D.fails self.old.disk) root.now) }
+        ensures lawful { IfOk result (λ listing.
+            IsTrue (list_all is_lawful_row (rows_listed last.now.records listing))) }
+        ensures few { IfOk result (λ listing.
+            length (rows_listed last.now.records listing) ≤ max_listing_rows) }
+        ensures glance { IfOk result (λ listing.
+            IsGlancedAt (D.says self.old.disk) (D.has self.old.disk) last.now.records root.now
+            (rows_listed last.now.records listing)) }
+        ensures rooted { IfOk result (λ _. IsRooted (D.says self.old.disk) root.now) }
+    {
+        let listed = {
+            let progress = Progress::new(Way::Gives(&self.waiting));
+            glanced(&progress, &self.disk, self.alloc, root, last, recent)
+        };
+        self.failures = failures_after(self.failures, &listed);
+        listed
+    }
+}
+
 /// During a listing the root is the working directory of the process, and `/` after it. So one walker may list at a
 /// time, and nothing else may use a relative path.
 impl<T: Threads + Drop> Tree for Walker<T, FileDisk> {
@@ -167,6 +201,23 @@ impl<T: Threads + Drop> Tree for Walker<T, FileDisk> {
     {
         self.disk.enter(root);
         let listed = self.walk_again(root, last);
+        self.disk.leave();
+        listed
+    }
+
+    /// The listing of a glance at the files below a root on this machine, as [`Walker::glance_at`] gives it.
+    fn glance(&mut self, root: &str, last: &View, recent: &Recent<'_>) -> Result<Listing, TreeFault>
+        ensures counted { IfErr result (IsCounted self.old.failures self.new.failures) }
+        ensures unread { IfErr result (IsUnreadHere root.now) }
+        ensures lawful { IfOk result (λ listing.
+            IsTrue (list_all is_lawful_row (rows_listed last.now.records listing))) }
+        ensures few { IfOk result (λ listing.
+            length (rows_listed last.now.records listing) ≤ max_listing_rows) }
+        ensures glance { IfOk result (λ listing. IsGlancedHere last.now.records root.now
+            (rows_listed last.now.records listing)) }
+    {
+        self.disk.enter(root);
+        let listed = self.glance_at(root, last, recent);
         self.disk.leave();
         listed
     }

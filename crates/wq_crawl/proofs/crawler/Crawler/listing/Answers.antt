@@ -10,8 +10,8 @@ pub returns-in-Some-clause-listed : goal.returns-in-Some-clause-listed
 returns-in-Some-clause-listed g c =
     let it = c.self.inside in
     let before : CrawlerData = record { events = it.publisher; clock = g.S.Seconds.told it.seconds; listed = g.T.Tree.listed it.tree; failed = g.T.Tree.failed it.tree } in
-    let after : CrawlerData = record { events = it.publisher; clock = g.S.Seconds.told it.seconds; listed = g.T.Tree.listed c.list_again.new.self; failed = g.T.Tree.failed c.list_again.new.self } in
+    let after : CrawlerData = record { events = it.publisher; clock = g.S.Seconds.told it.seconds; listed = g.T.Tree.listed c.listed_again.new.tree; failed = g.T.Tree.failed c.listed_again.new.tree } in
     let number_is : Some c.args.number ≡ number_by_text c.args.root.now c.table.result.now = subst (λ n. Some n ≡ number_by_text c.args.root.now c.table.result.now) c.if-shown-number.true c.in-Some.ensures.number in
     let is_view = view_at it.publisher c.table.result.now c.args.root.now c.args.number c.in-Some.last.now c.table.ensures.table number_is c.in-Some.ensures.view in
-    subst (λ (b : CrawlerData). MatchResult c.list_again.result (λ listing. ListsAgain c.args.number c.args.root.now b listing after) (λ fault. Lists b.listed c.args.root.now (Err fault) after.listed)) c.self.view_is
-    (lists_again c.args.number c.args.root.now before after c.in-Some.last.now c.list_again.result is_view c.list_again.ensures.lawful c.list_again.ensures.few c.list_again.ensures.listed)
+    subst (λ (b : CrawlerData). MatchResult c.listed_again.result (λ listing. ListsAgain c.args.number c.args.root.now b listing after) (λ fault. Lists b.listed c.args.root.now (Err fault) after.listed)) c.self.view_is
+    (lists_again c.args.number c.args.root.now before after c.in-Some.last.now c.listed_again.result is_view c.listed_again.ensures.lawful c.listed_again.ensures.few c.listed_again.ensures.listed)
