@@ -5,7 +5,7 @@ ghost use Rattle.wq_base.specs.Limit.{max_number};
 
 use crate::batch::Batch;
 use std::alloc::{AllocError, Global};
-use wq_query::Plan;
+use wq_query::{Ahead, Plan};
 use wq_view::View;
 
 /// A plan that is used again and again, each time from the tick up to which it told changes.
@@ -17,8 +17,9 @@ pub struct Follower {
 }
 
 impl Follower {
-    ghost use Rattle.std.specs.Prelude.{◌≡◌, IfErr, IfOk, List, false};
+    ghost use Rattle.std.specs.Prelude.{◌≡◌, IfErr, IfOk, IfSome, List, false};
     ghost use Rattle.wq_view.specs.RecordData.{RecordData};
+    ghost use Rattle.wq_query.specs.Ahead.{IsAheadAt};
     ghost use Rattle.wq_query.specs.Query.{planned};
     ghost use Rattle.wq_follow.specs.Batch.{untold, is_told, last_or, listing, nothing, polled};
     ghost use Rattle.wq_follow.specs.Batch.{told_up_to};
@@ -49,8 +50,14 @@ impl Follower {
     /// The next batch, at a view. The follower does not move: see [`commit`](Follower::commit).
     ///
     /// At a view that is no newer than the last batch it takes no memory, and no time that grows
-    /// with the view.
-    pub fn poll(&self, alloc: Global, view: &View) -> Result<Batch, AllocError>
+    /// with the view. What was found ahead is taken if it is of the plan's program and candidates.
+    pub fn poll(
+        &self,
+        alloc: Global,
+        view: &View,
+        ahead: Option<&Ahead>,
+    ) -> Result<Batch, AllocError>
+        requires { IfSome ahead (λ ahead. IsAheadAt view.now.records ahead.now) }
         ensures batch { IfOk result (IsBatch view.now.records
             (polled (follower_data self.now) view.now)) }
         ensures tick { IfOk result (λ batch. batch.tick ≤ max_number) }
@@ -62,7 +69,7 @@ impl Follower {
         if self.is_told(tick) {
             return Ok(self.nothing(alloc, tick));
         }
-        self.listing(alloc, view)
+        self.listing(alloc, view, ahead)
     }
 
     /// The batch was told: the next one begins at its end. It takes no memory.
@@ -75,7 +82,7 @@ impl Follower {
     }
 
     /// Whether the last batch ended at this tick or a later one.
-    fn is_told(&self, tick: u64) -> bool
+    pub(crate) fn is_told(&self, tick: u64) -> bool
         ensures { result ≡ is_told (follower_data self.now).last tick }
     {
         match self.last {
@@ -114,7 +121,13 @@ impl Follower {
     }
 
     /// The batch of the plan's list.
-    fn listing(&self, alloc: Global, view: &View) -> Result<Batch, AllocError>
+    fn listing(
+        &self,
+        alloc: Global,
+        view: &View,
+        ahead: Option<&Ahead>,
+    ) -> Result<Batch, AllocError>
+        requires { IfSome ahead (λ ahead. IsAheadAt view.now.records ahead.now) }
         ensures batch { IfOk result (IsBatch view.now.records
             (listing (follower_data self.now).plan view.now)) }
         ensures tick { IfOk result (λ batch. batch.tick ≤ max_number) }
@@ -124,7 +137,7 @@ impl Follower {
             fresh: self.plan.bound().is_fresh(),
             from: self.plan.bound(),
             tick: view.tick(),
-            files: self.plan.files(alloc, view)?,
+            files: self.plan.files_ahead(alloc, view, ahead)?,
         })
     }
 }

@@ -80,7 +80,7 @@ impl Subscription {
         ensures wants { IfErr result (λ _.
             is_told ((subscription_data self.now).follower).last view.now.tick ≡ false) }
     {
-        self.follower.poll(alloc, view)
+        self.follower.poll(alloc, view, None)
     }
 
     /// The batch was sent: the next one begins at its end. It takes no memory.

@@ -1,7 +1,8 @@
 //! A command that is started when files changed: its making, and its turn in a round.
-ghost use Rattle.std.specs.Prelude.{◌≡◌, false};
+ghost use Rattle.std.specs.Prelude.{◌≡◌, IfSome, false};
 ghost use Rattle.serde_json.specs.View.{view as data_of};
 ghost use Rattle.serde_json.specs.Written.{has_float};
+ghost use Rattle.wq_query.specs.Ahead.{IsAheadAt};
 ghost use Rattle.wq_query.specs.Query.{planned};
 ghost use Rattle.wq_follow.specs.Started.{IsClocked};
 
@@ -15,6 +16,7 @@ use std::alloc::{AllocError, Global};
 use std::sync::Arc;
 use wq_base::Text;
 use wq_clock::{Bound, Instance};
+use wq_query::Ahead;
 use wq_verify::Program;
 use wq_view::View;
 
@@ -33,7 +35,7 @@ pub struct Trigger {
 impl Trigger {
     ghost use Rattle.std.specs.Prelude.{None, is_err, option_map};
     ghost use Rattle.wq_clock.specs.Instance.{instance_data};
-    ghost use Rattle.wq_compile.specs.Meaning.{AnswersMeaning};
+    ghost use Rattle.wq_query.specs.Meaning.{AnswersWithin};
     ghost use Rattle.wq_query.specs.Query.{asked_of};
     ghost use Rattle.wq_follow.specs.Defined.{definition_data};
     ghost use Rattle.wq_follow.specs.Defining.{triggered};
@@ -44,8 +46,9 @@ impl Trigger {
     /// The trigger of a definition, for the root with this text. It was told nothing yet.
     ///
     /// The program is the one that is kept under the name that the query has for one. Without a
-    /// name, it answers the meaning of the query's expression on every record. A trigger that
-    /// replaces another takes over the run of its command.
+    /// name, it answers the meaning of the query's expression on every record, and its budget is no
+    /// more than the expression's measure. A trigger that replaces another takes over the run of its
+    /// command.
     pub fn new(
         definition: Definition,
         root: Text,
@@ -53,7 +56,7 @@ impl Trigger {
         running: Option<u32>,
     ) -> Trigger
         requires { ((definition_data definition).query).program ≡ None
-            → AnswersMeaning program.value ((definition_data definition).query).expression }
+            → AnswersWithin program.value ((definition_data definition).query).expression }
         ensures { trigger_data result ≡ triggered (definition_data definition) root
             (option_map (λ _. program.value) ((definition_data definition).query).program)
             running }
@@ -91,14 +94,16 @@ impl Trigger {
 
     /// A round: starts the command at a view of its root, if it does not run and files changed.
     ///
-    /// If want of memory keeps it from that, it gives an error.
+    /// If want of memory keeps it from that, it gives an error. No answer depends on what was found ahead.
     pub fn fire<L: Launch>(
         &mut self,
         alloc: Global,
         instance: &Instance,
         view: &View,
+        ahead: Option<&Ahead>,
         launcher: &mut L,
     ) -> Result<(), AllocError>
+        requires { IfSome ahead (λ ahead. IsAheadAt view.now.records ahead.now) }
         ensures { (fired : FiredData)
             × Fires (instance_data instance.now) view.now
             (trigger_data self.old) fired (trigger_data self.new)
@@ -110,7 +115,7 @@ impl Trigger {
             return Ok(());
         }
         self.running = None;
-        let batch = self.follower.poll(alloc, view)?;
+        let batch = self.follower.poll(alloc, view, ahead)?;
         if batch.files.is_empty() {
             self.follower.commit(&batch);
             return Ok(());
@@ -122,6 +127,21 @@ impl Trigger {
         self.follower.commit(&batch);
         self.running = Some(run);
         Ok(())
+    }
+
+    /// What a round at a view of this tick asks, if it can be found ahead: the program that says which files match, and
+    /// the bound from which they changed.
+    ///
+    /// There is nothing to find if its command runs, or it was told the changes up to this tick.
+    pub fn asks<L: Launch>(&self, tick: u64, launcher: &mut L) -> Option<(Arc<Program>, Bound)> {
+        if self.follower.is_told(tick) || !self.is_free(launcher) {
+            return None;
+        }
+        let plan = self.follower.plan();
+        match plan.shared_program() {
+            Ok(program) => Some((program, plan.bound())),
+            Err(_) => None,
+        }
     }
 
     /// Whether its command does not run.

@@ -8,3 +8,4 @@ mod Tokens
 mod RowTexts
 mod Places
 mod Subscribed
+mod Words

@@ -1,13 +1,16 @@
 -- The places of the files that a plan lists.
-use Rattle.std.proofs.Common.{◌≡◌, ℕ, Bool, true, false, not, List, [], ◌∷◌, Option, Some, None, option_map, refl, sym, ap, subst, ◌∙◌}
-use Rattle.std.specs.Prelude.{◌&&◌, ◌||◌, filter, slice_get, if◌then◌else◌}
+use Rattle.std.proofs.Common.{◌≡◌, ◌≤◌, ℕ, zero, suc, length, Bool, true, false, not, List, [], ◌∷◌, Option, Some, None, option_map, refl, sym, ap, subst, ◌∙◌, arith}
+use Rattle.std.proofs.lemmas.List.Sums.{sum_by-cons}
+use Rattle.std.specs.Prelude.{All, ◌&&◌, ◌||◌, filter, slice_get, if◌then◌else◌}
 use Rattle.std.specs.Option.{option_map_or}
+use Rattle.wq_view.specs.Limit.{max_name}
 use Rattle.wq_view.specs.RecordData.{RecordData}
 use Rattle.wq_view.specs.Position.{passes_at, positions_of, all_positions}
 use Rattle.wq_code.specs.declared.raw.Raw.{Raw}
 use Rattle.wq_verify.specs.Typing.{IsValid}
 use Rattle.wq_compile.specs.Meaning.{AnswersMeaning}
 use Rattle.wq_eval.specs.Answer.{AnswersAreSaid, says_yes}
+use Rattle.wq_eval.specs.Cost.{AnswersAreWithin, steps_of}
 use Rattle.wq_clock.specs.Bound.{is_fresh}
 use Rattle.wq_clock.specs.declared.bound.Bound.{Bound}
 use Rattle.wq_gen.specs.Candidate.{is_candidate}
@@ -15,7 +18,7 @@ use Rattle.wq_gen.specs.declared.generators.Generators.{Generators}
 use Rattle.wq_term.specs.Expr.{ExprData, always, means}
 use Rattle.wq_term.specs.Fits.{expr_fits}
 use Rattle.wq_query.specs.Listing.{generators_of, is_listed, is_match, is_meant}
-use Rattle.wq_query.specs.Meaning.{SaysMeaning}
+use Rattle.wq_query.specs.Meaning.{AnswersWithin, KeepsMeasure, SaysMeaning}
 use Rattle.wq_query.specs.Query.{PlanData}
 
 -- the expression of a query that has none keeps the limits
@@ -29,8 +32,25 @@ says_meaning raw t law valid answers r = sym (law raw r (means t r) (answers r).
 
 -- the same of the program of a query that names none
 pub says_unnamed : (name : Option (List ℕ)) (raw : Raw) (t : ExprData) → AnswersAreSaid → IsValid raw
-    → (name ≡ None → AnswersMeaning raw t) → name ≡ None → SaysMeaning raw t
-says_unnamed name raw t law valid answers none = says_meaning raw t law valid (answers none)
+    → (name ≡ None → AnswersWithin raw t) → name ≡ None → SaysMeaning raw t
+says_unnamed name raw t law valid answers none = says_meaning raw t law valid (answers none).0
+
+-- a program whose budget is within the measure of an expression keeps that measure
+pub keeps_measure : (raw : Raw) (t : ExprData) → AnswersAreWithin → IsValid raw → AnswersWithin raw t → KeepsMeasure raw t
+keeps_measure raw t law valid answers r short =
+    let all = law raw (r ∷ []) valid (alone short) in
+    let one = sum_by-cons (steps_of raw) r [] in
+    let cheap = answers.1 in
+    omega (arith, all, one, cheap)
+  where
+    alone : length r.name ≤ max_name → All (λ r. length r.name ≤ max_name) (r ∷ [])
+    alone short zero d less = short
+    alone short (suc k) d less = absurd (omega (arith, less))
+
+-- the same of the program of a query that names none
+pub keeps_unnamed : (name : Option (List ℕ)) (raw : Raw) (t : ExprData) → AnswersAreWithin → IsValid raw
+    → (name ≡ None → AnswersWithin raw t) → name ≡ None → KeepsMeasure raw t
+keeps_unnamed name raw t law valid answers none = keeps_measure raw t law valid (answers none)
 
 -- the program of a plan decides which files match. It is the one of the query's name; if the query has none, it answers
 -- the meaning of the expression

@@ -1,3 +1,4 @@
+pub mod Ahead
 pub mod Field
 pub mod Generator
 pub mod Glob

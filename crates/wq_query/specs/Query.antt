@@ -67,6 +67,10 @@ asked_of query = record {
   empty_on_fresh_instance = query.empty_on_fresh_instance;
 }
 
+-- the program of a `Plan`, which says which files match, whether the query names it or not
+abbrev pub program_in : Plan → Raw
+program_in plan = (plan.program).value
+
 -- the data of a `Plan`: its query, its bound, and its program if the query names one
 abbrev pub planned : Plan → PlanData
 planned plan = record {

@@ -2,6 +2,7 @@
 //! reply. Neither the choice of a root nor a crawl of it before the answer is described here.
 #![tactic(auto)]
 
+mod ahead;
 mod crew;
 mod fault;
 mod field;
@@ -17,13 +18,15 @@ mod reading;
 mod reply;
 mod room;
 mod rows;
+mod same;
 mod subscription;
 
+pub use ahead::Ahead;
 pub use crew::{Alone, Crew, Several};
 pub use fault::QueryFault;
 pub use field::Field;
 pub use following::{files_text, print_list};
-pub use law::{subscriptions_are_plain, values_ask_what_they_write};
+pub use law::{plans_keep_measures, subscriptions_are_plain, values_ask_what_they_write};
 pub use query::{Plan, Query};
 pub use reading::{flag, some_fields};
 pub use reply::{answer, answer_bytes};

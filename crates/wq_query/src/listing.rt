@@ -1,12 +1,14 @@
 //! The files that a plan lists: candidates for which its program answers yes.
-ghost use Rattle.std.specs.Prelude.{◌≡◌, ◌≤◌, IfOk, filter, length};
+ghost use Rattle.std.specs.Prelude.{◌≡◌, ◌≤◌, IfOk, IfSome, filter, length};
 ghost use Rattle.wq_gen.specs.Candidate.{is_candidate};
 ghost use Rattle.wq_view.specs.Limit.{max_records};
 ghost use Rattle.wq_view.specs.Position.{passes_at, positions_of, records_at};
+ghost use Rattle.wq_query.specs.Ahead.{IsAheadAt};
 ghost use Rattle.wq_query.specs.Listing.{AreWithin, files_of, generators_of};
 ghost use Rattle.wq_query.specs.Listing.{lists_nothing, is_listed, is_match, is_new};
 ghost use Rattle.wq_query.specs.Query.{planned};
 
+use crate::ahead::{Ahead, kept};
 use crate::crew::Crew;
 use crate::query::Plan;
 use std::alloc::{AllocError, Global};
@@ -14,13 +16,15 @@ use wq_clock::Bound;
 use wq_gen::Generators;
 use wq_view::{Record, View, positions_are_there, positions_filter};
 
-/// The places of the files that the plan lists, in the view's order, found by a crew.
+/// The places of the files that the plan lists, in the view's order, found ahead or by a crew.
 pub(crate) fn listed<C: Crew>(
     crew: &C,
     alloc: Global,
     plan: &Plan,
     view: &View,
+    ahead: Option<&Ahead>,
 ) -> Result<Vec<u32>, AllocError>
+    requires { IfSome ahead (λ ahead. IsAheadAt view.now.records ahead.now) }
     ensures within { IfOk result (λ places. AreWithin view.now.records places.items) }
     ensures count { IfOk result (λ places. length places.items ≤ max_records) }
     ensures files { IfOk result (λ places. records_at view.now.records places.items
@@ -33,7 +37,7 @@ pub(crate) fn listed<C: Crew>(
     view.len();
     positions_filter();
     positions_are_there();
-    listed_places(alloc, plan, view, matching(crew, alloc, plan, view)?)
+    listed_places(alloc, plan, view, matching(crew, alloc, plan, view, ahead)?)
 }
 
 /// The places of the files that pass the plan's filter, even if the plan is to list nothing. `places`
@@ -63,12 +67,14 @@ fn matching<C: Crew>(
     alloc: Global,
     plan: &Plan,
     view: &View,
+    ahead: Option<&Ahead>,
 ) -> Result<Vec<u32>, AllocError>
+    requires { IfSome ahead (λ ahead. IsAheadAt view.now.records ahead.now) }
     ensures { IfOk result (λ places. places.items
         ≡ positions_of (is_match (planned plan.now)) view.now.records) }
 {
     let places = candidates_of(crew, alloc, plan, view)?;
-    crew.filter(alloc, &plan.program, view, &places)
+    kept(crew, alloc, &plan.program, view, &places, ahead)
 }
 
 /// The places of the plan's candidates.

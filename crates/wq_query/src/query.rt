@@ -2,8 +2,9 @@
 ghost use Rattle.std.specs.Prelude.{◌≡◌, IsTrue, Some, None};
 ghost use Rattle.wq_term.specs.Expr.{term_of};
 ghost use Rattle.wq_term.specs.Fits.{expr_fits};
-ghost use Rattle.wq_query.specs.Meaning.{SaysMeaning};
+ghost use Rattle.wq_query.specs.Meaning.{KeepsMeasure, SaysMeaning};
 
+use crate::ahead::Ahead;
 use crate::crew::Alone;
 use crate::fault::QueryFault;
 use crate::field::Field;
@@ -14,7 +15,7 @@ use std::alloc::{AllocError, Global};
 use std::sync::Arc;
 use wq_base::Text;
 use wq_clock::{Bound, Instance};
-use wq_eval::answers_are_said;
+use wq_eval::{answers_are_said, answers_are_within};
 use wq_gen::Generators;
 use wq_term::Expr;
 use wq_verify::Program;
@@ -46,7 +47,7 @@ pub struct Query {
 
 /// A query with the bound from which its files are candidates, and the program that says which of
 /// them match. That is the one of the query's name, or one that answers the meaning of its
-/// expression.
+/// expression within the steps of its measure.
 #[derive(Drop)]
 pub struct Plan {
     pub(crate) query: Query,
@@ -54,13 +55,14 @@ pub struct Plan {
     pub(crate) program: Arc<Program>,
     ghost since: { (query.generators).since ≡ Some bound },
     ghost meaning: { query.program ≡ None → SaysMeaning program.value (term_of query.expr) },
+    ghost cost: { query.program ≡ None → KeepsMeasure program.value (term_of query.expr) },
 }
 
 impl Query {
     ghost use Rattle.std.specs.Prelude.{option_map};
     ghost use Rattle.serde_json.specs.View.{view as data_of};
     ghost use Rattle.wq_clock.specs.Instance.{instance_data};
-    ghost use Rattle.wq_compile.specs.Meaning.{AnswersMeaning};
+    ghost use Rattle.wq_query.specs.Meaning.{AnswersWithin};
     ghost use Rattle.wq_query.specs.Outcome.{GivesQuery};
     ghost use Rattle.wq_query.specs.Query.{asked_of, since_bound, since_cursor, planned};
     ghost use Rattle.wq_query.specs.Reading.{asks};
@@ -165,10 +167,11 @@ impl Query {
     /// The plan of answering the query with this bound, whichever the query sets.
     ///
     /// The program is the one that is kept under the name that the query has for one. Without a
-    /// name, it answers the meaning of the query's expression on every record.
+    /// name, it answers the meaning of the query's expression on every record, and its budget is no
+    /// more than the expression's measure.
     pub fn plan(mut self, bound: Bound, program: Arc<Program>) -> Plan
         requires { (asked_of self).program ≡ None
-            → AnswersMeaning program.value (asked_of self).expression }
+            → AnswersWithin program.value (asked_of self).expression }
         ensures { planned result ≡ record {
           query = asked_of self;
           bound = bound;
@@ -176,6 +179,7 @@ impl Query {
         } }
     {
         answers_are_said();
+        answers_are_within();
         program.raw();
         self.generators.since = Some(bound);
         Plan {
@@ -187,9 +191,10 @@ impl Query {
 }
 
 impl Plan {
-    ghost use Rattle.std.specs.Prelude.{IfOk};
+    ghost use Rattle.std.specs.Prelude.{IfOk, IfSome};
     ghost use Rattle.wq_clock.specs.declared.bound.Bound.TheVariants.{Tick};
     ghost use Rattle.wq_view.specs.Position.{records_at};
+    ghost use Rattle.wq_query.specs.Ahead.{IsAheadAt};
     ghost use Rattle.wq_query.specs.Following.{with_bound};
     ghost use Rattle.wq_query.specs.Listing.{AreWithin, files_of};
     ghost use Rattle.wq_query.specs.Query.{planned};
@@ -216,6 +221,27 @@ impl Plan {
         ensures files { IfOk result (λ places. records_at view.now.records places.items
             ≡ files_of (planned self.now) view.now.records) }
     {
-        listed(&Alone {}, alloc, self, view)
+        listed(&Alone {}, alloc, self, view, None)
+    }
+
+    /// The places that [`files`](Plan::files) gives. What was found ahead is taken if it is of the plan's program and
+    /// candidates.
+    pub fn files_ahead(
+        &self,
+        alloc: Global,
+        view: &View,
+        ahead: Option<&Ahead>,
+    ) -> Result<Vec<u32>, AllocError>
+        requires { IfSome ahead (λ ahead. IsAheadAt view.now.records ahead.now) }
+        ensures within { IfOk result (λ places. AreWithin view.now.records places.items) }
+        ensures files { IfOk result (λ places. records_at view.now.records places.items
+            ≡ files_of (planned self.now) view.now.records) }
+    {
+        listed(&Alone {}, alloc, self, view, ahead)
+    }
+
+    /// Another share of the plan's program.
+    pub fn shared_program(&self) -> Result<Arc<Program>, AllocError> {
+        self.program.clone()
     }
 }

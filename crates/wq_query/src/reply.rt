@@ -42,7 +42,7 @@ pub fn answer(
     ensures { IfOk result (λ v. data_of v
         ≡ reply_of (planned plan.now) (instance_data instance.now) view.now) }
 {
-    let places = listed(&Alone {}, alloc, plan, view)?;
+    let places = listed(&Alone {}, alloc, plan, view, None)?;
     let files = Value::Array(files(alloc, plan, instance, view, &places)?);
     let clock = print(instance, view.tick());
     json!(in alloc; {
@@ -65,7 +65,7 @@ pub fn answer_bytes<C: Crew>(
     ensures { IfOk result (λ text. text.items
         ≡ compact_text (reply_of (planned plan.now) (instance_data instance.now) view.now)) }
 {
-    let places = listed(crew, alloc, plan, view)?;
+    let places = listed(crew, alloc, plan, view, None)?;
     crew.print(alloc, plan, instance, view, &places)
 }
 

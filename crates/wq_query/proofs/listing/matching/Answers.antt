@@ -14,6 +14,6 @@ returns g c =
     let plan = planned c.args.plan.now in
     let raw = c.args.plan.now.program.value in
     let says : (plan.query).program ≡ None → SaysMeaning raw (plan.query).expression = search rules in
-    IfOk-weaker c.filter.result _ (λ kept. kept.items ≡ positions_of (is_match plan) records)
+    IfOk-weaker c.kept.result _ (λ kept. kept.items ≡ positions_of (is_match plan) records)
     (λ kept is. is ∙ places_kept plan raw c.deref.result.now records c.deref-2.result.now refl c.deref.ensures says (c.deref-2.ensures.value ∙ c.in_ok-places.ensures.places))
-    c.filter.ensures
+    c.kept.ensures
