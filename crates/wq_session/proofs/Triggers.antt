@@ -1,5 +1,5 @@
 -- Replies that tell triggers.
-use Rattle.std.proofs.Common.{◌≡◌, ◌+◌, ◌||◌, ℕ, zero, suc, Bool, true, false, List, [], ◌∷◌, ◌++◌, map, take, not, is_some, Option, Some, None, Result, Ok, refl, ap, sym, subst, ◌∙◌, arith, slice_get}
+use Rattle.std.proofs.Common.{◌≡◌, ◌+◌, ◌||◌, ℕ, zero, suc, Bool, true, false, List, [], ◌∷◌, ◌++◌, map, take, not, is_some, Option, Some, None, Ok, refl, ap, sym, subst, ◌∙◌, arith, slice_get}
 use Rattle.std.proofs.lemmas.List.{map-append}
 use Rattle.std.proofs.lemmas.Option.{same_Some}
 use Rattle.serde_json.specs.Data.{Data}
@@ -14,21 +14,15 @@ use Rattle.wq_registry.specs.Shelf.{ShelfData, triggers_of}
 use Rattle.wq_session.specs.Objects.{AreObjects}
 use Rattle.wq_session.proofs.Shelves.{triggers_now}
 use Rattle.wq_session.specs.Shelved.{each, shelf_data}
-use Rattle.std.specs.declared.alloc.Global.{Global}
-use Rattle.std.specs.declared.sync.Arc.{Arc}
 use Rattle.wq_base.specs.Fault.{unless_fault}
 use Rattle.wq_code.specs.declared.raw.Raw.{Raw}
-use Rattle.wq_compile.specs.Meaning.{AnswersMeaning}
 use Rattle.wq_follow.specs.Definition.{DefinitionData}
 use Rattle.wq_follow.specs.Round.{TriggerData}
-use Rattle.wq_query.specs.Query.{QueryData}
 use Rattle.wq_registry.specs.Shelf.{trigger_added}
 use Rattle.wq_ask.specs.Out.{replies}
 use Rattle.wq_ask.specs.Trigger.{trigger_reply, triggers_reply}
-use Rattle.wq_ask.specs.declared.refusal.Refusal.{Refusal}
 use Rattle.wq_ask.specs.declared.refusal.Refusal.TheVariants.{TooManyTriggers}
 use Rattle.wq_session.specs.At.{ShelfNow}
-use Rattle.wq_session.specs.Taking.{FindsProgram}
 use Rattle.wq_session.specs.Trigger.{defined_name, has_no_trigger_place, objects_of, put_trigger, trigger_called, trigger_in}
 use Rattle.wq_session.specs.Work.{WorkData, says}
 
@@ -113,12 +107,12 @@ no_objects number s values none empty =
     ∙ sym (ap objects_of (triggers_now number s ∙ ap (λ (o : Option (RootData Trigger)). each trigger_data (triggers_in o)) none))
 
 -- a trigger that was put under its name, part by part
-pub trigger_put : (root : List ℕ) (number : ℕ) (d : DefinitionData) (program : Option Raw) (shelf : ShelfNow) (name : List ℕ) (replaced : Bool)
-    (work : WorkData) (t : TriggerData) (after : ShelfNow) → name ≡ defined_name d → has_no_trigger_place number name shelf ≡ false
-    → replaced ≡ is_some (trigger_called number name shelf) → work ≡ says (replies (trigger_reply name replaced))
+pub trigger_put : (root : List ℕ) (number : ℕ) (d : DefinitionData) (program : Option Raw) (shelf : ShelfNow) (name : List ℕ) (work : WorkData)
+    (t : TriggerData) (after : ShelfNow) → name ≡ defined_name d → has_no_trigger_place number name shelf ≡ false
+    → work ≡ says (replies (trigger_reply name (is_some (trigger_called number name shelf))))
     → t ≡ trigger_in root number d program shelf → after ≡ trigger_added number name t shelf
     → put_trigger root number d program shelf ≡ Ok (record { work = work; shelf = after })
-trigger_put root number d program shelf name replaced work t after named place was said made added =
+trigger_put root number d program shelf name work t after named place said made added =
     ap (λ b. unless_fault TooManyTriggers (not b) (Ok (record {
       work = says (replies (trigger_reply (defined_name d) (is_some (trigger_called number (defined_name d) shelf))));
       shelf = trigger_added number (defined_name d) (trigger_in root number d program shelf) shelf;
@@ -127,16 +121,6 @@ trigger_put root number d program shelf name replaced work t after named place w
       work = says (replies (trigger_reply n (is_some (trigger_called number n shelf))));
       shelf = trigger_added number n (trigger_in root number d program shelf) shelf;
     })) (sym named)
-    ∙ ap (λ b. Ok (record {
-      work = says (replies (trigger_reply name b));
-      shelf = trigger_added number name (trigger_in root number d program shelf) shelf;
-    })) (sym was)
     ∙ ap (λ w. Ok (record { work = w; shelf = trigger_added number name (trigger_in root number d program shelf) shelf })) (sym said)
     ∙ ap (λ x. Ok (record { work = work; shelf = trigger_added number name x shelf })) (sym made)
     ∙ ap (λ s. Ok (record { work = work; shelf = s })) (sym added)
-
--- the program of a definition that was read answers what its expression means, unless it was named
-pub program_of : (q : QueryData) (shelf : ShelfNow) (found : Result (Arc Raw Global) Refusal) (program : Arc Raw Global) → found ≡ Ok program
-    → FindsProgram q shelf found → q.program ≡ None → AnswersMeaning program.value q.expression
-program_of q shelf found program is finds none =
-    (subst (FindsProgram q shelf) is finds).1 none

@@ -8,9 +8,9 @@ use Rattle.serde_json.specs.View.{view as data_of}
 use Rattle.wq_clock.specs.Instance.{InstanceData}
 use Rattle.wq_code.specs.declared.raw.Raw.{Raw}
 use Rattle.wq_compile.specs.Large.{is_too_large}
-use Rattle.wq_compile.specs.Meaning.{AnswersMeaning}
 use Rattle.wq_follow.specs.Defined.{definition_data}
 use Rattle.wq_follow.specs.Definition.{DefinitionData}
+use Rattle.wq_query.specs.Meaning.{AnswersWithin}
 use Rattle.wq_query.specs.Query.{QueryData, asked_of}
 use Rattle.wq_query.specs.Reading.{asks as queries}
 use Rattle.wq_query.specs.Subscribed.{subscribes}
@@ -39,13 +39,13 @@ use Rattle.wq_session.specs.declared.read_query.ReadQuery.{ReadQuery}
 use Rattle.wq_session.specs.declared.read_trigger.ReadTrigger.{ReadTrigger}
 
 -- the knowledge of the program of an expression: whether the program would be too large, the key
--- that says the expression, and a program that answers what the expression means. The last two may
--- be missing
+-- that says the expression, and a program that answers what the expression means within its
+-- measure. The last two may be missing
 abbrev pub IsLookup : ExprData → Lookup → Type 0
 IsLookup expression lookup =
     (lookup.is_large ≡ is_too_large expression)
     × IfSome lookup.key (λ key. Says key expression)
-    × IfSome lookup.program (λ program. AnswersMeaning program.value expression)
+    × IfSome lookup.program (λ program. AnswersWithin program.value expression)
 
 -- the knowledge of the program of a query that was read
 abbrev pub IsRead : ReadQuery → Type 0

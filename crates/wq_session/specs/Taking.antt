@@ -6,7 +6,7 @@ use Rattle.std.specs.declared.sync.Arc.{Arc}
 use Rattle.wq_clock.specs.declared.bound.Bound.{Bound}
 use Rattle.wq_code.specs.declared.raw.Raw.{Raw}
 use Rattle.wq_compile.specs.Large.{is_too_large}
-use Rattle.wq_compile.specs.Meaning.{AnswersMeaning}
+use Rattle.wq_query.specs.Meaning.{AnswersWithin}
 use Rattle.wq_query.specs.Query.{QueryData, SinceData}
 use Rattle.wq_registry.specs.ByName.{under}
 use Rattle.wq_ask.specs.declared.refusal.Refusal.{Refusal}
@@ -16,11 +16,11 @@ use Rattle.wq_session.specs.At.{ShelfNow}
 use Rattle.wq_session.specs.Query.{program_for, bound_at, has_place, used_at}
 
 -- the program of a query: the one that the query names, or one that answers what its expression
--- means; or the reason why there is none; or memory ran out
+-- means within its measure; or the reason why there is none; or memory ran out
 abbrev pub FindsProgram : QueryData → ShelfNow → Result (Arc Raw Global) Refusal → Type 0
 FindsProgram q shelf (Ok program) =
     (program_for q shelf ≡ Ok (option_map (λ _. program.value) q.program))
-    × (q.program ≡ None → AnswersMeaning program.value q.expression)
+    × (q.program ≡ None → AnswersWithin program.value q.expression)
 FindsProgram q shelf (Err NoMemory) = Unit {0}
 FindsProgram q shelf (Err refusal) = program_for q shelf ≡ Err refusal
 
@@ -34,7 +34,7 @@ FindsNamed name shelf (Err _) = ⊥
 -- the program of an expression
 abbrev pub FindsCompiled : QueryData → Result (Arc Raw Global) Refusal → Type 0
 FindsCompiled q (Ok program) =
-    AnswersMeaning program.value q.expression × (is_too_large q.expression ≡ false)
+    AnswersWithin program.value q.expression × (is_too_large q.expression ≡ false)
 FindsCompiled q (Err NoMemory) = Unit {0}
 FindsCompiled q (Err ProgramTooLarge) = is_too_large q.expression ≡ true
 FindsCompiled q (Err _) = ⊥

@@ -43,7 +43,8 @@ pub(crate) fn tried(
     shelf: &mut Shelf<Trigger>,
 ) -> (Result<Rest, Refusal>, Option<RootAsk>)
     requires { IsReadAt (object_in ask) (option_map at_data at) read }
-    ensures begun { Begins (tried ask (option_map at_data at.entry) (shelf_data shelf.old)) (shelf_data shelf.old)
+    ensures begun { Begins (tried ask (option_map at_data at.entry) (shelf_data shelf.old))
+        (shelf_data shelf.old)
         result.0 (shelf_data shelf.new) }
     ensures memory { IfErr result.0 (λ refusal.
         ends_session refusal ≡ false → takes_memory ask ≡ true) }
@@ -70,7 +71,8 @@ fn tried_of(
     shelf: &mut Shelf<Trigger>,
 ) -> Result<Rest, Refusal>
     requires { IsReadAt (object_of what.now) (option_map at_data at) read }
-    ensures { Begins (tried_of what.now root.now (option_map at_data at.entry) (shelf_data shelf.old))
+    ensures { Begins (tried_of what.now root.now (option_map at_data at.entry)
+        (shelf_data shelf.old))
         (shelf_data shelf.old) result (shelf_data shelf.new) }
 {
     let Some(at) = watched(root, at, shelf) else {
@@ -107,7 +109,8 @@ fn tried_there(
 
 /// The beginning of an ask of the shelf.
 fn tried_on(alloc: Global, what: ShelfAsk, shelf: &mut Shelf<Trigger>) -> Result<Rest, Refusal>
-    ensures { Begins (tried_on what (shelf_data shelf.old)) (shelf_data shelf.old) result (shelf_data shelf.new) }
+    ensures { Begins (tried_on what (shelf_data shelf.old)) (shelf_data shelf.old) result
+        (shelf_data shelf.new) }
 {
     match what {
         ShelfAsk::ListRoots => begin_list(alloc, shelf),

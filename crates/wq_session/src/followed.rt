@@ -82,7 +82,8 @@ impl Session {
 
     /// Ends the subscription of the root of this number and of this name.
     pub(crate) fn drop_called(&mut self, alloc: Global, number: u64, name: &Text) -> Out
-        ensures { (at : Option AtData) → Finishes (drops number name.now) at (follows_of self.old) result
+        ensures { (at : Option AtData)
+            → Finishes (drops number name.now) at (follows_of self.old) result
             (follows_of self.new) }
     {
         let name = name.as_str();

@@ -26,7 +26,7 @@ pub(crate) struct Lookup {
     /// The key that keeps the program of the expression. There is none if the query asks for every file, or memory ran
     /// out.
     pub(crate) key: Option<CacheKey>,
-    /// A program that answers what the expression means, once it is found or compiled.
+    /// A program that answers what the expression means within its measure, once it is found or compiled.
     pub(crate) program: Option<Arc<Program>>,
 }
 

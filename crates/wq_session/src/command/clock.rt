@@ -18,7 +18,8 @@ pub(super) fn begin_clock(
     at: At<'_>,
     shelf: &Shelf<Trigger>,
 ) -> Result<Rest, Refusal>
-    ensures { Begins (try_clock (at_data at.entry) (shelf_data shelf.now)) (shelf_data shelf.now) result
+    ensures { Begins (try_clock (at_data at.entry) (shelf_data shelf.now))
+        (shelf_data shelf.now) result
         (shelf_data shelf.now) }
 {
     let Some(view) = at.view else {

@@ -1,12 +1,17 @@
 //! The beginnings of `program-add`, `program-list` and `program-del`: the server keeps programs under names.
-ghost use Rattle.std.specs.Prelude.{◌≡◌, map, IfOk, Ok, Err};
+ghost use Rattle.std.specs.Prelude.{◌≡◌, ◌⊎◌, Err, Ok, false, is_some, length, map, true};
+ghost use Rattle.std.specs.Prelude.{IfErr, IfOk, OnErr, OnOk};
 ghost use Rattle.serde_json.specs.Data.{string};
 ghost use Rattle.serde_json.specs.View.{view as data_of};
-ghost use Rattle.wq_registry.specs.ByName.{names};
-ghost use Rattle.wq_ask.specs.Program.{programs_data};
+ghost use Rattle.wq_registry.specs.ByName.{has_no_place, names, under};
+ghost use Rattle.wq_registry.specs.Limit.{max_programs};
+ghost use Rattle.wq_registry.specs.Shelf.{with_program};
+ghost use Rattle.wq_ask.specs.Out.{replies};
+ghost use Rattle.wq_ask.specs.Program.{added_data, programs_data};
+ghost use Rattle.wq_ask.specs.declared.refusal.Refusal.TheVariants.{NoMemory, ShelfFull};
 ghost use Rattle.wq_session.specs.Program.{deleting, listing_programs, try_add};
 ghost use Rattle.wq_session.specs.Shelved.{shelf_data};
-ghost use Rattle.wq_session.specs.Work.{Begins};
+ghost use Rattle.wq_session.specs.Work.{Begins, rest_data, says};
 
 use crate::plain::Plain;
 use crate::reply::saying;
@@ -42,7 +47,8 @@ fn names(alloc: Global, shelf: &Shelf<Trigger>) -> Result<Vec<Value>, AllocError
 /// `program-list`. The reply is printed when the shelf is no longer held.
 #[tactic(auto, using(crate::proofs::Strings::plain_named))]
 pub(super) fn begin_names(alloc: Global, shelf: &Shelf<Trigger>) -> Result<Rest, Refusal>
-    ensures { Begins (Ok (listing_programs (shelf_data shelf.now))) (shelf_data shelf.now) result (shelf_data shelf.now) }
+    ensures { Begins (Ok (listing_programs (shelf_data shelf.now))) (shelf_data shelf.now) result
+        (shelf_data shelf.now) }
 {
     let value = names_reply(alloc, shelf)?;
     Ok(Rest::Prints(Plain { value }))
@@ -55,14 +61,43 @@ pub(super) fn begin_add(
     program: Program,
     shelf: &mut Shelf<Trigger>,
 ) -> Result<Rest, Refusal>
-    ensures { Begins (try_add name.now program (shelf_data shelf.old)) (shelf_data shelf.old) result (shelf_data shelf.new) }
+    ensures { Begins (try_add name.now program (shelf_data shelf.old)) (shelf_data shelf.old) result
+        (shelf_data shelf.new) }
 {
     let name = name.as_str();
+    let rest = added(alloc, name, &program, shelf)?;
+    put(name, program, shelf)?;
+    Ok(rest)
+}
+
+/// The reply to a program that is put under this name.
+fn added(
+    alloc: Global,
+    name: &str,
+    program: &Program,
+    shelf: &Shelf<Trigger>,
+) -> Result<Rest, AllocError>
+    ensures { IfOk result (λ rest. rest_data rest ≡ says (replies (added_data name.now
+        (length program.now.code) (is_some (under name.now (shelf_data shelf.now).programs))))) }
+{
     let replaced = shelf.get(name).is_some();
-    let reply = add_reply(alloc, name, program.raw().code.len(), replaced)?;
-    let rest = saying(alloc, &reply)?;
+    saying(
+        alloc,
+        &add_reply(alloc, name, program.raw().code.len(), replaced)?,
+    )
+}
+
+/// Puts a program under this name.
+fn put(name: &str, program: Program, shelf: &mut Shelf<Trigger>) -> Result<(), Refusal>
+    ensures put { OnOk result ((has_no_place max_programs name.now
+        (shelf_data shelf.old).programs ≡ false)
+        × (shelf_data shelf.new ≡ with_program name.now program (shelf_data shelf.old))) }
+    ensures kept { OnErr result (shelf_data shelf.new ≡ shelf_data shelf.old) }
+    ensures refused { IfErr result (λ refusal. (refusal ≡ NoMemory) ⊎ ((refusal ≡ ShelfFull)
+        × (has_no_place max_programs name.now (shelf_data shelf.old).programs ≡ true))) }
+{
     match shelf.add(name, program) {
-        Ok(_) => Ok(rest),
+        Ok(_) => Ok(()),
         Err(ShelfFault::NoMemory) => Err(Refusal::NoMemory),
         Err(ShelfFault::Full) => Err(Refusal::ShelfFull),
         Err(ShelfFault::NoRoot) => unreachable!(),
@@ -75,7 +110,8 @@ pub(super) fn begin_delete(
     name: &Text,
     shelf: &mut Shelf<Trigger>,
 ) -> Result<Rest, Refusal>
-    ensures { Begins (Ok (deleting name.now (shelf_data shelf.old))) (shelf_data shelf.old) result (shelf_data shelf.new) }
+    ensures { Begins (Ok (deleting name.now (shelf_data shelf.old))) (shelf_data shelf.old) result
+        (shelf_data shelf.new) }
 {
     let name = name.as_str();
     let there = shelf.get(name).is_some();

@@ -61,7 +61,8 @@ fn begin_read(
 ) -> Result<Rest, Refusal>
     requires read { IsRead read }
     requires watched { is_none (numbered root shelf.old.roots) ≡ false }
-    ensures { Begins (begun_query root tick (asked_of read.query) (shelf_data shelf.old)) (shelf_data shelf.old) result
+    ensures { Begins (begun_query root tick (asked_of read.query) (shelf_data shelf.old))
+        (shelf_data shelf.old) result
         (shelf_data shelf.new) }
 {
     let program = program_for(&read.query, &read.lookup, shelf)?;
@@ -130,7 +131,8 @@ fn move_cursor(
     shelf: &mut Shelf<Trigger>,
 ) -> Result<Bound, Refusal>
     requires { is_none (numbered root shelf.old.roots) ≡ false }
-    ensures { MovesCursor (asked_of query.now).since root tick (shelf_data shelf.old) result (shelf_data shelf.new) }
+    ensures { MovesCursor (asked_of query.now).since root tick (shelf_data shelf.old) result
+        (shelf_data shelf.new) }
 {
     let Some(name) = query.cursor() else {
         return Ok(query.bound().unwrap_or(Bound::Fresh));

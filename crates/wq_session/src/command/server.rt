@@ -13,7 +13,8 @@ use wq_registry::Shelf;
 
 /// `get-sockname`
 pub(super) fn begin_socket(alloc: Global, shelf: &Shelf<Trigger>) -> Result<Rest, Refusal>
-    ensures { Begins (Ok (telling_socket (shelf_data shelf.now))) (shelf_data shelf.now) result (shelf_data shelf.now) }
+    ensures { Begins (Ok (telling_socket (shelf_data shelf.now))) (shelf_data shelf.now) result
+        (shelf_data shelf.now) }
 {
     let reply = socket_reply(alloc, shelf.sockname())?;
     Ok(saying(alloc, &reply)?)

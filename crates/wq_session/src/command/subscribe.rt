@@ -56,7 +56,8 @@ fn begin_read(
     shelf: &Shelf<Trigger>,
 ) -> Result<Rest, Refusal>
     requires { IsRead read }
-    ensures { Begins (begun_subscription root.now name.now number (asked_of read.query) (shelf_data shelf.now))
+    ensures { Begins (begun_subscription root.now name.now number (asked_of read.query)
+        (shelf_data shelf.now))
         (shelf_data shelf.now) result (shelf_data shelf.now) }
 {
     let program = program_for(&read.query, &read.lookup, shelf)?;
@@ -69,7 +70,8 @@ fn begin_read(
 
 /// `unsubscribe`, of the root that is looked at.
 pub(super) fn begin_unsubscribe(alloc: Global, name: &Text, at: At<'_>) -> Result<Rest, Refusal>
-    ensures { (shelf : ShelfNow) → Begins (try_unsubscribe name.now (at_data at.entry) shelf) shelf result shelf }
+    ensures { (shelf : ShelfNow)
+        → Begins (try_unsubscribe name.now (at_data at.entry) shelf) shelf result shelf }
 {
     if !is_name(name) {
         return Err(Refusal::BadName);

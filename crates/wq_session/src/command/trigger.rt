@@ -1,22 +1,26 @@
 //! `trigger`, `trigger-list` and `trigger-del`: the server starts commands if files of a root changed. The object of
 //! `trigger` is read, and its expression compiled, before the shelf is held. The shelf is held to look up a program by
 //! its name, and to put the trigger under its own.
-ghost use Rattle.std.specs.Prelude.{◌≡◌, None, Ok, Some, false, is_none, map, option_map, IfOk};
+ghost use Rattle.std.specs.Prelude.{◌≡◌, ◌⊎◌, None, Ok, Some, false, is_none, is_some, map, option_map, true};
+ghost use Rattle.std.specs.Prelude.{IfErr, IfOk, OnErr, OnOk};
 ghost use Rattle.serde_json.specs.Data.{Data};
 ghost use Rattle.serde_json.specs.View.{items_of, view as data_of};
 ghost use Rattle.serde_json.specs.Written.{items_have_float};
-ghost use Rattle.wq_compile.specs.Meaning.{AnswersMeaning};
 ghost use Rattle.wq_follow.specs.Defined.{definition_data};
+ghost use Rattle.wq_query.specs.Meaning.{AnswersWithin};
 ghost use Rattle.wq_registry.specs.Root.{numbered};
-ghost use Rattle.wq_registry.specs.Shelf.{triggers_of};
+ghost use Rattle.wq_follow.specs.Followed.{trigger_data};
+ghost use Rattle.wq_registry.specs.Shelf.{trigger_added, triggers_of};
+ghost use Rattle.wq_ask.specs.Out.{replies};
+ghost use Rattle.wq_ask.specs.declared.refusal.Refusal.TheVariants.{NoMemory, TooManyTriggers};
 ghost use Rattle.wq_ask.specs.Trigger.{trigger_deleted_reply, trigger_reply, triggers_reply};
 ghost use Rattle.wq_session.specs.At.{at_data};
 ghost use Rattle.wq_session.specs.Prepared.{AreRead, IsReadAt, IsReadTrigger, asks_trigger};
 ghost use Rattle.wq_session.specs.Shelved.{shelf_data};
 ghost use Rattle.wq_session.specs.Objects.{AreObjects};
-ghost use Rattle.wq_session.specs.Trigger.{begun_trigger, objects_of, put_trigger};
-ghost use Rattle.wq_session.specs.Trigger.{listing_triggers, try_delete_trigger, try_trigger};
-ghost use Rattle.wq_session.specs.Work.{Begins};
+ghost use Rattle.wq_session.specs.Trigger.{begun_trigger, has_no_trigger_place, objects_of, put_trigger};
+ghost use Rattle.wq_session.specs.Trigger.{listing_triggers, trigger_called, try_delete_trigger, try_trigger};
+ghost use Rattle.wq_session.specs.Work.{Begins, rest_data, says};
 
 use crate::at::At;
 use crate::command::query::program_for;
@@ -87,7 +91,7 @@ fn add(
     shelf: &mut Shelf<Trigger>,
 ) -> Result<Rest, Refusal>
     requires program { ((definition_data definition).query).program ≡ None
-        → AnswersMeaning program.value ((definition_data definition).query).expression }
+        → AnswersWithin program.value ((definition_data definition).query).expression }
     requires watched { is_none (numbered number shelf.old.roots) ≡ false }
     ensures { Begins (put_trigger root number (definition_data definition)
         (option_map (λ _. program.value) ((definition_data definition).query).program)
@@ -95,12 +99,34 @@ fn add(
 {
     let name = Text::copied(alloc, definition.name())?;
     let name = name.as_str();
-    let reply = trigger_reply(alloc, name, has_trigger(shelf, number, name))?;
-    let rest = saying(alloc, &reply)?;
+    let rest = added(alloc, name, number, shelf)?;
     let running = run_of(shelf, number, name);
     let trigger = Trigger::new(definition, root, program, running);
+    put(name, trigger, number, shelf)?;
+    Ok(rest)
+}
+
+/// The reply to a trigger of a root that is put under this name.
+fn added(alloc: Global, name: &str, number: u64, shelf: &Shelf<Trigger>) -> Result<Rest, AllocError>
+    ensures { IfOk result (λ rest. rest_data rest ≡ says (replies (trigger_reply name.now
+        (is_some (trigger_called number name.now (shelf_data shelf.now)))))) }
+{
+    let replaced = has_trigger(shelf, number, name);
+    saying(alloc, &trigger_reply(alloc, name, replaced)?)
+}
+
+/// Puts a trigger of a root under this name.
+fn put(name: &str, trigger: Trigger, number: u64, shelf: &mut Shelf<Trigger>) -> Result<(), Refusal>
+    requires { is_none (numbered number shelf.old.roots) ≡ false }
+    ensures put { OnOk result ((has_no_trigger_place number name.now (shelf_data shelf.old) ≡ false)
+        × (shelf_data shelf.new
+        ≡ trigger_added number name.now (trigger_data trigger) (shelf_data shelf.old))) }
+    ensures kept { OnErr result (shelf_data shelf.new ≡ shelf_data shelf.old) }
+    ensures refused { IfErr result (λ refusal. (refusal ≡ NoMemory) ⊎ ((refusal ≡ TooManyTriggers)
+        × (has_no_trigger_place number name.now (shelf_data shelf.old) ≡ true))) }
+{
     match add_trigger(shelf, number, name, trigger) {
-        Ok(_) => Ok(rest),
+        Ok(_) => Ok(()),
         Err(ShelfFault::NoMemory) => Err(Refusal::NoMemory),
         Err(ShelfFault::Full) => Err(Refusal::TooManyTriggers),
         Err(ShelfFault::NoRoot) => unreachable!(),
@@ -114,7 +140,8 @@ pub(super) fn begin_list_triggers(
     at: At<'_>,
     shelf: &Shelf<Trigger>,
 ) -> Result<Rest, Refusal>
-    ensures { Begins (Ok (listing_triggers (at_data at.entry) (shelf_data shelf.now))) (shelf_data shelf.now)
+    ensures { Begins (Ok (listing_triggers (at_data at.entry) (shelf_data shelf.now)))
+        (shelf_data shelf.now)
         result (shelf_data shelf.now) }
 {
     let objects = objects_on(alloc, shelf, at.instance.root)?;

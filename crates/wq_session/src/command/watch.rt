@@ -59,7 +59,8 @@ pub(super) fn begin_watch(
     at: Option<At<'_>>,
     shelf: &mut Shelf<Trigger>,
 ) -> Result<Rest, Refusal>
-    ensures { Begins (try_watch root.now (option_map at_data at.entry) (shelf_data shelf.old)) (shelf_data shelf.old)
+    ensures { Begins (try_watch root.now (option_map at_data at.entry) (shelf_data shelf.old))
+        (shelf_data shelf.old)
         result (shelf_data shelf.new) }
 {
     let Some(at) = at else {
@@ -77,7 +78,8 @@ fn put_root(root: &str, number: u64, shelf: &mut Shelf<Trigger>) -> Result<(), R
         × ((shelf_data shelf.new) ≡ root_added root.now number (shelf_data shelf.old))) }
     ensures kept { OnErr result ((shelf_data shelf.new) ≡ (shelf_data shelf.old)) }
     ensures refused { IfErr result (λ refusal. (refusal ≡ NoMemory)
-        ⊎ ((refusal ≡ TooManyRoots) × (root_has_no_place root.now number (shelf_data shelf.old) ≡ true))) }
+        ⊎ ((refusal ≡ TooManyRoots) × (root_has_no_place root.now number
+        (shelf_data shelf.old) ≡ true))) }
 {
     match add_root(shelf, root, number) {
         Ok(()) => Ok(()),
@@ -89,7 +91,8 @@ fn put_root(root: &str, number: u64, shelf: &mut Shelf<Trigger>) -> Result<(), R
 /// `watch-list`. The reply is printed when the shelf is no longer held.
 #[tactic(auto, using(crate::proofs::Strings::plain_rooted))]
 pub(super) fn begin_list(alloc: Global, shelf: &Shelf<Trigger>) -> Result<Rest, Refusal>
-    ensures { Begins (Ok (listing_roots (shelf_data shelf.now))) (shelf_data shelf.now) result (shelf_data shelf.now) }
+    ensures { Begins (Ok (listing_roots (shelf_data shelf.now))) (shelf_data shelf.now) result
+        (shelf_data shelf.now) }
 {
     let value = list_reply(alloc, shelf)?;
     Ok(Rest::Prints(Plain { value }))
@@ -102,7 +105,8 @@ pub(super) fn begin_unwatch(
     at: Option<At<'_>>,
     shelf: &mut Shelf<Trigger>,
 ) -> Result<Rest, Refusal>
-    ensures { Begins (try_unwatch root.now (option_map at_data at.entry) (shelf_data shelf.old)) (shelf_data shelf.old)
+    ensures { Begins (try_unwatch root.now (option_map at_data at.entry) (shelf_data shelf.old))
+        (shelf_data shelf.old)
         result (shelf_data shelf.new) }
 {
     let Some(at) = watched(root, at, shelf) else {

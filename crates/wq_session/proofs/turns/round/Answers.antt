@@ -10,8 +10,8 @@ pub loop-k-init : goal.loop-k-init
 loop-k-init g c =
     none_had (instance_data c.args.instance.now) c.args.view.now (shelf_data c.args.shelf.now) (g.L.Launch.shown c.args.launcher.now) (g.L.Launch.failures_of c.args.launcher.now)
 
-pub fire_at-requires : goal.fire_at-requires
-fire_at-requires g c =
+pub fire_at-requires-clause-place : goal.fire_at-requires-clause-place
+fire_at-requires-clause-place g c =
     let more : c.loop-k.k < length (triggers_of c.args.instance.now.root (shelf_data c.args.shelf.now)) =
     subst (λ n. c.loop-k.k < n) c.count_of-count.ensures c.loop-k-test.true in
     as_many_now (instance_data c.args.instance.now) c.args.view.now (shelf_data c.args.shelf.now) (g.L.Launch.shown c.args.launcher.now) (g.L.Launch.failures_of c.args.launcher.now)

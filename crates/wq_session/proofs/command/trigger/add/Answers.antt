@@ -11,17 +11,18 @@ use Rattle.wq_session.specs.Trigger.{defined_name, has_no_trigger_place, trigger
 use Rattle.wq_session.specs.Work.{says, rest_data}
 use Rattle.wq_session.proofs.command.trigger.add.Goals as goal
 
-pub returns-in-Ok : goal.returns-in-Ok
-returns-in-Ok c =
+pub returns : goal.returns
+returns c =
     let d = definition_data c.args.definition in
     let program = option_map (λ _. c.args.program.value) (d.query).program in
     let shelf = shelf_data c.args.shelf.now in
     let name : c.as_str-name.result.now ≡ defined_name d = search rules in
     let place : has_no_trigger_place c.args.number c.as_str-name.result.now shelf ≡ false = search rules in
-    let replaced : c.has_trigger.result ≡ is_some (trigger_called c.args.number c.as_str-name.result.now shelf) = search rules in
-    let says : rest_data c.in_ok-rest.rest ≡ says (replies (trigger_reply c.as_str-name.result.now c.has_trigger.result)) = search rules in
-    let made : trigger_data c.new-trigger.result ≡ trigger_in c.args.root c.args.number d program shelf = search rules in
-    let added : shelf_data c.add_trigger.new.shelf ≡ trigger_added c.args.number c.as_str-name.result.now (trigger_data c.new-trigger.result) shelf =
+    let says : rest_data c.in_ok-rest.rest
+    ≡ says (replies (trigger_reply c.as_str-name.result.now (is_some (trigger_called c.args.number c.as_str-name.result.now shelf)))) =
     search rules in
-    trigger_put c.args.root c.args.number d program shelf c.as_str-name.result.now c.has_trigger.result (rest_data c.in_ok-rest.rest)
-    (trigger_data c.new-trigger.result) (shelf_data c.add_trigger.new.shelf) name place replaced says made added
+    let made : trigger_data c.new-trigger.result ≡ trigger_in c.args.root c.args.number d program shelf = search rules in
+    let added : shelf_data c.put.new.shelf ≡ trigger_added c.args.number c.as_str-name.result.now (trigger_data c.new-trigger.result) shelf =
+    search rules in
+    trigger_put c.args.root c.args.number d program shelf c.as_str-name.result.now (rest_data c.in_ok-rest.rest)
+    (trigger_data c.new-trigger.result) (shelf_data c.put.new.shelf) name place says made added

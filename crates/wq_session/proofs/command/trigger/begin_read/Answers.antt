@@ -1,4 +1,4 @@
--- The program answers what the expression of the definition means, unless it was named.
+-- The program answers what the expression of the definition means within its measure, unless it was named.
 use Rattle.std.proofs.Common.{Ok, subst}
 use Rattle.wq_query.specs.Query.{QueryData}
 use Rattle.wq_session.specs.Shelved.{shelf_data}

@@ -1,7 +1,8 @@
--- The program that is compiled answers what the expression means.
+-- The program that is compiled answers what the expression means within its measure.
 use Rattle.std.proofs.Common.{◌≤◌, sym, subst, ◌∙◌}
 use Rattle.wq_compile.specs.Cost.{most_steps_of}
 use Rattle.wq_compile.specs.Meaning.{AnswersMeaning}
+use Rattle.wq_query.specs.Meaning.{AnswersWithin}
 use Rattle.wq_verify.specs.Budget.{budget_of}
 use Rattle.wq_view.specs.Limit.{max_name}
 use Rattle.wq_session.proofs.lookup.Lookup.compiled_now.Goals as goal
@@ -18,5 +19,5 @@ pub returns : goal.returns
 returns c = (
   c.requires.lookup.0,
   tt,
-  subst (AnswersMeaning c.in-Ok.program.value) c.expr.ensures.value c.in-Ok.ensures.meaning,
+  subst (AnswersWithin c.in-Ok.program.value) c.expr.ensures.value (c.in-Ok.ensures.meaning, c.in-Ok.ensures.cost),
 )
