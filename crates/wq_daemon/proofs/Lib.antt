@@ -1,4 +1,1 @@
-mod Cycles
-mod Levels
 pub mod Sharing
-mod Shares

@@ -2,10 +2,6 @@
 ghost use Rattle.std.specs.Prelude.{◌≡◌};
 
 use crate::lock_host::LockHost;
-use crate::pace::Pace;
-use crate::running::run;
-use crate::socket::Listening;
-use crate::told_tree::ToldTree;
 use std::alloc::Global;
 use std::io;
 use std::sync::atomic::AtomicU64;
@@ -19,6 +15,7 @@ use wq_launch::{Notices, Spawn};
 use wq_live::{Blank, Named};
 use wq_registry::Cache;
 use wq_serve::SharedShelf;
+use wq_server::{Listening, Pace, ToldTree, run};
 
 /// How many seats a server has: one for each session, one for idle moments, one for rounds of triggers, and a few more.
 pub const SEATS: usize = 48;

@@ -49,7 +49,7 @@ impl Callers {
     }
 
     /// Whether a call waits.
-    fn is_any(&self) -> bool {
+    pub(crate) fn is_any(&self) -> bool {
         self.count.load(Ordering::SeqCst) > 0
     }
 }

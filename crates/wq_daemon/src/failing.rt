@@ -1,6 +1,7 @@
 //! The roots that could not be crawled by a round when it last tried, and why. So the operator hears of each fault once.
 
-use std::alloc::Global;
+use serde_json::Value;
+use std::alloc::{AllocError, Global};
 use wq_crawl::CrawlFault;
 
 /// A root that could not be crawled.
@@ -47,4 +48,25 @@ impl Failing {
         self.failed.retain(|it| it.number != number);
         self.failed.len() < count
     }
+}
+
+/// The line to the operator about a root that cannot be crawled.
+pub(crate) fn fault_line(
+    alloc: Global,
+    root: &str,
+    fault: CrawlFault,
+) -> Result<String, AllocError> {
+    let root = quoted(alloc, root)?;
+    Ok(format!(in alloc; "{root}: {fault}")?)
+}
+
+/// The line to the operator about a root that is crawled again after it could not be.
+pub(crate) fn back_line(alloc: Global, root: &str) -> Result<String, AllocError> {
+    let root = quoted(alloc, root)?;
+    Ok(format!(in alloc; "{root}: the root is crawled again")?)
+}
+
+/// A root as JSON, which is one line whatever the root's bytes are.
+fn quoted(alloc: Global, root: &str) -> Result<String, AllocError> {
+    Value::try_from_str(alloc, root)?.to_string(alloc)
 }

@@ -2,16 +2,8 @@
 //! lock of its own. A look at files takes no lock, and neither does a listing of them.
 
 use crate::callers::Callers;
-use crate::clients::MAX_SESSIONS;
-use crate::failing::Failing;
-use crate::host::Host;
-use crate::lines::{back_line, fault_line};
-use crate::moments::RootNumbers;
-use crate::recipient::Recipient;
-use crate::refusal::refuse;
+use crate::failing::{Failing, back_line, fault_line};
 use crate::rounds::Rounds;
-use crate::stop::Stop;
-use crate::timing::time_since;
 use crate::waiting_roots::WaitingRoots;
 use std::alloc::{AllocError, Global};
 use std::io::Write;
@@ -20,13 +12,15 @@ use std::sync::{Arc, Mutex, Wait};
 use std::thread::Threads;
 use std::time::{Clock, Duration, Instant};
 use wq_ask::Refusal;
-use wq_base::Workers;
+use wq_base::{Asker, Workers};
 use wq_clock::Run;
 use wq_crawl::{Asked, CrawlFault, Crawler, LockRoots, Seconds, SharedCrawler, Tree};
 use wq_follow::Trigger;
 use wq_launch::{MAX_RUNS, Notices, Run as StartedRun, Runs, Spawn};
 use wq_live::{Named, Seat};
-use wq_serve::{Ended, Inbox, Kept, LockDesk, ReachedShelf, SeatViews, SharedShelf, serve};
+use wq_serve::{Ended, Kept, LockDesk, ReachedShelf, SeatViews, SharedShelf, serve};
+use wq_server::{Host, MAX_SESSIONS, Reader, RootNumbers, Stop, refuse, time_since};
+use wq_stream::Inbox;
 
 /// How many walks of a root a round gives up, before it waits for the crawler as a client does.
 const MOST_GIVEN_UP: usize = 4;
@@ -120,9 +114,13 @@ where
     }
 
     /// The roots, for a session.
-    fn waiting_roots(&self) -> Result<WaitingRoots<N, R, T, S>, AllocError> {
+    fn waiting_roots<'a, A: Reader>(
+        &self,
+        reader: &'a A,
+    ) -> Result<WaitingRoots<'a, N, R, T, S, A>, AllocError> {
         Ok(WaitingRoots {
             rt: self.rt,
+            reader,
             roots: LockRoots::new(self.crawler.clone()?, self.rt, self.workers),
             callers: self.callers.clone()?,
         })
@@ -295,14 +293,14 @@ where
         self.notices.tell(&self.greeting);
     }
 
-    fn serve<H: Threads + Sync, I: Inbox, W: Write>(
+    fn serve<H: Threads + Sync, A: Asker + Reader, I: Inbox, W: Write>(
         &self,
         threads: &H,
-        recipient: &Recipient<'_>,
+        client: &A,
         inbox: &mut I,
         writer: &mut W,
     ) -> bool {
-        let (Ok(roots), Ok(mut desk)) = (self.waiting_roots(), self.lock_desk()) else {
+        let (Ok(roots), Ok(mut desk)) = (self.waiting_roots(client), self.lock_desk()) else {
             refuse(writer, Refusal::NoMemory);
             return false;
         };
@@ -313,7 +311,7 @@ where
         let run = self.run;
         let views = SeatViews { run, seat, roots };
         let Ended { views, shut, .. } = serve(
-            threads, self.alloc, recipient, inbox, writer, views, &mut desk,
+            threads, self.alloc, client, inbox, writer, views, &mut desk,
         );
         self.give_seat(views.seat);
         shut
@@ -355,6 +353,21 @@ where
         self.rounds.fire(number, &*self.shelf);
         self.tell_of_starts();
         worked.saturating_add(time_since(&self.rt, began))
+    }
+
+    fn glance(&self, number: u64, since: i64) {
+        // The walk for a client that waits brings all changes.
+        if self.callers.is_any() {
+            return;
+        }
+        // If memory runs out for the text, there is no glance in this round.
+        let Some(root) = self.text(number) else {
+            return;
+        };
+        if self.crawler.glance(&self.rt, &root, since) == Ok(true) {
+            self.rounds.fire(number, &*self.shelf);
+            self.tell_of_starts();
+        }
     }
 
     fn end_walk(&self) {

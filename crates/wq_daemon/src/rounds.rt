@@ -1,12 +1,16 @@
-//! Rounds of triggers: a round looks at the root, and then holds the shelf while it makes the
-//! batches of the triggers and starts their commands.
+//! Rounds of triggers. A round looks at the root and runs the programs of its triggers. Then it
+//! holds the shelf while it makes the batches of the triggers and starts their commands.
+ghost use Rattle.std.specs.Prelude.{IfSome};
+ghost use Rattle.wq_query.specs.Ahead.{AreAheadAt, IsAheadAt};
 
 use std::alloc::{AllocError, Global};
 use std::sync::{Arc, Mutex, Wait};
-use wq_clock::{Instance, Run};
+use wq_clock::{Bound, Instance, Run};
 use wq_launch::{Launcher, Runs, Spawn};
 use wq_live::{Named, Seat};
+use wq_query::Ahead;
 use wq_serve::SharedShelf;
+use wq_verify::Program;
 use wq_view::View;
 
 /// The parts for rounds of triggers. A round takes their locks while it holds the shelf, and never the other way round.
@@ -85,11 +89,54 @@ where
     }
 
     /// Has a round of the triggers of a root at a view of it. It locks the shelf first, and then the launcher.
+    ///
+    /// The triggers' programs run before that, so that no client waits for them. A trigger that came since then has its
+    /// program run under the lock.
     fn fire_at(&self, instance: &Instance, view: &View, shelf: &Mutex<SharedShelf>) {
+        let asks = self.asks(instance.root, view.tick(), shelf);
+        let ahead = self.found(asks, view);
         let mut shelf = shelf.lock(&self.rt);
         let mut launcher = self.launcher.lock(&self.rt);
-        shelf.round(self.alloc, instance, view, &mut *launcher);
+        shelf.round(self.alloc, instance, view, ahead.as_slice(), &mut *launcher);
     }
+
+    /// What a round at a view of this tick asks for each trigger of the root of this number. If memory runs out, it is
+    /// nothing.
+    fn asks(
+        &self,
+        number: u64,
+        tick: u64,
+        shelf: &Mutex<SharedShelf>,
+    ) -> Vec<Option<(Arc<Program>, Bound)>> {
+        let shelf = shelf.lock(&self.rt);
+        let mut launcher = self.launcher.lock(&self.rt);
+        match shelf.asks(self.alloc, number, tick, &mut *launcher) {
+            Ok(asks) => asks,
+            Err(_) => Vec::new(self.alloc),
+        }
+    }
+
+    /// What the programs keep at the view, each in its place. If memory runs out, what is missing is found in the round.
+    fn found(&self, asks: Vec<Option<(Arc<Program>, Bound)>>, view: &View) -> Vec<Option<Ahead>>
+        ensures { AreAheadAt view.now.records result.items }
+    {
+        let mut ahead = Vec::new(self.alloc);
+        for ask in asks {
+            if ahead.push(found_one(self.alloc, ask, view)).is_err() {
+                break;
+            }
+        }
+        ahead
+    }
+}
+
+/// What a program keeps at the view of the files that changed after a bound. It is nothing if nothing was asked, or if
+/// memory runs out.
+fn found_one(alloc: Global, ask: Option<(Arc<Program>, Bound)>, view: &View) -> Option<Ahead>
+    ensures { IfSome result (IsAheadAt view.now.records) }
+{
+    let (program, bound) = ask?;
+    Ahead::new(alloc, program, bound, view).ok()
 }
 
 /// Whether the root of this number is on the shelf and has triggers.

@@ -1,4 +1,3 @@
-pub mod Inbox
 pub mod Run
 pub mod Basis
 pub mod Ready

@@ -18,7 +18,7 @@ use Rattle.wq_live.specs.declared.event.RootEvent.{RootEvent}
 use Rattle.wq_session.specs.Desk.{StandData}
 use Rattle.wq_session.specs.Views.{ReadyData, Replies}
 use Rattle.wq_serve.specs.Idling.{IsIdled}
-use Rattle.wq_serve.specs.Inbox.{Hands}
+use Rattle.wq_stream.specs.Inbox.{Hands}
 use Rattle.wq_serve.specs.Limit.{max_events}
 use Rattle.wq_serve.specs.Ready.{KnownData, Readies, known}
 use Rattle.wq_crawl.specs.Crawl.{CrawlerData}

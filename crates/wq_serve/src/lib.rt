@@ -7,7 +7,6 @@
 #![tactic(auto)]
 
 mod idling;
-mod inbox;
 mod kept;
 mod law;
 mod lock_desk;
@@ -18,7 +17,6 @@ mod serving;
 mod shared_shelf;
 mod writing;
 
-pub use inbox::{Inbox, MemoryInbox};
 pub use kept::Kept;
 pub use law::accepted_stays;
 pub use lock_desk::LockDesk;

@@ -19,7 +19,8 @@ pub(crate) fn share_for<N: Named>(
     root: &str,
     look: &Look<N>,
 ) -> Result<Option<RootAt>, AllocError>
-    ensures shared { IfOk result (λ at. ShowsAt run root.now look.now (option_map root_at_data at)) }
+    ensures shared { IfOk result
+        (λ at. ShowsAt run root.now look.now (option_map root_at_data at)) }
     ensures short { IfErr result (λ _. (at : AtData) × ShowsAt run root.now look.now (Some at)) }
 {
     match number_of(run, root, look) {

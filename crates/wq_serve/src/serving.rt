@@ -6,7 +6,6 @@ ghost use Rattle.wq_serve.specs.Serving.{IsServed, Serves, place};
 ghost use Rattle.wq_session.specs.Followed.{follows_of};
 ghost use Rattle.wq_stream.specs.declared.event.Event.{Event};
 
-use crate::inbox::Inbox;
 use crate::seat_views::SeatViews;
 use crate::writing::write_out;
 use std::alloc::Global;
@@ -18,7 +17,7 @@ use wq_crawl::Roots;
 use wq_live::Named;
 use wq_query::Several;
 use wq_session::{Desk, Session};
-use wq_stream::Event;
+use wq_stream::{Event, Inbox};
 
 /// The most events that a session takes, 2^62.
 pub const MAX_EVENTS: u64 = 1 << 62;

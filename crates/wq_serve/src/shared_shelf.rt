@@ -1,6 +1,7 @@
 //! A shelf that many sessions share, one at a time.
 ghost use Rattle.std.specs.Prelude.{◌≡◌, IfSome, string_bytes};
 ghost use Rattle.wq_clock.specs.Instance.{instance_data};
+ghost use Rattle.wq_query.specs.Ahead.{AreAheadAt};
 ghost use Rattle.wq_registry.specs.Kept.{StandsFor};
 ghost use Rattle.wq_registry.specs.Shelf.{blank, cursor_unset};
 ghost use Rattle.wq_session.specs.Reached.{IsReached, ReachedByCalls, ReachedProgramsAreValid};
@@ -11,12 +12,13 @@ ghost use Rattle.wq_session.specs.Shelved.{shelf_data};
 ghost use Rattle.wq_session.specs.Work.{work_data};
 
 use crate::kept::Kept;
-use std::alloc::Global;
+use std::alloc::{AllocError, Global};
 use std::marker::Model;
 use std::sync::Arc;
 use wq_ask::Cursor;
-use wq_clock::Instance;
+use wq_clock::{Bound, Instance};
 use wq_follow::{Launch, Trigger};
+use wq_query::Ahead;
 use wq_registry::{Cache, CacheKey, Compiled, Forgotten, Root, Shelf};
 use wq_session::{Turn, Unset, Work, added_are_asked, answers_are_calls, round, rounds_are_calls};
 use wq_verify::Program;
@@ -103,20 +105,41 @@ impl ReachedShelf<Trigger> {
         Unset::on(&mut self.shelf, cursor)
     }
 
+    /// What a round at a view of this tick asks for each trigger of a root, in their order ([`Trigger::asks`]).
+    pub fn asks<L: Launch>(
+        &self,
+        alloc: Global,
+        number: u64,
+        tick: u64,
+        launcher: &mut L,
+    ) -> Result<Vec<Option<(Arc<Program>, Bound)>>, AllocError> {
+        let mut asks = Vec::new(alloc);
+        if let Some(root) = self.shelf.root(number) {
+            for k in 0..root.trigger_count() {
+                if let Some((_, trigger)) = root.trigger_at(k) {
+                    asks.push(trigger.asks(tick, launcher))?;
+                }
+            }
+        }
+        Ok(asks)
+    }
+
     /// A round of the triggers of a root, at a view of it ([`round`](wq_session::round)).
     pub fn round<L: Launch>(
         &mut self,
         alloc: Global,
         instance: &Instance,
         view: &View,
+        ahead: &[Option<Ahead>],
         launcher: &mut L,
     )
+        requires { AreAheadAt view.now.records ahead.now }
         ensures reached { IsReached (shelf_data self.old) }
         ensures round { IsCountedRound (instance_data instance.now) view.now (shelf_data self.old)
             (L.shown launcher.old) (L.failures_of launcher.old) (shelf_data self.new)
             (L.shown launcher.new) (L.failures_of launcher.new) }
     {
-        round(alloc, instance, view, &mut self.shelf, launcher);
+        round(alloc, instance, view, &mut self.shelf, ahead, launcher);
     }
 }
 

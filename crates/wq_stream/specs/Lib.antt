@@ -4,3 +4,4 @@ pub mod Line
 pub mod Told
 pub mod Law
 pub mod Queue
+pub mod Inbox

@@ -31,5 +31,6 @@ Puts event old false new = new ≡ closed
 -- waits
 abbrev pub TakesFirst : QueueData → Option Event → QueueData → Type 0
 TakesFirst old (Some event) new = (new.is_closed ≡ old.is_closed)
-    × (old.is_closed ≡ true → event ≡ End) × (old.is_closed ≡ false → old.events ≡ event ∷ new.events)
+    × (old.is_closed ≡ true → event ≡ End)
+    × (old.is_closed ≡ false → old.events ≡ event ∷ new.events)
 TakesFirst old None new = (old.is_closed ≡ false) × (old.events ≡ []) × (new ≡ old)

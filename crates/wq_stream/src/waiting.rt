@@ -26,7 +26,8 @@ impl Model for Waiting {
 
     ghost view = { λ w. record { events = w.events.items; is_closed = w.is_closed } };
 
-    ghost invariant = { λ w. (count_of w.events.items ≤ most_waiting) × (w.is_closed ≡ true → w.events.items ≡ []) };
+    ghost invariant = { λ w. (count_of w.events.items ≤ most_waiting)
+        × (w.is_closed ≡ true → w.events.items ≡ []) };
 }
 
 impl Waiting {
@@ -42,7 +43,8 @@ impl Waiting {
 
     /// Whether a thread that puts an event has to wait.
     pub fn is_full(&self) -> bool
-        ensures { IsTrue result ↔ ((self.now.is_closed ≡ false) × (count_of self.now.events ≡ most_waiting)) }
+        ensures { IsTrue result ↔ ((self.now.is_closed ≡ false)
+            × (count_of self.now.events ≡ most_waiting)) }
     {
         !self.is_closed && self.events.len() == MAX_WAITING
     }

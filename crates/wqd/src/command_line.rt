@@ -7,7 +7,7 @@ use clap::{Arg, ArgMatches, Command, Error};
 use std::alloc::{AllocError, AllocFailed, Global};
 use wq_base::{MAX_NUMBER, MAX_WORKERS, Workers, unsigned_number};
 use wq_clock::Run;
-use wq_daemon::Share;
+use wq_server::Share;
 
 /// How many milliseconds lie between two rounds of crawls, if the command line does not say it.
 const INTERVAL: u64 = 1_000;

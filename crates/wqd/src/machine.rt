@@ -11,9 +11,10 @@ use std::time::{Clock, CpuClock, Duration};
 use wq_base::Workers;
 use wq_clock::Run;
 use wq_crawl::{Seconds, Tree};
-use wq_daemon::{Listening, Notices, Pace, Parts, SEATS, Share, listen, remove, serve_clients};
-use wq_launch::Spawn;
+use wq_daemon::{Parts, SEATS, serve_clients};
+use wq_launch::{Notices, Spawn};
 use wq_live::Blank;
+use wq_server::{Listening, Pace, Share, listen, remove};
 
 /// The settings of the server that the command line gives.
 #[derive(Drop)]

@@ -1,6 +1,6 @@
 //! The file watch server's program: the command line, files, standard streams and exit statuses.
-//! `wq_daemon` has the server, `wq_walk` walks trees for it and `wq_launch` starts commands for it;
-//! `wq_replay` replays a script, and `wq_verify` describes program files.
+//! `wq_server` has the server's threads and `wq_daemon` their work, `wq_walk` walks trees for it and `wq_launch` starts
+//! commands for it; `wq_replay` replays a script, and `wq_verify` describes program files.
 #![tactic(auto)]
 
 mod command_line;

@@ -5,7 +5,7 @@ use Rattle.std.proofs.MapsCrossing.{crosses as maps}
 use Rattle.wq_daemon.proofs.Sharing.{trigger_send}
 use Rattle.wq_daemon.proofs.assembly.serve_clients.Goals as goal
 use Rattle.wq_daemon.proofs.lock_host.LockHost.TheSendSync as LockHost
-use Rattle.wq_daemon.proofs.told_tree.ToldTree.TheSendSync as ToldTree
+use Rattle.wq_server.proofs.told_tree.ToldTree.TheSendSync as ToldTree
 
 pub run-requires-send-H : goal.run-requires-send-H
 run-requires-send-H g c κs within =

@@ -1,7 +1,7 @@
 -- Each event but an idle moment asks something.
 use Rattle.std.proofs.Common.{rules}
 use Rattle.wq_serve.specs.Ready.{known}
-use Rattle.wq_serve.specs.Inbox.{Hands}
+use Rattle.wq_stream.specs.Inbox.{Hands}
 use Rattle.wq_session.specs.Desk.{stand}
 use Rattle.wq_session.specs.Followed.{follows_of}
 use Rattle.wq_serve.specs.Basis.{basis_of}

@@ -1,0 +1,3 @@
+mod Cycles
+mod Levels
+mod Shares

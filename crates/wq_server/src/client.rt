@@ -1,0 +1,98 @@
+//! The two threads of one client: one reads its stream, and one runs its session.
+
+use crate::host::Host;
+use crate::link::Link;
+use crate::link_inbox::LinkInbox;
+use crate::recipient::{Recipient, ReplyWriter};
+use crate::refusal::refuse;
+use crate::server::Server;
+use crate::stream_reader::read_all;
+use crate::turnstile::Pass;
+use std::alloc::Global;
+use std::os::unix::net::UnixStream;
+use std::sync::{Arc, Wait};
+use std::thread::{self, JoinHandle, Threads};
+use std::time::Clock;
+use wq_ask::Refusal;
+
+/// Runs a client's session to its end, with a thread that reads its stream. If the session asked
+/// for it, the server ends. The handle of the client's stream is given back when the session has
+/// ended.
+///
+/// If no thread can be made, the client is told so and the session ends at once.
+pub(crate) fn run_client<R, H>(
+    rt: R,
+    alloc: Global,
+    link: Arc<Link>,
+    stream: Arc<UnixStream>,
+    server: &Arc<Server<H>>,
+)
+where
+    R: Threads + Wait + Clock + Copy + Drop + Send + Sync + 'static,
+    H: Host + Drop + Send + Sync + 'static,
+{
+    let has_asked = match begin_reading(rt, alloc, &link, &stream) {
+        Some(reader) => {
+            let has_asked = run_session(rt, &link, &stream, server);
+            link.end(&rt);
+            reader.join(&rt);
+            has_asked
+        }
+        None => {
+            refuse(&mut &*stream, Refusal::NoMemory);
+            link.end(&rt);
+            false
+        }
+    };
+    if has_asked {
+        server.end(&rt);
+    }
+    drop(stream);
+    link.set_over(&rt);
+}
+
+/// Starts the thread that reads a client's stream.
+fn begin_reading<R>(
+    rt: R,
+    alloc: Global,
+    link: &Arc<Link>,
+    stream: &Arc<UnixStream>,
+) -> Option<JoinHandle<()>>
+where
+    R: Threads + Wait + Clock + Copy + Drop + Send + Sync + 'static,
+{
+    let (theirs, stream) = (link.clone().ok()?, stream.clone().ok()?);
+    thread::spawn(&rt, move || {
+        read_all(&rt, alloc, &mut &*stream, &theirs.queue)
+    })
+    .ok()
+}
+
+/// Runs a client's session, and says whether it asked that the server ends.
+fn run_session<R, H>(rt: R, link: &Arc<Link>, mut stream: &UnixStream, server: &Server<H>) -> bool
+where
+    R: Threads + Wait + Clock + Copy + Drop + Sync,
+    H: Host + Drop,
+{
+    let Ok(theirs) = link.clone() else {
+        refuse(&mut stream, Refusal::NoMemory);
+        return false;
+    };
+    let pass = Pass::new(&rt, &server.turnstile);
+    let mut inbox = LinkInbox {
+        link: theirs,
+        rt,
+        pass: &pass,
+    };
+    let client = Recipient {
+        stream,
+        pass: &pass,
+    };
+    let mut writer = ReplyWriter {
+        stream,
+        pass: &pass,
+    };
+    let has_asked = server.host.serve(&rt, &client, &mut inbox, &mut writer);
+    pass.leave();
+    has_asked
+}

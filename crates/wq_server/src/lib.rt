@@ -1,0 +1,43 @@
+//! The threads of a running server and what they share: the socket, clients and their queues, the pace of crawls, and
+//! how all of it ends. A [`Host`] does their work: it runs sessions, crawls roots and has rounds of triggers.
+#![tactic(auto)]
+
+mod client;
+mod clients;
+mod crawling;
+mod host;
+mod latch;
+mod law;
+mod lines;
+mod link;
+mod link_inbox;
+mod links;
+mod moments;
+mod pace;
+mod patience;
+mod pulse;
+mod queue;
+mod recipient;
+mod refusal;
+mod running;
+mod server;
+mod socket;
+mod stop;
+mod stream_reader;
+mod timing;
+mod told_tree;
+mod turnstile;
+mod walks;
+
+pub use clients::MAX_SESSIONS;
+pub use host::Host;
+pub use law::parts_make_share;
+pub use moments::RootNumbers;
+pub use pace::{Pace, Share};
+pub use recipient::Reader;
+pub use refusal::refuse;
+pub use running::run;
+pub use socket::{Listening, listen, remove};
+pub use stop::Stop;
+pub use timing::time_since;
+pub use told_tree::ToldTree;

@@ -1,0 +1,58 @@
+//! The client that gets the replies of a session.
+
+use crate::turnstile::Pass;
+use std::io::{self, ErrorKind, Write};
+use std::os::unix::net::UnixStream;
+use std::sync::Wait;
+use std::time::Clock;
+use wq_base::Asker;
+
+/// Whoever sees when a session has read its line.
+pub trait Reader {
+    /// The session has read its line, and waits for others from now on, or looks for files.
+    fn has_read(&self);
+}
+
+/// A client as the recipient of replies. It has gone when nothing can be written to it any more: it reads no more, or its
+/// session was told to end. A client that only sends no more still reads.
+#[derive(Drop)]
+pub(crate) struct Recipient<'a, R: Wait + Clock> {
+    pub(crate) stream: &'a UnixStream,
+    pub(crate) pass: &'a Pass<'a, R>,
+}
+
+impl<R: Wait + Clock> Reader for Recipient<'_, R> {
+    fn has_read(&self) {
+        self.pass.leave();
+    }
+}
+
+impl<R: Wait + Clock> Asker for Recipient<'_, R> {
+    fn is_gone(&self) -> bool {
+        self.pass.leave();
+        // Nothing is written by that, and it waits for nobody: the system says only whether it would refuse a write.
+        let mut stream = self.stream;
+        match stream.write(&[]) {
+            Ok(_) => false,
+            Err(error) => error.kind() == ErrorKind::BrokenPipe,
+        }
+    }
+}
+
+/// The writer of a session: a write may wait for the client, so the session has read its line before.
+#[derive(Drop)]
+pub(crate) struct ReplyWriter<'a, R: Wait + Clock> {
+    pub(crate) stream: &'a UnixStream,
+    pub(crate) pass: &'a Pass<'a, R>,
+}
+
+impl<R: Wait + Clock> Write for ReplyWriter<'_, R> {
+    fn write(&mut self, bytes: &[u8]) -> io::Result<usize> {
+        self.pass.leave();
+        self.stream.write(bytes)
+    }
+
+    fn flush(&mut self) -> io::Result<()> {
+        self.stream.flush()
+    }
+}

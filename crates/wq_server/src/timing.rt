@@ -1,0 +1,45 @@
+//! How long something took.
+
+use std::io;
+use std::time::{Clock, Duration, Instant, SystemTime, UNIX_EPOCH};
+use wq_base::MAX_NUMBER;
+
+/// How long a walk took.
+#[derive(Clone, Copy, Drop)]
+pub(crate) struct Took {
+    /// By the clock. Waiting for clients is no work, and is not in it.
+    pub(crate) time: Duration,
+    /// Of a processor. Waiting for a disk is not in it.
+    pub(crate) work: Duration,
+}
+
+impl Took {
+    /// A walk that took so long by the clock, if this is the processor time that the thread had used before it and has
+    /// used now. Its work is its time if the processor time is not known.
+    pub(crate) fn new(
+        time: Duration,
+        before: io::Result<Duration>,
+        after: io::Result<Duration>,
+    ) -> Took {
+        let work = match (before, after) {
+            (Ok(before), Ok(after)) => after.saturating_sub(before),
+            _ => time,
+        };
+        Took { time, work }
+    }
+}
+
+/// How long it is since a reading of the clock. It is no time if the clock cannot be read.
+pub fn time_since<R: Clock>(rt: &R, began: io::Result<Instant>) -> Duration {
+    match began {
+        Ok(began) => began.elapsed(rt).unwrap_or(Duration::ZERO),
+        Err(_) => Duration::ZERO,
+    }
+}
+
+/// The second of the Unix epoch that was so many seconds ago, if the clock can be read.
+pub(crate) fn second_before<R: Clock>(rt: &R, seconds: u64) -> Option<i64> {
+    let now = SystemTime::now(rt).ok()?;
+    let since = now.duration_since(UNIX_EPOCH).ok()?;
+    Some(since.as_secs().saturating_sub(seconds).min(MAX_NUMBER) as i64)
+}
