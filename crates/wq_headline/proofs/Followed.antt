@@ -317,9 +317,9 @@ module _ (run : RunData) (client : ℤ) where
           (subst (λ r. IsShownAs run number world.events (shown_in (numbered number r table))) (sym has.0) (world_shows run number world.events table found))
           idles.polled idles.later (subst (Accounts run of world.events said) idles.parts all)
           (λ lists were. subst (Sent (sent_list of) lists) (sym lines) were))))
-  step world (round root succeeds) sent next said (table, found, goes) has = at (root_by_text root table) goes
+  step world (round root answers) sent next said (table, found, goes) has = at (root_by_text root table) goes
     where
-      at : (shown : Option RootView) → RoundsAt shown succeeds world sent next → Has next (said ++ sent)
+      at : (shown : Option RootView) → RoundsAt shown answers world sent next → Has next (said ++ sent)
       at None (empty, is) = left_alone world next said sent (ap (λ w. w.follows) is) (ap (λ w. w.run) is) (begins_itself world.events next.events (ap (λ w. w.events) is)) has
       at (Some shown) had =
           left_alone world next said sent (ap (λ w. w.follows) had.is) (ap (λ w. w.run) had.is) (begins_itself world.events next.events (ap (λ w. w.events) had.is)) has

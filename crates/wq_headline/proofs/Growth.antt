@@ -74,9 +74,9 @@ happens world (asked client ask) sent next (out, (ready, later, met, (shelf, lef
     let goes = meets (need_of ask) world.run world.refused world.events ready later met in
     (goes.0, goes.1 ∙ sym (ap (λ w. w.events) is))
 happens world (idle client root) sent next (out, (table, left, found, idles, is), same) = begins_itself world.events next.events (ap (λ w. w.events) is)
-happens world (round root succeeds) sent next (table, found, goes) = at (root_by_text root table) goes
+happens world (round root answers) sent next (table, found, goes) = at (root_by_text root table) goes
   where
-    at : (shown : Option RootView) → RoundsAt shown succeeds world sent next → IsPrefix world.events next.events
+    at : (shown : Option RootView) → RoundsAt shown answers world sent next → IsPrefix world.events next.events
     at None (none, is) = begins_itself world.events next.events (ap (λ w. w.events) is)
     at (Some shown) had = begins_itself world.events next.events (ap (λ w. w.events) had.is)
 happens world (ended run) sent next (none, is) = begins_itself world.events next.events (ap (λ w. w.events) is)

@@ -1,7 +1,8 @@
 -- The steps of what a line asks for, by the length of the line.
-use Rattle.std.proofs.Common.{◌≡◌, ℕ, zero, suc, ◌+◌, ◌≤◌, List, length, codes, Option, Some, None, Ok, Ordering, Less, Equal, Greater, nat_cmp, refl, ap, arith}
-use Rattle.std.proofs.Math.Nat.{mul-le-mul_left}
-use Rattle.std.specs.Prelude.{if◌then◌else◌, Bool, true, false}
+use Rattle.std.proofs.Common.{◌≡◌, ℕ, zero, suc, ◌+◌, ◌*◌, ◌≤◌, List, [], ◌∷◌, length, sum_by, codes, Option, Some, None, Ok, Ordering, Less, Equal, Greater, nat_cmp, refl, ap, arith}
+use Rattle.std.proofs.lemmas.List.Sums.{sum_by-cons}
+use Rattle.std.proofs.Math.Nat.{suc-mul}
+use Rattle.std.specs.Prelude.{All, if◌then◌else◌, Bool, true, false}
 use Rattle.std.specs.Ordering.{match_ordering}
 use Rattle.std.specs.Str.{is_utf8}
 use Rattle.std.specs.Cmp.Lexicographic.{slice_cmp}
@@ -9,13 +10,16 @@ use Rattle.serde_json.specs.Data.{Data, null, boolean, number, string, array, ob
 use Rattle.serde_json.specs.Find.{get, get_item, get_member}
 use Rattle.serde_json.specs.Read.{read}
 use Rattle.wq_clock.specs.Instance.{InstanceData}
+use Rattle.wq_code.specs.declared.raw.Raw.{Raw}
 use Rattle.wq_compile.specs.Cost.{most_steps_of}
-use Rattle.wq_eval.specs.Cost.{AnswersAreWithin}
+use Rattle.wq_eval.specs.Cost.{steps_of}
+use Rattle.wq_query.specs.Law.{PlansKeepMeasures}
+use Rattle.wq_query.specs.Query.{planned, program_in}
 use Rattle.wq_query.specs.Reading.{expression_of}
 use Rattle.wq_ask.specs.Reading.{WordsData, value_of, words_of}
 use Rattle.wq_term.specs.Expr.{ExprData, always}
-use Rattle.wq_verify.specs.Budget.{budget_of}
 use Rattle.wq_view.specs.Limit.{max_name}
+use Rattle.wq_view.specs.RecordData.{RecordData}
 use Rattle.wq_headline.specs.TextBytes.{text_bytes, item_bytes, member_bytes, TextsAreWithin}
 use Rattle.wq_headline.specs.LineCost.{most_steps_a_file, ExpressionsAreWithin, LinesAreWithin, AnswersAreWithinLines}
 
@@ -88,10 +92,21 @@ lines_are_within texts law instance line t asked =
     paid_by instance (get (codes "expression") asked.object) t (length line) law asked.expression
     (λ d is. let member = a_key (codes "expression") asked.object d is in omega (arith, all, words, one, member)) (omega (arith, all, words))
 
-pub answers_are_within_lines : LinesAreWithin → AnswersAreWithin → AnswersAreWithinLines
-answers_are_within_lines lines law instance line t raw records asked valid cheap short =
-    let answers = law raw records valid short in
-    let one = lines instance line t asked in
-    let each : budget_of raw max_name ≤ most_steps_a_file (length line) = omega (arith, cheap, one) in
-    let all = mul-le-mul_left (length records) each in
-    omega (arith, answers, all)
+-- runs that each take so many steps
+sums : (raw : Raw) (n : ℕ) (records : List RecordData) → ((r : RecordData) → length r.name ≤ max_name → steps_of raw r ≤ n)
+    → All (λ r. length r.name ≤ max_name) records → sum_by (steps_of raw) records ≤ length records * n
+sums raw n [] each short = omega arith
+sums raw n (r ∷ rs) each short =
+    omega (
+      arith,
+      sum_by-cons (steps_of raw) r rs,
+      suc-mul (length rs) n,
+      each r (short 0 r (omega arith)),
+      sums raw n rs each (λ k d less. short (suc k) d (omega (arith, less))),
+    )
+
+pub answers_are_within_lines : LinesAreWithin → PlansKeepMeasures → AnswersAreWithinLines
+answers_are_within_lines lines law instance line plan records asked none short =
+    let one = lines instance line ((planned plan).query).expression asked in
+    sums (program_in plan) (most_steps_a_file (length line)) records
+    (λ r less. let steps = law plan none r less in omega (arith, steps, one)) short

@@ -1,5 +1,5 @@
 -- A round in a world leaves out no trigger of its root.
-use Rattle.std.proofs.Common.{◌≡◌, ◌⊎◌, ℕ, Bool, List, [], ◌∷◌, ◌++◌, map, Option, Some, None, option_map, inl, inr, refl, ap, sym, subst, ◌∙◌}
+use Rattle.std.proofs.Common.{◌≡◌, ◌⊎◌, ℕ, List, [], ◌∷◌, ◌++◌, map, Option, Some, None, option_map, inl, inr, refl, ap, sym, subst, ◌∙◌}
 use Rattle.wq_clock.specs.Instance.{InstanceData}
 use Rattle.wq_clock.specs.Run.{instance_of}
 use Rattle.wq_follow.specs.Launcher.{LauncherData, TriedData}
@@ -9,7 +9,7 @@ use Rattle.wq_live.specs.Table.{IsTableOf, RootView, TableData, has_text, root_b
 use Rattle.wq_registry.specs.ByName.{ByName}
 use Rattle.wq_registry.specs.Shelf.{triggers_of}
 use Rattle.wq_replay.specs.Rounds.{HasRound, RoundsAt}
-use Rattle.wq_replay.specs.Runs.{launcher_at, launcher_with}
+use Rattle.wq_replay.specs.Runs.{launcher_at}
 use Rattle.wq_replay.specs.World.{SentData, WorldData}
 use Rattle.wq_session.specs.Round.{HaveTurns, TriggerTurnData, after_turns}
 use Rattle.wq_view.specs.View.{ViewData}
@@ -41,9 +41,9 @@ take_turns instance view (t ∷ ts) (u ∷ turns) shown left (name, fires, (next
   take_turns instance view ts turns next left later,
 )
 
-round_of : (root : List ℕ) (succeeds : Bool) (world after : WorldData) (sent : List SentData) (table : TableData) → IsTableOf world.events table → (shown : RootView)
-    → root_by_text root table ≡ Some shown → HasRound (instance_of world.run shown.number) shown.view succeeds world sent after → IsRoundOf root world sent after
-round_of root succeeds world after sent table is shown found had = record {
+round_of : (root : List ℕ) (answers : List (Option ℕ)) (world after : WorldData) (sent : List SentData) (table : TableData) → IsTableOf world.events table → (shown : RootView)
+    → root_by_text root table ≡ Some shown → HasRound (instance_of world.run shown.number) shown.view answers world sent after → IsRoundOf root world sent after
+round_of root answers world after sent table is shown found had = record {
   number = shown.number;
   found = sym (number_by world.events table is root) ∙ ap (option_map (λ (r : RootView). r.number)) found;
   view = shown.view;
@@ -51,18 +51,18 @@ round_of root succeeds world after sent table is shown found had = record {
   triggers = after_turns (had.round).turns;
   turns = subst (λ l. TakeTurns (instance_of world.run shown.number) shown.view (triggers_of shown.number world.shelf) l (after_turns (had.round).turns))
       (sym (had.tells ∙ ap (map note_of)
-      (round_tried (instance_of world.run shown.number) shown.view (triggers_of shown.number world.shelf) (had.round).turns (launcher_at succeeds world.runs)
-      (launcher_with had.runs had.tried) refl (had.round).had)))
-      (take_turns (instance_of world.run shown.number) shown.view (triggers_of shown.number world.shelf) (had.round).turns (Some (launcher_at succeeds world.runs))
-      (Some (launcher_with had.runs had.tried)) (had.round).had);
+      (round_tried (instance_of world.run shown.number) shown.view (triggers_of shown.number world.shelf) (had.round).turns (launcher_at answers world.runs)
+      had.left refl (had.round).had)))
+      (take_turns (instance_of world.run shown.number) shown.view (triggers_of shown.number world.shelf) (had.round).turns (Some (launcher_at answers world.runs))
+      (Some had.left) (had.round).had);
   left = ap (λ w. w.shelf) had.is ∙ (had.round).is;
 }
 
 -- the law
 pub rounds_are_exact : RoundsAreExact
-rounds_are_exact world after root succeeds sent (table, is, goes) = by (root_by_text root table) refl goes
+rounds_are_exact world after root answers sent (table, is, goes) = by (root_by_text root table) refl goes
   where
-    by : (shown : Option RootView) → root_by_text root table ≡ shown → RoundsAt shown succeeds world sent after
+    by : (shown : Option RootView) → root_by_text root table ≡ shown → RoundsAt shown answers world sent after
         → ((number_of root world.events ≡ None) × (sent ≡ [])) ⊎ IsRoundOf root world sent after
     by None absent (empty, same) = inl (sym (number_by world.events table is root) ∙ ap (option_map (λ (r : RootView). r.number)) absent, empty)
-    by (Some shown) found had = inr (round_of root succeeds world after sent table is shown found had)
+    by (Some shown) found had = inr (round_of root answers world after sent table is shown found had)

@@ -4,7 +4,6 @@ use Rattle.std.proofs.lemmas.List.{map-append}
 use Rattle.wq_clock.specs.Run.{run_data}
 use Rattle.wq_replay.proofs.Worlds.{runs_go_on}
 use Rattle.wq_replay.specs.Playing.{Runs, sent_for, sent_list, sent_to}
-use Rattle.wq_replay.specs.Runs.{no_runs}
 use Rattle.wq_replay.specs.World.{HappeningData, SentData, WorldData}
 use Rattle.wq_serve.specs.Basis.{Basis}
 use Rattle.wq_serve.specs.Serving.{PlaceData, line_for, lines_for, written_for}
@@ -125,7 +124,7 @@ ends_show_a_world run client place shelf current shown = (
     events = (place.known).seen;
     shelf = shelf;
     follows = λ other. place.follows;
-    runs = no_runs;
+    runs = [];
     refused = None;
   },
   record {

@@ -40,7 +40,7 @@ use Rattle.wq_registry.specs.Shelf.{triggers_of}
 use Rattle.wq_replay.specs.Gets.{Meets, MeetsAt, MeetsFor, at_end, at_root, ending, fault_for, looked}
 use Rattle.wq_replay.specs.Playing.{Happens, Runs}
 use Rattle.wq_replay.specs.Rounds.{HasRound, RoundsAt}
-use Rattle.wq_replay.specs.Runs.{launcher_at, launcher_with}
+use Rattle.wq_replay.specs.Runs.{launcher_at}
 use Rattle.wq_replay.specs.World.{HappeningData, RefusedData, SentData, WorldData, asked, crawl, ended, idle, new_world, round, watching}
 use Rattle.wq_session.specs.Accepted.{Accepts, AnswersAreCalls, CallNow, calls_of, cursor_calls, definition_calls, made_calls, query_calls, shelf_calls, shown_calls, there_calls, unset_calls}
 use Rattle.wq_session.specs.At.{AtData, ShelfNow}
@@ -327,23 +327,23 @@ module _ (run : RunData) where
   )
 
   -- a round
-  round_keeps : (root : RootView) (succeeds : Bool) (world next : WorldData) (said sent : List SentData) (table : TableData) (text : List ℕ) → IsTableOf world.events table
-      → root_by_text text table ≡ Some root → HasRound (instance_of run root.number) root.view succeeds world sent next → OnRoots world.events said (world.shelf).roots
+  round_keeps : (root : RootView) (answers : List (Option ℕ)) (world next : WorldData) (said sent : List SentData) (table : TableData) (text : List ℕ) → IsTableOf world.events table
+      → root_by_text text table ≡ Some root → HasRound (instance_of run root.number) root.view answers world sent next → OnRoots world.events said (world.shelf).roots
       → OnRoots world.events (said ++ sent) (next.shelf).roots
-  round_keeps root succeeds world next said sent table text is found had all =
+  round_keeps root answers world next said sent table text is found had all =
       subst (λ (s : ShelfNow). OnRoots world.events (said ++ sent) s.roots) (sym (ap (λ w. w.shelf) had.is ∙ (had.round).is))
       (changed_all (OfRootNow world.events said) (OfRootNow world.events (said ++ sent)) root.number (λ r. record r { triggers = after_turns (had.round).turns })
       (λ r here. tallies_kept r.number world.events world.events said sent (begins_itself world.events world.events refl) r.triggers here)
       (λ r same here. subst (λ n. Tallies run n world.events (said ++ sent) (after_turns (had.round).turns)) (sym same) turned) (world.shelf).roots all)
     where
-      tried : had.tried ≡ tried_of (had.round).turns
-      tried = round_tried (instance_of run root.number) root.view (triggers_of root.number world.shelf) (had.round).turns (launcher_at succeeds world.runs)
-          (launcher_with had.runs had.tried) refl (had.round).had
+      tried : (had.left).tried ≡ tried_of (had.round).turns
+      tried = round_tried (instance_of run root.number) root.view (triggers_of root.number world.shelf) (had.round).turns (launcher_at answers world.runs)
+          had.left refl (had.round).had
 
       turned : Tallies run root.number world.events (said ++ sent) (after_turns (had.round).turns)
       turned =
           turns_tally run root.number world.events said sent root.view (found_view world.events table is (has_text text) root found)
-          (triggers_of root.number world.shelf) (had.round).turns (Some (launcher_at succeeds world.runs)) (Some (launcher_with had.runs had.tried)) (had.round).had
+          (triggers_of root.number world.shelf) (had.round).turns (Some (launcher_at answers world.runs)) (Some had.left) (had.round).had
           (of_shelf world.events said root.number world.shelf all)
           (λ xs were. subst (Sent note_of xs) (sym (had.tells ∙ ap (map note_of) tried)) were)
 
@@ -366,16 +366,16 @@ module _ (run : RunData) where
     )
     step world (idle of number) sent next said (out, (table, left, found, idles, is), sends) has =
         left_alone world next said sent (ap (λ w. w.shelf) is) (ap (λ w. w.run) is) (begins_itself world.events next.events (ap (λ w. w.events) is)) has
-    step world (round text succeeds) sent next said (table, found, goes) has = at (root_by_text text table) refl goes
+    step world (round text answers) sent next said (table, found, goes) has = at (root_by_text text table) refl goes
       where
-        at : (shown : Option RootView) → root_by_text text table ≡ shown → RoundsAt shown succeeds world sent next → Has next (said ++ sent)
+        at : (shown : Option RootView) → root_by_text text table ≡ shown → RoundsAt shown answers world sent next → Has next (said ++ sent)
         at None absent (empty, is) =
             left_alone world next said sent (ap (λ w. w.shelf) is) (ap (λ w. w.run) is) (begins_itself world.events next.events (ap (λ w. w.events) is)) has
         at (Some root) there had = (
           ap (λ w. w.run) had.is ∙ has.0,
           subst (λ e. OnRoots e (said ++ sent) (next.shelf).roots) (sym (ap (λ w. w.events) had.is))
-              (round_keeps root succeeds world next said sent table text found there
-              (subst (λ r. HasRound (instance_of r root.number) root.view succeeds world sent next) has.0 had) has.1),
+              (round_keeps root answers world next said sent table text found there
+              (subst (λ r. HasRound (instance_of r root.number) root.view answers world sent next) has.0 had) has.1),
         )
     step world (ended number) sent next said (empty, is) has =
         left_alone world next said sent (ap (λ w. w.shelf) is) (ap (λ w. w.run) is) (begins_itself world.events next.events (ap (λ w. w.events) is)) has

@@ -1,19 +1,18 @@
 -- What a line of a client can cost: a number of steps that its length gives.
 -- This server's own measure: the charges of wq_code's machine.
-use Rattle.std.specs.Prelude.{◌≡◌, ◌≤◌, ℕ, ◌+◌, ◌*◌, List, All, length, codes, sum_by, Some, Ok}
+use Rattle.std.specs.Prelude.{◌≡◌, ◌≤◌, ℕ, ◌+◌, ◌*◌, List, All, length, codes, sum_by, None, Some, Ok}
 use Rattle.serde_json.specs.Data.{Data}
 use Rattle.serde_json.specs.Find.{get, get_item}
 use Rattle.wq_clock.specs.Instance.{InstanceData}
-use Rattle.wq_code.specs.declared.raw.Raw.{Raw}
 use Rattle.wq_compile.specs.Cost.{most_steps_of}
 use Rattle.wq_eval.specs.Cost.{steps_of}
+use Rattle.wq_query.specs.declared.query.Plan.{Plan}
+use Rattle.wq_query.specs.Query.{planned, program_in}
 use Rattle.wq_query.specs.Reading.{expression_of}
 use Rattle.wq_ask.specs.Reading.{WordsData, value_of, words_of}
 use Rattle.wq_term.specs.Expr.{ExprData}
 use Rattle.wq_term.specs.Limit.{max_depth}
 use Rattle.wq_term.specs.Reading.{reads_as}
-use Rattle.wq_verify.specs.Budget.{budget_of}
-use Rattle.wq_verify.specs.Typing.{IsValid}
 use Rattle.wq_view.specs.Limit.{max_name}
 use Rattle.wq_view.specs.RecordData.{RecordData}
 use Rattle.wq_headline.specs.TextBytes.{text_bytes}
@@ -48,10 +47,10 @@ abbrev pub LinesAreWithin : Type 0
 LinesAreWithin = (instance : InstanceData) (line : List ℕ) (t : ExprData)
     → AsksFor instance line t → most_steps_of t ≤ most_steps_a_file (length line)
 
--- A program that may run and costs no more than the expression of a line takes no more steps on
--- some files together than the length of the line and the number of the files give
+-- On some files together the program of a plan takes no more steps than the length of a line and
+-- the number of the files give, if its query has the expression of the line and names no program
 abbrev pub AnswersAreWithinLines : Type 0
-AnswersAreWithinLines = (instance : InstanceData) (line : List ℕ) (t : ExprData) (raw : Raw)
-    (records : List RecordData) → AsksFor instance line t → IsValid raw
-    → budget_of raw max_name ≤ most_steps_of t → All (λ r. length r.name ≤ max_name) records
-    → sum_by (steps_of raw) records ≤ most_steps (length line) (length records)
+AnswersAreWithinLines = (instance : InstanceData) (line : List ℕ) (plan : Plan)
+    (records : List RecordData) → AsksFor instance line ((planned plan).query).expression
+    → ((planned plan).query).program ≡ None → All (λ r. length r.name ≤ max_name) records
+    → sum_by (steps_of (program_in plan)) records ≤ most_steps (length line) (length records)

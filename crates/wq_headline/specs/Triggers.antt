@@ -2,7 +2,7 @@
 -- start that succeeded, and nothing is missed.
 -- From Watchman's documentation of `trigger`; that a failed start moves nothing is this server's
 -- own.
-use Rattle.std.specs.Prelude.{◌≡◌, ◌⊎◌, ◌<◌, ◌≤◌, ℕ, Bool, true, List, [], ◌∷◌, ◌++◌, All, map}
+use Rattle.std.specs.Prelude.{◌≡◌, ◌⊎◌, ◌<◌, ◌≤◌, ℕ, true, List, [], ◌∷◌, ◌++◌, All, map}
 use Rattle.std.specs.Prelude.{Option, Some, None, Ok}
 use Rattle.wq_clock.specs.Instance.{InstanceData}
 use Rattle.wq_clock.specs.Run.{RunData, instance_of}
@@ -134,8 +134,8 @@ pub record IsRoundOf (root : List ℕ) (world : WorldData) (sent : List SentData
 
 -- in any world a round leaves out no trigger of its root, and sends nothing if that is not shown
 abbrev pub RoundsAreExact : Type 0
-RoundsAreExact = (world after : WorldData) (root : List ℕ) (succeeds : Bool)
-    (sent : List SentData) → Happens world (round root succeeds) sent after
+RoundsAreExact = (world after : WorldData) (root : List ℕ) (answers : List (Option ℕ))
+    (sent : List SentData) → Happens world (round root answers) sent after
     → ((number_of root world.events ≡ None) × (sent ≡ [])) ⊎ IsRoundOf root world sent after
 
 -- the subscriptions and the triggers of a world are exact

@@ -3,7 +3,7 @@ ghost use Rattle.wq_headline.specs.LineCost.{AnswersAreWithinLines, ExpressionsA
 ghost use Rattle.wq_headline.specs.LineCost.{LinesAreWithin};
 ghost use Rattle.wq_headline.specs.TextBytes.{TextsAreWithin};
 
-use wq_eval::answers_are_within;
+use wq_query::plans_keep_measures;
 use wq_term::values_say_what_they_write;
 
 /// The texts of a value take no more bytes than the text that says it.
@@ -27,11 +27,11 @@ pub fn lines_are_within()
     expressions_are_within();
 }
 
-/// The program of that expression takes no more steps on some files together than the length of the
-/// line and the number of the files give.
+/// The program of a plan of that expression takes no more steps on some files together than the
+/// length of the line and the number of the files give, unless the query names a program.
 pub fn answers_are_within_lines()
     ensures { AnswersAreWithinLines }
 {
     lines_are_within();
-    answers_are_within();
+    plans_keep_measures();
 }

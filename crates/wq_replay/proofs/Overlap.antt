@@ -74,7 +74,7 @@ record IsRunning (root : ℕ) (name : List ℕ) (run : ℕ) (sockname : List ℕ
   calls : List CallNow
   leads : world.shelf ≡ after_all calls (blank sockname)
   has : run_at root name world.shelf ≡ Some run
-  goes : list_any (λ r. nat_eq run r) (world.runs).running ≡ true
+  goes : list_any (λ r. nat_eq run r) world.runs ≡ true
 
 module _ (answers_are_calls : AnswersAreCalls) (rounds_are_calls : RoundsAreCalls) (root : ℕ) (name : List ℕ) (run : ℕ) (sockname : List ℕ) where
   -- an ask keeps the run of a trigger that is there
@@ -97,12 +97,12 @@ module _ (answers_are_calls : AnswersAreCalls) (rounds_are_calls : RoundsAreCall
       unless (Some fault) (may, none) = nothing none
 
   -- a round of a root
-  round_keeps : (other : RootView) (succeeds : Bool) (world : WorldData) (sent : List SentData) (next : WorldData) → IsRunning root name run sockname world
-      → HasRound (instance_of world.run other.number) other.view succeeds world sent next
-      → (run_at root name next.shelf ≡ Some run) × (list_any (λ r. nat_eq run r) (next.runs).running ≡ true)
-  round_keeps other succeeds world sent next is had = (
+  round_keeps : (other : RootView) (answers : List (Option ℕ)) (world : WorldData) (sent : List SentData) (next : WorldData) → IsRunning root name run sockname world
+      → HasRound (instance_of world.run other.number) other.view answers world sent next
+      → (run_at root name next.shelf ≡ Some run) × (list_any (λ r. nat_eq run r) next.runs ≡ true)
+  round_keeps other answers world sent next is had = (
     ap (λ w. run_at root name w.shelf) had.is ∙ by (nat_eq root other.number) refl,
-    ap (λ w. list_any (λ r. nat_eq run r) (w.runs).running) had.is
+    ap (λ w. list_any (λ r. nat_eq run r) w.runs) had.is
         ∙ turns_go (instance_of world.run other.number) other.view run (triggers_of other.number world.shelf) (had.round).turns _ _ is.goes (had.round).had,
   )
     where
@@ -122,33 +122,33 @@ module _ (answers_are_calls : AnswersAreCalls) (rounds_are_calls : RoundsAreCall
   -- any happening but the end of the run
   step_keeps : (world : WorldData) (happening : HappeningData) (sent : List SentData) (next : WorldData) → IsRunning root name run sockname world
       → Happens world happening sent next → happening ≢ ended run → HasTrigger root name next
-      → (run_at root name next.shelf ≡ Some run) × (list_any (λ r. nat_eq run r) (next.runs).running ≡ true)
+      → (run_at root name next.shelf ≡ Some run) × (list_any (λ r. nat_eq run r) next.runs ≡ true)
   step_keeps world (crawl at seen) sent next is (none, goes) other there =
       let same = (does answers_are_calls rounds_are_calls world (crawl at seen) sent next is.calls sockname is.leads (none, goes)) in
       let shelf : next.shelf ≡ world.shelf = same.2 ∙ ap (λ cs. after_all cs world.shelf) same.1 in
-      (ap (run_at root name) shelf ∙ is.has, ap (λ r. list_any (λ x. nat_eq run x) r.running) (crawls world at seen next goes) ∙ is.goes)
+      (ap (run_at root name) shelf ∙ is.has, ap (λ r. list_any (λ x. nat_eq run x) r) (crawls world at seen next goes) ∙ is.goes)
   step_keeps world (watching at seen) sent next is (none, (place, found, goes)) other there =
       let same = (does answers_are_calls rounds_are_calls world (watching at seen) sent next is.calls sockname is.leads (none, (place, found, goes))) in
       let shelf : next.shelf ≡ world.shelf = same.2 ∙ ap (λ cs. after_all cs world.shelf) same.1 in
-      (ap (run_at root name) shelf ∙ is.has, ap (λ r. list_any (λ x. nat_eq run x) r.running) (watches place world at seen next goes) ∙ is.goes)
+      (ap (run_at root name) shelf ∙ is.has, ap (λ r. list_any (λ x. nat_eq run x) r) (watches place world at seen next goes) ∙ is.goes)
   step_keeps world (asked client ask) sent next is (out, got, same) other there =
       let it = does answers_are_calls rounds_are_calls world (asked client ask) sent next is.calls sockname is.leads (out, got, same) in (
         ap (run_at root name) it.2
             ∙ ask_keeps client world ask (it.1).0 is.calls it.0 is.leads (it.1).1 (ap (λ s. is_some (trigger_called root name s)) (sym it.2) ∙ there)
             ∙ is.has,
-        ap (λ r. list_any (λ x. nat_eq run x) r.running) (gets client world ask out next got) ∙ is.goes,
+        ap (λ r. list_any (λ x. nat_eq run x) r) (gets client world ask out next got) ∙ is.goes,
       )
   step_keeps world (idle client at) sent next is (out, (table, left, found, idles, same), lines) other there =
-      (ap (λ w. run_at root name w.shelf) same ∙ is.has, ap (λ w. list_any (λ x. nat_eq run x) (w.runs).running) same ∙ is.goes)
-  step_keeps world (round at succeeds) sent next is (table, found, goes) other there = by (root_by_text at table) goes
+      (ap (λ w. run_at root name w.shelf) same ∙ is.has, ap (λ w. list_any (λ x. nat_eq run x) w.runs) same ∙ is.goes)
+  step_keeps world (round at answers) sent next is (table, found, goes) other there = by (root_by_text at table) goes
     where
-      by : (shown : Option RootView) → RoundsAt shown succeeds world sent next
-          → (run_at root name next.shelf ≡ Some run) × (list_any (λ r. nat_eq run r) (next.runs).running ≡ true)
-      by None (none, same) = (ap (λ w. run_at root name w.shelf) same ∙ is.has, ap (λ w. list_any (λ x. nat_eq run x) (w.runs).running) same ∙ is.goes)
-      by (Some shown) had = round_keeps shown succeeds world sent next is had
+      by : (shown : Option RootView) → RoundsAt shown answers world sent next
+          → (run_at root name next.shelf ≡ Some run) × (list_any (λ r. nat_eq run r) next.runs ≡ true)
+      by None (none, same) = (ap (λ w. run_at root name w.shelf) same ∙ is.has, ap (λ w. list_any (λ x. nat_eq run x) w.runs) same ∙ is.goes)
+      by (Some shown) had = round_keeps shown answers world sent next is had
   step_keeps world (ended r) sent next is (none, same) other there = (
     ap (λ w. run_at root name w.shelf) same ∙ is.has,
-    ap (λ w. list_any (λ x. nat_eq run x) (w.runs).running) same ∙ other_ended run r (world.runs).running (λ n. other (ap ended n)) is.goes,
+    ap (λ w. list_any (λ x. nat_eq run x) w.runs) same ∙ other_ended run r world.runs (λ n. other (ap ended n)) is.goes,
   )
 
   -- happenings in turn
@@ -168,7 +168,7 @@ module _ (answers_are_calls : AnswersAreCalls) (rounds_are_calls : RoundsAreCall
   -- after a start the command runs
   start_runs : (world after : WorldData) (earlier : List CallNow) → world.shelf ≡ after_all earlier (blank sockname)
       → StartsTrigger root name run world after → IsRunning root name run sockname after
-  start_runs world after earlier leads (view, succeeds, sent, start, had, is) =
+  start_runs world after earlier leads (view, answers, sent, start, had, is) =
       let instance = instance_of world.run root in
       let starts = turns_start instance view name run start (triggers_of root world.shelf) (had.round).turns _ _ (had.round).had is in
       let led = round_calls answers_are_calls rounds_are_calls instance view world.shelf earlier sockname _ had.shelf _ leads had.round in
@@ -179,12 +179,12 @@ module _ (answers_are_calls : AnswersAreCalls) (rounds_are_calls : RoundsAreCall
         has = ap (λ w. run_at root name w.shelf) had.is
             ∙ after_round root name run (had.round).turns world.shelf had.shelf (had.round).is
             (no_turns instance view world.shelf (had.round).turns _ _ (had.round).had) starts.0;
-        goes = ap (λ w. list_any (λ r. nat_eq run r) (w.runs).running) had.is ∙ starts.1;
+        goes = ap (λ w. list_any (λ r. nat_eq run r) w.runs) had.is ∙ starts.1;
       }
 
   -- and no round starts it
   not_started : (world after : WorldData) (other : ℕ) → IsRunning root name run sockname world → StartsTrigger root name other world after → ⊥
-  not_started world after other is (view, succeeds, sent, start, had, starts) =
+  not_started world after other is (view, answers, sent, start, had, starts) =
       (turns_pass (instance_of world.run root) view name run (triggers_of root world.shelf) (had.round).turns _ _ is.has is.goes (had.round).had).1
       other start starts
 

@@ -1,7 +1,8 @@
 -- The lines of a script make one run of its world.
 use Rattle.std.proofs.Common.{◌≡◌, ℕ, List, [], ◌∷◌, ◌++◌, refl, sym, ap, subst, ◌∙◌}
 use Rattle.wq_replay.specs.Replay.{DoesAll, DoesLine, Plays, crawled, ends_of, moments, rounds, sent_lines}
-use Rattle.wq_replay.specs.Stage.{StageData, Turn, drafts, lists, hears, rests, fires, finishes, malformed, turn_of}
+use Rattle.wq_replay.specs.Numbers.{answers_for}
+use Rattle.wq_replay.specs.Stage.{StageData, Turn, drafts, lists, hears, rests, fires, finishes, given_out, malformed, turn_of}
 use Rattle.wq_replay.specs.Playing.{Runs}
 use Rattle.wq_replay.specs.World.{HappeningData, SentData}
 use Rattle.wq_replay.proofs.Sendings.{lines_then}
@@ -25,7 +26,7 @@ turn_runs stage after (lists crawls tree) written (world, runs, none, is) =
 turn_runs stage after (hears client event) written (sent, world, heard, goes_on, lines, is) =
     (_, sent, subst (Runs stage.world _ sent) (sym (ap (λ s. s.world) is)) heard.runs, lines)
 turn_runs stage after (rests client) written does = all_runs stage after (moments client stage.world) written does
-turn_runs stage after (fires succeeds) written does = all_runs stage after (rounds succeeds) written does
+turn_runs stage after (fires succeeds) written does = all_runs (given_out succeeds stage) after (rounds (answers_for succeeds stage.next)) written does
 turn_runs stage after (finishes name) written does = all_runs stage after (ends_of name stage.world) written does
 turn_runs stage after malformed written does = absurd does
 

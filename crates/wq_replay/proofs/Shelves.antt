@@ -1,5 +1,5 @@
 -- The shelf of a world is the result of the accepted calls.
-use Rattle.std.proofs.Common.{◌≡◌, ℕ, ℤ, Bool, List, [], ◌∷◌, ◌++◌, Option, Some, None, Result, Ok, Err, inl, inr, refl, sym, ap, subst, ◌∙◌}
+use Rattle.std.proofs.Common.{◌≡◌, ℕ, ℤ, List, [], ◌∷◌, ◌++◌, Option, Some, None, Result, Ok, Err, inl, inr, refl, sym, ap, subst, ◌∙◌}
 use Rattle.wq_clock.specs.Instance.{InstanceData}
 use Rattle.wq_clock.specs.Run.{instance_of}
 use Rattle.wq_follow.specs.Launcher.{LauncherData}
@@ -114,11 +114,11 @@ module _ (answers_are_calls : AnswersAreCalls) (rounds_are_calls : RoundsAreCall
       (λ had. rounds_are_calls instance view earlier sockname shown after left had) had
 
   -- a round
-  rounds_at : (root : Option RootView) (succeeds : Bool) (world : WorldData) (sent : List SentData) (after : WorldData) (earlier : List CallNow) (sockname : List ℕ)
-      → world.shelf ≡ after_all earlier (blank sockname) → RoundsAt root succeeds world sent after
-      → (calls : List CallNow) × AcceptsRound root succeeds world sent calls × (after.shelf ≡ after_all calls world.shelf)
-  rounds_at None succeeds world sent after earlier sockname leads (none, is) = ([], refl, ap (λ w. w.shelf) is)
-  rounds_at (Some root) succeeds world sent after earlier sockname leads had = (
+  rounds_at : (root : Option RootView) (answers : List (Option ℕ)) (world : WorldData) (sent : List SentData) (after : WorldData) (earlier : List CallNow) (sockname : List ℕ)
+      → world.shelf ≡ after_all earlier (blank sockname) → RoundsAt root answers world sent after
+      → (calls : List CallNow) × AcceptsRound root answers world sent calls × (after.shelf ≡ after_all calls world.shelf)
+  rounds_at None answers world sent after earlier sockname leads (none, is) = ([], refl, ap (λ w. w.shelf) is)
+  rounds_at (Some root) answers world sent after earlier sockname leads had = (
     turn_calls root.number (had.round).turns,
     (after, had, refl),
     ap (λ w. w.shelf) had.is ∙ round_calls (instance_of world.run root.number) root.view world.shelf earlier sockname _ had.shelf _ leads had.round,
@@ -134,8 +134,8 @@ module _ (answers_are_calls : AnswersAreCalls) (rounds_are_calls : RoundsAreCall
       let it = gets_for (fault_for (need_of ask) table world.refused) table ready later client world ask out after meets replies in
       (it.0, (out, (table, is, it.1), same), it.2)
   does world (idle client root) sent after earlier sockname leads (out, (table, left, is, idles, same), lines) = ([], refl, ap (λ w. w.shelf) same)
-  does world (round root succeeds) sent after earlier sockname leads (table, is, goes) =
-      let it = rounds_at (root_by_text root table) succeeds world sent after earlier sockname leads goes in
+  does world (round root answers) sent after earlier sockname leads (table, is, goes) =
+      let it = rounds_at (root_by_text root table) answers world sent after earlier sockname leads goes in
       (it.0, (table, is, it.1), it.2)
   does world (ended run) sent after earlier sockname leads (none, is) = ([], refl, ap (λ w. w.shelf) is)
 

@@ -9,9 +9,10 @@ use Rattle.wq_crawl.specs.declared.fault.CrawlFault.{CrawlFault}
 use Rattle.wq_view.specs.Seen.{SeenData}
 use Rattle.wq_view.specs.Listing.{PassData, listing_fault, listing_of}
 use Rattle.wq_view.specs.declared.listing.PassFault.{PassFault}
+use Rattle.wq_replay.specs.Numbers.{answers_for}
 use Rattle.wq_replay.specs.Replay.{DoesAll, DoesLine, IsHeard, StopsAll, StopsWriting, crawled, ends_of, moments, needed, rounds, sent_lines, shuts}
 use Rattle.wq_replay.specs.Sending.{Sends}
-use Rattle.wq_replay.specs.Stage.{DraftData, StageData, Turn, drafts, lists, hears, rests, fires, finishes, malformed, turn_at_end}
+use Rattle.wq_replay.specs.Stage.{DraftData, StageData, Turn, drafts, lists, hears, rests, fires, finishes, given_out, malformed, turn_at_end}
 use Rattle.wq_replay.specs.Stands.{Stands}
 use Rattle.wq_replay.specs.Step.{IsAt, TakesAll, TakesTurn, draft_data}
 use Rattle.wq_replay.specs.Playing.{Runs}
@@ -32,14 +33,14 @@ rows_are crawls second rows others is = ap (λ all. Some (draft_with crawls seco
 
 -- a listing is open after a line
 pub draft_open : (at : StageData) (draft : DraftData) (code : Stage) (known : Option (List ℕ))
-    → Stands at.world code.world → at.tree ≡ code.tree → Some draft ≡ option_map draft_data code.draft
+    → Stands at.world code.world → at.tree ≡ code.tree → Some draft ≡ option_map draft_data code.draft → at.next ≡ code.next
     → TakesTurn at (drafts draft) known known (Ok true) code
-draft_open at draft code known stands tree drafted = (
+draft_open at draft code known stands tree drafted next = (
   [],
   record at { draft = Some draft },
   appends_none known,
   (refl, refl),
-  record { world = stands; tree = tree; draft = drafted },
+  record { world = stands; tree = tree; draft = drafted; next = next },
 )
 
 -- the end of a listing that has no fault, or has one
@@ -59,14 +60,14 @@ ends_right draft none bad = let h : lists draft.crawls (listing_of draft.rows dr
 pub listed_now : (at : StageData) (draft : DraftData) (tree : PassData) (world : WorldData) (code : Stage) (known : Option (List ℕ))
     → listing_fault draft.rows draft.second ≡ None → tree ≡ listing_of draft.rows draft.second
     → Runs at.world (crawled draft.crawls tree) [] world → Stands world code.world → tree ≡ code.tree
-    → None ≡ option_map draft_data code.draft → TakesTurn at (turn_at_end draft) known known (Ok true) code
-listed_now at draft tree world code known none is runs stands listed closed =
+    → None ≡ option_map draft_data code.draft → at.next ≡ code.next → TakesTurn at (turn_at_end draft) known known (Ok true) code
+listed_now at draft tree world code known none is runs stands listed closed next =
     subst (λ turn. TakesTurn at turn known known (Ok true) code) (sym (end_well draft none ∙ ap (lists draft.crawls) (sym is))) (
       [],
-      record { world = world; tree = tree; draft = None },
+      record at { world = world; tree = tree; draft = None },
       appends_none known,
       (world, runs, refl, refl),
-      record { world = stands; tree = listed; draft = closed },
+      record { world = stands; tree = listed; draft = closed; next = next },
     )
 
 -- a crawl sends nothing
@@ -175,10 +176,14 @@ rested at client happenings before after result code is takes =
 
 -- triggers had a round
 pub fired_round : (at : StageData) (succeeds : Bool) (happenings : List HappeningData) (before after : Option (List ℕ)) (result : Result Bool StepFault) (code : Stage)
-    → happenings ≡ rounds succeeds → TakesAll at happenings before after result code → TakesTurn at (fires succeeds) before after result code
-fired_round at succeeds happenings before after result code is takes =
-    takes_all at (fires succeeds) (rounds succeeds) before after result code (λ written next all. all) (λ stops. stops) (λ h. cc)
-    (subst (λ all. TakesAll at all before after result code) is takes)
+    → happenings ≡ rounds (answers_for succeeds at.next) → TakesAll (given_out succeeds at) happenings before after result code
+    → TakesTurn at (fires succeeds) before after result code
+fired_round at succeeds happenings before after (Ok true) code is (written, next, appends, all, stands) =
+    (written, next, appends, subst (λ hs. DoesAll (given_out succeeds at) hs written next) is all, stands)
+fired_round at succeeds happenings before after (Ok false) code is takes = absurd takes
+fired_round at succeeds happenings before after (Err Malformed) code is takes = absurd takes
+fired_round at succeeds happenings before after (Err Write) code is takes = subst (λ hs. StopsAll at hs before after) is takes
+fired_round at succeeds happenings before after (Err NoMemory) code is takes = ((λ h. cc), takes)
 
 -- a command has ended
 pub finished_run : (at : StageData) (name : List ℕ) (happenings : List HappeningData) (before after : Option (List ℕ)) (result : Result Bool StepFault) (code : Stage)

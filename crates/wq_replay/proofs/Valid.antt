@@ -1,5 +1,5 @@
 -- The programs on a shelf of a world are those that asks handed in.
-use Rattle.std.proofs.Common.{◌≡◌, ◌⊎◌, ℕ, ℤ, Bool, List, [], ◌∷◌, ◌++◌, Option, Some, None, inl, inr, sym, ap, subst, ◌∙◌}
+use Rattle.std.proofs.Common.{◌≡◌, ◌⊎◌, ℕ, ℤ, List, [], ◌∷◌, ◌++◌, Option, Some, None, inl, inr, sym, ap, subst, ◌∙◌}
 use Rattle.wq_code.specs.declared.raw.Raw.{Raw}
 use Rattle.wq_crawl.specs.declared.fault.CrawlFault.{CrawlFault}
 use Rattle.wq_live.specs.Table.{RootView, TableData, root_by_text}
@@ -38,10 +38,10 @@ module _ (added_are_asked : AddedAreAsked) (hand_in_valid : AsksHandInValid) (ra
   unless None table client world ask out calls accepts good one = at_end (ending (need_of ask) table) table client world ask out calls accepts good one
 
   -- a round adds none
-  round_none : (root : Option RootView) (succeeds : Bool) (world : WorldData) (sent : List SentData) (calls : List CallNow)
-      → AcceptsRound root succeeds world sent calls → AddsOne raw calls → ⊥
-  round_none None succeeds world sent calls none one = subst (AddsOne raw) none one
-  round_none (Some root) succeeds world sent calls (after, had, same) one =
+  round_none : (root : Option RootView) (answers : List (Option ℕ)) (world : WorldData) (sent : List SentData) (calls : List CallNow)
+      → AcceptsRound root answers world sent calls → AddsOne raw calls → ⊥
+  round_none None answers world sent calls none one = subst (AddsOne raw) none one
+  round_none (Some root) answers world sent calls (after, had, same) one =
       turns_none raw root.number (had.round).turns (subst (AddsOne raw) same one)
 
   -- a program that the calls of a happening add may run
@@ -52,8 +52,8 @@ module _ (added_are_asked : AddedAreAsked) (hand_in_valid : AsksHandInValid) (ra
   here world (asked client ask) sent calls (out, (table, is, accepts), same) good one =
       unless (fault_for (need_of ask) table world.refused) table client world ask out calls accepts (hand_in_valid good.0 ask good.1) one
   here world (idle client root) sent calls none good one = absurd (subst (AddsOne raw) none one)
-  here world (round root succeeds) sent calls (table, is, accepts) good one =
-      absurd (round_none (root_by_text root table) succeeds world sent calls accepts one)
+  here world (round root answers) sent calls (table, is, accepts) good one =
+      absurd (round_none (root_by_text root table) answers world sent calls accepts one)
   here world (ended run) sent calls none good one = absurd (subst (AddsOne raw) none one)
 
   -- and so may one that the calls of happenings add

@@ -22,7 +22,7 @@ use Rattle.wq_view.specs.View.{ViewData}
 use Rattle.wq_replay.specs.Launched.{all_tried, launcher_data, launcher_shown, runs_data, shown_unless}
 use Rattle.wq_replay.specs.Replay.{end_if, ends_of}
 use Rattle.wq_replay.specs.Rounds.{HasRound, RoundsAt, fired, trigger_run, sent_note}
-use Rattle.wq_replay.specs.Runs.{RunSetData, launcher_at, runs_after}
+use Rattle.wq_replay.specs.Runs.{launcher_at}
 use Rattle.wq_replay.specs.StartLine.{tried_text}
 use Rattle.wq_replay.specs.World.{SentData, WorldData, root_text, unrefused}
 use Rattle.wq_replay.specs.declared.launcher.MemoryLauncher.{MemoryLauncher}
@@ -36,18 +36,17 @@ notes_of [] = refl
 notes_of (t ∷ tried) = ap (λ notes. sent_note (tried_text t) ∷ notes) (notes_of tried)
 
 -- the parts of a round that the code did
-pub has_round : (before : WorldData) (instance : InstanceData) (view : ViewData) (succeeds : Bool) (shelf left : ShelfNow) (mine : RunSetData)
+pub has_round : (before : WorldData) (instance : InstanceData) (view : ViewData) (answers : List (Option ℕ)) (shelf left : ShelfNow) (mine : List ℕ)
     (launcher : MemoryLauncher) (shown : Option LauncherData) (lines : List (List ℕ)) → before.shelf ≡ shelf → before.runs ≡ mine
-    → IsRound instance view shelf shown left (launcher_shown launcher) → shown ≡ Some (launcher_at succeeds mine) → launcher.spent ≡ false
+    → IsRound instance view shelf shown left (launcher_shown launcher) → shown ≡ Some (launcher_at answers mine) → launcher.spent ≡ false
     → lines ≡ map tried_text (all_tried launcher.tried.items)
-    → HasRound instance view succeeds before (map sent_note lines) (fired left (runs_after succeeds before.runs (runs_data launcher.runs)) before)
-has_round before instance view succeeds shelf left mine launcher shown lines held runs had begins whole about = record {
+    → HasRound instance view answers before (map sent_note lines) (fired left (runs_data launcher.runs) before)
+has_round before instance view answers shelf left mine launcher shown lines held runs had begins whole about = record {
   shelf = left;
-  runs = runs_data launcher.runs;
-  tried = all_tried launcher.tried.items;
-  round = subst (λ (o : Option LauncherData). IsRound instance view before.shelf (Some (launcher_at succeeds before.runs)) left o)
+  left = launcher_data launcher;
+  round = subst (λ (o : Option LauncherData). IsRound instance view before.shelf (Some (launcher_at answers before.runs)) left o)
       (ap (λ b. shown_unless b (launcher_data launcher)) whole)
-      (subst (λ (r : RunSetData). IsRound instance view before.shelf (Some (launcher_at succeeds r)) left (launcher_shown launcher)) (sym runs)
+      (subst (λ (r : List ℕ). IsRound instance view before.shelf (Some (launcher_at answers r)) left (launcher_shown launcher)) (sym runs)
       (subst (λ (o : Option LauncherData). IsRound instance view before.shelf o left (launcher_shown launcher)) begins
       (subst (λ (s : ShelfNow). IsRound instance view s shown left (launcher_shown launcher)) (sym held) had)));
   tells = ap (map sent_note) about ∙ notes_of (all_tried launcher.tried.items);
@@ -55,32 +54,20 @@ has_round before instance view succeeds shelf left mine launcher shown lines hel
 }
 
 -- a round of a root that is found with this number and view
-pub rounds_found : (found : Option RootView) (number : ℕ) (view : ViewData) (instance : InstanceData) (succeeds : Bool) (before : WorldData)
+pub rounds_found : (found : Option RootView) (number : ℕ) (view : ViewData) (instance : InstanceData) (answers : List (Option ℕ)) (before : WorldData)
     (sent : List SentData) (after : WorldData)
     → Some number ≡ option_map (λ (r : RootView). r.number) found → Some view ≡ option_map (λ (r : RootView). r.view) found
-    → instance ≡ instance_of before.run number → HasRound instance view succeeds before sent after → RoundsAt found succeeds before sent after
-rounds_found None number view instance succeeds before sent after numbered viewed is had = absurd cc
-rounds_found (Some r) number view instance succeeds before sent after numbered viewed is had =
-    subst (λ (v : ViewData). HasRound (instance_of before.run r.number) v succeeds before sent after) (some_same viewed)
-    (subst (λ (i : InstanceData). HasRound i view succeeds before sent after) (is ∙ ap (instance_of before.run) (some_same numbered)) had)
-
--- runs of these parts
-abbrev runs_with : List ℕ → ℕ → RunSetData
-runs_with running next = record { running = running; next = next }
-
--- the runs after a round, with the next number of those before it if each start failed
-pub runs_kept : (succeeds : Bool) (before mine left now : RunSetData) → before ≡ mine → now.running ≡ left.running
-    → (succeeds ≡ true → now.next ≡ left.next) → (succeeds ≡ false → now.next ≡ mine.next) → runs_after succeeds before left ≡ now
-runs_kept true before mine left now is running goes stays =
-    ap (λ r. runs_with r left.next) (sym running) ∙ ap (runs_with now.running) (sym (goes refl))
-runs_kept false before mine left now is running goes stays =
-    ap (λ r. runs_with r before.next) (sym running) ∙ ap (runs_with now.running) (ap (λ r. r.next) is ∙ sym (stays refl))
+    → instance ≡ instance_of before.run number → HasRound instance view answers before sent after → RoundsAt found answers before sent after
+rounds_found None number view instance answers before sent after numbered viewed is had = absurd cc
+rounds_found (Some r) number view instance answers before sent after numbered viewed is had =
+    subst (λ (v : ViewData). HasRound (instance_of before.run r.number) v answers before sent after) (some_same viewed)
+    (subst (λ (i : InstanceData). HasRound i view answers before sent after) (is ∙ ap (instance_of before.run) (some_same numbered)) had)
 
 -- no root is found
-pub rounds_none : (found : Option RootView) (succeeds : Bool) (before : WorldData) (lines : List (List ℕ)) → None ≡ option_map (λ (r : RootView). r.number) found
-    → lines ≡ [] → RoundsAt found succeeds before (map sent_note lines) (unrefused before)
-rounds_none None succeeds before lines none empty = (ap (map sent_note) empty, refl)
-rounds_none (Some r) succeeds before lines none empty = absurd cc
+pub rounds_none : (found : Option RootView) (answers : List (Option ℕ)) (before : WorldData) (lines : List (List ℕ)) → None ≡ option_map (λ (r : RootView). r.number) found
+    → lines ≡ [] → RoundsAt found answers before (map sent_note lines) (unrefused before)
+rounds_none None answers before lines none empty = (ap (map sent_note) empty, refl)
+rounds_none (Some r) answers before lines none empty = absurd cc
 
 -- the run of a trigger, by the trigger that is found on the code's shelf
 pub run_found : (before : WorldData) (shelf : ShelfData Trigger) (root name : List ℕ) (number : ℕ) (o : Option (RootData Trigger)) (t : Option Trigger)

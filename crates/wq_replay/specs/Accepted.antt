@@ -1,7 +1,7 @@
 -- The accepted calls of the shelf for the happenings in a world. The shelf of the world is the
 -- result of these calls.
 -- It is this server's own.
-use Rattle.std.specs.Prelude.{◌≡◌, ◌⊎◌, Bool, List, [], ◌∷◌, ◌++◌, Option, Some, None, ℕ, ℤ}
+use Rattle.std.specs.Prelude.{◌≡◌, ◌⊎◌, List, [], ◌∷◌, ◌++◌, Option, Some, None, ℕ, ℤ}
 use Rattle.wq_clock.specs.Run.{RunData, instance_of}
 use Rattle.wq_live.specs.Table.{RootView, TableData, IsTableOf, root_by_text}
 use Rattle.wq_registry.specs.History.{adds_root, after_all}
@@ -45,10 +45,11 @@ AcceptsFor client world ask out calls = (table : TableData) × IsTableOf world.e
 
 -- these are the accepted calls of a round of a root, if it is shown. They put each trigger that had
 -- a turn under its name again
-abbrev pub AcceptsRound : Option RootView → Bool → WorldData → List SentData → List CallNow → Type 0
-AcceptsRound None succeeds world sent calls = calls ≡ []
-AcceptsRound (Some root) succeeds world sent calls = (after : WorldData)
-    × (had : HasRound (instance_of world.run root.number) root.view succeeds world sent after)
+abbrev pub AcceptsRound : Option RootView → List (Option ℕ) → WorldData → List SentData
+    → List CallNow → Type 0
+AcceptsRound None answers world sent calls = calls ≡ []
+AcceptsRound (Some root) answers world sent calls = (after : WorldData)
+    × (had : HasRound (instance_of world.run root.number) root.view answers world sent after)
     × (calls ≡ turn_calls root.number (had.round).turns)
 
 -- these are the accepted calls of one happening
@@ -58,9 +59,9 @@ AcceptsOf world (watching root seen) sent calls = calls ≡ []
 AcceptsOf world (asked client ask) sent calls =
     (out : OutData) × AcceptsFor client world ask out calls × (sent ≡ sent_to client out)
 AcceptsOf world (idle client root) sent calls = calls ≡ []
-AcceptsOf world (round root succeeds) sent calls = (table : TableData)
+AcceptsOf world (round root answers) sent calls = (table : TableData)
     × IsTableOf world.events table
-    × AcceptsRound (root_by_text root table) succeeds world sent calls
+    × AcceptsRound (root_by_text root table) answers world sent calls
 AcceptsOf world (ended run) sent calls = calls ≡ []
 
 -- these happenings come in turn, and these are the accepted calls of all of them. The calls of each

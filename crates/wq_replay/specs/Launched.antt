@@ -4,14 +4,13 @@ use Rattle.std.specs.Prelude.{ℕ, Bool, true, false, List, [], ◌∷◌, ◌++
 use Rattle.wq_follow.specs.Launcher.{LauncherData, TriedData}
 use Rattle.wq_follow.specs.Started.{start_data}
 use Rattle.wq_follow.specs.declared.starting.Start.{Start}
-use Rattle.wq_replay.specs.Runs.{RunSetData, launcher_with}
 use Rattle.wq_replay.specs.declared.launcher.MemoryLauncher.{MemoryLauncher}
 use Rattle.wq_replay.specs.declared.launcher.Tried.{Tried}
 use Rattle.wq_replay.specs.declared.runs.RunSet.{RunSet}
 
--- runs
-abbrev pub runs_data : RunSet → RunSetData
-runs_data runs = record { running = runs.running.items; next = runs.next }
+-- the numbers of the runs that go on
+abbrev pub runs_data : RunSet → List ℕ
+runs_data runs = runs.running.items
 
 -- a start that was tried
 abbrev pub tried_data : Tried → TriedData
@@ -27,7 +26,11 @@ with_tried start run tried = tried ++ record { start = start; run = run } ∷ []
 
 -- the launcher
 abbrev pub launcher_data : MemoryLauncher → LauncherData
-launcher_data l = launcher_with (runs_data l.runs) (all_tried l.tried.items)
+launcher_data l = record {
+  answers = l.answers.items;
+  running = runs_data l.runs;
+  tried = all_tried l.tried.items;
+}
 
 -- the launcher, unless memory ran out for a start
 abbrev pub shown_unless : Bool → LauncherData → Option LauncherData

@@ -15,6 +15,7 @@ pub mod Fault
 pub mod Script
 pub mod LineData
 pub mod Line
+pub mod Numbers
 pub mod Stage
 pub mod Replay
 pub mod Sending

@@ -1,6 +1,6 @@
 -- The runs of a trigger do not overlap: no round starts it again before its run has ended.
 -- It is this server's own.
-use Rattle.std.specs.Prelude.{◌≡◌, ◌≢◌, ℕ, Bool, true, List, [], ◌∷◌, Option, Some, None, is_some}
+use Rattle.std.specs.Prelude.{◌≡◌, ◌≢◌, ℕ, true, List, [], ◌∷◌, Option, Some, None, is_some}
 use Rattle.std.specs.Prelude.{if◌then◌else◌}
 use Rattle.std.specs.Str.{bytes_eq}
 use Rattle.wq_clock.specs.Run.{RunData, instance_of}
@@ -22,8 +22,8 @@ fired_for name (turn ∷ turns) =
 -- a round of the root of a number starts the trigger of a name, under this number of a run
 abbrev pub StartsTrigger : ℕ → List ℕ → ℕ → WorldData → WorldData → Type 0
 StartsTrigger root name run world after =
-    (view : ViewData) × (succeeds : Bool) × (sent : List SentData) × (start : StartData)
-    × (had : HasRound (instance_of world.run root) view succeeds world sent after)
+    (view : ViewData) × (answers : List (Option ℕ)) × (sent : List SentData) × (start : StartData)
+    × (had : HasRound (instance_of world.run root) view answers world sent after)
     × (fired_for name (had.round).turns ≡ Some (started run start))
 
 -- the trigger is on the shelf

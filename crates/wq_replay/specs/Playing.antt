@@ -30,7 +30,7 @@ Happens world (asked client ask) sent after =
     (out : OutData) × Gets client world ask out after × (sent ≡ sent_to client out)
 Happens world (idle client root) sent after =
     (out : OutData) × Rests client root world out after × (sent ≡ sent_to client out)
-Happens world (round root succeeds) sent after = Rounds root succeeds world sent after
+Happens world (round root answers) sent after = Rounds root answers world sent after
 Happens world (ended run) sent after = (sent ≡ []) × (after ≡ without_running run world)
 
 -- these happenings come in turn

@@ -18,10 +18,11 @@ use Rattle.wq_crawl.specs.declared.fault.CrawlFault.TheVariants.{Unreadable}
 use Rattle.wq_view.specs.Listing.{PassData}
 use Rattle.wq_replay.specs.Limit.{max_script}
 use Rattle.wq_replay.specs.Line.{lines_of}
+use Rattle.wq_replay.specs.Numbers.{answers_for}
 use Rattle.wq_replay.specs.Client.{root_numbers_of}
 use Rattle.wq_replay.specs.Rounds.{trigger_run}
 use Rattle.wq_replay.specs.Stage.{StageData, Turn, drafts, lists, hears, rests, fires, finishes}
-use Rattle.wq_replay.specs.Stage.{malformed, start, turn_of}
+use Rattle.wq_replay.specs.Stage.{given_out, malformed, start, turn_of}
 use Rattle.wq_replay.specs.World.{WorldData, HappeningData, crawl, watching, asked, idle, round}
 use Rattle.wq_replay.specs.World.{ended, SentData}
 use Rattle.wq_replay.specs.Playing.{Runs}
@@ -70,9 +71,9 @@ pub record IsHeard (stage : StageData) (client : ℤ) (event : Event) (sent : Li
 abbrev pub moments : ℤ → WorldData → List HappeningData
 moments client world = map (idle client) (root_numbers_of (world.follows client))
 
--- the happenings if the triggers of `/r` have a round
-abbrev pub rounds : Bool → List HappeningData
-rounds succeeds = round root_text succeeds ∷ []
+-- the happenings if the triggers of `/r` have a round with these answers of the launcher
+abbrev pub rounds : List (Option ℕ) → List HappeningData
+rounds answers = round root_text answers ∷ []
 
 -- the happening that a run has ended, if there is a run
 abbrev pub end_if : Option ℕ → List HappeningData
@@ -97,13 +98,14 @@ DoesLine stage (drafts draft) written after =
     (written ≡ []) × (after ≡ record stage { draft = Some draft })
 DoesLine stage (lists crawls tree) written after =
     (world : WorldData) × Runs stage.world (crawled crawls tree) [] world
-    × (written ≡ []) × (after ≡ record { world = world; tree = tree; draft = None })
+    × (written ≡ []) × (after ≡ record stage { world = world; tree = tree; draft = None })
 DoesLine stage (hears client event) written after =
     (sent : List SentData) × (world : WorldData) × IsHeard stage client event sent world
     × (shuts sent ≡ false) × (written ≡ sent_lines sent) × (after ≡ record stage { world = world })
 DoesLine stage (rests client) written after =
     DoesAll stage (moments client stage.world) written after
-DoesLine stage (fires succeeds) written after = DoesAll stage (rounds succeeds) written after
+DoesLine stage (fires succeeds) written after =
+    DoesAll (given_out succeeds stage) (rounds (answers_for succeeds stage.next)) written after
 DoesLine stage (finishes name) written after =
     DoesAll stage (ends_of name stage.world) written after
 DoesLine stage malformed written after = ⊥
@@ -157,7 +159,8 @@ StopsWriting stage (hears client event) before after =
     × WritesFront before after (sent_lines sent)
 StopsWriting stage (rests client) before after =
     StopsAll stage (moments client stage.world) before after
-StopsWriting stage (fires succeeds) before after = StopsAll stage (rounds succeeds) before after
+StopsWriting stage (fires succeeds) before after =
+    StopsAll stage (rounds (answers_for succeeds stage.next)) before after
 StopsWriting stage (finishes name) before after =
     StopsAll stage (ends_of name stage.world) before after
 StopsWriting _ _ _ _ = ⊥

@@ -1,12 +1,13 @@
 -- The stage of a script, and the effect of its next line there.
 -- It is this server's own.
-use Rattle.std.specs.Prelude.{ℕ, ℤ, pos, Bool, true, false, nat_le, if◌then◌else◌, List, [], ◌∷◌, ◌++◌, length, codes, Option, Some, None, is_none}
+use Rattle.std.specs.Prelude.{ℕ, ◌+◌, ℤ, pos, Bool, true, false, nat_le, if◌then◌else◌, List, [], ◌∷◌, ◌++◌, length, codes, Option, Some, None, is_none}
 use Rattle.wq_stream.specs.Stream.{event_of}
 use Rattle.wq_stream.specs.declared.event.Event.{Event}
 use Rattle.wq_stream.specs.declared.event.Event.TheVariants.{End}
 use Rattle.wq_view.specs.Seen.{SeenData}
 use Rattle.wq_view.specs.Listing.{PassData, listing_of, listing_fault}
 use Rattle.wq_replay.specs.Limit.{max_script_line}
+use Rattle.wq_replay.specs.Numbers.{numbers_for}
 use Rattle.wq_replay.specs.Script.{LineData, pass, tree, row, end, ask, leave, idle, fire, done}
 use Rattle.wq_replay.specs.Script.{line_of}
 use Rattle.wq_replay.specs.World.{WorldData, new_world}
@@ -17,11 +18,13 @@ pub record DraftData : Type 0 where
   pub second : ℤ
   pub rows : List SeenData
 
--- the world, the listing that a crawl of `/r` would give, and the listing that is open
+-- the world, the listing that a crawl of `/r` would give, the listing that is open, and the number
+-- of the next run
 pub record StageData : Type 0 where
   pub world : WorldData
   pub tree : PassData
   pub draft : Option DraftData
+  pub next : ℕ
 
 -- the effect of a line
 pub data Turn : Type 0 where
@@ -50,7 +53,11 @@ no_tree = listing_of [] (pos 0)
 
 -- the first stage of a script
 abbrev pub start : StageData
-start = record { world = first_world; tree = no_tree; draft = None }
+start = record { world = first_world; tree = no_tree; draft = None; next = 1 }
+
+-- the stage after the numbers for a round were given out
+abbrev pub given_out : Bool → StageData → StageData
+given_out succeeds stage = record stage { next = stage.next + numbers_for succeeds stage.next }
 
 -- a listing that begins
 abbrev pub empty_draft : Bool → ℤ → DraftData

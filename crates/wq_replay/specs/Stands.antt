@@ -43,7 +43,7 @@ happening_data (Crawl root seen) = crawl root (crawl_data seen)
 happening_data (Watch root seen) = watching root (crawl_data seen)
 happening_data (Asked client ask) = asked client ask
 happening_data (Idle client root) = idle client root
-happening_data (Round root succeeds) = round root succeeds
+happening_data (Round root answers) = round root answers.items
 happening_data (Ended run) = ended run
 
 -- the lines that the server sends for one happening

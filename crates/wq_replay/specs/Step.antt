@@ -21,6 +21,7 @@ pub record IsAt (code : Stage) (stage : StageData) : Type 0 where
   pub world : Stands stage.world code.world
   pub tree : stage.tree ≡ code.tree
   pub draft : stage.draft ≡ option_map draft_data code.draft
+  pub next : stage.next ≡ code.next
 
 -- the result of a turn at a stage. Either it was taken: this was written, and the code means the
 -- stage that it leads to. Or it ends the server, or the line is malformed, or its reply was not

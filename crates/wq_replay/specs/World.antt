@@ -19,7 +19,6 @@ use Rattle.wq_crawl.specs.Publish.{IsNotTakenIn, IsPlace, Passes, with_start}
 use Rattle.wq_crawl.specs.declared.place.Place.{Place}
 use Rattle.wq_crawl.specs.declared.place.Place.TheVariants.{Shown, Full, Free}
 use Rattle.wq_view.specs.Listing.{PassData}
-use Rattle.wq_replay.specs.Runs.{RunSetData, no_runs}
 
 -- a crawl or a watching of a root that was refused
 pub record RefusedData : Type 0 where
@@ -27,14 +26,14 @@ pub record RefusedData : Type 0 where
   pub fault : CrawlFault
 
 -- a world: the run of the server, the history of the roots, the shelf of all clients, and the
--- subscriptions of each client. Also the runs of commands, and the last crawl or opening, if it was
--- refused and nothing followed it
+-- subscriptions of each client. Also the numbers of the runs of commands that go on, and the last
+-- crawl or opening, if it was refused and nothing followed it
 pub record WorldData : Type 0 where
   pub run : RunData
   pub events : List RootEvent
   pub shelf : ShelfNow
   pub follows : ℤ → List SubscriptionData
-  pub runs : RunSetData
+  pub runs : List ℕ
   pub refused : Option RefusedData
 
 -- a happening in a world
@@ -47,8 +46,9 @@ pub data HappeningData : Type 0 where
   asked : (client : ℤ) → Ask → HappeningData
   -- an idle moment of the root of this number: a client hears of its changes
   idle : (client : ℤ) → (root : ℕ) → HappeningData
-  -- a round of the triggers of a root, in which each start succeeds, or each fails
-  round : (root : List ℕ) → (succeeds : Bool) → HappeningData
+  -- a round of the triggers of a root, with the launcher's answers to its starts in turn: the
+  -- number of a run, or none if the start fails. A start without an answer fails
+  round : (root : List ℕ) → (answers : List (Option ℕ)) → HappeningData
   -- the run of this number has ended
   ended : (run : ℕ) → HappeningData
 
@@ -73,7 +73,7 @@ new_world run sockname = record {
   events = Started 1 root_text ∷ [];
   shelf = root_added root_text 1 (blank sockname);
   follows = λ client. [];
-  runs = no_runs;
+  runs = [];
   refused = None;
 }
 

@@ -29,13 +29,16 @@ pub enum Happening<'a> {
         client: i64,
         root: u64,
     },
-    /// The triggers of a root have a round, in which each start succeeds, or each fails. It does nothing if the root is
-    /// not shown.
+    /// The triggers of a root have a round, in which the launcher gives these answers to the starts in turn. An answer
+    /// is the number of the run, or none if the start fails. A start without an answer fails. It does nothing if the
+    /// root is not shown.
+    ///
+    /// A number may come again. Runs that have the same number at the same time end together.
     Round {
         root: Text,
-        succeeds: bool,
+        answers: Vec<Option<u32>>,
     },
-    /// The run of this number has ended.
+    /// The run of this number has ended. It does nothing if no such run goes on.
     Ended {
         run: u32,
     },

@@ -49,13 +49,16 @@ pub(crate) fn moments<'a>(
     Ok(moments)
 }
 
-/// A round of the triggers of `/r`, in which each start succeeds, or each fails.
-pub(crate) fn rounds<'a>(alloc: Global, succeeds: bool) -> Result<Vec<Happening<'a>>, AllocError>
-    ensures { IfOk result (λ all. map happening_data all.items ≡ rounds succeeds) }
+/// A round of the triggers of `/r`, with these answers of the launcher.
+pub(crate) fn rounds<'a>(
+    alloc: Global,
+    answers: Vec<Option<u32>>,
+) -> Result<Vec<Happening<'a>>, AllocError>
+    ensures { IfOk result (λ all. map happening_data all.items ≡ rounds answers.items) }
 {
     let root = Text::copied(alloc, ROOT)?;
     let mut rounds = Vec::with_capacity(alloc, 1)?;
-    rounds.push(Happening::Round { root, succeeds })?;
+    rounds.push(Happening::Round { root, answers })?;
     Ok(rounds)
 }
 

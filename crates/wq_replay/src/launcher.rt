@@ -1,4 +1,4 @@
-//! A launcher in memory: it starts nothing, gives each run its number, and keeps the starts that it got.
+//! A launcher in memory: it starts nothing, answers each start as it was told to, and keeps the starts that it got.
 
 use crate::runs::RunSet;
 use wq_follow::Start;
@@ -14,7 +14,10 @@ pub(crate) struct Tried {
 /// A launcher in memory. Its functions are in `launching`.
 #[derive(Drop)]
 pub(crate) struct MemoryLauncher {
-    /// The runs. A start gets the next number, and fails if none is left.
+    /// The answers to the starts to come: the number of a run, or none if the start fails. A start without an answer
+    /// fails.
+    pub(crate) answers: Vec<Option<u32>>,
+    /// The runs that go on.
     pub(crate) runs: RunSet,
     /// The starts that it got.
     pub(crate) tried: Vec<Tried>,

@@ -11,6 +11,7 @@ mod hearing;
 mod launcher;
 mod launching;
 mod law;
+mod numbers;
 mod player;
 mod refused;
 mod runs;

@@ -4,8 +4,6 @@
 /// The commands that run.
 #[derive(Drop)]
 pub(crate) struct RunSet {
-    /// The numbers of the runs that go on.
+    /// The numbers of the runs that go on. Runs may have the same number.
     pub(crate) running: Vec<u32>,
-    /// The number of the next run.
-    pub(crate) next: u32,
 }

@@ -1,5 +1,5 @@
-//! The stage of a script: the world, the listing that a crawl of `/r` would give, and the listing
-//! that is open.
+//! The stage of a script: the world, the listing that a crawl of `/r` would give, the listing that is open, and the
+//! number of the next run.
 
 use crate::world::{World, no_files};
 use std::alloc::{AllocError, Global};
@@ -17,6 +17,8 @@ pub(crate) struct Stage {
     pub(crate) world: World,
     pub(crate) tree: Pass,
     pub(crate) draft: Option<Draft>,
+    /// The number of the next run.
+    pub(crate) next: u32,
 }
 
 impl Stage {
@@ -34,6 +36,7 @@ impl Stage {
             world,
             tree: no_files(alloc)?,
             draft: None,
+            next: 1,
         })
     }
 }

@@ -15,6 +15,7 @@ ghost use Rattle.wq_replay.specs.World.{WorldData};
 use crate::fault::StepFault;
 use crate::happening::Happening;
 use crate::hearing::{end_if, happenings, moments, rounds};
+use crate::numbers::{answers_from, numbers_for};
 use crate::script::{Line, RowLine, read_line};
 use crate::sending::send;
 use crate::stage::{Draft, Stage};
@@ -99,7 +100,7 @@ fn step_inside(
 ) -> Result<bool, StepFault>
     requires { stage.old.draft ≡ None }
     ensures { (at : StageData) → Stands at.world stage.old.world → at.tree ≡ stage.old.tree
-        → at.draft ≡ Some (draft_data draft) → (known : Option (List ℕ))
+        → at.draft ≡ Some (draft_data draft) → at.next ≡ stage.old.next → (known : Option (List ℕ))
         → TakesTurn at (turn_inside (draft_data draft) (line_data line.entry))
         known known result stage.new }
 {
@@ -129,7 +130,8 @@ fn seen(alloc: Global, row: RowLine<'_>) -> Result<Seen, AllocError>
 /// Ends a listing: `/r` lists it from now on, and is crawled or not.
 fn end_listing(alloc: Global, stage: &mut Stage, draft: Draft) -> Result<bool, StepFault>
     requires { stage.old.draft ≡ None }
-    ensures { (at : StageData) → Stands at.world stage.old.world → (known : Option (List ℕ))
+    ensures { (at : StageData) → Stands at.world stage.old.world → at.next ≡ stage.old.next
+        → (known : Option (List ℕ))
         → TakesTurn at (turn_at_end (draft_data draft)) known known result stage.new }
 {
     let crawls = draft.crawls;
@@ -227,7 +229,10 @@ fn fire<W: Write>(
         → TakesTurn at (fires succeeds)
         (W.contents writer.old) (W.contents writer.new) result stage.new }
 {
-    let rounds = rounds(alloc, succeeds)?;
+    let count = numbers_for(succeeds, stage.next);
+    let answers = answers_from(alloc, stage.next, count)?;
+    stage.next += count;
+    let rounds = rounds(alloc, answers)?;
     happen(alloc, stage, writer, rounds)
 }
 

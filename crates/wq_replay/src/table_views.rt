@@ -100,7 +100,8 @@ fn shows(table: &RootTable, root: &str) -> bool
 
 /// The fault of the crawl or the watching that an ask needs, if it needs one and that was refused.
 fn fault_for(need: Need<'_>, table: &RootTable, refused: Option<Refused>) -> Option<CrawlFault>
-    ensures { result ≡ fault_for (need_data need.entry) table.now (option_map refused_data refused) }
+    ensures { result
+        ≡ fault_for (need_data need.entry) table.now (option_map refused_data refused) }
 {
     match need {
         Need::Crawl(root) if shows(table, root) => fault_of(root, refused),

@@ -155,8 +155,8 @@ impl World {
                 let out = self.rest(alloc, client, root)?;
                 Ok(Some(Sent::ToClient(Told { client, out })))
             }
-            Happening::Round { root, succeeds } => {
-                let lines = self.round(alloc, &root, succeeds)?;
+            Happening::Round { root, answers } => {
+                let lines = self.round(alloc, &root, answers)?;
                 Ok(Some(Sent::OfRound(lines)))
             }
             Happening::Ended { run } => {
@@ -299,17 +299,19 @@ impl World {
         clients::numbers(&self.clients, alloc, client)
     }
 
-    /// Has a round of the triggers of a root, in which each start succeeds, or each fails.
+    /// Has a round of the triggers of a root, in which the launcher gives these answers to the starts in turn. A start
+    /// without an answer fails.
     ///
     /// It gives a line about each start, without its newline.
     pub(crate) fn round(
         &mut self,
         alloc: Global,
         root: &Text,
-        succeeds: bool,
+        answers: Vec<Option<u32>>,
     ) -> Result<Table<Table<u8>>, AllocError>
         ensures { (before : WorldData) → Stands before self.old → IfOk result (λ lines.
-            (after : WorldData) × Rounds root.now succeeds before (map sent_note lines) after
+            (after : WorldData)
+            × Rounds root.now answers.items before (map sent_note lines) after
             × Stands after self.new) }
     {
         self.views.refused = None;
@@ -318,21 +320,17 @@ impl World {
         };
         let instance = self.views.run.instance(number);
         let runs = mem::replace(&mut self.runs, RunSet::new(alloc));
-        let next = runs.next;
-        let mut launcher = MemoryLauncher::new(alloc, runs, succeeds);
-        round(alloc, &instance, view, &mut self.shelf, &mut launcher);
+        let mut launcher = MemoryLauncher::new(alloc, runs, answers);
+        round(alloc, &instance, view, &mut self.shelf, &[], &mut launcher);
         if launcher.spent {
             return Err(AllocError);
         }
         let lines = lines_about(alloc, &launcher.tried)?;
         self.runs = launcher.runs;
-        if !succeeds {
-            self.runs.next = next;
-        }
         Ok(lines)
     }
 
-    /// Ends a run.
+    /// Ends the runs of a number.
     pub(crate) fn end_run(&mut self, run: u32)
         ensures { (before : WorldData) → Stands before self.old
             → Stands (without_running run before) self.new }

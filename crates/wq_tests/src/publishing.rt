@@ -2,23 +2,23 @@
 //! before the last one. So the second of two publishes would wait for ever for a look that the session has open.
 ghost use Rattle.std.specs.Prelude.{◌≡◌};
 
-use crate::served::{Still, Turning};
+use crate::served::{Still, Turning, shared_shelf};
 use std::alloc::Global;
 use std::collections::VecDeque;
 use std::io;
 use std::io::Write;
 use std::marker::Brand;
-use std::sync::{Arc, Mutex, Wait};
+use std::sync::{Arc, Wait};
 use std::thread::Threads;
 use wq_ask::Cursor;
 use wq_base::{Stays, Workers};
 use wq_clock::Run;
 use wq_crawl::{CrawlFault, Crawler, LockRoots, Roots, SharedCrawler};
 use wq_live::{Blank, Named, Told};
-use wq_registry::{Cache, CacheKey, Compiled, Forgotten};
-use wq_serve::{LockDesk, MemoryInbox, SeatViews, SharedShelf, serve};
+use wq_registry::{CacheKey, Compiled, Forgotten};
+use wq_serve::{LockDesk, SeatViews, serve};
 use wq_session::{Desk, Turn, Unset, Work};
-use wq_stream::Splitter;
+use wq_stream::{MemoryInbox, Splitter};
 use wq_verify::Program;
 
 /// Roots that publish twice whenever they are called.
@@ -108,13 +108,6 @@ impl<N: Named, R: Wait + Drop> Write for Telling<N, R> {
     fn flush(&mut self) -> io::Result<()> {
         Ok(())
     }
-}
-
-/// The shelf of a server at its start, for threads to share; none if memory ran out.
-fn shared_shelf(alloc: Global) -> Option<Arc<Mutex<SharedShelf>>> {
-    let sockname = String::from_str(alloc, "s").ok()?;
-    let shelf = SharedShelf::new(alloc, Cache::new(alloc, 7, 9).ok()?, sockname);
-    Arc::new(alloc, Mutex::new(shelf)).ok()
 }
 
 /// The bytes that a session writes for a client that sends these lines; none if it failed.

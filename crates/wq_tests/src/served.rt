@@ -5,9 +5,11 @@ ghost use Rattle.wq_view.specs.Name.{is_valid_name};
 ghost use Rattle.wq_view.specs.Seen.{is_lawful_row};
 
 use std::alloc::{AllocError, Global};
+use std::sync::{Arc, Mutex};
 use wq_crawl::{Seconds, Tree, TreeFault};
 use wq_follow::Trigger;
 use wq_registry::{Cache, Shelf};
+use wq_serve::SharedShelf;
 use wq_view::{Kind, Seen, SharedBytes, is_valid_name};
 
 /// The names of the files of a tree.
@@ -107,4 +109,11 @@ pub(crate) fn new_desk(alloc: Global) -> Option<Shelf<Trigger>> {
     let sockname = String::from_str(alloc, "s").ok()?;
     let cache = Cache::new(alloc, 7, 9).ok()?;
     Some(Shelf::new(alloc, cache, sockname))
+}
+
+/// The shelf of a server at its start, for threads to share; none if memory ran out.
+pub(crate) fn shared_shelf(alloc: Global) -> Option<Arc<Mutex<SharedShelf>>> {
+    let sockname = String::from_str(alloc, "s").ok()?;
+    let shelf = SharedShelf::new(alloc, Cache::new(alloc, 7, 9).ok()?, sockname);
+    Arc::new(alloc, Mutex::new(shelf)).ok()
 }

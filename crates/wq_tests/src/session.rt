@@ -1,7 +1,7 @@
 //! Sessions over memory, one after the other at one desk: their lines, and their replies.
 ghost use Rattle.std.specs.Prelude.{◌≡◌};
 
-use crate::served::{Still, Turning, new_desk};
+use crate::served::{Still, Turning, new_desk, shared_shelf};
 use std::alloc::Global;
 use std::collections::VecDeque;
 use std::marker::Brand;
@@ -11,11 +11,10 @@ use std::thread::Threads;
 use wq_base::Stays;
 use wq_clock::Run;
 use wq_crawl::{Crawler, MemoryRoots, Roots};
-use wq_follow::Trigger;
 use wq_live::{Blank, Named, Seat};
-use wq_registry::Shelf;
-use wq_serve::{MemoryInbox, SeatViews, serve};
-use wq_stream::Splitter;
+use wq_serve::{LockDesk, SeatViews, serve};
+use wq_session::Desk;
+use wq_stream::{MemoryInbox, Splitter};
 
 /// The lines of one client, and the lines that are written to it.
 type Talk = (&'static [u8], &'static [u8]);
@@ -43,11 +42,11 @@ fn make_ends<N: Named, R: Wait + Drop>(rt: R, alloc: Global, blank: Blank) -> Op
 }
 
 /// Serves a client at a desk, and says whether it got the right lines.
-fn talk_at<N: Named, R: Threads + Wait + Drop + Sync>(
+fn talk_at<N: Named, R: Threads + Wait + Drop + Sync, D: Desk>(
     rt: &R,
     alloc: Global,
     ends: Ends<N, R>,
-    desk: &mut Shelf<Trigger>,
+    desk: &mut D,
     talk: &Talk,
 ) -> Option<(Ends<N, R>, bool)> {
     let Ends { seat, roots } = ends;
@@ -74,6 +73,28 @@ fn play<N: Named, R: Threads + Wait + Copy + Drop + Sync>(
     let mut ends = make_ends::<N, R>(rt, alloc, blank)?;
     let mut desk = new_desk(alloc)?;
     for (place, talk) in talks.iter().enumerate() {
+        let (after, is_right) = talk_at(&rt, alloc, ends, &mut desk, talk)?;
+        ends = after;
+        if !is_right {
+            return Some(place);
+        }
+    }
+    Some(talks.len())
+}
+
+/// Serves clients one after the other, each at a desk of its own over the same lock. Says how many got the right lines.
+fn play_at_lock<N: Named, R: Threads + Wait + Copy + Drop + Sync>(
+    rt: R,
+    alloc: Global,
+    blank: Blank,
+    talks: &[Talk],
+) -> Option<usize>
+    requires { blank.book ≡ N.book }
+{
+    let mut ends = make_ends::<N, R>(rt, alloc, blank)?;
+    let shelf = shared_shelf(alloc)?;
+    for (place, talk) in talks.iter().enumerate() {
+        let mut desk = LockDesk::new(shelf.clone().ok()?, rt);
         let (after, is_right) = talk_at(&rt, alloc, ends, &mut desk, talk)?;
         ends = after;
         if !is_right {
@@ -145,6 +166,14 @@ const WATCH: Talk = (
 fn sessions_at_one_desk_share_programs(rt: HostRuntime) -> Result<(), Fail> {
     let blank = Blank::new(rt.alloc(), &rt, 1)?;
     let well = play::<Brand, HostRuntime>(rt, rt.alloc(), blank, &SHARERS);
+    assert_eq!(rt; well, Some(3));
+    Ok(())
+}
+
+#[test]
+fn desks_over_one_lock_share_programs(rt: HostRuntime) -> Result<(), Fail> {
+    let blank = Blank::new(rt.alloc(), &rt, 1)?;
+    let well = play_at_lock::<Brand, HostRuntime>(rt, rt.alloc(), blank, &SHARERS);
     assert_eq!(rt; well, Some(3));
     Ok(())
 }

@@ -26,8 +26,8 @@ pub(crate) enum Step {
     End(i64),
     /// The client has an idle moment of the root of this number.
     Idle(i64, u64),
-    /// The triggers of the root have a round, in which each start succeeds, or each fails.
-    Round(&'static str, bool),
+    /// The triggers of the root have a round, with these answers of the launcher.
+    Round(&'static str, &'static [Option<u32>]),
     /// The run of this number has ended.
     Ended(u32),
 }
@@ -94,7 +94,7 @@ fn happening<'a>(
         Step::Long(client) => Ok(asked(alloc, client, Event::Long)),
         Step::End(client) => Ok(asked(alloc, client, Event::End)),
         Step::Idle(client, root) => Ok(Happening::Idle { client, root }),
-        Step::Round(root, succeeds) => round(alloc, root, succeeds),
+        Step::Round(root, answers) => round(alloc, root, answers),
         Step::Ended(run) => Ok(Happening::Ended { run }),
     }
 }
@@ -117,9 +117,14 @@ fn watch<'a>(
     Ok(Happening::Watch { root, seen })
 }
 
-fn round<'a>(alloc: Global, root: &str, succeeds: bool) -> Result<Happening<'a>, AllocError> {
+fn round<'a>(
+    alloc: Global,
+    root: &str,
+    answers: &[Option<u32>],
+) -> Result<Happening<'a>, AllocError> {
     let root = Text::copied(alloc, root)?;
-    Ok(Happening::Round { root, succeeds })
+    let answers = Vec::from_slice(alloc, answers)?;
+    Ok(Happening::Round { root, answers })
 }
 
 fn asked<'a>(alloc: Global, client: i64, event: Event) -> Happening<'a> {

@@ -11,4 +11,4 @@ pub returns : goal.returns
 returns c = λ at is known.
     let code : ℤ → Stage = λ second. record c.args.stage.now { draft = Some (record { crawls = c.args.crawls; second = second; rows = c.new.result }) } in
     subst (λ second. TakesTurn at (drafts (empty_draft c.args.crawls c.args.second)) known known (Ok true) (code second)) (sym (to_z-of_z c.ranges.second))
-    (draft_open at _ (code c.args.second) known is.world is.tree (rows_are c.args.crawls c.args.second [] _ (sym c.new.ensures.items)))
+    (draft_open at _ (code c.args.second) known is.world is.tree (rows_are c.args.crawls c.args.second [] _ (sym c.new.ensures.items)) is.next)

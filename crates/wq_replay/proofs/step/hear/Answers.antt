@@ -18,5 +18,5 @@ returns g c = λ at is event asks.
     (to_z-of_z c.ranges.client) c.in_ok-happenings.ensures in
     heard at c.args.client event sent played.0 _ _ c.send.result (record c.args.stage.now { world = c.play.new.self })
     (heard_of at c.args.client event c.args.ask c.args.stage.now.tree _ sent played.0 asks is.tree happened played.1)
-    (record { world = played.2; tree = is.tree; draft = is.draft })
+    (record { world = played.2; tree = is.tree; draft = is.draft; next = is.next })
     (subst (λ (items : List Sent). Sends (all_sent items) (g.W.Write.contents c.args.writer.now) (g.W.Write.contents c.send.new.writer) c.send.result) c.deref.ensures.value c.send.ensures)

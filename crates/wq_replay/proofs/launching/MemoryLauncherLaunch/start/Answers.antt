@@ -1,4 +1,4 @@
--- The start is kept with its number, or memory ran out for it.
+-- The start is kept with its answer, or memory ran out for it.
 use Rattle.std.proofs.Common.{inl, inr, ap, subst, sym, ◌∙◌}
 use Rattle.wq_follow.specs.Launcher.{StartsRun}
 use Rattle.wq_follow.specs.Started.{start_data}
@@ -14,8 +14,8 @@ returns-in-Some-clause-told c =
       | else-is_err w ↦ inr (sym c.is_err.ensures.value ∙ w.if-is_err.false, ap launcher_shown w.self-is)
     ] in
     subst (λ run. StartsRun (launcher_shown c.args.self.now) (start_data c.args.start) run (launcher_shown c.if-is_err.self)) c.in-Some.is
-    (start_told c.args.self.now c.keep.new.self c.if-is_err.self c.args.start c.give-run.result c.give-run.new.self c.keep.result
-    c.give-run.ensures c.keep.ensures.tried c.keep.ensures.running c.keep.ensures.next c.keep.ensures.spent is)
+    (start_told c.args.self.now c.keep.new.self c.if-is_err.self c.args.start c.next_answer-run.result c.keep.result c.next_answer-run.ensures.next
+    (ap (λ answers. answers.items) c.keep.ensures.answers ∙ c.next_answer-run.ensures.later) c.keep.ensures.tried c.keep.ensures.runs c.keep.ensures.spent is)
 
 pub returns-in-None-clause-told : goal.returns-in-None-clause-told
 returns-in-None-clause-told c =
@@ -24,5 +24,5 @@ returns-in-None-clause-told c =
       | else-is_err w ↦ inr (sym c.is_err.ensures.value ∙ w.if-is_err.false, ap launcher_shown w.self-is)
     ] in
     subst (λ run. StartsRun (launcher_shown c.args.self.now) (start_data c.args.start) run (launcher_shown c.if-is_err.self)) c.in-None.is
-    (start_told c.args.self.now c.keep.new.self c.if-is_err.self c.args.start c.give-run.result c.give-run.new.self c.keep.result
-    c.give-run.ensures c.keep.ensures.tried c.keep.ensures.running c.keep.ensures.next c.keep.ensures.spent is)
+    (start_told c.args.self.now c.keep.new.self c.if-is_err.self c.args.start c.next_answer-run.result c.keep.result c.next_answer-run.ensures.next
+    (ap (λ answers. answers.items) c.keep.ensures.answers ∙ c.next_answer-run.ensures.later) c.keep.ensures.tried c.keep.ensures.runs c.keep.ensures.spent is)
