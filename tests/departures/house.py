@@ -35,7 +35,7 @@ class House:
         self.first = self.clients[0]
         for client in self.clients:
             client.ask("version")
-        self.threads = self.server.threads()
+        self.threads = self.server.least_threads()
 
     def __enter__(self) -> "House":
         return self

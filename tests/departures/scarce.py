@@ -33,7 +33,7 @@ def check_no_threads(tally: built.Tally, room: Path, root: Path) -> None:
         os.chown(room, number, number)
     with Server(room, interval=INTERVAL, through=[sys.executable, str(USER), str(number)]) as server, server.client() as client:
         client.ask("watch", str(tree))
-        threads = server.threads()
+        threads = server.least_threads()
         for limit in limits(threads):
             name = f"with {limit} threads, of which {threads} are there"
             limit_threads(server, number, limit)

@@ -55,7 +55,7 @@ class Stage:
         for name in GONE_NAMES:
             (self.root / name).unlink()
         self.crawl()
-        self.threads = self.server.threads()
+        self.threads = self.server.least_threads()
         self.memory = self.server.memory()
 
     def __enter__(self) -> "Stage":

@@ -171,17 +171,22 @@ class Server:
             time.sleep(0.01)
         return True
 
+    @staticmethod
+    def least(figure: Callable[[], int]) -> int:
+        """The least of what a figure is in half a second."""
+        found = []
+        for _ in range(LOOKS):
+            found.append(figure())
+            time.sleep(0.5 / LOOKS)
+        return min(found)
+
     def most_memory(self) -> int:
         """The most memory that the server had so far, in bytes."""
         return self.status("VmHWM") * 1024
 
     def least_memory(self) -> int:
         """The least memory that the server has in half a second, in bytes: while it crawls it has more."""
-        found = []
-        for _ in range(LOOKS):
-            found.append(self.memory())
-            time.sleep(0.5 / LOOKS)
-        return min(found)
+        return self.least(self.memory)
 
     def has_memory_below(self, most: int) -> bool:
         """Whether the server comes to have less memory than so many bytes before the patience ends."""
@@ -198,6 +203,10 @@ class Server:
 
     def threads(self) -> int:
         return self.status("Threads")
+
+    def least_threads(self) -> int:
+        """The fewest threads that the server has in half a second: while a client waits for a walk it has more."""
+        return self.least(self.threads)
 
     def has_threads(self, count: int, seconds: float) -> bool:
         """Whether the server comes to have so many threads within so many seconds."""

@@ -17,11 +17,11 @@ def check_a_write_that_waits(tally: built.Tally, room: Path) -> None:
     fill_root(root, 10_000)
     with Server(room, interval=A_HOUR) as server, server.client() as client:
         client.ask("watch", str(root))
-        before = server.threads()
+        before = server.least_threads()
         with server.client() as deaf:
             begun = time.monotonic()
             ask_much(deaf, root, 20)
-            tally.check("the threads of a client that never reads", server.has_threads(before + 3, MOST_WAIT))
+            tally.check("the threads of a client that never reads", server.has_threads(before + 2, MOST_WAIT))
             tally.check("the end of a write that waits", server.has_threads(before, MOST_WAIT))
             waited = time.monotonic() - begun
             tally.check("how long a write waits", LEAST_WAIT <= waited <= MOST_WAIT, [f"{waited} seconds"])

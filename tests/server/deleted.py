@@ -46,7 +46,7 @@ def check_what_sessions_keep(tally: built.Tally, room: Path) -> None:
     for leaves in (False, True):
         with Server(room) as server, server.client() as other:
             other.ask("version")
-            threads = server.threads()
+            threads = server.least_threads()
             with server.client() as client:
                 before = delete_the_first(server, client, [small, large])
                 if leaves:

@@ -66,7 +66,7 @@ def check_many_triggers(tally: built.Tally, room: Path) -> None:
     """64 triggers of one root all start, and each again after a change. The next one is refused."""
     with Scene(room) as scene:
         scene.make("a")
-        threads = scene.server.threads()
+        threads = scene.server.least_threads()
         names = [f"t{number:02}" for number in range(MOST)]
         for name in names:
             scene.trigger(name, makes(scene, name), append_files=True)
