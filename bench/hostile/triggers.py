@@ -1,6 +1,6 @@
-"""The cost of one hostile client's triggers for others. A round makes the batches of all triggers of a root while it
-holds the lock that each request takes. The first batch of a trigger looks at all files, and one that is registered anew
-begins anew. So the client registers its triggers again and again."""
+"""The cost of one hostile client's triggers for others. A round runs the programs of the triggers of a root. Then it holds
+the lock that each request takes, while it makes their batches. The first batch of a trigger looks at all files, and one that
+is registered anew begins anew. So the client registers its triggers again and again."""
 
 import threading
 import time
