@@ -1,6 +1,7 @@
 """A query of which one thread looks for the files, and one of which four do."""
 
 import json
+import socket
 import subprocess
 import tempfile
 from pathlib import Path
@@ -30,6 +31,7 @@ def check_workers(tally: built.Tally, room: Path) -> None:
             for query, reply, plain in zip(QUERIES, many, one):
                 tally.check(f"four workers and one: {query}", reply == plain, [f"{len(reply)} bytes, {len(plain)} bytes"])
             check_few(tally, one[-1])
+            check_a_list_that_is_read_late(tally, room, root, many[0])
         finally:
             subprocess.run(["rm", "-rf", str(root)], check=True)
 
@@ -50,3 +52,17 @@ def check_few(tally: built.Tally, line: bytes) -> None:
     names = range(99, FILES // DIRECTORIES - 1, 100)
     files = [f"directory{number:02}/{name}" for number in range(DIRECTORIES) for name in names]
     same(tally, "the files of one worker", json.loads(line)["files"], sorted(files))
+
+
+def check_a_list_that_is_read_late(tally: built.Tally, room: Path, root: Path, line: bytes) -> None:
+    """A long list has the files of its clock, whatever changed while it was sent."""
+    with Server(room, interval=A_HOUR, workers=4) as server, server.client() as late, server.client() as client:
+        clock = client.ask("watch", str(root)) and client.ask("clock", str(root))["clock"]
+        late.send("query", str(root), {**QUERIES[0], "sync_timeout": 0})
+        late.socket.recv(1, socket.MSG_PEEK)
+        (root / "directory00" / "0").unlink()
+        (root / "new").touch()
+        reply = client.ask("query", str(root), {"since": clock, **query_of_names()})
+        same(tally, "what changed beside a long list", reply["files"], ["directory00", "directory00/0", "new"])
+        tally.check("a long list that is read late", late.line() == line, [f"{len(line)} bytes"])
+        same(tally, "the end after a long list", server.shut_down(client), 0)

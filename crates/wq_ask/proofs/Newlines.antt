@@ -1,5 +1,5 @@
 -- Lines, which end with a newline.
-use Rattle.std.proofs.Common.{◌≡◌, ◌≤◌, ℕ, ◌-◌, List, ◌++◌, length, take, codes, sym, ap, subst, ◌∙◌, arith, length-append}
+use Rattle.std.proofs.Common.{◌≡◌, ℕ, ◌-◌, List, ◌++◌, length, take, codes, sym, ap, subst, ◌∙◌, arith, length-append}
 use Rattle.std.proofs.Math.Seq.{take-append_seam}
 use Rattle.wq_ask.specs.Line.{IsLine, line_text}
 
@@ -12,10 +12,6 @@ text_before text =
 -- a text with a newline is a line
 pub is_line : (text : List ℕ) → IsLine (text ++ codes "\n")
 is_line text = ap (λ t. t ++ codes "\n") (sym (text_before text))
-
--- a line has a byte
-pub not_empty : (line : List ℕ) → IsLine line → 1 ≤ length line
-not_empty line is = subst (λ l. 1 ≤ length l) (sym is) (omega (arith, length-append (line_text line) (codes "\n")))
 
 -- a line that is kept for a text has that text
 pub kept_text : (text line : List ℕ) → line ≡ text ++ codes "\n" → line_text line ≡ text

@@ -1,40 +1,31 @@
 //! The output of a session: replies that were made, and fixed ones.
-ghost use Rattle.std.specs.Prelude.{◌≡◌, ◌⊎◌, ◌++◌, codes, ℕ, List, Some, None, false, option_map, IfOk, MatchResult};
-ghost use Rattle.wq_ask.specs.Out.{MayRefuse, refuses, replies, runs_out, saying_text, saying_with};
+ghost use Rattle.std.specs.Prelude.{◌≡◌, ◌⊎◌, ◌++◌, codes, option_map, IfOk, MatchResult};
+ghost use Rattle.wq_ask.specs.Out.{MayRefuse, replies, runs_out, saying_text, saying_with};
 ghost use Rattle.wq_ask.specs.Out.{shuts_with, silence, tells_lists, settled};
 ghost use Rattle.wq_ask.specs.Reply.{error_data};
-ghost use Rattle.wq_ask.specs.Line.{IsLine, line_text};
+ghost use Rattle.wq_ask.specs.Said.{line_in};
+ghost use Rattle.wq_query.specs.Answer.{text_in};
 ghost use Rattle.wq_ask.specs.Server.{shutdown_data, version_data};
 
 use crate::cursor::Cursor;
 use crate::fixed::{NO_MEMORY, SHUTS_DOWN, VERSION_ALONE};
 use crate::line::Line;
-use crate::outcome::{Out, Reply};
+use crate::outcome::{Out, Reply, ReplyLine};
 use crate::refusal::Refusal;
 use crate::reply::{error_reply, print};
 use std::alloc::{AllocError, Global};
+use wq_query::{LongReply, ReplyText};
 
 impl Out {
-    /// The text of the reply, without a newline.
-    pub fn reply(&self) -> Option<&[u8]>
-        ensures { option_map (λ text. text.now) result ≡ self.now.reply }
+    /// The line of the reply: its text and the newline after it.
+    pub fn line(&self) -> ReplyLine<'_>
+        ensures { line_in result ≡ option_map (λ text. text ++ codes "\n") self.now.reply }
     {
         match &self.reply {
-            Reply::None => None,
-            Reply::Made(line) => Some(without_newline(line.as_bytes())),
-            Reply::Fixed(line) => Some(without_newline(line)),
-        }
-    }
-
-    /// The text of the reply and the newline after it, in one piece.
-    pub fn line(&self) -> Option<&[u8]>
-        ensures { option_map (λ line. line.now) result
-            ≡ option_map (λ text. text ++ codes "\n") self.now.reply }
-    {
-        match &self.reply {
-            Reply::None => None,
-            Reply::Made(line) => Some(line.as_bytes()),
-            Reply::Fixed(line) => Some(line),
+            Reply::None => ReplyLine::None,
+            Reply::Made(line) => ReplyLine::Whole(line.as_bytes()),
+            Reply::Fixed(line) => ReplyLine::Whole(line),
+            Reply::Long(reply) => ReplyLine::Long(reply),
         }
     }
 
@@ -85,17 +76,31 @@ impl Out {
 
     /// The reply of this text, if it was made. If memory ran out for the text or the newline, the output says so, with the
     /// cursor that was moved for the reply.
-    pub fn of_answer(text: Result<Vec<u8>, AllocError>, cursor: Option<Cursor>) -> Out
+    pub fn of_answer(text: Result<ReplyText, AllocError>, cursor: Option<Cursor>) -> Out
         ensures { MatchResult text
-            (λ text. (result ≡ saying_text text.items) ⊎ (result ≡ runs_out cursor))
+            (λ text. (result ≡ saying_text (text_in text)) ⊎ (result ≡ runs_out cursor))
             (λ _. result ≡ runs_out cursor) }
     {
-        let Ok(text) = text else {
-            return Out::runs_out(cursor);
-        };
-        match Out::of_text(text) {
-            Ok(out) => out,
+        match text {
+            Ok(ReplyText::Whole(text)) => match Out::of_text(text) {
+                Ok(out) => out,
+                Err(_) => Out::runs_out(cursor),
+            },
+            Ok(ReplyText::Long(reply)) => Out::of_long(reply),
             Err(_) => Out::runs_out(cursor),
+        }
+    }
+
+    /// This long reply, and then the session goes on.
+    fn of_long(reply: LongReply) -> Out
+        ensures { result ≡ saying_text reply }
+    {
+        Out {
+            reply: Reply::Long(reply),
+            lists: None,
+            goes_on: true,
+            shuts: false,
+            unset: None,
         }
     }
 
@@ -209,13 +214,4 @@ fn error(alloc: Global, refusal: Refusal) -> Result<Out, AllocError>
 {
     let reply = error_reply(alloc, refusal)?;
     print(alloc, &reply)
-}
-
-/// A line without the newline at its end.
-#[tactic(auto, using(crate::proofs::Newlines::not_empty))]
-fn without_newline(line: &[u8]) -> &[u8]
-    requires { IsLine line.now }
-    ensures { result.now ≡ line_text line.now }
-{
-    &line[..line.len() - 1]
 }

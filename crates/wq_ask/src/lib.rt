@@ -28,7 +28,7 @@ pub use cursor::Cursor;
 pub use law::{asks_hand_in_valid, hands_in_valid};
 pub use line::Line;
 pub use need::Need;
-pub use outcome::Out;
+pub use outcome::{Out, ReplyLine};
 pub use refusal::Refusal;
 pub use reply::print;
 pub use root::{MAX_ROOT, RootText};

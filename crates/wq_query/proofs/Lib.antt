@@ -9,3 +9,5 @@ mod RowTexts
 mod Places
 mod Subscribed
 mod Words
+mod Longs
+mod WrittenRows

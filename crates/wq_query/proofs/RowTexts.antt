@@ -1,13 +1,13 @@
--- Rows with a comma before each, piece by piece, and a list in brackets.
-use Rattle.std.proofs.Common.{◌≡◌, ◌≤◌, ◌<◌, ◌*◌, ◌+◌, ◌-◌, ◌++◌, ◌⊎◌, inl, inr, ℕ, true, List, [], ◌∷◌, Some, None, map, take, length, append_assoc, append-nil, codes, refl, sym, ap, ◌∙◌, arith}
-use Rattle.std.proofs.Math.ListN.{get_or, set}
+-- Rows with a comma before each, and a list in brackets.
+use Rattle.std.proofs.Common.{◌≡◌, ◌≤◌, ◌<◌, ◌*◌, ◌+◌, ◌-◌, ◌++◌, ◌⊎◌, inl, inr, ℕ, true, List, [], ◌∷◌, Some, None, map, take, length, append_assoc, codes, refl, sym, ap, ◌∙◌, arith}
+use Rattle.std.proofs.Math.ListN.{get_or}
 use Rattle.std.proofs.Math.Nat.{suc-mul}
 use Rattle.std.proofs.Math.Numerals.{suc-eq-add-one}
-use Rattle.std.proofs.Math.Seq.{set-append_seam, take-add, take-append_seam}
+use Rattle.std.proofs.Math.Seq.{take-add, take-append_seam}
 use Rattle.std.proofs.lemmas.List.{length-append, map-append, take_all}
 use Rattle.std.proofs.lemmas.List.Elements.{filter_map-append}
 use Rattle.std.proofs.lemmas.Option.{slice_get_cases}
-use Rattle.std.specs.Prelude.{IfOk, Result, Ok, Err, slice_get}
+use Rattle.std.specs.Prelude.{slice_get}
 use Rattle.std.specs.List.{cons_option}
 use Rattle.json.specs.Print.{escape_byte, quoted}
 use Rattle.serde_json.specs.Data.{Data, array}
@@ -36,7 +36,7 @@ rows-append (d ∷ ds) ys =
     ∙ ap (λ l. 44 ∷ l) (sym (append_assoc (compact_text d) (rows_text ds) (rows_text ys)))
 
 -- the data at some places and then at others
-data-append : (rows : Rows) (xs ys : List ℕ) → data_at rows (xs ++ ys) ≡ data_at rows xs ++ data_at rows ys
+pub data-append : (rows : Rows) (xs ys : List ℕ) → data_at rows (xs ++ ys) ≡ data_at rows xs ++ data_at rows ys
 data-append rows xs ys =
     ap (map _) (filter_map-append (slice_get rows.view.now.records) xs ys)
     ∙ map-append _ (records_at rows.view.now.records xs) (records_at rows.view.now.records ys)
@@ -73,40 +73,8 @@ list-opened (d ∷ ds) =
     ap (λ l. 91 ∷ (compact_text d ++ l)) (items-rows ds)
     ∙ ap (λ l. 91 ∷ l) (sym (append_assoc (compact_text d) (rows_text ds) (93 ∷ [])))
 
--- the rows of one more piece were appended
-pub more-rows : (rows : Rows) (number : ℕ) (before so new : List ℕ)
-    → so ≡ before ++ rows_text (data_at rows (take (number * rows.size) rows.places.now))
-    → new ≡ so ++ rows_text (data_at rows (piece_of rows.size rows.places.now number))
-    → new ≡ before ++ rows_text (data_at rows (take ((number + 1) * rows.size) rows.places.now))
-more-rows rows number before so new held added =
-    added ∙ ap (λ l. l ++ rows_text (data_at rows (piece_of rows.size rows.places.now number))) held
-    ∙ append_assoc before _ _ ∙ ap (λ l. before ++ l) (next_rows rows number)
-
--- the last bracket was appended
-pub closed : (before text new : List ℕ) (ds : List Data) → text ≡ before ++ opened ds → new ≡ text ++ 93 ∷ []
-    → new ≡ before ++ compact_text (array (items_of ds))
-closed before text new ds held added =
-    added ∙ ap (λ l. l ++ 93 ∷ []) held ∙ append_assoc before (opened ds) (93 ∷ [])
-    ∙ ap (λ l. before ++ l) (sym (list-opened ds))
-
--- the first comma of rows becomes a bracket
-pub first-replaced : (before text : List ℕ) (ds : List Data) (start : ℕ) → length before ≡ start
-    → text ≡ before ++ rows_text ds → start < length text → set text start 91 ≡ before ++ opened ds
-first-replaced before text [] start at is some =
-    absurd (omega (arith, at, some, ap length is, length-append before []))
-first-replaced before text (d ∷ ds) start at is some =
-    ap (λ l. set l start 91) is ∙ ap (λ n. set (before ++ rows_text (d ∷ ds)) n 91) (sym at)
-    ∙ set-append_seam before 44 (compact_text d ++ rows_text ds) 91
-
--- if there are no rows, a bracket is appended
-pub none-opened : (before text new : List ℕ) (ds : List Data) (start : ℕ) → length before ≡ start
-    → text ≡ before ++ rows_text ds → length text ≤ start → new ≡ text ++ 91 ∷ [] → new ≡ before ++ opened ds
-none-opened before text new [] start at is none added = added ∙ ap (λ l. l ++ 91 ∷ []) (is ∙ append-nil before)
-none-opened before text new (d ∷ ds) start at is none added =
-    absurd (omega (arith, at, none, ap length is, length-append before (rows_text (d ∷ ds))))
-
 -- without the last byte
-popped : (text front : List ℕ) (b : ℕ) → text ≡ front ++ b ∷ [] → take (length text - 1) text ≡ front
+pub popped : (text front : List ℕ) (b : ℕ) → text ≡ front ++ b ∷ [] → take (length text - 1) text ≡ front
 popped text front b is =
     let count : length text - 1 ≡ length front = omega (arith, ap length is, length-append front (b ∷ [])) in
     ap (λ n. take n text) count ∙ ap (take (length front)) is ∙ take-append_seam front (b ∷ [])
@@ -161,8 +129,3 @@ whole-reply form plan instance view files text is listed parts =
     parts
     ∙ ap (λ ds. start_text (clock_text instance view.tick) ++ (compact_text (array (items_of ds)) ++ end_text (is_fresh plan.bound))) same
     ∙ reply_in_parts plan instance view
-
--- what follows from a fact of a value holds of the value of a result
-pub of-value : {T E : Type 0} {P Q : T → Type 0} (r : Result T E) → ((x : T) → P x → Q x) → IfOk r P → IfOk r Q
-of-value (Ok x) follows holds = follows x holds
-of-value (Err e) follows holds = holds

@@ -9,6 +9,8 @@ pub mod Listing
 pub mod Reply
 pub mod Printing
 pub mod Rows
+pub mod Long
+pub mod Answer
 pub mod Grammar
 pub mod Law
 pub mod Meaning

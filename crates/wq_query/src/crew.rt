@@ -1,22 +1,17 @@
 //! The crew that finds the files of a query and prints its reply: the thread that asks alone, or several threads.
 ghost use Rattle.std.specs.Prelude.{◌≡◌, ◌<◌, ◌≤◌, All, IfOk, filter, length};
-ghost use Rattle.serde_json.specs.Written.{compact_text};
 ghost use Rattle.wq_base.specs.Limit.{AreFew};
-ghost use Rattle.wq_clock.specs.Instance.{instance_data};
 ghost use Rattle.wq_eval.specs.Answer.{says_yes};
 ghost use Rattle.wq_gen.specs.Candidate.{is_candidate};
-ghost use Rattle.wq_query.specs.Listing.{AreWithin, files_of};
-ghost use Rattle.wq_query.specs.Query.{planned};
-ghost use Rattle.wq_query.specs.Reply.{reply_of};
+ghost use Rattle.wq_query.specs.Listing.{AreWithin};
+ghost use Rattle.wq_query.specs.Rows.{IsPrinted};
 ghost use Rattle.wq_view.specs.Limit.{max_records};
-ghost use Rattle.wq_view.specs.Position.{passes_at, positions_of, records_at};
+ghost use Rattle.wq_view.specs.Position.{passes_at, positions_of};
 
-use crate::query::Plan;
-use crate::reply::{text_by_several, text_of};
+use crate::rows::{Printed, Rows, print_pieces};
 use std::alloc::{AllocError, Global};
 use std::thread::Threads;
 use wq_base::{Asker, Stays, Workers};
-use wq_clock::Instance;
 use wq_eval::{OpenGate, filter, filter_workers};
 use wq_gen::{Generators, candidates};
 use wq_verify::Program;
@@ -34,15 +29,12 @@ const MIN_FOR_WORKER: usize = 4096;
 /// The crew that finds the files of a query and prints its reply. No answer depends on it.
 pub trait Crew {
     ghost use Rattle.std.specs.Prelude.{◌≡◌, ◌<◌, ◌≤◌, All, IfOk, filter, length};
-    ghost use Rattle.serde_json.specs.Written.{compact_text};
-    ghost use Rattle.wq_clock.specs.Instance.{instance_data};
     ghost use Rattle.wq_eval.specs.Answer.{says_yes};
     ghost use Rattle.wq_gen.specs.Candidate.{is_candidate};
-    ghost use Rattle.wq_query.specs.Listing.{AreWithin, files_of};
-    ghost use Rattle.wq_query.specs.Query.{planned};
-    ghost use Rattle.wq_query.specs.Reply.{reply_of};
+    ghost use Rattle.wq_query.specs.Listing.{AreWithin};
+    ghost use Rattle.wq_query.specs.Rows.{IsPrinted};
     ghost use Rattle.wq_view.specs.Limit.{max_records};
-    ghost use Rattle.wq_view.specs.Position.{passes_at, positions_of, records_at};
+    ghost use Rattle.wq_view.specs.Position.{passes_at, positions_of};
 
     /// The positions of the candidates, ascending, each once ([`candidates`](wq_gen::candidates)).
     fn candidates(
@@ -67,22 +59,18 @@ pub trait Crew {
         ensures { IfOk result (λ kept. kept.items
             ≡ filter (passes_at (says_yes program.now) view.now.records) positions.now) };
 
-    /// The text of the reply that lists the files at these places: compact JSON, with its keys in byte order and without
-    /// a newline.
-    fn print(
-        &self,
-        alloc: Global,
-        plan: &Plan,
-        instance: &Instance,
-        view: &View,
-        places: &[u32],
-    ) -> Result<Vec<u8>, AllocError>
-        requires within { AreWithin view.now.records places.now }
-        requires count { length places.now ≤ max_records }
-        requires files { records_at view.now.records places.now
-            ≡ files_of (planned plan.now) view.now.records }
-        ensures { IfOk result (λ text. text.items
-            ≡ compact_text (reply_of (planned plan.now) (instance_data instance.now) view.now)) };
+    /// Whether a list of so many files is long: it is printed while it is sent.
+    fn prints_later(&self, files: usize) -> bool;
+
+    /// How many threads print so many rows of a long list, each a piece at a time.
+    fn printers(&self, rows: usize) -> u32
+        ensures { 1 ≤ result };
+
+    /// The next pieces of a long list, from this one on, if several threads print them. A piece is missing if nobody
+    /// printed it.
+    fn print(&self, alloc: Global, rows: &Rows<'_>, first: u32) -> Vec<Result<Printed, AllocError>>
+        requires { AreWithin rows.now.view.now.records rows.now.places.now }
+        ensures { All (λ one. IfOk one (IsPrinted rows.now)) result.items };
 }
 
 /// The thread that asks, alone.
@@ -109,15 +97,21 @@ impl Crew for Alone {
         filter(alloc, &Stays {}, program, view, positions)
     }
 
+    fn prints_later(&self, _files: usize) -> bool {
+        false
+    }
+
+    fn printers(&self, _rows: usize) -> u32 {
+        1
+    }
+
     fn print(
         &self,
         alloc: Global,
-        plan: &Plan,
-        instance: &Instance,
-        view: &View,
-        places: &[u32],
-    ) -> Result<Vec<u8>, AllocError> {
-        text_of(alloc, plan, instance, view, places)
+        _rows: &Rows<'_>,
+        _first: u32,
+    ) -> Vec<Result<Printed, AllocError>> {
+        Vec::new(alloc)
     }
 }
 
@@ -185,18 +179,27 @@ impl<R: Threads, A: Asker> Crew for Several<'_, R, A> {
         )
     }
 
+    fn prints_later(&self, files: usize) -> bool {
+        files >= MIN_FOR_WORKERS
+    }
+
+    fn printers(&self, rows: usize) -> u32 {
+        self.count_for(rows)
+    }
+
     fn print(
         &self,
         alloc: Global,
-        plan: &Plan,
-        instance: &Instance,
-        view: &View,
-        places: &[u32],
-    ) -> Result<Vec<u8>, AllocError> {
-        let count = self.count_for(places.len());
+        rows: &Rows<'_>,
+        first: u32,
+    ) -> Vec<Result<Printed, AllocError>> {
+        let count = self.count_for(rows.places.len());
         if count == 1 {
-            return text_of(alloc, plan, instance, view, places);
+            return Vec::new(alloc);
         }
-        text_by_several(self.rt, alloc, count, plan, instance, view, places)
+        match print_pieces(self.rt, alloc, rows, first, count) {
+            Ok(printed) => printed,
+            Err(_) => Vec::new(alloc),
+        }
     }
 }

@@ -215,17 +215,8 @@ impl Plan {
         self.bound = bound;
     }
 
-    /// The places of the files that the plan lists, in the view's order.
-    pub fn files(&self, alloc: Global, view: &View) -> Result<Vec<u32>, AllocError>
-        ensures within { IfOk result (λ places. AreWithin view.now.records places.items) }
-        ensures files { IfOk result (λ places. records_at view.now.records places.items
-            ≡ files_of (planned self.now) view.now.records) }
-    {
-        listed(&Alone {}, alloc, self, view, None)
-    }
-
-    /// The places that [`files`](Plan::files) gives. What was found ahead is taken if it is of the plan's program and
-    /// candidates.
+    /// The places of the files that the plan lists, in the view's order. What was found ahead is taken if it is of the
+    /// plan's program and candidates.
     pub fn files_ahead(
         &self,
         alloc: Global,

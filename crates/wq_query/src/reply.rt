@@ -1,32 +1,28 @@
 //! The reply to a query, as a JSON value and as its text.
-ghost use Rattle.std.specs.Prelude.{◌≡◌, ◌≤◌, ◌*◌, [], ◌∷◌, ◌++◌, map, length, IfOk};
-ghost use Rattle.serde_json.specs.Data.{array, string};
-ghost use Rattle.serde_json.specs.View.{items_of, view as data_of};
+ghost use Rattle.std.specs.Prelude.{◌≡◌, ◌≤◌, [], ◌∷◌, map, IfOk};
+ghost use Rattle.serde_json.specs.Data.{string};
+ghost use Rattle.serde_json.specs.View.{view as data_of};
 ghost use Rattle.serde_json.specs.Written.{compact_text};
 ghost use Rattle.wq_clock.specs.ClockText.{clock_text};
 ghost use Rattle.wq_clock.specs.Instance.{instance_data};
-ghost use Rattle.wq_base.specs.Limit.{AreFew};
-ghost use Rattle.wq_clock.specs.Bound.{is_fresh};
 ghost use Rattle.wq_view.specs.Kind.{letter_of};
-ghost use Rattle.wq_view.specs.Limit.{max_records};
+ghost use Rattle.wq_query.specs.Answer.{text_in};
 ghost use Rattle.wq_query.specs.Query.{planned};
 ghost use Rattle.wq_query.specs.Listing.{AreWithin, files_of};
 ghost use Rattle.wq_view.specs.Position.{records_at};
 ghost use Rattle.wq_query.specs.Reply.{field_data, file_data, reply_of};
-ghost use Rattle.wq_query.specs.Rows.{end_text, rows_data, start_text};
 
 use crate::crew::{Alone, Crew};
 use crate::field::Field;
 use crate::form::Form;
 use crate::listing::{is_new, listed};
+use crate::long::LongReply;
 use crate::printing::print_reply;
 use crate::query::Plan;
 use crate::room::{room_of, with_room};
-use crate::rows::{Rows, put_end, put_list, put_start, size_for};
 use json::Writer;
 use serde_json::{Map, Value, json};
 use std::alloc::{AllocError, Global};
-use std::thread::Threads;
 use wq_base::{MAX_NUMBER, VERSION};
 use wq_clock::{Bound, Instance, print};
 use wq_view::{Kind, Record, View};
@@ -53,20 +49,32 @@ pub fn answer(
     })
 }
 
-/// The text of the reply: compact JSON, with its keys in byte order and without a newline. A crew finds its files and
-/// prints it.
-pub fn answer_bytes<C: Crew>(
+/// The text of a reply: made whole, or of a long list, and then it is printed while it is sent.
+#[derive(Drop)]
+pub enum ReplyText {
+    /// The whole text.
+    Whole(Vec<u8>),
+    /// A reply with a long list.
+    Long(LongReply),
+}
+
+/// The text of the reply: compact JSON, with its keys in byte order and without a newline. A crew finds its files, and
+/// says whether their list is long.
+pub fn answer_text<C: Crew>(
     crew: &C,
     alloc: Global,
     plan: &Plan,
     instance: &Instance,
     view: &View,
-) -> Result<Vec<u8>, AllocError>
-    ensures { IfOk result (λ text. text.items
+) -> Result<ReplyText, AllocError>
+    ensures { IfOk result (λ text. text_in text
         ≡ compact_text (reply_of (planned plan.now) (instance_data instance.now) view.now)) }
 {
     let places = listed(crew, alloc, plan, view, None)?;
-    crew.print(alloc, plan, instance, view, &places)
+    if places.is_empty() || !crew.prints_later(places.len()) {
+        return Ok(ReplyText::Whole(text_of(alloc, plan, instance, view, &places)?));
+    }
+    Ok(ReplyText::Long(LongReply::new(alloc, plan, instance, view, places)?))
 }
 
 /// The text of the reply that lists the files at these places.
@@ -88,61 +96,6 @@ pub(crate) fn text_of(
     let mut out = Writer::new(with_room(alloc, room));
     print_reply(&mut out, plan, instance, view, places, &form)?;
     let text = out.into_inner();
-    Ok(text)
-}
-
-/// The text that [`text_of`] gives, printed by so many threads.
-pub(crate) fn text_by_several<R: Threads>(
-    rt: &R,
-    alloc: Global,
-    threads: u32,
-    plan: &Plan,
-    instance: &Instance,
-    view: &View,
-    places: &[u32],
-) -> Result<Vec<u8>, AllocError>
-    requires threads { AreFew threads }
-    requires within { AreWithin view.now.records places.now }
-    requires count { length places.now ≤ max_records }
-    requires files { records_at view.now.records places.now
-        ≡ files_of (planned plan.now) view.now.records }
-    ensures { IfOk result (λ text. text.items
-        ≡ compact_text (reply_of (planned plan.now) (instance_data instance.now) view.now)) }
-{
-    let form = Form::of(alloc, &plan.query.fields)?;
-    let rows = Rows {
-        form: &form,
-        instance,
-        bound: plan.bound,
-        view,
-        places,
-        size: size_for(places, threads),
-    };
-    text_in_pieces(rt, alloc, threads, &rows)
-}
-
-/// The text of the reply with these rows, each piece of which is printed by a thread of its own.
-fn text_in_pieces<R: Threads>(
-    rt: &R,
-    alloc: Global,
-    pieces: u32,
-    rows: &Rows<'_>,
-) -> Result<Vec<u8>, AllocError>
-    requires within { AreWithin rows.now.view.now.records rows.now.places.now }
-    requires pieces { length rows.now.places.now ≤ pieces * rows.now.size }
-    ensures { IfOk result (λ text. text.items
-        ≡ start_text (clock_text (instance_data rows.now.instance.now) rows.now.view.now.tick)
-        ++ (compact_text (array (items_of (rows_data rows.now))) ++ end_text (is_fresh rows.now.bound))) }
-{
-    let room = room_of(rows.instance, rows.view, rows.places, rows.form);
-    let mut text = with_room(alloc, room);
-    put_start(
-        &mut text,
-        alloc,
-        print(rows.instance, rows.view.tick()).as_str(),
-    )?;
-    put_list(&mut text, rt, alloc, rows, pieces)?;
-    put_end(&mut text, rows.bound.is_fresh())?;
     Ok(text)
 }
 

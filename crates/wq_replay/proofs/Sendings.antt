@@ -1,10 +1,16 @@
 -- The results of sendings.
+use mathlib.Core.Bool.{false≢true}
+use Rattle.std.specs.Prelude.{is_none}
 use Rattle.std.proofs.Common.{◌≡◌, ℕ, suc, ◌+◌, ◌<◌, length, map, drop, get_or, drop-cons, arith, codes, option_map, ℤ, Bool, true, false, not, ◌&&◌, ◌||◌, List, [], ◌∷◌, ◌++◌, Option, Some, None, Result, Ok, Err, IsErr, IsErrAnd, refl, sym, ap, subst, ◌∙◌}
 use Rattle.std.proofs.lemmas.List.{append-nil, append_assoc}
 use Rattle.std.specs.Io.KnownBytes.{Appends}
+use Rattle.std.proofs.lemmas.Option.{same_Some}
+use Rattle.wq_ask.specs.Said.{line_in}
+use Rattle.wq_ask.specs.declared.outcome.ReplyLine.{ReplyLine}
+use Rattle.wq_ask.specs.declared.outcome.ReplyLine.TheVariants.{None as NoLine, Whole, Long as LongLine}
 use Rattle.wq_base.specs.Writing.{WritesFront}
 use Rattle.wq_replay.specs.Replay.{sent_line, sent_lines, shuts}
-use Rattle.wq_replay.specs.Sending.{Sends, SendsAll}
+use Rattle.wq_replay.specs.Sending.{Sends, SendsAll, line_bytes}
 use Rattle.wq_replay.specs.Stands.{all_sent, sent_of}
 use Rattle.wq_replay.specs.Playing.{sent_for, sent_list}
 use Rattle.wq_replay.specs.Rounds.{sent_note}
@@ -147,17 +153,28 @@ front_lists before now later all left rest one goes_on (Err handed) so_far is fr
     (front_sent before now later all left (one ∷ []) rest goes_on (Err Write) so_far is
     (subst (WritesFront now later) (sym (append-nil (sent_line one.client one.text))) front) (refl, refl))
 
--- the text of a line that is there
-pub line_some : (reply : Option (List ℕ)) (line : List ℕ) → Some line ≡ option_map (λ (text : List ℕ). text ++ codes "\n") reply
-    → (text : List ℕ) × (reply ≡ Some text) × (line ≡ text ++ codes "\n")
-line_some None line is = absurd cc
-line_some (Some text) line is = (text, refl, cc)
+-- no bytes were written
+pub none_written : (known : Option (List ℕ)) → Appends known known []
+none_written = appends_none
+
+-- the line that is said is the bytes of it
+bytes_said : (line : ReplyLine) (bytes : List ℕ) → line_in line ≡ Some bytes → line_bytes line ≡ bytes
+bytes_said NoLine bytes is = absurd (cc is)
+bytes_said (Whole line) bytes is = same_Some line.now bytes is
+bytes_said (LongLine reply) bytes is = same_Some (reply.now ++ codes "\n") bytes is
+
+-- the line of a reply that is there
+pub line_some : (reply : Option (List ℕ)) (line : ReplyLine) → line_in line ≡ option_map (λ (text : List ℕ). text ++ codes "\n") reply
+    → is_none (line_in line) ≡ false → (text : List ℕ) × (reply ≡ Some text) × (line_bytes line ≡ text ++ codes "\n")
+line_some None line is some = absurd (false≢true (sym some ∙ ap is_none is))
+line_some (Some text) line is some = (text, refl, bytes_said line (text ++ codes "\n") is)
 
 -- there is no line, so there is no reply
-pub reply_none : (known : Option (List ℕ)) (client : ℤ) (shuts : Bool) (reply : Option (List ℕ))
-    → None ≡ option_map (λ (text : List ℕ). text ++ codes "\n") reply → Sends (sent_for client shuts reply) known known (Ok true)
-reply_none known client shuts None none = (refl, appends_none known)
-reply_none known client shuts (Some text) none = absurd cc
+pub reply_none : (known : Option (List ℕ)) (client : ℤ) (shuts : Bool) (reply line : Option (List ℕ))
+    → line ≡ option_map (λ (text : List ℕ). text ++ codes "\n") reply → is_none line ≡ true
+    → Sends (sent_for client shuts reply) known known (Ok true)
+reply_none known client shuts None line is none = (refl, appends_none known)
+reply_none known client shuts (Some text) line is none = absurd (false≢true (sym (ap is_none is) ∙ none))
 
 -- a reply was written
 pub reply_whole : (before now : Option (List ℕ)) (client : ℤ) (shuts went : Bool) (reply : Option (List ℕ)) (text : List ℕ) → reply ≡ Some text

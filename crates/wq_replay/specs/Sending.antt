@@ -1,7 +1,9 @@
 -- The result of a sending.
 -- It is this server's own.
-use Rattle.std.specs.Prelude.{◌≡◌, not, ℕ, Bool, List, Option, Result, Ok, Err}
+use Rattle.std.specs.Prelude.{◌≡◌, not, ℕ, Bool, List, [], ◌++◌, Option, Result, Ok, Err, codes}
 use Rattle.std.specs.Io.KnownBytes.{Appends}
+use Rattle.wq_ask.specs.declared.outcome.ReplyLine.{ReplyLine}
+use Rattle.wq_ask.specs.declared.outcome.ReplyLine.TheVariants.{None, Whole, Long}
 use Rattle.wq_base.specs.Writing.{WritesFront}
 use Rattle.wq_replay.specs.Replay.{sent_lines, shuts}
 use Rattle.wq_replay.specs.World.{SentData}
@@ -25,3 +27,9 @@ SendsAll sent before after (Ok _) = Appends before after (sent_lines sent)
 SendsAll sent before after (Err Write) = WritesFront before after (sent_lines sent)
 SendsAll sent before after (Err Malformed) = ⊥
 SendsAll sent before after (Err NoMemory) = ⊥
+
+-- the bytes of the line of a reply: none if there is no reply
+abbrev pub line_bytes : ReplyLine → List ℕ
+line_bytes None = []
+line_bytes (Whole line) = line.now
+line_bytes (Long reply) = reply.now ++ codes "\n"

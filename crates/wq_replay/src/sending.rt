@@ -3,7 +3,7 @@ ghost use Rattle.std.specs.Prelude.{◌≡◌, ◌++◌, ◌&&◌, None, Some, c
 ghost use Rattle.std.specs.Io.KnownBytes.{Appends};
 ghost use Rattle.wq_base.specs.Writing.{WritesFront};
 ghost use Rattle.wq_replay.specs.Replay.{sent_line};
-ghost use Rattle.wq_replay.specs.Sending.{Sends, SendsAll};
+ghost use Rattle.wq_replay.specs.Sending.{Sends, SendsAll, line_bytes};
 ghost use Rattle.wq_replay.specs.Stands.{all_sent, sent_of};
 ghost use Rattle.wq_replay.specs.Playing.{sent_for, sent_list, sent_to};
 ghost use Rattle.wq_replay.specs.Rounds.{sent_note};
@@ -11,18 +11,24 @@ ghost use Rattle.wq_replay.specs.Rounds.{sent_note};
 use crate::fault::StepFault;
 use crate::sent::{Sent, Told};
 use itoa::Buffer;
+use std::alloc::Global;
 use std::io;
 use std::io::Write;
-use wq_ask::Line;
+use wq_ask::{Line, ReplyLine};
 use wq_base::{Table, write_all};
+use wq_query::Alone;
 
 /// Sends these lines to clients, and tells whether the server goes on.
-pub(crate) fn send<W: Write>(writer: &mut W, sent: &[Sent]) -> Result<bool, StepFault>
+pub(crate) fn send<W: Write>(
+    alloc: Global,
+    writer: &mut W,
+    sent: &[Sent],
+) -> Result<bool, StepFault>
     ensures { Sends (all_sent sent.now) (W.contents writer.old) (W.contents writer.new) result }
 {
     let mut goes_on = true;
     for one in sent {
-        let goes = send_one(writer, one)?;
+        let goes = send_one(alloc, writer, one)?;
         goes_on = both(goes_on, goes);
     }
     Ok(goes_on)
@@ -36,11 +42,11 @@ fn both(first: bool, second: bool) -> bool
 }
 
 /// Sends the lines for one happening, and tells whether the server goes on.
-fn send_one<W: Write>(writer: &mut W, sent: &Sent) -> Result<bool, StepFault>
+fn send_one<W: Write>(alloc: Global, writer: &mut W, sent: &Sent) -> Result<bool, StepFault>
     ensures { Sends (sent_of sent.now) (W.contents writer.old) (W.contents writer.new) result }
 {
     match sent {
-        Sent::ToClient(told) => send_told(writer, told),
+        Sent::ToClient(told) => send_told(alloc, writer, told),
         Sent::OfRound(lines) => {
             send_notes(writer, lines.as_slice())?;
             Ok(true)
@@ -71,46 +77,77 @@ fn send_note<W: Write>(writer: &mut W, text: &[u8]) -> io::Result<()>
 }
 
 /// Sends a reply, if there is one, and the lists that follow it, and tells whether the server goes on.
-fn send_told<W: Write>(writer: &mut W, told: &Told) -> Result<bool, StepFault>
+fn send_told<W: Write>(alloc: Global, writer: &mut W, told: &Told) -> Result<bool, StepFault>
     ensures { Sends (sent_to told.now.client told.now.out)
         (W.contents writer.old) (W.contents writer.new) result }
 {
-    let goes_on = send_reply(writer, told)?;
-    send_lists(writer, told, told.out.lists())?;
+    let goes_on = send_reply(alloc, writer, told)?;
+    send_lists(alloc, writer, told, told.out.lists())?;
     Ok(goes_on)
 }
 
 /// Sends a reply, if there is one, and tells whether the server goes on.
-fn send_reply<W: Write>(writer: &mut W, told: &Told) -> Result<bool, StepFault>
+fn send_reply<W: Write>(alloc: Global, writer: &mut W, told: &Told) -> Result<bool, StepFault>
     ensures { Sends (sent_for told.now.client told.now.out.shuts told.now.out.reply)
         (W.contents writer.old) (W.contents writer.new) result }
 {
-    let Some(line) = told.out.line() else {
+    let line = told.out.line();
+    if line.is_none() {
         return Ok(true);
-    };
-    send_line(writer, told.client, line)?;
+    }
+    send_line(alloc, writer, told.client, line)?;
     Ok(!told.out.shuts())
 }
 
 /// Sends these lists to a client.
-fn send_lists<W: Write>(writer: &mut W, told: &Told, lists: &[Line]) -> Result<(), StepFault>
+fn send_lists<W: Write>(
+    alloc: Global,
+    writer: &mut W,
+    told: &Told,
+    lists: &[Line],
+) -> Result<(), StepFault>
     ensures { SendsAll (map (sent_list told.now.client) lists.now)
         (W.contents writer.old) (W.contents writer.new) result }
 {
     for list in lists {
-        send_line(writer, told.client, list.as_bytes())?;
+        send_line(
+            alloc,
+            writer,
+            told.client,
+            ReplyLine::Whole(list.as_bytes()),
+        )?;
     }
     Ok(())
 }
 
 /// Writes a line to a client: its number, a space, and a text with its newline.
-fn send_line<W: Write>(writer: &mut W, client: i64, line: &[u8]) -> io::Result<()>
-    ensures done { (text : List ℕ) → line.now ≡ text ++ codes "\n" → OnOk result
+fn send_line<W: Write>(
+    alloc: Global,
+    writer: &mut W,
+    client: i64,
+    line: ReplyLine<'_>,
+) -> io::Result<()>
+    ensures done { (text : List ℕ) → line_bytes line.entry ≡ text ++ codes "\n" → OnOk result
         (Appends (W.contents writer.old) (W.contents writer.new) (sent_line (Some client) text)) }
-    ensures front { (text : List ℕ) → line.now ≡ text ++ codes "\n" → OnErr result
+    ensures front { (text : List ℕ) → line_bytes line.entry ≡ text ++ codes "\n" → OnErr result
         (WritesFront (W.contents writer.old) (W.contents writer.new) (sent_line (Some client) text)) }
 {
     write_all(writer, Buffer::new().format(client).as_bytes())?;
     write_all(writer, b" ")?;
-    write_all(writer, line)
+    write_line(alloc, writer, line)
+}
+
+/// Writes the line of a reply, if there is one.
+#[tactic(auto, using(crate::proofs::Sendings::none_written))]
+fn write_line<W: Write>(alloc: Global, writer: &mut W, line: ReplyLine<'_>) -> io::Result<()>
+    ensures done { OnOk result
+        (Appends (W.contents writer.old) (W.contents writer.new) (line_bytes line.entry)) }
+    ensures front { OnErr result
+        (WritesFront (W.contents writer.old) (W.contents writer.new) (line_bytes line.entry)) }
+{
+    match line {
+        ReplyLine::None => Ok(()),
+        ReplyLine::Whole(line) => write_all(writer, line),
+        ReplyLine::Long(reply) => reply.write_line(&Alone {}, alloc, writer),
+    }
 }

@@ -1,5 +1,5 @@
 //! One line of a script, and its effect at the stage of the script.
-ghost use Rattle.std.specs.Prelude.{◌≡◌, ℕ, ℤ, [], List, Option, None, Some, IfOk, Ok, OnOk, map, true};
+ghost use Rattle.std.specs.Prelude.{◌≡◌, ℕ, [], List, Option, None, Some, IfOk, Ok, OnOk, map, true};
 ghost use Rattle.wq_stream.specs.Stream.{event_of, is_binary};
 ghost use Rattle.wq_stream.specs.declared.event.Event.{Event};
 ghost use Rattle.wq_ask.specs.Reading.{Asks};
@@ -199,7 +199,7 @@ fn hear<W: Write>(
 {
     let happenings = happenings(alloc, &stage.tree, client, ask)?;
     let sent = stage.world.play(alloc, happenings)?;
-    send(writer, &sent)
+    send(alloc, writer, &sent)
 }
 
 /// Lets a client have an idle moment of each root that it is subscribed to; the server goes on.
@@ -274,6 +274,6 @@ fn happen<W: Write>(
         (W.contents writer.old) (W.contents writer.new) result stage.new }
 {
     let sent = stage.world.play(alloc, happenings)?;
-    send(writer, &sent)?;
+    send(alloc, writer, &sent)?;
     Ok(true)
 }

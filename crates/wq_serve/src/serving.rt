@@ -50,6 +50,8 @@ pub struct Ended<N: Named, R: Roots<N> + Drop> {
 /// the reply is made. The asker is whoever reads the replies. If it has gone they give up, and the line is answered that
 /// memory ran out.
 ///
+/// A long list is printed while it is written. If memory runs out for that, it is as if the writer had failed.
+///
 /// It ends if the client has gone, after a line that ends a session, if the writer fails, and after 2^62 events.
 pub fn serve<T: Threads, A: Asker, N: Named, I: Inbox, W: Write, R: Roots<N> + Drop, D: Desk>(
     rt: &T,
@@ -80,7 +82,7 @@ pub fn serve<T: Threads, A: Asker, N: Named, I: Inbox, W: Write, R: Roots<N> + D
         let (after, out) = take_event(&crew, alloc, &mut session, inbox, views, desk);
         views = after;
         let shut = out.shuts();
-        if write_out(writer, &out).is_err() {
+        if write_out(writer, &crew, alloc, &out).is_err() {
             return Ended {
                 views,
                 shut,

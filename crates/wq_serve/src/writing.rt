@@ -4,33 +4,46 @@ ghost use Rattle.std.specs.Io.KnownBytes.{Appends};
 ghost use Rattle.wq_base.specs.Writing.{WritesFront};
 ghost use Rattle.wq_serve.specs.Serving.{line_for, lines_for, written_for};
 
+use std::alloc::Global;
 use std::io;
 use std::io::Write;
-use wq_ask::{Line, Out};
+use wq_ask::{Line, Out, ReplyLine};
 use wq_base::write_all;
+use wq_query::Crew;
 
-/// Writes the line of a reply, if there is one, and then that of each list.
-pub(crate) fn write_out<W: Write>(writer: &mut W, out: &Out) -> io::Result<()>
+/// Writes the line of a reply, if there is one, and then that of each list. A crew prints a long reply.
+pub(crate) fn write_out<C: Crew, W: Write>(
+    writer: &mut W,
+    crew: &C,
+    alloc: Global,
+    out: &Out,
+) -> io::Result<()>
     ensures done { OnOk result
         (Appends (W.contents writer.old) (W.contents writer.new) (written_for out.now)) }
     ensures front { OnErr result
         (WritesFront (W.contents writer.old) (W.contents writer.new) (written_for out.now)) }
 {
-    write_reply(writer, out)?;
+    write_reply(writer, crew, alloc, out)?;
     write_lists(writer, out.lists())
 }
 
-/// Writes a reply and a newline in one piece, if there is a reply.
+/// Writes a reply and a newline, if there is a reply: in one piece, unless it is a long one.
 #[tactic(auto, using(crate::proofs::Lines::line_is, crate::proofs::Lines::no_line))]
-fn write_reply<W: Write>(writer: &mut W, out: &Out) -> io::Result<()>
+fn write_reply<C: Crew, W: Write>(
+    writer: &mut W,
+    crew: &C,
+    alloc: Global,
+    out: &Out,
+) -> io::Result<()>
     ensures done { OnOk result
         (Appends (W.contents writer.old) (W.contents writer.new) (line_for out.now.reply)) }
     ensures front { OnErr result
         (WritesFront (W.contents writer.old) (W.contents writer.new) (line_for out.now.reply)) }
 {
     match out.line() {
-        None => Ok(()),
-        Some(line) => write_all(writer, line),
+        ReplyLine::None => Ok(()),
+        ReplyLine::Whole(line) => write_all(writer, line),
+        ReplyLine::Long(reply) => reply.write_line(crew, alloc, writer),
     }
 }
 

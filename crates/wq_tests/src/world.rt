@@ -6,7 +6,7 @@ use itoa::Buffer;
 use std::alloc::{AllocError, Global};
 use std::process::Abort;
 use std::test::Fail;
-use wq_ask::Ask;
+use wq_ask::{Ask, ReplyLine};
 use wq_base::{Table, Text};
 use wq_clock::Run;
 use wq_crawl::CrawlFault;
@@ -162,7 +162,7 @@ fn show_told(told: &Told, written: &mut Vec<u8>) -> Result<(), AllocError> {
     if told.out().shuts() {
         written.push(b'!')?;
     }
-    if let Some(line) = told.out().line() {
+    if let ReplyLine::Whole(line) = told.out().line() {
         show(told.client(), line, written)?;
     }
     for list in told.out().lists() {

@@ -26,7 +26,7 @@ use wq_ask::{Cursor, Out, Refusal};
 use wq_base::Text;
 use wq_clock::{Bound, Instance};
 use wq_follow::Trigger;
-use wq_query::{Crew, Plan, Query, answer_bytes};
+use wq_query::{Crew, Plan, Query, answer_text};
 use wq_registry::{Shelf, ShelfFault};
 use wq_verify::Program;
 use wq_view::View;
@@ -159,5 +159,5 @@ pub(crate) fn listed<C: Crew>(
         (Some (record { instance = instance_data instance.now; view = Some view.now }))
         follows result follows }
 {
-    Out::of_answer(answer_bytes(crew, alloc, plan, instance, view), cursor)
+    Out::of_answer(answer_text(crew, alloc, plan, instance, view), cursor)
 }

@@ -24,15 +24,15 @@ returns-in_err-write_all-2-clause-front g c = λ text is.
 pub returns-clause-front : goal.returns-clause-front
 returns-clause-front g c = λ text is.
     let number = c.as_bytes.ensures.value ∙ c.format.ensures.text ∙ ap signed_decimal (to_z-of_z c.ranges.client) in
-    on_err_weaker c.write_all-3.result (λ last.
+    on_err_weaker c.write_line.result (λ last.
     front_behind _ _ _ (signed_decimal c.args.client) (codes " " ++ (text ++ codes "\n")) (subst (Appends _ _) number c.in_ok-write_all.ensures.done)
     (front_behind _ _ _ (codes " ") (text ++ codes "\n") c.in_ok-write_all-2.ensures.done (subst (WritesFront _ _) is last)))
-    c.write_all-3.ensures.front
+    c.write_line.ensures.front
 
 pub returns-clause-done : goal.returns-clause-done
 returns-clause-done g c = λ text is.
     let number = c.as_bytes.ensures.value ∙ c.format.ensures.text ∙ ap signed_decimal (to_z-of_z c.ranges.client) in
-    on_ok_weaker c.write_all-3.result (λ last.
+    on_ok_weaker c.write_line.result (λ last.
     appends_then _ _ _ (signed_decimal c.args.client) (codes " " ++ (text ++ codes "\n")) (subst (Appends _ _) number c.in_ok-write_all.ensures.done)
     (appends_then _ _ _ (codes " ") (text ++ codes "\n") c.in_ok-write_all-2.ensures.done (subst (Appends _ _) is last)))
-    c.write_all-3.ensures.done
+    c.write_line.ensures.done

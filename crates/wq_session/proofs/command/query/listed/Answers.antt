@@ -1,10 +1,11 @@
 -- The text is that of the reply, or memory ran out.
 use Rattle.wq_clock.specs.Instance.{instance_data}
+use Rattle.wq_query.specs.Answer.{text_in}
 use Rattle.wq_query.specs.Query.{planned}
 use Rattle.wq_session.proofs.Listing.{listed_finishes}
 use Rattle.wq_session.proofs.command.query.listed.Goals as goal
 
 pub returns : goal.returns
 returns g c follows =
-    listed_finishes (λ text. text.items) (planned c.args.plan.now) c.args.cursor (instance_data c.args.instance.now) c.args.view.now
-    c.answer_bytes.result c.of_answer.result follows c.answer_bytes.ensures c.of_answer.ensures
+    listed_finishes text_in (planned c.args.plan.now) c.args.cursor (instance_data c.args.instance.now) c.args.view.now
+    c.answer_text.result c.of_answer.result follows c.answer_text.ensures c.of_answer.ensures
