@@ -1,5 +1,6 @@
--- An order of texts by which one is found after a few comparisons, whether A to Z count as a to z or
--- not. The definitions are this server's own, but for the key: that is the hash FNV-1a of 32 bits.
+-- An order of texts by which one is found after a few comparisons, whether A to Z count as a to z
+-- or not. The definitions are this server's own, but for the key: that is the hash FNV-1a of 32
+-- bits.
 use Rattle.std.specs.Prelude.{◌≡◌, ℕ, ◌*◌, ◌%◌, List, [], ◌∷◌, map, length, slice_index_or, bit_xor, All}
 use Rattle.std.specs.Cmp.Lexicographic.{slice_cmp}
 use Rattle.std.specs.List.{range_with_len}

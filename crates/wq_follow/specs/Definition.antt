@@ -1,6 +1,6 @@
 -- The definition that the object of a trigger says, or its first fault. The keys are those of
--- Watchman's documentation of `trigger`. The order of faults, and that a count of 0 is no limit, are
--- this server's own.
+-- Watchman's documentation of `trigger`. The order of faults, and that a count of 0 is no limit,
+-- are this server's own.
 use Rattle.std.specs.Prelude.{ℕ, zero, suc, Bool, true, false, not, ◌&&◌, ◌||◌, ◌==◌, nat_le}
 use Rattle.std.specs.Prelude.{List, [], ◌∷◌, length, codes, if◌then◌else◌}
 use Rattle.std.specs.Prelude.{Option, Some, None, is_some, option_map, Result, Ok}

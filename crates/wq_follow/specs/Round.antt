@@ -8,8 +8,8 @@ use Rattle.wq_follow.specs.Batch.{BatchData, FollowerData, is_told, polled, told
 use Rattle.wq_follow.specs.Launcher.{LauncherData, Rose, StartsRun, goes_on}
 use Rattle.wq_follow.specs.Start.{OrderData, StartData, start_of}
 
--- a trigger: how it starts its command, its follower, the object that defines it, and the run of its
--- command, if that runs
+-- a trigger: how it starts its command, its follower, the object that defines it, and the run of
+-- its command, if that runs
 pub record TriggerData : Type 0 where
   pub order : OrderData
   pub follower : FollowerData
@@ -90,13 +90,14 @@ abbrev pub Agrees : FiredData → Option ℕ → Option LauncherData → Option 
 Agrees fired running None after = after ≡ None
 Agrees fired running (Some l) after = AgreesWith fired running l after
 
--- the count of a launcher's failures before and after this: it rose if the start failed, and else it
--- stayed
+-- the count of a launcher's failures before and after this: it rose if the start failed, and else
+-- it stayed
 abbrev pub CountsFailure : FiredData → ℕ → ℕ → Type 0
 CountsFailure (failed start) before after = Rose before after
 CountsFailure _ before after = after ≡ before
 
--- after a start that failed, each later batch of the trigger is the one that it would have been before
+-- after a start that failed, each later batch of the trigger is the one that it would have been
+-- before
 abbrev pub FailedStartsStay : Type 0
 FailedStartsStay = (instance : InstanceData) (view : ViewData) (t : TriggerData) (start : StartData)
     (after : TriggerData) → Fires instance view t (failed start) after

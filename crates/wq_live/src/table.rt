@@ -208,7 +208,8 @@ impl RootTable {
     pub fn with_start(&self, text: &str, pass: &Pass) -> Result<RootTable, StartFault>
         requires new { root_by_text text.now self.now ≡ None }
         ensures started { (events : List RootEvent) → IsTableOf events self.now
-            → IfOk result (IsTableOf (events ++ start_events (self.now.given + 1) text.now pass.now)) }
+            → IfOk result (IsTableOf
+            (events ++ start_events (self.now.given + 1) text.now pass.now)) }
         ensures number { IfOk result (λ table. table.given ≡ self.now.given + 1) }
         ensures full { (result ≡ Err StartFault.TooManyRoots)
             ↔ IsFullTable self.now }

@@ -114,7 +114,8 @@ abbrev pub is_whole_or_absent : Option Data → Bool
 is_whole_or_absent None = true
 is_whole_or_absent (Some d) = is_some (whole_number_of d)
 
--- the value of `empty_on_fresh_instance`, if it is right and the values that are tested after it are
+-- the value of `empty_on_fresh_instance`, if it is right and the values that are tested after it
+-- are
 abbrev pub last_of : Data → Option Bool
 last_of d =
     if is_flag_or_absent (get (codes "glob_includedotfiles") d)

@@ -76,8 +76,8 @@ RunsWith world (happening ∷ later) sent after calls =
     × (next.shelf ≡ after_all now world.shelf) × (sent ≡ first ++ rest)
     × (calls ≡ now ++ behind) × RunsWith next later rest after behind
 
--- the shelf of a world is the result of the accepted calls of all happenings, after the call for the
--- root of a new world
+-- the shelf of a world is the result of the accepted calls of all happenings, after the call for
+-- the root of a new world
 abbrev pub ShelvesAreCalls : Type 0
 ShelvesAreCalls = (run : RunData) (sockname : List ℕ) (happenings : List HappeningData)
     (sent : List SentData) (after : WorldData) → Runs (new_world run sockname) happenings sent after

@@ -53,8 +53,8 @@ crawled crawls tree = if crawls then crawl root_text (Ok tree) ∷ [] else []
 abbrev pub listed_root : PassData → List ℕ → Result PassData CrawlFault
 listed_root tree root = if bytes_eq root root_text then Ok tree else Err Unreadable
 
--- the happenings before an ask, if `/r` lists this: the crawl or the watching that the ask needs, if
--- any
+-- the happenings before an ask, if `/r` lists this: the crawl or the watching that the ask needs,
+-- if any
 abbrev pub needed : PassData → NeedData → List HappeningData
 needed tree (crawl_of root) = crawl root (listed_root tree root) ∷ []
 needed tree (watch_of root) = watching root (listed_root tree root) ∷ []
@@ -80,8 +80,8 @@ abbrev pub end_if : Option ℕ → List HappeningData
 end_if None = []
 end_if (Some run) = ended run ∷ []
 
--- the happenings if the command of the trigger of `/r` of this name has ended. There are none if the
--- name is no text, or if there is no run
+-- the happenings if the command of the trigger of `/r` of this name has ended. There are none if
+-- the name is no text, or if there is no run
 abbrev pub ends_of : List ℕ → WorldData → List HappeningData
 ends_of name world = if is_utf8 name then end_if (trigger_run root_text name world) else []
 
@@ -91,8 +91,8 @@ DoesAll stage happenings written after = (sent : List SentData) × (world : Worl
     × Runs stage.world happenings sent world
     × (written ≡ sent_lines sent) × (after ≡ record stage { world = world })
 
--- a line takes the script from a stage to the next, these lines are written, and the server goes on.
--- A malformed line leads nowhere
+-- a line takes the script from a stage to the next, these lines are written, and the server goes
+-- on. A malformed line leads nowhere
 abbrev pub DoesLine : StageData → Turn → List ℕ → StageData → Type 0
 DoesLine stage (drafts draft) written after =
     (written ≡ []) × (after ≡ record stage { draft = Some draft })
@@ -123,8 +123,8 @@ ScriptsAreRuns = (stage after : StageData) (lines : List (List ℕ)) (written : 
     → Plays stage lines written after → (happenings : List HappeningData) × (sent : List SentData)
     × Runs stage.world happenings sent after.world × (written ≡ sent_lines sent)
 
--- so many first lines of a script were played, and their replies were written. The script is at this
--- stage now, and these lines are left
+-- so many first lines of a script were played, and their replies were written. The script is at
+-- this stage now, and these lines are left
 pub record FirstLines (script : List ℕ) (before after : Option (List ℕ)) (count : ℕ)
     (at : StageData) (left : List (List ℕ)) : Type 0 where
   pub first : List (List ℕ)
@@ -212,8 +212,8 @@ EndsDoing script before after =
     (count : ℕ) × (at : StageData) × (line : List ℕ) × (later : List (List ℕ))
     × FirstLines script before after count at (line ∷ later) × (turn_of at line ≢ malformed)
 
--- the end of a replay, by the bytes that the writer held before and after, and by the bytes that are
--- left to read
+-- the end of a replay, by the bytes that the writer held before and after, and by the bytes that
+-- are left to read
 abbrev pub Ends : List ℕ → Option (List ℕ) → Option (List ℕ) → Option (List ℕ)
     → Result (Unit {0}) ReplayFault → Type 0
 Ends script before after rest (Ok _) =

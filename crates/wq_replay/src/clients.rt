@@ -34,7 +34,8 @@ pub(crate) fn answer<V: Views + Drop>(
 ) -> Result<(V, Out), AllocError>
     ensures { IfOk result (λ it. (ready : ReadyData) × (left : List SubscriptionData)
         × V.readies views (need_of ask) ready it.0
-        × Replies ready ask (stand (Some (shelf_data shelf.old)) (follows_in number clients.old.items))
+        × Replies ready ask
+        (stand (Some (shelf_data shelf.old)) (follows_in number clients.old.items))
         it.1 (stand (Some (shelf_data shelf.new)) left)
         × FollowsNow number (kept (it.1).goes_on left) clients.old.items clients.new.items) }
 {

@@ -35,7 +35,8 @@ pub fn replay<R: BufRead, W: Write>(
     writer: &mut W,
 ) -> Result<(), ReplayFault>
     ensures { IfSome (R.remaining reader.old) (λ script.
-        Ends script (W.contents writer.old) (W.contents writer.new) (R.remaining reader.new) result) }
+        Ends script (W.contents writer.old) (W.contents writer.new)
+        (R.remaining reader.new) result) }
 {
     let Ok(mut stage) = Stage::new(alloc) else {
         return Err(ReplayFault::Memory);
@@ -54,7 +55,8 @@ fn play<R: BufRead, W: Write>(
 ) -> Result<(), ReplayFault>
     requires { IsAt stage.old start }
     ensures { IfSome (R.remaining reader.old) (λ script.
-        Ends script (W.contents writer.old) (W.contents writer.new) (R.remaining reader.new) result) }
+        Ends script (W.contents writer.old) (W.contents writer.new)
+        (R.remaining reader.new) result) }
 {
     let mut size = 0usize;
     for number in 1..u64::MAX {

@@ -130,7 +130,8 @@ fn send_line<W: Write>(
     ensures done { (text : List ℕ) → line_bytes line.entry ≡ text ++ codes "\n" → OnOk result
         (Appends (W.contents writer.old) (W.contents writer.new) (sent_line (Some client) text)) }
     ensures front { (text : List ℕ) → line_bytes line.entry ≡ text ++ codes "\n" → OnErr result
-        (WritesFront (W.contents writer.old) (W.contents writer.new) (sent_line (Some client) text)) }
+        (WritesFront (W.contents writer.old) (W.contents writer.new)
+        (sent_line (Some client) text)) }
 {
     write_all(writer, Buffer::new().format(client).as_bytes())?;
     write_all(writer, b" ")?;

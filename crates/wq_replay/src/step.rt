@@ -150,7 +150,8 @@ fn end_listing(alloc: Global, stage: &mut Stage, draft: Draft) -> Result<bool, S
 /// Crawls `/r`, which lists this.
 fn crawl(alloc: Global, world: &mut World, tree: &Pass) -> Result<(), AllocError>
     ensures { (before : WorldData) → Stands before world.old → OnOk result (
-        (after : WorldData) × Runs before (crawled true tree.now) [] after × Stands after world.new) }
+        (after : WorldData) × Runs before (crawled true tree.now) [] after
+        × Stands after world.new) }
 {
     let root = Text::copied(alloc, ROOT)?;
     let mut happenings = Vec::new(alloc);

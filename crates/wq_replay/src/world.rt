@@ -135,7 +135,8 @@ impl World {
         happening: Happening<'_>,
     ) -> Result<Option<Sent>, AllocError>
         ensures { (before : WorldData) → Stands before self.old → IfOk result (λ sent.
-            (after : WorldData) × Happens before (happening_data happening.entry) (sent_if sent) after
+            (after : WorldData)
+            × Happens before (happening_data happening.entry) (sent_if sent) after
             × Stands after self.new) }
     {
         match happening {

@@ -1,6 +1,5 @@
--- The beginnings of `program-add`, `program-list` and `program-del`: the server keeps programs under
--- names.
--- They are this server's own.
+-- The beginnings of `program-add`, `program-list` and `program-del`: the server keeps programs
+-- under names. They are this server's own.
 use Rattle.std.specs.Prelude.{ℕ, not, List, length, is_some}
 use Rattle.std.specs.Prelude.{Result, Ok}
 use Rattle.wq_base.specs.Fault.{unless_fault}

@@ -1,6 +1,6 @@
--- The beginning of `query`, the files of a root, or those that changed. This is what the query takes
--- from the shelf, and leaves there: its program and its cursor.
--- From Watchman's documentation of `query` and of named cursors; programs are this server's own.
+-- The beginning of `query`, the files of a root, or those that changed. This is what the query
+-- takes from the shelf, and leaves there: its program and its cursor. From Watchman's documentation
+-- of `query` and of named cursors; programs are this server's own.
 use Rattle.std.specs.Prelude.{ℕ, Bool, true, not, List}
 use Rattle.std.specs.Prelude.{Option, Some, None, Result, Ok}
 use Rattle.serde_json.specs.Data.{Data}

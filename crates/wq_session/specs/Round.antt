@@ -46,8 +46,8 @@ HaveTurns instance view (t ∷ later) shown (turn ∷ turns) left =
     × HaveTurns instance view later next turns left)
 HaveTurns instance view _ shown _ left = ⊥
 
--- the count of a launcher's failures before and after turns: it rose in each turn whose start failed,
--- and in the others it stayed
+-- the count of a launcher's failures before and after turns: it rose in each turn whose start
+-- failed, and in the others it stayed
 abbrev pub CountFailures : List TriggerTurnData → ℕ → ℕ → Type 0
 CountFailures [] before after = after ≡ before
 CountFailures (turn ∷ turns) before after =

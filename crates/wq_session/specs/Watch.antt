@@ -1,6 +1,5 @@
--- The beginnings of `watch`, `watch-project`, `watch-list` and `watch-del`: the server watches roots,
--- lists them, and no longer watches them.
--- From Watchman's documentation of these commands.
+-- The beginnings of `watch`, `watch-project`, `watch-list` and `watch-del`: the server watches
+-- roots, lists them, and no longer watches them. From Watchman's documentation of these commands.
 use Rattle.std.specs.Prelude.{ℕ, not, List, map, Option, Result, Ok}
 use Rattle.wq_base.specs.Fault.{or_fault, unless_fault}
 use Rattle.wq_registry.specs.Root.{RootData}

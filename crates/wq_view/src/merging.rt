@@ -107,7 +107,8 @@ pub(crate) fn chunks_after(
     requires tick { at.now.tick ≤ MAX_TICK }
     requires second { IsTrue (is_count at.now.second) }
     ensures records { IfOk result (λ after. after.0 ≡ records_in change.now.same.now
-        ++ records_after at.now.tick at.now.second (records_in change.now.others.now) change.now.rows.now) }
+        ++ records_after at.now.tick at.now.second (records_in change.now.others.now)
+        change.now.rows.now) }
     ensures moves { IfOk result (λ after. moves_data after.1
         ≡ with_pairs (pairs_of (records_in change.now.others.now) change.now.rows.now)
         (with_same (length (records_in change.now.same.now)) no_moves)) }

@@ -94,7 +94,8 @@ impl Order {
     ) -> Result<Order, AllocError>
         requires came { Rises (moves_data moves.now).came }
         requires changed { Rises (moves_data moves.now).changed }
-        requires within { All (λ p. nth_outside (moves_data moves.now).came p < max_records) self.now.later }
+        requires within { All (λ p. nth_outside (moves_data moves.now).came p < max_records)
+            self.now.later }
         ensures { IfOk result (IsAfter is_first (moves_data moves.now) self.now) }
     {
         if is_first {

@@ -81,8 +81,8 @@ IsListed says has root rows =
 abbrev pub IsRooted : GivesStat → List ℕ → Type 0
 IsRooted says root = (path : List ℕ) × IsPathOf root path × HasStat says path
 
--- a fault of a listing: it says that the root cannot be read only if the root could not be read, and
--- that no file handle is left only if a call of the system failed so
+-- a fault of a listing: it says that the root cannot be read only if the root could not be read,
+-- and that no file handle is left only if a call of the system failed so
 abbrev pub IsUnread : GivesStat → Has → (List ℕ → Type 0) → List ℕ → TreeFault → Type 0
 IsUnread says has fails root fault =
     (fault ≡ Unreadable → (path : List ℕ) × IsPathOf root path × IsUnreadable says has path)

@@ -44,7 +44,7 @@ IsListedHere root rows = IsListed says_here has_here root rows
 abbrev pub IsGlancedHere : List RecordData → List ℕ → List SeenData → Type 0
 IsGlancedHere records root rows = IsGlancedAt says_here has_here records root rows
 
--- a fault of a listing on this disk: it says that the root cannot be read, or that no file handle is
--- left, only if a call failed so
+-- a fault of a listing on this disk: it says that the root cannot be read, or that no file handle
+-- is left, only if a call failed so
 abbrev pub IsUnreadHere : List ℕ → TreeFault → Type 0
 IsUnreadHere root fault = IsUnread says_here has_here fails_here root fault

@@ -23,8 +23,8 @@ IsHandleFault fails fault = fault ≡ NoHandle → (path : List ℕ) × fails pa
 abbrev pub IsFailure : (List ℕ → Type 0) → TreeFault → Type 0
 IsFailure fails fault = (fault ≡ Unreadable → ⊥) × IsHandleFault fails fault
 
--- a directory of this path was read, and has these entries, each once; none if it cannot be read, or
--- the path is no text
+-- a directory of this path was read, and has these entries, each once; none if it cannot be read,
+-- or the path is no text
 abbrev pub HasEntries : Has → List ℕ → List (List ℕ) → Type 0
 HasEntries has path names =
     (has path (Some names) × AreEntries names)
@@ -38,8 +38,8 @@ IsUnreadable says has root = has root None ⊎ says root None
 abbrev pub HasStat : GivesStat → List ℕ → Type 0
 HasStat says path = (stat : Stat) × says path (Some stat)
 
--- a fault says that a root cannot be read only if it cannot be read, and that no file handle is left
--- only if a call of the system failed so
+-- a fault says that a root cannot be read only if it cannot be read, and that no file handle is
+-- left only if a call of the system failed so
 abbrev pub IsRootFault : GivesStat → Has → (List ℕ → Type 0) → List ℕ → TreeFault → Type 0
 IsRootFault says has fails root fault =
     (fault ≡ Unreadable → IsUnreadable says has root) × IsHandleFault fails fault

@@ -83,7 +83,8 @@ fn rows_seen<'a, D: Disk>(
 ) -> Result<Rows<'a>, TreeFault>
     ensures whole { IfOk result (λ rows. piece_records rows.piece ≡ last.now.records) }
     ensures glance { IfOk result (λ rows.
-        IsGlance (D.says disk.now) (D.has disk.now) last.now.records root.now (found_rows rows.found)) }
+        IsGlance (D.says disk.now) (D.has disk.now) last.now.records root.now
+        (found_rows rows.found)) }
     ensures rooted { IfOk result (λ _. HasStat (D.says disk.now) root.now) }
     ensures fault { IfErr result
         (IsRootFault (D.says disk.now) (D.has disk.now) (D.fails disk.now) root.now) }

@@ -61,7 +61,8 @@ pub(crate) fn rows_in<'a, D: Disk>(
 ) -> Result<Rows<'a>, TreeFault>
     ensures piece { IfOk result (λ rows. rows.piece ≡ piece.entry) }
     ensures walk { IfOk result (λ rows.
-        IsWalk (D.says disk.now) (D.has disk.now) root.now piece.entry.part (found_rows rows.found)) }
+        IsWalk (D.says disk.now) (D.has disk.now) root.now piece.entry.part
+        (found_rows rows.found)) }
     ensures fault { IfErr result
         (IsRootFault (D.says disk.now) (D.has disk.now) (D.fails disk.now) root.now) }
 {

@@ -41,8 +41,8 @@ pub(super) fn begin_query(
     requires read { AreRead read }
     requires watched { is_none (numbered at.instance.root shelf.old.roots) ≡ false }
     ensures { (d : Data) → IsReadAt (asks_query d) (Some (at_data at.entry)) read
-        → Begins (try_query d (at_data at.entry) (shelf_data shelf.old)) (shelf_data shelf.old) result
-        (shelf_data shelf.new) }
+        → Begins (try_query d (at_data at.entry) (shelf_data shelf.old)) (shelf_data shelf.old)
+        result (shelf_data shelf.new) }
 {
     let Some(view) = at.view else {
         return Err(Refusal::NotWatched);

@@ -50,8 +50,8 @@ pub(super) fn begin_trigger(
     requires read { AreRead read }
     requires watched { is_none (numbered at.instance.root shelf.old.roots) ≡ false }
     ensures { (d : Data) → IsReadAt (asks_trigger d) (Some (at_data at.entry)) read
-        → Begins (try_trigger root.now d (at_data at.entry) (shelf_data shelf.old)) (shelf_data shelf.old)
-        result (shelf_data shelf.new) }
+        → Begins (try_trigger root.now d (at_data at.entry) (shelf_data shelf.old))
+        (shelf_data shelf.old) result (shelf_data shelf.new) }
 {
     let Some(_) = at.view else {
         return Err(Refusal::NotWatched);
