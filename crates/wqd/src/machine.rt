@@ -8,29 +8,12 @@ use std::sync::atomic::AtomicU64;
 use std::sync::{Arc, Wait};
 use std::thread::Threads;
 use std::time::{Clock, CpuClock, Duration};
-use wq_base::Workers;
-use wq_clock::Run;
+use wq_command_line::Settings;
 use wq_crawl::{Seconds, Tree};
 use wq_daemon::{Parts, SEATS, serve_clients};
 use wq_launch::{Notices, Spawn};
 use wq_live::Blank;
-use wq_server::{Listening, Pace, Share, listen, remove};
-
-/// The settings of the server that the command line gives.
-#[derive(Drop)]
-pub(crate) struct Settings {
-    /// The path of its socket.
-    pub(crate) sockname: String,
-    pub(crate) run: Run,
-    /// How many milliseconds the server waits between two rounds of crawls.
-    pub(crate) interval: u64,
-    /// How many threads may walk a tree if a client waits for it.
-    pub(crate) walkers: Workers,
-    /// How much of a processor rounds of crawls may take, if that is limited.
-    pub(crate) share: Option<Share>,
-    /// How many threads may look for the files of a query.
-    pub(crate) workers: Workers,
-}
+use wq_server::{Listening, Pace, listen, remove};
 
 /// Lines on standard error.
 #[derive(Drop)]
@@ -111,7 +94,7 @@ where
         spawn: machine.spawn,
         sockname: settings.sockname,
         pace: Pace {
-            interval: Duration::from_millis(settings.interval),
+            interval: Duration::from_millis(settings.interval.milliseconds),
             share: settings.share,
         },
         workers: settings.workers,

@@ -1,12 +1,10 @@
-//! The file watch server's program: the command line, files, standard streams and exit statuses.
+//! The file watch server's program: files, standard streams and exit statuses. `wq_command_line` reads its words,
 //! `wq_server` has the server's threads and `wq_daemon` their work, `wq_walk` walks trees for it and `wq_launch` starts
 //! commands for it; `wq_replay` replays a script, and `wq_verify` describes program files.
 #![tactic(auto)]
 
-mod command_line;
 mod machine;
 
-use command_line::{CommandLineFault, Task};
 use machine::{Machine, StandardError, cannot_listen, serve};
 use std::alloc::{AllocError, Global};
 use std::env;
@@ -15,6 +13,7 @@ use std::io::{self, BufReader, BufWriter, ErrorKind, Read, Write};
 use std::process::ExitCode;
 use std::sync::Arc;
 use std::sync::atomic::AtomicU64;
+use wq_command_line::{CommandLineFault, Task, task_of};
 use wq_crawl::MachineClock;
 use wq_launch::System;
 use wq_replay::{ReplayFault, replay};
@@ -70,7 +69,7 @@ fn task(rt: &HostRuntime) -> Result<Task, CommandLineFault> {
         }
         Err(_) => return Err(CommandLineFault::Wrong),
     }
-    command_line::task_of(alloc, &words)
+    task_of(alloc, &words)
 }
 
 /// The exit status of a replay that ended so. It names a fault on standard error.

@@ -1,0 +1,47 @@
+//! The task that the command line asks for.
+
+use crate::fault::CommandLineFault;
+use crate::settings::Settings;
+use clap::{Arg, Command};
+use std::alloc::{AllocError, Global};
+
+/// The task that the command line asks for.
+#[derive(Drop)]
+pub enum Task {
+    /// Replay a script.
+    Replay,
+    /// Say what the program file of this path is.
+    Check(String),
+    /// Serve clients.
+    Serve(Settings),
+}
+
+/// The task that these words ask for. The first of them is the program's name.
+///
+/// # Errors
+/// The words ask for no task or for help, or memory ran out.
+pub fn task_of(alloc: Global, words: &[String]) -> Result<Task, CommandLineFault> {
+    let matches = match command(alloc)?.try_get_matches_from(words) {
+        Ok(matches) => matches,
+        Err(error) => return Err(CommandLineFault::of(&error)),
+    };
+    match matches.subcommand() {
+        Some(("replay", _)) => Ok(Task::Replay),
+        Some(("check", given)) => match given.get_str("file") {
+            Some(path) => Ok(Task::Check(String::from_str(alloc, path)?)),
+            None => Err(CommandLineFault::Wrong),
+        },
+        Some(("serve", given)) => Ok(Task::Serve(Settings::of(alloc, given)?)),
+        _ => Err(CommandLineFault::Wrong),
+    }
+}
+
+/// The words of all tasks.
+fn command<'a>(alloc: Global) -> Result<Command<'a>, AllocError> {
+    let file = Arg::new(alloc, "file").required(true);
+    Command::new(alloc, "wqd")
+        .subcommand_required(true)
+        .subcommand(Command::new(alloc, "replay"))?
+        .subcommand(Command::new(alloc, "check").arg(file)?)?
+        .subcommand(Settings::command(alloc)?)
+}
