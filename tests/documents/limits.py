@@ -20,7 +20,7 @@ def said(page: str, text: str, *limits: str) -> Said:
 SAID = [
     said("crates/wq_view/DECISIONS", "A chunk has 1 to {} records", "wq_view max_chunk"),
     said("crates/wq_term/DECISIONS", "**At most {} terms are inside one another.**", "wq_term max_depth"),
-    said("REFERENCE", "| name of a file | 1 to {} bytes |", "wq_view max_name"),
+    said("REFERENCE", "| name of a file | 1 to {} bytes |", "wq_record max_name"),
     said("REFERENCE", "watched, as it is given | 1 to {} bytes |", "wq_ask max_root_length"),
     said("REFERENCE", "| roots that are watched | {} |", "wq_base max_roots"),
     said("REFERENCE", "| rows of a pass | {} |", "wq_view max_listing_rows"),

@@ -28,7 +28,7 @@ const WALKERS: u32 = 2;
 pub struct Interval {
     /// In milliseconds: 10 to 3,600,000.
     pub milliseconds: u64,
-    ghost few: { (10 ≤ milliseconds) × (milliseconds ≤ 3600000) },
+    ghost within: { (10 ≤ milliseconds) × (milliseconds ≤ 3600000) },
 }
 
 /// The settings of the server that the command line gives.

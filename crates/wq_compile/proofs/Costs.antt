@@ -11,7 +11,7 @@ use Rattle.wq_code.specs.Fits.{is_short_text}
 use Rattle.wq_code.specs.declared.operation.Op.{Op}
 use Rattle.wq_code.specs.declared.operation.Op.TheVariants.{Not, Return}
 use Rattle.wq_code.specs.declared.raw.Raw.{Raw}
-use Rattle.wq_view.specs.Limit.{max_name}
+use Rattle.wq_record.specs.Limit.{max_name}
 use Rattle.wq_verify.specs.Budget.{longest_len, width_of, most_pattern_cost, most_cost, budget_of}
 use Rattle.wq_term.specs.declared.expr.Depth.{Depth}
 use Rattle.wq_term.specs.declared.expr.Depth.TheVariants.{Any, Is}

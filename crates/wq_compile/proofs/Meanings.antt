@@ -17,10 +17,10 @@ use Rattle.wq_base.specs.declared.compare.Relation.{Relation}
 use Rattle.wq_base.specs.declared.compare.Relation.TheVariants.{Eq, Ge}
 use Rattle.wq_clock.specs.declared.bound.Bound.TheVariants.{Fresh, Tick, Second}
 use Rattle.wq_glob.specs.Pattern.{PatternData, fits}
-use Rattle.wq_view.specs.RecordData.{RecordData}
-use Rattle.wq_view.specs.Kind.{letter_of}
-use Rattle.wq_view.specs.declared.kind.Kind.{Kind as FileKind}
-use Rattle.wq_view.specs.declared.kind.Kind.TheVariants.{File, Dir}
+use Rattle.wq_record.specs.RecordData.{RecordData}
+use Rattle.wq_record.specs.Kind.{letter_of}
+use Rattle.wq_record.specs.declared.kind.Kind.{Kind as FileKind}
+use Rattle.wq_record.specs.declared.kind.Kind.TheVariants.{File, Dir}
 use Rattle.wq_code.specs.Name.{depth_of}
 use Rattle.wq_code.specs.Machine.{flag, cells_after}
 use Rattle.wq_code.specs.declared.operation.Op.TheVariants.{Flag, Exists}

@@ -6,7 +6,7 @@ use Rattle.std.proofs.lemmas.Option.{same_Some}
 use Rattle.std.specs.List.{list_any}
 use mathlib.Core.Bool.{beq}
 use Rattle.wq_glob.specs.Pattern.{fits}
-use Rattle.wq_view.specs.RecordData.{RecordData}
+use Rattle.wq_record.specs.RecordData.{RecordData}
 use Rattle.wq_base.specs.Compare.{same_text}
 use Rattle.wq_code.specs.Item.{Item}
 use Rattle.wq_code.specs.Flow.{flow}

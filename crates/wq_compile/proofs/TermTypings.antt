@@ -5,7 +5,7 @@ use Rattle.wq_base.specs.declared.compare.Case.TheVariants.{Folded}
 use Rattle.wq_base.specs.declared.compare.Relation.TheVariants.{Eq, Ge}
 use Rattle.wq_clock.specs.declared.bound.Bound.TheVariants.{Fresh, Tick, Second}
 use Rattle.wq_glob.specs.Pattern.{PatternData}
-use Rattle.wq_view.specs.declared.kind.Kind.TheVariants.{File, Dir}
+use Rattle.wq_record.specs.declared.kind.Kind.TheVariants.{File, Dir}
 use Rattle.wq_code.specs.declared.operation.Op.TheVariants.{Flag, Exists, Suffix}
 use Rattle.wq_verify.specs.Kinds.{Kinds}
 use Rattle.wq_term.specs.declared.expr.Depth.{Depth}

@@ -9,9 +9,9 @@ use Rattle.wq_base.specs.declared.compare.Relation.{Relation}
 use Rattle.wq_base.specs.declared.compare.Relation.TheVariants.{Eq, Gt, Ge}
 use Rattle.wq_clock.specs.declared.bound.Bound.{Bound}
 use Rattle.wq_clock.specs.declared.bound.Bound.TheVariants.{Fresh, Tick, Second}
-use Rattle.wq_view.specs.Kind.{letter_of}
-use Rattle.wq_view.specs.declared.kind.Kind.{Kind as FileKind}
-use Rattle.wq_view.specs.declared.kind.Kind.TheVariants.{File, Dir}
+use Rattle.wq_record.specs.Kind.{letter_of}
+use Rattle.wq_record.specs.declared.kind.Kind.{Kind as FileKind}
+use Rattle.wq_record.specs.declared.kind.Kind.TheVariants.{File, Dir}
 use Rattle.wq_code.specs.declared.operation.Op.{Op}
 use Rattle.wq_code.specs.declared.operation.Op.TheVariants.{Flag, WholeName, BaseName, Suffix, Size}
 use Rattle.wq_code.specs.declared.operation.Op.TheVariants.{Mtime, Oclock, Cclock, Osec, Csec, Kind}

@@ -1,7 +1,7 @@
 -- The most that the program of an expression costs on a file.
 -- This server's own measure: the charges of wq_code's machine.
 use Rattle.std.specs.Prelude.{ℕ, ◌+◌, length}
-use Rattle.wq_view.specs.Limit.{max_name}
+use Rattle.wq_record.specs.Limit.{max_name}
 use Rattle.wq_verify.specs.Budget.{most_pattern_cost}
 use Rattle.wq_term.specs.CodeLength.{code_len}
 use Rattle.wq_term.specs.Expr.{ExprData, name_is, matches, suffix_is, negation, all_of, any_of}

@@ -1,6 +1,6 @@
 -- What is true of the program of each expression. The measure of cost is this server's own.
 use Rattle.std.specs.Prelude.{◌≡◌, ◌≤◌, false, IsTrue}
-use Rattle.wq_view.specs.Limit.{max_name}
+use Rattle.wq_record.specs.Limit.{max_name}
 use Rattle.wq_verify.specs.Budget.{budget_of}
 use Rattle.wq_verify.specs.Typing.{IsValid}
 use Rattle.wq_term.specs.Expr.{ExprData}

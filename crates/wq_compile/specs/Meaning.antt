@@ -1,7 +1,7 @@
 -- A program stands for an expression.
 -- The machine is this server's own.
 use Rattle.std.specs.Prelude.{ℕ}
-use Rattle.wq_view.specs.RecordData.{RecordData}
+use Rattle.wq_record.specs.RecordData.{RecordData}
 use Rattle.wq_code.specs.Machine.{Answers}
 use Rattle.wq_code.specs.declared.raw.Raw.{Raw}
 use Rattle.wq_machine.specs.Item.{item_of}

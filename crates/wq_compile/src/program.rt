@@ -4,7 +4,7 @@ ghost use Rattle.wq_term.specs.CodeLength.{code_len};
 ghost use Rattle.wq_term.specs.Expr.{term_of};
 ghost use Rattle.wq_term.specs.Fits.{expr_fits};
 ghost use Rattle.wq_verify.specs.Budget.{budget_of};
-ghost use Rattle.wq_view.specs.Limit.{max_name};
+ghost use Rattle.wq_record.specs.Limit.{max_name};
 ghost use Rattle.wq_compile.specs.Code.{program_of};
 ghost use Rattle.wq_compile.specs.Cost.{most_steps_of};
 ghost use Rattle.wq_compile.specs.Large.{is_too_large};

@@ -9,7 +9,7 @@ use Rattle.wq_live.specs.Table.{IsNoNews, IsTableOf, RootView, TableData, WantsF
 use Rattle.wq_view.specs.Again.{seen_rows}
 use Rattle.wq_view.specs.History.{History, last_stats}
 use Rattle.wq_view.specs.Limit.{max_listing_rows}
-use Rattle.wq_view.specs.Seen.{SeenData, is_lawful_row}
+use Rattle.wq_record.specs.Seen.{SeenData, is_lawful_row}
 use Rattle.wq_view.specs.View.{IsViewOf, ViewData}
 use Rattle.wq_view.specs.declared.listing.PassFault.{PassFault}
 use Rattle.wq_crawl.specs.declared.tree.Listing.{Listing}

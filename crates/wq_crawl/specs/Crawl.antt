@@ -9,7 +9,7 @@ use Rattle.wq_view.specs.Again.{seen_rows}
 use Rattle.wq_view.specs.Limit.{max_listing_rows}
 use Rattle.wq_view.specs.View.{IsViewOf, ViewData}
 use Rattle.wq_view.specs.Listing.{PassData, is_of_whole, listing_fault, listing_of}
-use Rattle.wq_view.specs.Seen.{SeenData, is_lawful_row}
+use Rattle.wq_record.specs.Seen.{SeenData, is_lawful_row}
 use Rattle.wq_view.specs.declared.listing.PassFault.{PassFault}
 use Rattle.wq_view.specs.declared.listing.PassFault.TheVariants.{TooManyRows}
 use Rattle.wq_live.specs.Log.{events_code}

@@ -3,7 +3,7 @@
 -- public document defines it.
 use Rattle.std.specs.Prelude.{◌≡◌, ◌<◌, ◌⊎◌, ◌+◌, true, false, ℕ, List, [], ◌∷◌, ◌++◌, length}
 use Rattle.std.specs.Prelude.{None, Some}
-use Rattle.wq_view.specs.Limit.{max_tick}
+use Rattle.wq_record.specs.Limit.{max_tick}
 use Rattle.wq_view.specs.Listing.{PassData}
 use Rattle.wq_live.specs.Event.{IsFull, is_shown, number_of, passes_over, start_events, started}
 use Rattle.wq_live.specs.Table.{IsNews, IsNoNews, WantsForTicks}

@@ -6,8 +6,8 @@ use Rattle.std.specs.Coded.{Coded, code_by, coded×, coded_ℕ, coded_list, code
 use Rattle.std.specs.declared.alloc.Global.{Global}
 use Rattle.wq_view.specs.Again.{seen_rows}
 use Rattle.wq_view.specs.Limit.{max_listing_rows}
-use Rattle.wq_view.specs.RecordData.{RecordData}
-use Rattle.wq_view.specs.Seen.{SeenData, Stat, entry_of, stat_code}
+use Rattle.wq_record.specs.RecordData.{RecordData}
+use Rattle.wq_record.specs.Seen.{SeenData, Stat, entry_of, stat_code}
 use Rattle.wq_crawl.specs.Device.{Gave}
 use Rattle.wq_crawl.specs.contracts.tree.TreeFault.{the_row}
 use Rattle.wq_crawl.specs.declared.tree.Listing.{Listing}

@@ -2,7 +2,7 @@
 //! one after the other.
 ghost use Rattle.std.specs.Prelude.{◌≡◌, ◌≢◌, ◌⊎◌, ◌↔◌, Err, IfErr, IfOk, IsTrue, MatchOption, MatchResult, None};
 ghost use Rattle.std.specs.List.{list_all};
-ghost use Rattle.wq_view.specs.Seen.{is_lawful_row};
+ghost use Rattle.wq_record.specs.Seen.{is_lawful_row};
 ghost use Rattle.wq_live.specs.Event.{IsFull, number_of};
 ghost use Rattle.wq_crawl.specs.Tree.{IsCounted, IsFew, Lists, rows_given_again, rows_listed};
 ghost use Rattle.wq_crawl.specs.Crawl.{Began, Crawled, CrawledAt, IsNoPassOver, IsPassOver};

@@ -1,7 +1,7 @@
 //! The tree, which lists the files below a root. Another crate walks it.
 ghost use Rattle.std.specs.Prelude.{◌≡◌, IfErr, IfOk, IsTrue};
 ghost use Rattle.std.specs.List.{list_all};
-ghost use Rattle.wq_view.specs.Seen.{is_lawful_row};
+ghost use Rattle.wq_record.specs.Seen.{is_lawful_row};
 ghost use Rattle.wq_crawl.specs.Tree.{IsCounted, IsFew, Lists, rows_given, rows_given_again, rows_listed};
 
 use std::alloc::AllocError;

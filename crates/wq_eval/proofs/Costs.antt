@@ -12,8 +12,8 @@ use Rattle.wq_verify.specs.Kinds.{KnownKinds}
 use Rattle.wq_verify.specs.Law.{RunsBeginWell, StepsGoWell}
 use Rattle.wq_verify.specs.Run.{IsFit, GoesWell, HasWidth}
 use Rattle.wq_verify.specs.Typing.{IsTyping, IsValid}
-use Rattle.wq_view.specs.Limit.{max_name}
-use Rattle.wq_view.specs.RecordData.{RecordData}
+use Rattle.wq_record.specs.Limit.{max_name}
+use Rattle.wq_record.specs.RecordData.{RecordData}
 use Rattle.wq_eval.specs.Cost.{AnswersAreWithin, StepsAreSaid, steps_in, steps_of}
 use Rattle.wq_eval.specs.Answer.{answer_in}
 use Rattle.wq_eval.proofs.Answers.{comes, ended, stays}

@@ -6,8 +6,8 @@ use Rattle.wq_code.specs.declared.raw.Raw.{Raw}
 use Rattle.wq_machine.specs.Item.{item_of}
 use Rattle.wq_verify.specs.Budget.{budget_of}
 use Rattle.wq_verify.specs.Typing.{IsValid}
-use Rattle.wq_view.specs.Limit.{max_name}
-use Rattle.wq_view.specs.RecordData.{RecordData}
+use Rattle.wq_record.specs.Limit.{max_name}
+use Rattle.wq_record.specs.RecordData.{RecordData}
 
 -- the steps of a run; none if it is not at its end
 abbrev pub steps_in : Outcome → ℕ

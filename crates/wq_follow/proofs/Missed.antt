@@ -2,7 +2,7 @@
 use Rattle.std.proofs.Common.{◌≡◌, ◌<◌, ◌≤◌, ℕ, Bool, true, false, ◌&&◌, nat_le, nat_lt, List, [], ◌∷◌, ◌++◌, Some, if◌then◌else◌, inl, inr, refl, sym, ap, subst, ◌∙◌, arith}
 use Rattle.std.proofs.lemmas.Bool.Decides.{nat_tests}
 use Rattle.wq_view.specs.History.{History, record_of}
-use Rattle.wq_view.specs.RecordData.{RecordData}
+use Rattle.wq_record.specs.RecordData.{RecordData}
 use Rattle.wq_follow.specs.Batch.{FollowerData, polled, told_up_to}
 use Rattle.wq_follow.specs.Interval.{Adjoin, HaveReached, LookData, ToldData, changed_in, is_matched, later_tick, told_at}
 use Rattle.wq_follow.specs.Missing.{AreOf, IsAmong, IsNeverTold, IsOf, IsToldOnce, NothingIsMissed, end_of}

@@ -5,12 +5,12 @@ use Rattle.std.proofs.lemmas.Bool.Decides.{nat_tests, Decides-int_eq, Decides-eq
 use Rattle.std.specs.FinMap.{get}
 use Rattle.std.specs.Option.{option_and_then}
 use Rattle.std.specs.Ordering.{int_eq}
-use Rattle.wq_view.specs.declared.kind.Kind.{Kind}
-use Rattle.wq_view.specs.declared.kind.Kind.TheVariants.{File, Dir, Link, Block, Char, Fifo, Socket, Door, Unknown}
+use Rattle.wq_record.specs.declared.kind.Kind.{Kind}
+use Rattle.wq_record.specs.declared.kind.Kind.TheVariants.{File, Dir, Link, Block, Char, Fifo, Socket, Door, Unknown}
 use Rattle.wq_view.specs.History.{History, stat_at, second_of, same_observation, greatest, is_seen, has_come, has_changed, record_from, record_of}
-use Rattle.wq_view.specs.Kind.{letter_of}
-use Rattle.wq_view.specs.RecordData.{RecordData}
-use Rattle.wq_view.specs.Seen.{Stat, same_stat}
+use Rattle.wq_record.specs.Kind.{letter_of}
+use Rattle.wq_record.specs.RecordData.{RecordData}
+use Rattle.wq_record.specs.Seen.{Stat, same_stat}
 use Rattle.wq_follow.specs.Interval.{AreReached}
 use Rattle.wq_follow.specs.Missing.{IsAmong, ViewsAreReached}
 use Rattle.wq_follow.proofs.Views.{both, given}

@@ -2,7 +2,7 @@
 use Rattle.std.proofs.Common.{◌≡◌, ◌≢◌, ℕ, Bool, true, false, not, List, [], ◌∷◌, length, Option, Some, None, if◌then◌else◌, refl, sym, ap, subst, ◌∙◌}
 use Rattle.wq_clock.specs.Instance.{InstanceData}
 use Rattle.wq_view.specs.Position.{records_at}
-use Rattle.wq_view.specs.RecordData.{RecordData}
+use Rattle.wq_record.specs.RecordData.{RecordData}
 use Rattle.wq_view.specs.View.{ViewData}
 use Rattle.wq_follow.specs.Batch.{BatchData, FollowerData, is_told, last_or, listing, nothing, polled, told_up_to}
 use Rattle.wq_follow.specs.Follower.{IsBatch, batch_at}

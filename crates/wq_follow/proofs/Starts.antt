@@ -3,7 +3,7 @@ use Rattle.std.proofs.Common.{◌≡◌, ◌≤◌, ℕ, Bool, List, ◌++◌, l
 use Rattle.wq_clock.specs.Instance.{InstanceData}
 use Rattle.wq_query.specs.Listing.{AreWithin}
 use Rattle.wq_view.specs.Position.{records_at}
-use Rattle.wq_view.specs.RecordData.{RecordData}
+use Rattle.wq_record.specs.RecordData.{RecordData}
 use Rattle.wq_follow.specs.Follower.{batch_at}
 use Rattle.wq_follow.specs.Start.{EnvData, OrderData, StartData, appended, cuts, env_of, input_text, file_names, start_of, taken}
 use Rattle.wq_follow.specs.declared.batch.Batch.{Batch}

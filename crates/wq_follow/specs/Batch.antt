@@ -8,7 +8,7 @@ use Rattle.wq_query.specs.Following.{with_bound}
 use Rattle.wq_clock.specs.Bound.{is_fresh}
 use Rattle.wq_query.specs.Listing.{files_of}
 use Rattle.wq_query.specs.Query.{PlanData}
-use Rattle.wq_view.specs.RecordData.{RecordData}
+use Rattle.wq_record.specs.RecordData.{RecordData}
 use Rattle.wq_view.specs.View.{ViewData}
 
 -- a batch: whether nothing was known before it, the bound from which it tells changes, the tick of

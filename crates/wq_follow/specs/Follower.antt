@@ -3,7 +3,7 @@
 use Rattle.std.specs.Prelude.{◌≡◌, List}
 use Rattle.wq_query.specs.Listing.{AreWithin}
 use Rattle.wq_view.specs.Position.{records_at}
-use Rattle.wq_view.specs.RecordData.{RecordData}
+use Rattle.wq_record.specs.RecordData.{RecordData}
 use Rattle.wq_follow.specs.Batch.{BatchData}
 use Rattle.wq_follow.specs.declared.batch.Batch.{Batch}
 

@@ -6,7 +6,7 @@ use Rattle.std.specs.Prelude.{List, [], ◌∷◌, filter, None, if◌then◌els
 use Rattle.wq_clock.specs.declared.bound.Bound.TheVariants.{Tick}
 use Rattle.wq_query.specs.Listing.{is_meant}
 use Rattle.wq_query.specs.Query.{PlanData}
-use Rattle.wq_view.specs.RecordData.{RecordData}
+use Rattle.wq_record.specs.RecordData.{RecordData}
 use Rattle.wq_view.specs.View.{ViewData}
 use Rattle.wq_follow.specs.Batch.{BatchData, FollowerData, polled, told_up_to}
 

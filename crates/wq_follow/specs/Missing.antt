@@ -3,7 +3,7 @@
 use Rattle.std.specs.Prelude.{◌≡◌, ◌<◌, ◌≤◌, ◌⊎◌, ℕ, true, List, [], ◌∷◌}
 use mathlib.Core.List.{IsPrefix}
 use Rattle.wq_view.specs.History.{History}
-use Rattle.wq_view.specs.RecordData.{RecordData}
+use Rattle.wq_record.specs.RecordData.{RecordData}
 use Rattle.wq_view.specs.View.{ViewData, IsViewOf}
 use Rattle.wq_follow.specs.Batch.{FollowerData, told_up_to}
 use Rattle.wq_follow.specs.Interval.{AreReached, HasNoGenerators, LookData, ToldData}

@@ -11,7 +11,7 @@ use Rattle.wq_clock.specs.declared.bound.Bound.{Bound}
 use Rattle.wq_clock.specs.declared.bound.Bound.TheVariants.{Tick}
 use Rattle.wq_query.specs.declared.field.Field.{Field}
 use Rattle.wq_query.specs.Following.{files_data}
-use Rattle.wq_view.specs.RecordData.{RecordData}
+use Rattle.wq_record.specs.RecordData.{RecordData}
 use Rattle.wq_follow.specs.Batch.{BatchData}
 
 -- how many bytes appended names may have together, with one more for each

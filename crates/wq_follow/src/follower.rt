@@ -18,7 +18,7 @@ pub struct Follower {
 
 impl Follower {
     ghost use Rattle.std.specs.Prelude.{◌≡◌, IfErr, IfOk, IfSome, List, false};
-    ghost use Rattle.wq_view.specs.RecordData.{RecordData};
+    ghost use Rattle.wq_record.specs.RecordData.{RecordData};
     ghost use Rattle.wq_query.specs.Ahead.{IsAheadAt};
     ghost use Rattle.wq_query.specs.Query.{planned};
     ghost use Rattle.wq_follow.specs.Batch.{untold, is_told, last_or, listing, nothing, polled};

@@ -10,8 +10,8 @@ use Rattle.std.proofs.lemmas.Slice.Eq.{bytes_eq-Decides}
 use Rattle.wq_base.specs.Byte.{is_slash}
 use Rattle.wq_base.specs.Directory.{rest_below}
 use Rattle.wq_base.specs.declared.compare.Case.TheVariants.{Exact}
-use Rattle.wq_view.specs.Kind.{letter_of}
-use Rattle.wq_view.specs.RecordData.{RecordData}
+use Rattle.wq_record.specs.Kind.{letter_of}
+use Rattle.wq_record.specs.RecordData.{RecordData}
 use Rattle.wq_gen.specs.declared.generators.PathGen.{PathGen}
 use Rattle.wq_gen.specs.Candidate.{is_itself, is_under, is_within}
 use Rattle.wq_gen.specs.Outer.{holds, is_unlimited, reaches}

@@ -10,7 +10,7 @@ use mathlib.Core.Bool.{true≢false}
 use Rattle.wq_base.specs.Directory.{rest_below}
 use Rattle.wq_base.specs.declared.compare.Case.TheVariants.{Exact}
 use Rattle.wq_view.specs.Below.{is_below}
-use Rattle.wq_view.specs.RecordData.{RecordData}
+use Rattle.wq_record.specs.RecordData.{RecordData}
 use Rattle.wq_view.specs.Position.{has_name, passes_at, positions_of}
 use Rattle.wq_gen.specs.declared.generators.PathGen.{PathGen}
 use Rattle.wq_gen.specs.Candidate.{is_itself, is_on_path, is_under}

@@ -4,10 +4,10 @@ use Rattle.std.specs.List.{range_with_len}
 use Rattle.std.specs.Option.{option_map_or}
 use Rattle.std.proofs.lemmas.Bool.{cases_lt, and_parts}
 use Rattle.std.proofs.lemmas.Bool.Decides.{nat_tests}
-use Rattle.wq_view.specs.Name.{is_valid_name}
-use Rattle.wq_view.specs.declared.name.TheConstants.{MAX_NAME}
+use Rattle.wq_record.specs.Name.{is_valid_name}
+use Rattle.wq_record.specs.declared.name.TheConstants.{MAX_NAME}
 use Rattle.std.proofs.lemmas.Option.{slice_get-get_or}
-use Rattle.wq_view.specs.RecordData.{RecordData, blank_record}
+use Rattle.wq_record.specs.RecordData.{RecordData, blank_record}
 use Rattle.wq_view.specs.Position.{passes_at, all_positions, positions_of}
 
 -- tests that agree keep the same

@@ -9,7 +9,7 @@ use Rattle.std.proofs.lemmas.Option.{same_Some}
 use Rattle.std.proofs.lemmas.List.Sorted.{IsPermutation-refl, IsPermutation-cons, IsPermutation-map, IsPermutation-trans, IsPermutation-append, IsPermutation-middle, length_permutation}
 use Rattle.std.proofs.lemmas.List.Sums.{sum_by-cons}
 use Rattle.wq_clock.specs.declared.bound.Bound.TheVariants.{Tick}
-use Rattle.wq_view.specs.RecordData.{RecordData}
+use Rattle.wq_record.specs.RecordData.{RecordData}
 use Rattle.wq_view.specs.Position.{passes_at, positions_of}
 use Rattle.wq_view.specs.Order.{positions, newest_first, newer, ticks_of, Known, NewestIsSplit}
 use Rattle.wq_gen.specs.Candidate.{changed_since}

@@ -1,6 +1,6 @@
 -- The candidates if there is a generator, and if there is none.
 use Rattle.std.proofs.Common.{◌≡◌, true, false, not, ◌||◌, List, ap, sym}
-use Rattle.wq_view.specs.RecordData.{RecordData}
+use Rattle.wq_record.specs.RecordData.{RecordData}
 use Rattle.wq_view.specs.Position.{all_positions, positions_of}
 use Rattle.wq_gen.specs.declared.generators.Generators.{Generators}
 use Rattle.wq_gen.specs.Candidate.{is_any_there, is_candidate, is_given}

@@ -16,9 +16,9 @@ use Rattle.wq_clock.specs.Bound.{is_fresh}
 use Rattle.wq_clock.specs.declared.bound.Bound.{Bound}
 use Rattle.wq_clock.specs.declared.bound.Bound.TheVariants.{Fresh, Tick, Second}
 use Rattle.wq_glob.specs.Pattern.{PatternData, fits}
-use Rattle.wq_view.specs.Kind.{letter_of}
+use Rattle.wq_record.specs.Kind.{letter_of}
 use Rattle.wq_view.specs.Position.{has_name}
-use Rattle.wq_view.specs.RecordData.{RecordData}
+use Rattle.wq_record.specs.RecordData.{RecordData}
 use Rattle.wq_gen.specs.declared.generators.Generators.{Generators}
 use Rattle.wq_gen.specs.declared.generators.PathGen.{PathGen}
 

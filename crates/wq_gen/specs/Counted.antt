@@ -6,7 +6,7 @@ use Rattle.wq_clock.specs.declared.bound.Bound.{Bound}
 use Rattle.wq_clock.specs.declared.bound.Bound.TheVariants.{Fresh, Tick, Second}
 use Rattle.wq_glob.specs.Pattern.{PatternData}
 use Rattle.wq_view.specs.Below.{is_below}
-use Rattle.wq_view.specs.RecordData.{RecordData}
+use Rattle.wq_record.specs.RecordData.{RecordData}
 use Rattle.wq_view.specs.Suffix.{has_suffix}
 use Rattle.wq_view.specs.View.{ViewData}
 use Rattle.wq_gen.specs.declared.generators.Generators.{Generators}

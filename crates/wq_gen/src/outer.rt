@@ -6,7 +6,7 @@ ghost use Rattle.wq_gen.specs.declared.generators.PathGen.{PathGen};
 ghost use Rattle.wq_gen.specs.Candidate.{is_on_path};
 ghost use Rattle.wq_gen.specs.Outer.{depth_order, holds, outer, path_order, rank, reaches};
 ghost use Rattle.wq_gen.specs.Outer.{text_order};
-ghost use Rattle.wq_view.specs.RecordData.{RecordData};
+ghost use Rattle.wq_record.specs.RecordData.{RecordData};
 
 use crate::generators::{ANY_DEPTH, PathGen};
 use std::alloc::{AllocError, Global};

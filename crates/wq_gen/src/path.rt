@@ -7,7 +7,7 @@ ghost use Rattle.wq_view.specs.Below.{is_below};
 ghost use Rattle.wq_gen.specs.Depth.{under_between};
 ghost use Rattle.wq_view.specs.Limit.{max_records};
 ghost use Rattle.wq_view.specs.Position.{passes_at, positions_of};
-ghost use Rattle.wq_view.specs.RecordData.{RecordData};
+ghost use Rattle.wq_record.specs.RecordData.{RecordData};
 
 use crate::counted::Counted;
 use crate::depth::deep_directory;

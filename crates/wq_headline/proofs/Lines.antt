@@ -18,8 +18,8 @@ use Rattle.wq_query.specs.Query.{planned, program_in}
 use Rattle.wq_query.specs.Reading.{expression_of}
 use Rattle.wq_ask.specs.Reading.{WordsData, value_of, words_of}
 use Rattle.wq_term.specs.Expr.{ExprData, always}
-use Rattle.wq_view.specs.Limit.{max_name}
-use Rattle.wq_view.specs.RecordData.{RecordData}
+use Rattle.wq_record.specs.Limit.{max_name}
+use Rattle.wq_record.specs.RecordData.{RecordData}
 use Rattle.wq_headline.specs.TextBytes.{text_bytes, item_bytes, member_bytes, TextsAreWithin}
 use Rattle.wq_headline.specs.LineCost.{most_steps_a_file, ExpressionsAreWithin, LinesAreWithin, AnswersAreWithinLines}
 

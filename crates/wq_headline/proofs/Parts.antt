@@ -9,7 +9,7 @@ use Rattle.wq_eval.specs.Cost.{StepsAreSaid}
 use Rattle.wq_term.specs.Expr.{ExprData, means}
 use Rattle.wq_term.specs.Fits.{expr_fits}
 use Rattle.wq_verify.specs.Law.{RunsBeginWell, StepsGoWell}
-use Rattle.wq_view.specs.RecordData.{RecordData}
+use Rattle.wq_record.specs.RecordData.{RecordData}
 use Rattle.wq_headline.specs.Headline.{ExpressionsSelect, ProgramsRun}
 use Rattle.wq_headline.proofs.Runs.{never_trapped, within_budget}
 

@@ -9,7 +9,7 @@ use Rattle.wq_verify.specs.Kinds.{KnownKinds}
 use Rattle.wq_verify.specs.Law.{RunsBeginWell, StepsGoWell}
 use Rattle.wq_verify.specs.Run.{IsFit, GoesWell, HasWidth}
 use Rattle.wq_verify.specs.Typing.{IsTyping, IsValid}
-use Rattle.wq_view.specs.RecordData.{RecordData}
+use Rattle.wq_record.specs.RecordData.{RecordData}
 use Rattle.wq_eval.specs.Cost.{steps_in, steps_of}
 
 -- a run after so many steps: at a place no earlier, in a state that fits, or at an answer that was

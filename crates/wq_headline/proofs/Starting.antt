@@ -28,7 +28,7 @@ use Rattle.wq_replay.specs.Rounds.{sent_note}
 use Rattle.wq_replay.specs.StartLine.{tried_text}
 use Rattle.wq_replay.specs.World.{SentData}
 use Rattle.wq_session.specs.Round.{HaveTurns, TriggerTurnData, after_turns}
-use Rattle.wq_view.specs.RecordData.{RecordData}
+use Rattle.wq_record.specs.RecordData.{RecordData}
 use Rattle.wq_view.specs.View.{IsViewOf, ViewData}
 use Rattle.wq_headline.specs.Followers.{AreViewsOf, WereSent, telling, told_since}
 use Rattle.wq_headline.specs.Triggers.{IsTriggered, MissNothing, TellAll, follower_after, start_if, start_line, starts_told, trigger_plan}

@@ -23,7 +23,7 @@ use Rattle.wq_replay.specs.World.{HappeningData, SentData, WorldData, idle, new_
 use Rattle.wq_session.specs.Moment.{listed_once}
 use Rattle.wq_session.specs.Subscribe.{first_plan}
 use Rattle.wq_view.specs.History.{History}
-use Rattle.wq_view.specs.RecordData.{RecordData}
+use Rattle.wq_record.specs.RecordData.{RecordData}
 use Rattle.wq_view.specs.View.{IsViewOf, ViewData}
 use Rattle.wq_headline.specs.Moments.{TellsAll}
 

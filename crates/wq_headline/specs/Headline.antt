@@ -14,8 +14,8 @@ use Rattle.wq_term.specs.Expr.{ExprData, means}
 use Rattle.wq_term.specs.Fits.{expr_fits}
 use Rattle.wq_verify.specs.Budget.{budget_of}
 use Rattle.wq_verify.specs.Typing.{IsValid}
-use Rattle.wq_view.specs.Limit.{max_name}
-use Rattle.wq_view.specs.RecordData.{RecordData}
+use Rattle.wq_record.specs.Limit.{max_name}
+use Rattle.wq_record.specs.RecordData.{RecordData}
 
 -- a program on a file: its run is trapped after no number of steps, it ends with an answer within
 -- the budget for the length of the file's name, and with no other answer and cost

@@ -13,8 +13,8 @@ use Rattle.wq_ask.specs.Reading.{WordsData, value_of, words_of}
 use Rattle.wq_term.specs.Expr.{ExprData}
 use Rattle.wq_term.specs.Limit.{max_depth}
 use Rattle.wq_term.specs.Reading.{reads_as}
-use Rattle.wq_view.specs.Limit.{max_name}
-use Rattle.wq_view.specs.RecordData.{RecordData}
+use Rattle.wq_record.specs.Limit.{max_name}
+use Rattle.wq_record.specs.RecordData.{RecordData}
 use Rattle.wq_headline.specs.TextBytes.{text_bytes}
 
 -- the most steps on a file that a line of so many bytes can ask for: one for each byte of the line,

@@ -25,7 +25,7 @@ use Rattle.wq_replay.specs.StartLine.{failed_text, started_text}
 use Rattle.wq_replay.specs.World.{HappeningData, SentData, WorldData, new_world, round}
 use Rattle.wq_session.specs.Round.{with_triggers}
 use Rattle.wq_view.specs.History.{History}
-use Rattle.wq_view.specs.RecordData.{RecordData}
+use Rattle.wq_record.specs.RecordData.{RecordData}
 use Rattle.wq_view.specs.View.{IsViewOf, ViewData}
 use Rattle.wq_headline.specs.Followers.{AreViewsOf, MomentsAreExact, SubscriptionsAreExact}
 use Rattle.wq_headline.specs.Followers.{WereSent, telling}

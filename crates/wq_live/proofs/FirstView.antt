@@ -3,8 +3,9 @@ use Rattle.std.proofs.Common.{◌≡◌, ◌≢◌, ◌==◌, ◌↔◌, ℕ, Bo
 use Rattle.std.specs.FinMap.{FinMap, empty, len, empty_of_len, len-empty}
 use Rattle.std.proofs.lemmas.Bool.Decides.{nat_tests}
 use Rattle.wq_view.specs.declared.view.ViewFault.{ViewFault}
-use Rattle.wq_view.specs.Seen.{Stat}
-use Rattle.wq_view.specs.Listing.{PassData, name_cmp}
+use Rattle.wq_record.specs.Seen.{Stat}
+use Rattle.wq_record.specs.Name.{name_cmp}
+use Rattle.wq_view.specs.Listing.{PassData}
 use Rattle.wq_view.specs.View.{ViewData, IsViewOf}
 use Rattle.wq_live.specs.Event.{first_history}
 

@@ -1,6 +1,6 @@
 -- A pass for which a root has no tick left, by the result of the root's view.
 use Rattle.std.proofs.Common.{◌≡◌, ◌≢◌, ◌↔◌, ℕ, true, List, length, Result, Ok, Err, sym, ap, ◌∙◌}
-use Rattle.wq_view.specs.Limit.{max_tick}
+use Rattle.wq_record.specs.Limit.{max_tick}
 use Rattle.wq_view.specs.Listing.{PassData}
 use Rattle.wq_view.specs.History.{last_stats}
 use Rattle.wq_view.specs.declared.view.ViewFault.{ViewFault}

@@ -3,7 +3,7 @@
 use Rattle.std.specs.Prelude.{◌≡◌, ◌≢◌, ◌==◌, ◌⊎◌, ◌+◌, ℕ, Bool, true, false, if◌then◌else◌, not, All, List, [], ◌∷◌, ◌++◌, length, map, filter, find, bytes_eq, Option, option_map, refl}
 use Rattle.std.specs.Coded.{Coded, code_by, coded×, coded_ℕ, coded_list}
 use Rattle.wq_base.specs.Limit.{max_number, max_roots}
-use Rattle.wq_view.specs.Limit.{max_tick}
+use Rattle.wq_record.specs.Limit.{max_tick}
 use Rattle.wq_view.specs.Listing.{PassData}
 use Rattle.wq_view.specs.History.{last_stats}
 use Rattle.wq_view.specs.View.{ViewData, view_code, IsViewOf}

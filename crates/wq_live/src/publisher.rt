@@ -3,7 +3,7 @@ ghost use Rattle.std.specs.Prelude.{if◌then◌else◌, ◌+◌, ◌↔◌, Non
 ghost use Rattle.left_right.specs.Sides.{view};
 ghost use Rattle.wq_live.specs.Log.{AgreeAs, BeginsLog, head_of};
 ghost use Rattle.wq_base.specs.Limit.{max_number, max_roots};
-ghost use Rattle.wq_view.specs.Limit.{max_tick};
+ghost use Rattle.wq_record.specs.Limit.{max_tick};
 ghost use Rattle.wq_live.specs.declared.event.RootEvent.TheVariants.{Ended, Passed};
 ghost use Rattle.wq_live.specs.Event.{first_history, is_shown, passes_over, shown_root, shown, start_events, started};
 ghost use Rattle.wq_live.specs.Table.{IsNews, IsNoNews, IsTableOf, WantsForTicks};

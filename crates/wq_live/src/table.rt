@@ -5,7 +5,7 @@ ghost use Rattle.wq_base.specs.Limit.{max_number, max_roots};
 ghost use Rattle.wq_live.specs.declared.event.RootEvent.{RootEvent};
 ghost use Rattle.wq_live.specs.declared.event.RootEvent.TheVariants.{Ended, Passed};
 ghost use Rattle.wq_view.specs.History.{History, last_stats};
-ghost use Rattle.wq_view.specs.Limit.{max_tick};
+ghost use Rattle.wq_record.specs.Limit.{max_tick};
 ghost use Rattle.wq_view.specs.View.{IsViewOf};
 ghost use Rattle.wq_live.specs.Event.{IsFull, first_history, is_shown, number_of, passes_over, start_events};
 ghost use Rattle.wq_live.specs.Table.{IsFullTable, IsNews, IsNoNews, IsStarted, IsTableOf, WantsForTicks, has_number, number_by_text, root_by_text, with_view, without};

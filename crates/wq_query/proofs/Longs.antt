@@ -13,7 +13,7 @@ use Rattle.serde_json.specs.Written.{compact_text}
 use Rattle.wq_clock.specs.Bound.{is_fresh}
 use Rattle.wq_clock.specs.ClockText.{clock_text}
 use Rattle.wq_clock.specs.Instance.{InstanceData}
-use Rattle.wq_view.specs.RecordData.{RecordData}
+use Rattle.wq_record.specs.RecordData.{RecordData}
 use Rattle.wq_view.specs.View.{ViewData}
 use Rattle.wq_view.specs.Position.{records_at}
 use Rattle.wq_query.specs.Listing.{AreWithin, files_of}

@@ -3,8 +3,8 @@ use Rattle.std.proofs.Common.{◌≡◌, ◌≤◌, ℕ, zero, suc, length, Bool
 use Rattle.std.proofs.lemmas.List.Sums.{sum_by-cons}
 use Rattle.std.specs.Prelude.{All, ◌&&◌, ◌||◌, filter, slice_get, if◌then◌else◌}
 use Rattle.std.specs.Option.{option_map_or}
-use Rattle.wq_view.specs.Limit.{max_name}
-use Rattle.wq_view.specs.RecordData.{RecordData}
+use Rattle.wq_record.specs.Limit.{max_name}
+use Rattle.wq_record.specs.RecordData.{RecordData}
 use Rattle.wq_view.specs.Position.{passes_at, positions_of, all_positions}
 use Rattle.wq_code.specs.declared.raw.Raw.{Raw}
 use Rattle.wq_verify.specs.Typing.{IsValid}

@@ -7,9 +7,9 @@ use Rattle.serde_json.specs.Data.{Data, Items, item, Members, member}
 use Rattle.json.specs.Print.{print}
 use Rattle.serde_json.proofs.Texts.{print-outline}
 use Rattle.serde_json.specs.Written.{compact_text, outline, items_outline, members_outline}
-use Rattle.wq_view.specs.Kind.{letter_of}
-use Rattle.wq_view.specs.declared.kind.Kind.{Kind}
-use Rattle.wq_view.specs.declared.kind.Kind.TheVariants.{File, Dir, Link, Block, Char, Fifo, Socket, Door, Unknown}
+use Rattle.wq_record.specs.Kind.{letter_of}
+use Rattle.wq_record.specs.declared.kind.Kind.{Kind}
+use Rattle.wq_record.specs.declared.kind.Kind.TheVariants.{File, Dir, Link, Block, Char, Fifo, Socket, Door, Unknown}
 
 -- a letter is text
 pub letter-is-text : (kind : Kind) → IsUtf8 (letter_of kind ∷ [])

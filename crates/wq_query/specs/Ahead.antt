@@ -3,7 +3,7 @@
 use Rattle.std.specs.Prelude.{◌≡◌, List, Option, All, IfSome, filter}
 use Rattle.wq_eval.specs.Answer.{says_yes}
 use Rattle.wq_view.specs.Position.{passes_at}
-use Rattle.wq_view.specs.RecordData.{RecordData}
+use Rattle.wq_record.specs.RecordData.{RecordData}
 use Rattle.wq_query.specs.declared.ahead.Ahead.{Ahead}
 
 -- what was found is right at a view of these records: it is what the program keeps of the positions

@@ -7,7 +7,7 @@ use Rattle.wq_base.specs.Version.{version}
 use Rattle.wq_clock.specs.ClockText.{clock_text}
 use Rattle.wq_clock.specs.Instance.{InstanceData}
 use Rattle.wq_clock.specs.declared.bound.Bound.{Bound}
-use Rattle.wq_view.specs.RecordData.{RecordData}
+use Rattle.wq_record.specs.RecordData.{RecordData}
 use Rattle.wq_query.specs.declared.field.Field.{Field}
 use Rattle.wq_clock.specs.Bound.{is_fresh}
 use Rattle.wq_query.specs.Query.{PlanData}

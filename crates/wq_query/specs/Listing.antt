@@ -7,7 +7,7 @@ use Rattle.std.specs.List.{All}
 use Rattle.wq_clock.specs.Bound.{is_fresh}
 use Rattle.wq_clock.specs.declared.bound.Bound.{Bound}
 use Rattle.wq_clock.specs.declared.bound.Bound.TheVariants.{Fresh, Tick, Second}
-use Rattle.wq_view.specs.RecordData.{RecordData}
+use Rattle.wq_record.specs.RecordData.{RecordData}
 use Rattle.wq_code.specs.declared.raw.Raw.{Raw}
 use Rattle.wq_eval.specs.Answer.{says_yes}
 use Rattle.wq_gen.specs.Candidate.{is_candidate}

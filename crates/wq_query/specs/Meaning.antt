@@ -8,8 +8,8 @@ use Rattle.wq_eval.specs.Answer.{says_yes}
 use Rattle.wq_eval.specs.Cost.{steps_of}
 use Rattle.wq_term.specs.Expr.{ExprData, means}
 use Rattle.wq_verify.specs.Budget.{budget_of}
-use Rattle.wq_view.specs.Limit.{max_name}
-use Rattle.wq_view.specs.RecordData.{RecordData}
+use Rattle.wq_record.specs.Limit.{max_name}
+use Rattle.wq_record.specs.RecordData.{RecordData}
 
 -- it answers yes for exactly the records that the expression matches
 abbrev pub SaysMeaning : Raw → ExprData → Type 0

@@ -10,9 +10,9 @@ use Rattle.wq_clock.specs.Bound.{is_fresh}
 use Rattle.wq_clock.specs.Instance.{InstanceData}
 use Rattle.wq_clock.specs.ClockText.{clock_text}
 use Rattle.wq_clock.specs.declared.bound.Bound.{Bound}
-use Rattle.wq_view.specs.Kind.{letter_of}
+use Rattle.wq_record.specs.Kind.{letter_of}
 use Rattle.wq_base.specs.Name.{seconds_of}
-use Rattle.wq_view.specs.RecordData.{RecordData}
+use Rattle.wq_record.specs.RecordData.{RecordData}
 use Rattle.wq_view.specs.View.{ViewData}
 use Rattle.wq_query.specs.declared.field.Field.{Field}
 use Rattle.wq_query.specs.declared.field.Field.TheVariants.{Name, Exists, New, Size, Kind}

@@ -4,7 +4,7 @@ ghost use Rattle.wq_eval.specs.Answer.{says_yes};
 ghost use Rattle.wq_query.specs.Ahead.{IsAheadAt};
 ghost use Rattle.wq_view.specs.Limit.{max_records};
 ghost use Rattle.wq_view.specs.Position.{passes_at};
-ghost use Rattle.wq_view.specs.RecordData.{RecordData};
+ghost use Rattle.wq_record.specs.RecordData.{RecordData};
 
 use crate::crew::Crew;
 use crate::same::Same;

@@ -8,7 +8,7 @@ ghost use Rattle.serde_json.specs.View.{items_of};
 ghost use Rattle.wq_base.specs.Version.{version};
 ghost use Rattle.wq_clock.specs.Bound.{is_fresh};
 ghost use Rattle.wq_clock.specs.Instance.{instance_data};
-ghost use Rattle.wq_view.specs.Kind.{letter_of};
+ghost use Rattle.wq_record.specs.Kind.{letter_of};
 ghost use Rattle.wq_query.specs.Listing.{AreWithin, files_of};
 ghost use Rattle.wq_view.specs.Position.{records_at};
 ghost use Rattle.wq_query.specs.Printing.{Appends, IsFormOf, Prints, members_of, told};

@@ -5,7 +5,7 @@ ghost use Rattle.serde_json.specs.View.{view as data_of};
 ghost use Rattle.serde_json.specs.Written.{compact_text};
 ghost use Rattle.wq_clock.specs.ClockText.{clock_text};
 ghost use Rattle.wq_clock.specs.Instance.{instance_data};
-ghost use Rattle.wq_view.specs.Kind.{letter_of};
+ghost use Rattle.wq_record.specs.Kind.{letter_of};
 ghost use Rattle.wq_query.specs.Answer.{text_in};
 ghost use Rattle.wq_query.specs.Query.{planned};
 ghost use Rattle.wq_query.specs.Listing.{AreWithin, files_of};

@@ -20,7 +20,7 @@ use Rattle.wq_term.specs.Reading.{reads_as}
 use Rattle.wq_compile.specs.Cost.{most_steps_of}
 use Rattle.wq_compile.specs.Large.{is_too_large}
 use Rattle.wq_verify.specs.Budget.{budget_of}
-use Rattle.wq_view.specs.Limit.{max_name}
+use Rattle.wq_record.specs.Limit.{max_name}
 use Rattle.wq_compile.specs.Meaning.{AnswersMeaning}
 use Rattle.wq_registry.specs.declared.key.Key.{Key}
 use Rattle.wq_registry.specs.CacheKey.{CacheKeyData, Says}

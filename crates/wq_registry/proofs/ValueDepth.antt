@@ -6,7 +6,7 @@ use Rattle.wq_base.specs.declared.compare.Relation.{Relation}
 use Rattle.wq_clock.specs.Instance.{InstanceData}
 use Rattle.wq_clock.specs.declared.bound.Bound.{Bound}
 use Rattle.wq_clock.specs.declared.bound.Bound.TheVariants.{Second, Fresh, Tick}
-use Rattle.wq_view.specs.declared.kind.Kind.{Kind}
+use Rattle.wq_record.specs.declared.kind.Kind.{Kind}
 use Rattle.wq_glob.specs.Pattern.{PatternData}
 use Rattle.wq_term.specs.declared.expr.Depth.{Depth}
 use Rattle.wq_term.specs.declared.expr.Depth.TheVariants.{Is, Any}

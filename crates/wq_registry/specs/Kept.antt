@@ -7,7 +7,7 @@ use Rattle.serde_json.specs.Read.{read}
 use Rattle.wq_clock.specs.Instance.{InstanceData}
 use Rattle.wq_code.specs.declared.raw.Raw.{Raw}
 use Rattle.wq_verify.specs.Budget.{budget_of}
-use Rattle.wq_view.specs.Limit.{max_name}
+use Rattle.wq_record.specs.Limit.{max_name}
 use Rattle.wq_term.specs.Expr.{ExprData}
 use Rattle.wq_term.specs.Limit.{max_depth}
 use Rattle.wq_term.specs.Reading.{reads_as}

@@ -7,7 +7,7 @@ ghost use Rattle.wq_compile.specs.Meaning.{AnswersMeaning};
 ghost use Rattle.wq_term.specs.Expr.{term_of};
 ghost use Rattle.wq_term.specs.Fits.{expr_fits};
 ghost use Rattle.wq_verify.specs.Budget.{budget_of};
-ghost use Rattle.wq_view.specs.Limit.{max_name};
+ghost use Rattle.wq_record.specs.Limit.{max_name};
 ghost use Rattle.wq_registry.specs.CacheKey.{Says};
 ghost use Rattle.wq_registry.specs.Kept.{StandsFor, instance_at};
 

@@ -6,7 +6,7 @@ use Rattle.wq_ask.specs.Need.{need_of}
 use Rattle.wq_ask.specs.Reading.{Asks}
 use Rattle.wq_ask.specs.declared.ask.Ask.{Ask}
 use Rattle.wq_crawl.specs.declared.fault.CrawlFault.{CrawlFault}
-use Rattle.wq_view.specs.Seen.{SeenData}
+use Rattle.wq_record.specs.Seen.{SeenData}
 use Rattle.wq_view.specs.Listing.{PassData, listing_fault, listing_of}
 use Rattle.wq_view.specs.declared.listing.PassFault.{PassFault}
 use Rattle.wq_replay.specs.Numbers.{answers_for}

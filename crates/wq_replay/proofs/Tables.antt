@@ -10,8 +10,9 @@ use Rattle.wq_live.specs.declared.event.RootEvent.{RootEvent}
 use Rattle.wq_live.specs.declared.event.RootEvent.TheVariants.{Started, Passed}
 use Rattle.wq_session.specs.At.{AtData}
 use Rattle.wq_view.specs.History.{History}
-use Rattle.wq_view.specs.Seen.{Stat}
-use Rattle.wq_view.specs.Listing.{PassData, listing_of, name_cmp}
+use Rattle.wq_record.specs.Seen.{Stat}
+use Rattle.wq_record.specs.Name.{name_cmp}
+use Rattle.wq_view.specs.Listing.{PassData, listing_of}
 use Rattle.wq_view.specs.View.{ViewData}
 use Rattle.wq_clock.specs.Run.{RunData, instance_of}
 use Rattle.wq_replay.specs.Gets.{at_root}

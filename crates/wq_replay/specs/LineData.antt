@@ -1,7 +1,7 @@
 -- The meaning of a `Line` of the code.
 -- It is this server's own.
 use Rattle.wq_replay.specs.Script.{LineData, pass, tree, row, end, ask, leave, idle, fire, done}
-use Rattle.wq_view.specs.Seen.{SeenData}
+use Rattle.wq_record.specs.Seen.{SeenData}
 use Rattle.wq_replay.specs.declared.script.Line.{Line}
 use Rattle.wq_replay.specs.declared.script.RowLine.{RowLine}
 use Rattle.wq_replay.specs.declared.script.Line.TheVariants.{Pass, Tree, Row, End, Ask, Leave, Idle}

@@ -4,9 +4,9 @@
 use Rattle.std.specs.Prelude.{ℕ, ℤ, pos, Bool, true, false, ◌&&◌, ◌==◌, int_le, List, [], ◌∷◌, codes, bytes_eq, if◌then◌else◌, Option, Some, None, option_map, option_and_then}
 use Rattle.std.specs.Str.{byte}
 use Rattle.wq_base.specs.Decimal.{signed_of}
-use Rattle.wq_view.specs.Kind.{kind_with}
-use Rattle.wq_view.specs.Seen.{SeenData}
-use Rattle.wq_view.specs.declared.kind.Kind.{Kind}
+use Rattle.wq_record.specs.Kind.{kind_with}
+use Rattle.wq_record.specs.Seen.{SeenData}
+use Rattle.wq_record.specs.declared.kind.Kind.{Kind}
 
 -- a line by its word
 pub data LineData : Type 0 where

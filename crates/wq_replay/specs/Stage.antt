@@ -4,7 +4,7 @@ use Rattle.std.specs.Prelude.{ℕ, ◌+◌, ℤ, pos, Bool, true, false, nat_le,
 use Rattle.wq_stream.specs.Stream.{event_of}
 use Rattle.wq_stream.specs.declared.event.Event.{Event}
 use Rattle.wq_stream.specs.declared.event.Event.TheVariants.{End}
-use Rattle.wq_view.specs.Seen.{SeenData}
+use Rattle.wq_record.specs.Seen.{SeenData}
 use Rattle.wq_view.specs.Listing.{PassData, listing_of, listing_fault}
 use Rattle.wq_replay.specs.Limit.{max_script_line}
 use Rattle.wq_replay.specs.Numbers.{numbers_for}

@@ -9,7 +9,7 @@ use Rattle.wq_follow.specs.Follower.{IsBatch}
 use Rattle.wq_follow.specs.Subscription.{text_if_any}
 use Rattle.wq_follow.specs.declared.batch.Batch.{Batch}
 use Rattle.wq_view.specs.Position.{records_at}
-use Rattle.wq_view.specs.RecordData.{RecordData}
+use Rattle.wq_record.specs.RecordData.{RecordData}
 use Rattle.wq_view.specs.View.{ViewData}
 
 -- a fact on any error

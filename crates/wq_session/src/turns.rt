@@ -5,7 +5,7 @@ ghost use Rattle.wq_query.specs.Ahead.{AreAheadAt, IsAheadAt};
 ghost use Rattle.wq_registry.specs.Shelf.{triggers_of};
 ghost use Rattle.wq_session.specs.Round.{HasTurn, IsCountedRound};
 ghost use Rattle.wq_session.specs.Shelved.{shelf_data};
-ghost use Rattle.wq_view.specs.RecordData.{RecordData};
+ghost use Rattle.wq_record.specs.RecordData.{RecordData};
 
 use std::alloc::Global;
 use wq_clock::Instance;

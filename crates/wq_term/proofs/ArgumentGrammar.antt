@@ -23,9 +23,9 @@ use Rattle.wq_clock.specs.Bound.{bound_of}
 use Rattle.wq_clock.specs.Law.{TextsSayWhatTheySpell}
 use Rattle.wq_clock.specs.declared.bound.Bound.{Bound}
 use Rattle.wq_clock.specs.declared.bound.Bound.TheVariants.{Second}
-use Rattle.wq_view.specs.declared.kind.Kind.{Kind}
-use Rattle.wq_view.specs.declared.kind.Kind.TheVariants.{File, Dir, Link, Block, Char, Fifo, Socket}
-use Rattle.wq_view.specs.declared.kind.Kind.TheVariants.{Door, Unknown}
+use Rattle.wq_record.specs.declared.kind.Kind.{Kind}
+use Rattle.wq_record.specs.declared.kind.Kind.TheVariants.{File, Dir, Link, Block, Char, Fifo, Socket}
+use Rattle.wq_record.specs.declared.kind.Kind.TheVariants.{Door, Unknown}
 use Rattle.wq_base.specs.declared.compare.Relation.{Relation}
 use Rattle.wq_base.specs.declared.compare.Relation.TheVariants.{Eq, Ne, Gt, Ge, Lt, Le}
 use Rattle.wq_term.specs.declared.expr.Scope.{Scope}

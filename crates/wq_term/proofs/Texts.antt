@@ -7,9 +7,9 @@ use Rattle.std.proofs.lemmas.Bool.{and_parts}
 use Rattle.std.proofs.lemmas.Bool.Decides.{nat_tests}
 use Rattle.std.specs.declared.alloc.Global.{Global}
 use Rattle.serde_json.specs.Data.{Data, Items, item}
-use Rattle.wq_view.specs.declared.name.TheConstants.{MAX_NAME}
+use Rattle.wq_record.specs.declared.name.TheConstants.{MAX_NAME}
 use Rattle.wq_base.specs.Byte.{is_slash}
-use Rattle.wq_view.specs.Name.{is_valid_name}
+use Rattle.wq_record.specs.Name.{is_valid_name}
 use Rattle.wq_term.specs.declared.expr.Scope.{Scope}
 use Rattle.wq_term.specs.declared.expr.Scope.TheVariants.{Basename, Wholename}
 use Rattle.wq_term.specs.Text.{scope_part}

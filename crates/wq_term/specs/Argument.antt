@@ -13,7 +13,7 @@ use Rattle.wq_clock.specs.ClockSpec.{clock_spec_of}
 use Rattle.wq_clock.specs.Bound.{bound_of}
 use Rattle.wq_clock.specs.declared.bound.Bound.{Bound}
 use Rattle.wq_clock.specs.declared.bound.Bound.TheVariants.{Second}
-use Rattle.wq_view.specs.declared.kind.Kind.{Kind}
+use Rattle.wq_record.specs.declared.kind.Kind.{Kind}
 use Rattle.wq_base.specs.declared.compare.Relation.{Relation}
 use Rattle.wq_term.specs.declared.expr.Scope.{Scope}
 use Rattle.wq_term.specs.declared.expr.Depth.{Depth}

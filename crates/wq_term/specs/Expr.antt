@@ -4,10 +4,10 @@ use Rattle.std.specs.Prelude.{ℕ, suc, ℤ, pos, Bool, true, false, not, ◌&&�
 use Rattle.std.specs.Prelude.{◌==◌, List, [], ◌∷◌, map, Vec}
 use Rattle.std.specs.Ordering.{int_eq}
 use Rattle.std.specs.declared.alloc.Global.{Global}
-use Rattle.wq_view.specs.declared.kind.Kind.{Kind}
-use Rattle.wq_view.specs.declared.kind.Kind.TheVariants.{File, Dir}
-use Rattle.wq_view.specs.Kind.{letter_of}
-use Rattle.wq_view.specs.RecordData.{RecordData}
+use Rattle.wq_record.specs.declared.kind.Kind.{Kind}
+use Rattle.wq_record.specs.declared.kind.Kind.TheVariants.{File, Dir}
+use Rattle.wq_record.specs.Kind.{letter_of}
+use Rattle.wq_record.specs.RecordData.{RecordData}
 use Rattle.wq_glob.specs.Pattern.{PatternData}
 use Rattle.wq_base.specs.declared.compare.Case.{Case}
 use Rattle.wq_term.specs.declared.expr.Scope.{Scope}

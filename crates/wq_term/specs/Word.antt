@@ -2,10 +2,10 @@
 -- From Watchman's documentation of the terms `type`, `name`, `size` and `since`.
 use Rattle.std.specs.Prelude.{ℕ, List, [], ◌∷◌, codes, Option}
 use Rattle.wq_base.specs.Table.{named}
-use Rattle.wq_view.specs.declared.kind.Kind.{Kind}
-use Rattle.wq_view.specs.declared.kind.Kind.TheVariants.{File, Dir, Link, Block, Char}
-use Rattle.wq_view.specs.declared.kind.Kind.TheVariants.{Fifo, Socket, Door}
-use Rattle.wq_view.specs.Kind.{letter_of}
+use Rattle.wq_record.specs.declared.kind.Kind.{Kind}
+use Rattle.wq_record.specs.declared.kind.Kind.TheVariants.{File, Dir, Link, Block, Char}
+use Rattle.wq_record.specs.declared.kind.Kind.TheVariants.{Fifo, Socket, Door}
+use Rattle.wq_record.specs.Kind.{letter_of}
 use Rattle.wq_base.specs.declared.compare.Relation.{Relation}
 use Rattle.wq_base.specs.declared.compare.Relation.TheVariants.{Eq, Ne, Gt, Ge, Lt, Le}
 use Rattle.wq_term.specs.declared.expr.Scope.{Scope}

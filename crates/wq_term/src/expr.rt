@@ -4,7 +4,7 @@
 use wq_base::{Case, Relation};
 use wq_clock::Bound;
 use wq_glob::Pattern;
-use wq_view::Kind;
+use wq_record::Kind;
 
 /// An expression over the record of a file, as in Watchman's documentation of file queries.
 #[derive(Drop)]

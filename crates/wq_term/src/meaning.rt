@@ -8,7 +8,7 @@ mod pattern;
 mod text;
 
 use crate::expr::Expr;
-use wq_view::{Kind, Record};
+use wq_record::{Kind, Record};
 
 /// Whether the record matches the expression.
 #[cycle(holds)]

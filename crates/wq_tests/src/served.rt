@@ -1,8 +1,8 @@
 //! The ends of sessions that are served in memory: a tree, a clock that never moves, and a shelf.
 ghost use Rattle.std.specs.Prelude.{◌≡◌, IfOk, IsTrue};
 ghost use Rattle.std.specs.List.{list_all};
-ghost use Rattle.wq_view.specs.Name.{is_valid_name};
-ghost use Rattle.wq_view.specs.Seen.{is_lawful_row};
+ghost use Rattle.wq_record.specs.Name.{is_valid_name};
+ghost use Rattle.wq_record.specs.Seen.{is_lawful_row};
 
 use std::alloc::{AllocError, Global};
 use std::sync::{Arc, Mutex};

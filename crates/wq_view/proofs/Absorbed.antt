@@ -6,9 +6,9 @@ use Rattle.std.specs.declared.cmp.Ordering.TheVariants.{Less, Equal, Greater}
 use Rattle.std.specs.Ordering.{is_eq, is_lt, eq_by_cmp, ordering_reverse}
 use Rattle.std.specs.FinMap.{find, is_sorted}
 use Rattle.std.specs.FinMap.Entries.{below_all}
-use Rattle.wq_view.specs.Seen.{SeenData, Stat, same_stat, stat_of, entry_of}
-use Rattle.wq_view.specs.Listing.{name_cmp}
-use Rattle.wq_view.specs.RecordData.{RecordData, last_stat, blank_record, after_change, after_creation, after_deletion, record_after, by_name, record_named}
+use Rattle.wq_record.specs.Seen.{SeenData, Stat, same_stat, stat_of, entry_of}
+use Rattle.wq_record.specs.Name.{name_cmp}
+use Rattle.wq_record.specs.RecordData.{RecordData, last_stat, blank_record, after_change, after_creation, after_deletion, record_after, by_name, record_named}
 use Rattle.wq_view.specs.Merge.{records_after as absorbed_at}
 use Rattle.wq_view.proofs.NameOrder.{names_total, names_exact, both_true, less_from_lt}
 use Rattle.wq_view.proofs.Listings.{tie_is_same, name_ties_itself}

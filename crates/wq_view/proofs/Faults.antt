@@ -10,8 +10,8 @@ use Rattle.std.proofs.lemmas.List.{take-append-drop, append-nil}
 use Rattle.std.proofs.lemmas.Option.{slice_get_read}
 use Rattle.wq_view.specs.declared.listing.PassFault.{PassFault}
 use Rattle.wq_view.specs.declared.listing.PassFault.TheVariants.{BadName, NameTwice, OutOfRange}
-use Rattle.wq_view.specs.Name.{is_valid_name}
-use Rattle.wq_view.specs.Seen.{SeenData, stat_of, is_in_range, is_lawful_row, is_count}
+use Rattle.wq_record.specs.Name.{is_valid_name}
+use Rattle.wq_record.specs.Seen.{SeenData, stat_of, is_in_range, is_lawful_row, is_count}
 use Rattle.wq_view.specs.Listing.{names_of, row_fault, listing_fault}
 use Rattle.wq_view.specs.Limit.{max_listing_rows}
 use Rattle.wq_view.proofs.NameOrder.{names_total, both_true}

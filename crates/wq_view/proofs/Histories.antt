@@ -1,9 +1,10 @@
 -- The effect of one more pass on the record that a history gives a name.
 use Rattle.std.proofs.Common.{◌≡◌, ℕ, zero, suc, ℤ, ◌<◌, ◌≤◌, Bool, true, false, cond, if◌then◌else◌, List, [], ◌∷◌, ◌++◌, length, slice_get, Option, Some, None, is_some, sym, refl, ap, ◌∙◌, arith, length-append}
 use Rattle.std.specs.FinMap.{get, get-empty}
-use Rattle.wq_view.specs.Seen.{Stat, same_stat}
-use Rattle.wq_view.specs.Listing.{PassData, name_cmp}
-use Rattle.wq_view.specs.RecordData.{RecordData, last_stat}
+use Rattle.wq_record.specs.Seen.{Stat, same_stat}
+use Rattle.wq_record.specs.Name.{name_cmp}
+use Rattle.wq_view.specs.Listing.{PassData}
+use Rattle.wq_record.specs.RecordData.{RecordData, last_stat}
 use Rattle.wq_view.specs.History.{History, stat_at, second_of, greatest, is_seen, has_come, has_changed, record_from, record_of, last_stats}
 use Rattle.wq_view.proofs.Absorbed.{after_pass}
 use Rattle.wq_view.proofs.Stats.{one_stat, same_stat-itself}

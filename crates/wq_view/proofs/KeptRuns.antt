@@ -4,10 +4,10 @@ use Rattle.std.proofs.lemmas.Bool.{and_from}
 use Rattle.std.proofs.lemmas.List.{append-nil, drop-drop, drop_all, length-drop, take-take}
 use Rattle.std.proofs.lemmas.List.Folds.{list_all-append}
 use Rattle.std.specs.List.{list_all}
-use Rattle.wq_view.specs.Again.{AgainData, rows_again, seen_row, seen_rows}
-use Rattle.wq_view.specs.RecordData.{RecordData}
-use Rattle.wq_view.specs.Seen.{SeenData, is_lawful_row}
-use Rattle.wq_view.proofs.SeenAgain.{few_taken, seen_later}
+use Rattle.wq_view.specs.Again.{seen_rows}
+use Rattle.wq_record.specs.RecordData.{RecordData}
+use Rattle.wq_record.specs.Seen.{SeenData, is_lawful_row}
+use Rattle.wq_view.proofs.SeenAgain.{seen_later}
 
 -- one row more is counted
 pub counted_next : (front rows : List SeenData) (row : SeenData) (count : ℕ) → rows ≡ front ++ (row ∷ []) → count ≡ length front → count + 1 ≡ length rows

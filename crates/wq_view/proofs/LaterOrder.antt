@@ -6,7 +6,7 @@ use Rattle.std.proofs.lemmas.List.{length-map, map-append}
 use Rattle.std.proofs.lemmas.List.FromFn.{get_or-map-range_with_len, length-map-range_with_len}
 use Rattle.std.proofs.lemmas.List.Elements.{All-append, filter-append}
 use Rattle.std.proofs.lemmas.Option.{slice_get_past, slice_get-get_or}
-use Rattle.wq_view.specs.RecordData.{RecordData}
+use Rattle.wq_record.specs.RecordData.{RecordData}
 use Rattle.wq_view.specs.Order.{OrderParts, IsOrderOf, Rises, is_later, newer, newest_first, nth_outside, outside, positions, positions_in, ticks_of}
 use Rattle.wq_view.proofs.Newest.{eq_same, eq_apart, is_left, Moves, length-positions, positions_within, same_bucket}
 use Rattle.wq_view.proofs.Growing.{is_known, grown_bucket}

@@ -12,7 +12,6 @@ mod Showing
 mod ViewSteps
 mod Lookups
 mod Located
-mod AfterDot
 mod Positions
 mod NamesBelow
 mod Newest

@@ -10,8 +10,9 @@ use Rattle.std.proofs.lemmas.List.Sorted.{All-permutation, Contains-permutation,
 use Rattle.std.proofs.lemmas.List.Sums.{AllPass-from_list_all, list_all-from_AllPass}
 use Rattle.std.proofs.lemmas.Map.Keys.{IsDistinct-IsPermutation}
 use Rattle.std.proofs.lemmas.Option.{same_Some}
-use Rattle.wq_view.specs.Seen.{SeenData, Stat, stat_of, entry_of, is_lawful_row, is_count}
-use Rattle.wq_view.specs.Listing.{name_cmp, names_of, IsPass}
+use Rattle.wq_record.specs.Seen.{SeenData, Stat, stat_of, entry_of, is_lawful_row, is_count}
+use Rattle.wq_record.specs.Name.{name_cmp}
+use Rattle.wq_view.specs.Listing.{names_of, IsPass}
 use Rattle.wq_view.specs.Limit.{max_listing_rows}
 use Rattle.wq_view.proofs.NameOrder.{names_total, names_exact, same_name}
 use Rattle.wq_view.proofs.Faults.{same_name_flips}

@@ -9,7 +9,7 @@ use Rattle.std.proofs.lemmas.List.{take_more, drop_more, take_all, drop-append-l
 use Rattle.std.proofs.Math.Seq.{drop-append-add}
 use Rattle.std.proofs.lemmas.Option.{slice_get-get_or}
 use Rattle.wq_view.specs.declared.chunk.Slot.{Slot}
-use Rattle.wq_view.specs.RecordData.{RecordData}
+use Rattle.wq_record.specs.RecordData.{RecordData}
 use Rattle.wq_view.specs.Chunk.{slot_records, records_in, AreChunks, IsChunkAt, IsRunAt, count_before, is_chunk_before}
 use Rattle.wq_view.proofs.Slots.{records_push, records_parts}
 use Rattle.wq_view.proofs.Lookups.{nobody}

@@ -15,8 +15,8 @@ use Rattle.std.proofs.lemmas.Map.Text.{is_eq-slice_cmp}
 use Rattle.std.proofs.lemmas.Option.{slice_get-get_or, slice_get_past}
 use native.Mathlib.Numerals.{unary_clauses}
 use Rattle.std.proofs.lemmas.List.Sorted.{searchable_from_sorted}
-use Rattle.wq_view.specs.Listing.{name_cmp}
-use Rattle.wq_view.specs.RecordData.{RecordData, blank_record, by_name, record_named}
+use Rattle.wq_record.specs.Name.{name_cmp}
+use Rattle.wq_record.specs.RecordData.{RecordData, blank_record, by_name, record_named}
 use Rattle.wq_view.specs.Position.{has_name, passes_at}
 use Rattle.wq_view.proofs.NameOrder.{names_total, names_exact, order_of_same, both_true, less_from_lt}
 use Rattle.wq_view.proofs.Listings.{tie_is_same, name_ties_itself}

@@ -11,8 +11,8 @@ use Rattle.std.specs.FinMap.Entries.{below_all}
 use Rattle.std.specs.List.{AllByRecursion}
 use Rattle.std.specs.List.Sorted.{IsStrictlySortedBy}
 use Rattle.std.proofs.lemmas.Slice.Eq.{bytes_eq-Decides}
-use Rattle.wq_view.specs.Listing.{name_cmp}
-use Rattle.wq_view.specs.Name.{is_valid_name}
+use Rattle.wq_record.specs.Name.{name_cmp}
+use Rattle.wq_record.specs.Name.{is_valid_name}
 
 -- of two names one is below the other, or they are the same
 pub names_total : IsTotalOrder name_cmp

@@ -13,8 +13,8 @@ use Rattle.std.specs.FinMap.{is_sorted}
 use Rattle.wq_base.specs.Byte.{is_slash}
 use Rattle.wq_base.specs.Directory.{after_slash, rest_below}
 use Rattle.wq_base.specs.declared.compare.Case.TheVariants.{Exact}
-use Rattle.wq_view.specs.Listing.{name_cmp}
-use Rattle.wq_view.specs.RecordData.{RecordData, by_name}
+use Rattle.wq_record.specs.Name.{name_cmp}
+use Rattle.wq_record.specs.RecordData.{RecordData, by_name}
 use Rattle.wq_view.specs.Below.{is_below, order_below}
 use Rattle.wq_view.specs.Position.{passes_at}
 use Rattle.wq_view.proofs.Lookups.{nobody, rise_at}

@@ -9,9 +9,9 @@ use Rattle.std.proofs.lemmas.List.{length-map}
 use Rattle.std.proofs.lemmas.List.Elements.{recursion_from_All}
 use Rattle.std.proofs.lemmas.Option.{slice_get_within, get_or_from_slice_get}
 use Rattle.wq_view.specs.Limit.{max_records}
-use Rattle.wq_view.specs.Seen.{SeenData, stat_of, same_stat}
-use Rattle.wq_view.specs.Listing.{name_cmp}
-use Rattle.wq_view.specs.RecordData.{RecordData, last_stat, after_change, after_creation, after_deletion}
+use Rattle.wq_record.specs.Seen.{SeenData, stat_of, same_stat}
+use Rattle.wq_record.specs.Name.{name_cmp}
+use Rattle.wq_record.specs.RecordData.{RecordData, last_stat, after_change, after_creation, after_deletion}
 use Rattle.wq_view.specs.Merge.{PairData, record_alone, record_and_row, row_alone, pairs_from, pairs_of, is_unchanged, pair_after, records_after}
 use Rattle.wq_view.specs.Order.{OrderParts, Rises, positions, newer, nth_outside, ticks_of, Known, IsOrderOf}
 use Rattle.wq_view.specs.Moves.{IsAfter, IsMoved, MovesData, is_among, moved_of, no_moves, with_known, with_pair, with_pairs}

@@ -7,8 +7,8 @@ use Rattle.std.proofs.lemmas.Bool.{and_from}
 use Rattle.std.proofs.lemmas.List.{drop_all}
 use Rattle.wq_view.specs.declared.chunk.Slot.{Slot}
 use Rattle.wq_view.specs.declared.merging.Change.{Change}
-use Rattle.wq_view.specs.Seen.{SeenData, is_lawful_row}
-use Rattle.wq_view.specs.RecordData.{RecordData}
+use Rattle.wq_record.specs.Seen.{SeenData, is_lawful_row}
+use Rattle.wq_record.specs.RecordData.{RecordData}
 use Rattle.wq_view.specs.Merge.{shows, records_after}
 use Rattle.wq_view.specs.Run.{is_same_run, rows_behind, run_after}
 use Rattle.wq_view.specs.Chunk.{slot_records, records_in}

@@ -6,7 +6,7 @@ use Rattle.std.proofs.lemmas.List.{map-append}
 use Rattle.std.proofs.lemmas.List.Elements.{filter-append}
 use Rattle.std.proofs.lemmas.Option.{slice_get_read}
 use Rattle.wq_view.specs.declared.chunk.Slot.{Slot}
-use Rattle.wq_view.specs.RecordData.{RecordData}
+use Rattle.wq_record.specs.RecordData.{RecordData}
 use Rattle.wq_view.specs.Chunk.{slot_records, records_in}
 use Rattle.wq_view.specs.Position.{passes_at, positions_from, positions_of}
 use Rattle.wq_view.proofs.MoveSteps.{range_next, range_both}

@@ -4,7 +4,7 @@ use Rattle.std.specs.List.{AllByRecursion, filter_map, cons_option, range_with_l
 use Rattle.std.proofs.lemmas.List.Elements.{All-filter, All-from_recursion}
 use Rattle.std.proofs.lemmas.List.FromFn.{length-range_with_len}
 use Rattle.std.proofs.lemmas.List.Sums.{length-filter, count_by-le-length}
-use Rattle.wq_view.specs.RecordData.{RecordData}
+use Rattle.wq_record.specs.RecordData.{RecordData}
 use Rattle.wq_view.specs.Position.{passes_at, all_positions, records_at, PositionsFilter, KeptPositionsFilter, PositionsAreThere}
 
 -- the records at kept positions are the kept records

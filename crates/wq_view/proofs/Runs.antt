@@ -6,9 +6,9 @@ use Rattle.std.specs.declared.cmp.Ordering.TheVariants.{Less, Equal, Greater}
 use Rattle.std.specs.FinMap.Entries.{by_order}
 use Rattle.std.specs.List.{list_all}
 use Rattle.std.proofs.lemmas.List.{append-nil}
-use Rattle.wq_view.specs.Seen.{SeenData, Stat, is_lawful_row, stat_of, same_stat}
-use Rattle.wq_view.specs.Listing.{name_cmp}
-use Rattle.wq_view.specs.RecordData.{RecordData, last_stat, record_after, after_change, after_creation, after_deletion}
+use Rattle.wq_record.specs.Seen.{SeenData, Stat, is_lawful_row, stat_of, same_stat}
+use Rattle.wq_record.specs.Name.{name_cmp}
+use Rattle.wq_record.specs.RecordData.{RecordData, last_stat, record_after, after_change, after_creation, after_deletion}
 use Rattle.wq_view.specs.Merge.{PairData, record_alone, record_and_row, row_alone, pairs_from, pairs_of, has_record, is_unchanged, shows, pair_after, records_after}
 use Rattle.wq_view.specs.Pair.{has_lawful_row}
 use Rattle.wq_view.specs.Run.{run_pairs, rows_after, rows_behind, is_same_run, keeps_names, run_after}

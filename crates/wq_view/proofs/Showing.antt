@@ -9,9 +9,9 @@ use Rattle.std.specs.FinMap.Entries.{below_all, by_order}
 use Rattle.std.specs.List.{list_all}
 use Rattle.std.specs.declared.cmp.Ordering.{Ordering}
 use Rattle.std.specs.declared.cmp.Ordering.TheVariants.{Less, Equal, Greater}
-use Rattle.wq_view.specs.Seen.{SeenData, Stat, same_stat, stat_of, entry_of}
-use Rattle.wq_view.specs.Listing.{name_cmp}
-use Rattle.wq_view.specs.RecordData.{RecordData, last_stat, by_name, record_named}
+use Rattle.wq_record.specs.Seen.{SeenData, Stat, same_stat, stat_of, entry_of}
+use Rattle.wq_record.specs.Name.{name_cmp}
+use Rattle.wq_record.specs.RecordData.{RecordData, last_stat, by_name, record_named}
 use Rattle.wq_view.specs.Merge.{record_alone, record_and_row, row_alone, pairs_of, is_unchanged, shows}
 use Rattle.wq_view.proofs.NameOrder.{both_true, names_total, names_exact, less_from_lt}
 use Rattle.wq_view.proofs.Stats.{one_stat, same_stat-itself}

@@ -2,10 +2,10 @@
 use Rattle.std.proofs.Common.{◌≡◌, ℕ, true, ◌&&◌, ◌==◌, cond, sym, refl, ap, ◌∙◌}
 use Rattle.std.specs.Ordering.{int_eq}
 use Rattle.std.proofs.lemmas.Bool.Decides.{Decides-int_eq, Decides-eqb}
-use Rattle.wq_view.specs.declared.kind.Kind.{Kind}
-use Rattle.wq_view.specs.declared.kind.Kind.TheVariants.{File, Dir, Link, Block, Char, Fifo, Socket, Door, Unknown}
-use Rattle.wq_view.specs.Kind.{letter_of}
-use Rattle.wq_view.specs.Seen.{Stat, same_stat}
+use Rattle.wq_record.specs.declared.kind.Kind.{Kind}
+use Rattle.wq_record.specs.declared.kind.Kind.TheVariants.{File, Dir, Link, Block, Char, Fifo, Socket, Door, Unknown}
+use Rattle.wq_record.specs.Kind.{letter_of}
+use Rattle.wq_record.specs.Seen.{Stat, same_stat}
 use Rattle.wq_view.proofs.NameOrder.{both_true}
 
 -- the kind that has a letter

@@ -7,7 +7,7 @@ use Rattle.std.proofs.lemmas.List.{get_or-map, get_or_append_left, length-map, m
 use Rattle.std.proofs.lemmas.Slice.Eq.{bytes_eq-Decides}
 use Rattle.wq_base.specs.Name.{suffix_of}
 use Rattle.wq_view.specs.declared.suffix.First.{First}
-use Rattle.wq_view.specs.RecordData.{RecordData}
+use Rattle.wq_record.specs.RecordData.{RecordData}
 use Rattle.wq_view.specs.Suffix.{ArePlaces, IsNumber, IsNumberFor, IsNumbered, first_places, folded_suffix, folded_suffixes, has_suffix_of, is_folded_of, is_one_of, sought_places, suffix_at}
 
 -- the suffix of the record at a place

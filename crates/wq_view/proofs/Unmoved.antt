@@ -9,9 +9,10 @@ use Rattle.wq_view.specs.declared.listing.PassFault.TheVariants.{OutOfRange}
 use Rattle.wq_view.specs.Again.{seen_rows}
 use Rattle.wq_view.specs.History.{History, last_stats}
 use Rattle.wq_view.specs.Limit.{max_listing_rows}
-use Rattle.wq_view.specs.Listing.{PassData, listing_fault, listing_of, name_cmp}
-use Rattle.wq_view.specs.RecordData.{RecordData, by_name}
-use Rattle.wq_view.specs.Seen.{SeenData, entry_of, is_count, is_lawful_row}
+use Rattle.wq_record.specs.Name.{name_cmp}
+use Rattle.wq_view.specs.Listing.{PassData, listing_fault, listing_of}
+use Rattle.wq_record.specs.RecordData.{RecordData}
+use Rattle.wq_record.specs.Seen.{entry_of, is_count, is_lawful_row}
 use Rattle.wq_view.specs.View.{IsViewOf, NamesRise, ViewData}
 use Rattle.wq_view.proofs.Faults.{fault_when_lawful}
 use Rattle.wq_view.proofs.Listings.{sorted_listing}

@@ -3,9 +3,10 @@ use Rattle.std.proofs.Common.{◌≡◌, ℕ, suc, ◌+◌, true, List, [], ◌�
 use Rattle.std.proofs.Math.Dec.{T}
 use Rattle.std.specs.FinMap.{find, entries, get, get-entries, is_sorted, same_map}
 use Rattle.std.specs.FinMap.Entries.{same_entries}
-use Rattle.wq_view.specs.Seen.{SeenData, entry_of}
-use Rattle.wq_view.specs.Listing.{PassData, name_cmp}
-use Rattle.wq_view.specs.RecordData.{RecordData, by_name, record_named}
+use Rattle.wq_record.specs.Seen.{SeenData, entry_of}
+use Rattle.wq_record.specs.Name.{name_cmp}
+use Rattle.wq_view.specs.Listing.{PassData}
+use Rattle.wq_record.specs.RecordData.{RecordData, by_name, record_named}
 use Rattle.wq_view.specs.History.{History, record_of, last_stats}
 use Rattle.wq_view.specs.Merge.{shows, records_after}
 use Rattle.wq_view.specs.View.{ViewData, IsViewOf, HasOneView}

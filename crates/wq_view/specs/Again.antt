@@ -2,8 +2,8 @@
 -- document defines it.
 use Rattle.std.specs.Prelude.{ℕ, List, map, filter, take, refl}
 use Rattle.std.specs.Coded.{Coded, code_by, coded×, coded_ℕ, coded_list}
-use Rattle.wq_view.specs.RecordData.{RecordData, record_code}
-use Rattle.wq_view.specs.Seen.{SeenData}
+use Rattle.wq_record.specs.RecordData.{RecordData, record_code}
+use Rattle.wq_record.specs.Seen.{SeenData}
 
 -- the row of a file as its record says it
 abbrev pub seen_row : RecordData → SeenData

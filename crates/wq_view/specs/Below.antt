@@ -7,7 +7,7 @@ use Rattle.std.specs.declared.cmp.Ordering.{Ordering}
 use Rattle.std.specs.declared.cmp.Ordering.TheVariants.{Less}
 use Rattle.wq_base.specs.Directory.{rest_below}
 use Rattle.wq_base.specs.declared.compare.Case.TheVariants.{Exact}
-use Rattle.wq_view.specs.RecordData.{RecordData}
+use Rattle.wq_record.specs.RecordData.{RecordData}
 
 -- whether the name of the record is strictly below the directory; all names are below the empty one
 abbrev pub is_below : List ℕ → RecordData → Bool

@@ -4,9 +4,10 @@ use Rattle.std.specs.Prelude.{◌≡◌, ◌++◌, IsTrue, List, map}
 use Rattle.std.specs.FinMap.{entries, is_sorted}
 use Rattle.std.specs.List.{list_all}
 use Rattle.wq_view.specs.declared.merging.Change.{Change}
-use Rattle.wq_view.specs.Seen.{SeenData, entry_of, is_lawful_row}
-use Rattle.wq_view.specs.Listing.{PassData, name_cmp}
-use Rattle.wq_view.specs.RecordData.{RecordData}
+use Rattle.wq_record.specs.Seen.{SeenData, entry_of, is_lawful_row}
+use Rattle.wq_record.specs.Name.{name_cmp}
+use Rattle.wq_view.specs.Listing.{PassData}
+use Rattle.wq_record.specs.RecordData.{RecordData}
 use Rattle.wq_view.specs.Run.{is_same_run, rows_behind}
 use Rattle.wq_view.specs.Chunk.{records_in}
 

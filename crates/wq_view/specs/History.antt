@@ -3,9 +3,10 @@
 use Rattle.std.specs.Prelude.{◌≢◌, ℕ, zero, suc, ℤ, pos, Bool, true, false, not, ◌&&◌, is_some, is_none, if◌then◌else◌, List, [], ◌∷◌, length, slice_get, Option, Some, None, option_map, option_and_then}
 use Rattle.std.specs.Option.{option_map_or}
 use Rattle.std.specs.FinMap.{FinMap, empty, get}
-use Rattle.wq_view.specs.Seen.{Stat, same_stat}
-use Rattle.wq_view.specs.Listing.{PassData, name_cmp}
-use Rattle.wq_view.specs.RecordData.{RecordData}
+use Rattle.wq_record.specs.Seen.{Stat, same_stat}
+use Rattle.wq_record.specs.Name.{name_cmp}
+use Rattle.wq_view.specs.Listing.{PassData}
+use Rattle.wq_record.specs.RecordData.{RecordData}
 
 -- the list of the passes over one root, the first pass first; neighbouring passes may be equal
 abbrev pub History : Type 0

@@ -1,10 +1,5 @@
 pub mod Limit
-pub mod Kind
-pub mod Name
-pub mod Seen
 pub mod Listing
-pub mod RecordData
-pub mod Record
 pub mod History
 pub mod Order
 pub mod View

@@ -1,19 +1,10 @@
--- The limits of names, listings and views, which are this server's own.
+-- The limits of listings and views, which are this server's own.
 -- Watchman's documentation names none of them.
 use Rattle.std.specs.Prelude.{ℕ}
-use Rattle.wq_base.specs.Limit.{max_number}
-
--- the most bytes of a name
-abbrev pub max_name : ℕ
-max_name = 4096
 
 -- the most rows of a listing
 abbrev pub max_listing_rows : ℕ
 max_listing_rows = 1000000
-
--- the last tick of a view
-abbrev pub max_tick : ℕ
-max_tick = max_number
 
 -- the most records of a view, so that a position fits 32 bits
 abbrev pub max_records : ℕ

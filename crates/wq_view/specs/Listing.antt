@@ -3,19 +3,12 @@
 use Rattle.std.specs.Prelude.{ℕ, ℤ, Bool, true, false, ◌≤◌, IsTrue, nat_lt, not, if◌then◌else◌, List, [], ◌∷◌, length, map, bytes_eq, refl, Option, Some, None}
 use Rattle.std.specs.Coded.{Coded, code_by, coded×, coded_ℕ, coded_ℤ, coded_list}
 use Rattle.std.specs.List.{list_any, list_all}
-use Rattle.std.specs.declared.cmp.Ordering.{Ordering}
-use Rattle.std.specs.Ordering.{nat_cmp}
-use Rattle.std.specs.Cmp.Lexicographic.{slice_cmp}
 use Rattle.std.specs.FinMap.{FinMap, code, from_entries, is_sorted}
 use Rattle.wq_view.specs.declared.listing.PassFault.{PassFault}
 use Rattle.wq_view.specs.declared.listing.PassFault.TheVariants.{BadName, NameTwice, TooManyRows, OutOfRange}
 use Rattle.wq_view.specs.Limit.{max_listing_rows}
-use Rattle.wq_view.specs.Name.{is_valid_name}
-use Rattle.wq_view.specs.Seen.{SeenData, Stat, stat_code, stat_of, entry_of, is_count, is_in_range, is_lawful_row}
-
--- the byte order of names
-abbrev pub name_cmp : List ℕ → List ℕ → Ordering
-name_cmp = slice_cmp nat_cmp
+use Rattle.wq_record.specs.Name.{is_valid_name, name_cmp}
+use Rattle.wq_record.specs.Seen.{SeenData, Stat, stat_code, stat_of, entry_of, is_count, is_in_range, is_lawful_row}
 
 -- the stats that a pass saw, by name, and its second
 pub record PassData : Type 0 where

@@ -3,9 +3,9 @@
 use Rattle.std.specs.Prelude.{ℕ, ℤ, Bool, true, false, not, ◌&&◌, List, [], ◌∷◌, map, Some, None}
 use Rattle.std.specs.FinMap.Entries.{by_order}
 use Rattle.std.specs.List.{list_all}
-use Rattle.wq_view.specs.Seen.{SeenData, stat_of, same_stat}
-use Rattle.wq_view.specs.Listing.{name_cmp}
-use Rattle.wq_view.specs.RecordData.{RecordData, last_stat, blank_record, record_after}
+use Rattle.wq_record.specs.Seen.{SeenData, stat_of, same_stat}
+use Rattle.wq_record.specs.Name.{name_cmp}
+use Rattle.wq_record.specs.RecordData.{RecordData, last_stat, blank_record, record_after}
 
 -- the record or the row of a name, or both: a record alone, a record and a row, or a row alone
 pub data PairData : Type 0 where

@@ -3,7 +3,7 @@ use Rattle.std.specs.Prelude.{Bool, true, List}
 use Rattle.wq_view.specs.declared.pair.Pair.{Pair}
 use Rattle.wq_view.specs.declared.pair.Pair.TheVariants.{Old, Both, New}
 use Rattle.wq_view.specs.declared.pair.Pairs.{Pairs}
-use Rattle.wq_view.specs.Seen.{SeenData, is_lawful_row}
+use Rattle.wq_record.specs.Seen.{SeenData, is_lawful_row}
 use Rattle.wq_view.specs.Merge.{PairData, record_alone, record_and_row, row_alone}
 use Rattle.wq_view.specs.Run.{run_pairs, rows_behind}
 

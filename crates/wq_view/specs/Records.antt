@@ -2,7 +2,7 @@
 use Rattle.std.specs.Prelude.{◌++◌, List}
 use Rattle.std.specs.Borrow.{Bor}
 use Rattle.wq_view.specs.declared.records.Records.{Records}
-use Rattle.wq_view.specs.RecordData.{RecordData}
+use Rattle.wq_record.specs.RecordData.{RecordData}
 use Rattle.wq_view.specs.Chunk.{records_in}
 
 -- the record at a place

@@ -3,10 +3,10 @@
 use Rattle.std.specs.Prelude.{ℕ, ℤ, Bool, List, [], ◌∷◌, map}
 use Rattle.std.specs.FinMap.Entries.{by_order}
 use Rattle.std.specs.List.{list_all}
-use Rattle.wq_view.specs.Seen.{SeenData}
-use Rattle.wq_view.specs.Listing.{name_cmp}
+use Rattle.wq_record.specs.Seen.{SeenData}
+use Rattle.wq_record.specs.Name.{name_cmp}
 use Rattle.wq_view.specs.Merge.{PairData, pairs_from, has_record, is_unchanged, pair_after}
-use Rattle.wq_view.specs.RecordData.{RecordData}
+use Rattle.wq_record.specs.RecordData.{RecordData}
 
 -- the pairs of a run and the rows that belong to it
 abbrev pub run_pairs : List RecordData → List SeenData → List PairData

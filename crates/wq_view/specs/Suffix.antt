@@ -6,7 +6,7 @@ use Rattle.std.specs.Str.{str_to_ascii_lowercase}
 use Rattle.wq_base.specs.Compare.{is_suffix}
 use Rattle.wq_base.specs.Name.{suffix_of}
 use Rattle.wq_view.specs.declared.suffix.First.{First}
-use Rattle.wq_view.specs.RecordData.{RecordData}
+use Rattle.wq_record.specs.RecordData.{RecordData}
 
 -- whether the suffix of the record's name is this text, if A to Z count as a to z; no record has an
 -- empty suffix

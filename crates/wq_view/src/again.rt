@@ -4,15 +4,13 @@ ghost use Rattle.std.specs.Prelude.{◌≡◌, ◌≤◌, ◌-◌, ◌++◌, ◌
 ghost use Rattle.std.specs.List.{list_all};
 ghost use Rattle.wq_view.specs.Again.{rows_again, seen_row, seen_rows};
 ghost use Rattle.wq_view.specs.Records.{records_left};
-ghost use Rattle.wq_view.specs.Seen.{is_lawful_row};
+ghost use Rattle.wq_record.specs.Seen.{is_lawful_row};
 
-use crate::file_record::Record;
-use crate::kind::Kind;
 use crate::known::Known;
-use crate::listing::Seen;
 use crate::records::Records;
 use std::alloc::{AllocError, Global};
 use std::marker::Model;
+use wq_record::{Kind, Record, Seen};
 
 /// The records of a piece of a view, the first of which were found as they are. Contracts see the records, and how many
 /// of them that are.

@@ -4,12 +4,12 @@ ghost use Rattle.wq_view.specs.Limit.{max_chunk, max_records};
 ghost use Rattle.wq_view.specs.Position.{positions_from};
 ghost use Rattle.wq_view.specs.Suffix.{folded_suffixes, has_suffix_of};
 
-use crate::file_record::Record;
 use crate::suffix::SuffixTable;
 use crate::suffixes::Suffixes;
 use std::alloc::{AllocError, Global};
 use std::marker::Model;
 use std::sync::Arc;
+use wq_record::Record;
 
 /// From 1 to 4,096 records, one after the other in the byte order of their names.
 #[derive(Drop)]
@@ -22,7 +22,7 @@ impl Model for Chunk {
     ghost use Rattle.std.specs.Prelude.{◌≡◌, ◌≤◌, List, vec_len};
     ghost use Rattle.std.specs.Coded.{coded_list};
     ghost use Rattle.wq_view.specs.Limit.{max_chunk};
-    ghost use Rattle.wq_view.specs.RecordData.{RecordData, record_code};
+    ghost use Rattle.wq_record.specs.RecordData.{RecordData, record_code};
     ghost use Rattle.wq_view.specs.Suffix.{IsNumbered, folded_suffixes, first_places};
 
     ghost Value = { List RecordData };

@@ -5,19 +5,19 @@ ghost use Rattle.std.specs.Fn.{ComputesKey};
 ghost use Rattle.std.specs.List.Sorted.{IsPartitionedBy, IsPartitionPoint};
 ghost use Rattle.wq_view.specs.Chunk.{AreChunks, IsChunkAt, IsPiece, count_before, is_chunk_before, records_in};
 ghost use Rattle.wq_view.specs.Limit.{max_records};
-ghost use Rattle.wq_view.specs.RecordData.{RecordData};
+ghost use Rattle.wq_record.specs.RecordData.{RecordData};
 ghost use Rattle.wq_view.specs.Position.{positions_of};
 ghost use Rattle.wq_view.specs.Records.{records_left};
 ghost use Rattle.wq_view.specs.Suffix.{has_suffix_of};
 
 use crate::chunk::{Chunk, Slot};
-use crate::file_record::Record;
 use crate::limit::MAX_RECORDS;
 use crate::records::Records;
 use crate::suffixes::Suffixes;
 use std::alloc::{AllocError, Global};
 use std::marker::Model;
 use std::sync::Arc;
+use wq_record::Record;
 
 /// Records in chunks.
 #[derive(Drop)]
@@ -30,7 +30,7 @@ impl Model for Chunks {
     ghost use Rattle.std.specs.Coded.{coded_list};
     ghost use Rattle.wq_view.specs.Chunk.{AreChunks, records_in};
     ghost use Rattle.wq_view.specs.Limit.{max_records};
-    ghost use Rattle.wq_view.specs.RecordData.{RecordData, record_code};
+    ghost use Rattle.wq_record.specs.RecordData.{RecordData, record_code};
 
     ghost Value = { List RecordData };
 

@@ -5,10 +5,10 @@ ghost use Rattle.wq_view.specs.Limit.{max_chunk};
 
 use crate::chunk::Chunk;
 use crate::chunks::Chunks;
-use crate::file_record::Record;
 use std::alloc::{AllocError, Global};
 use std::mem;
 use std::sync::Arc;
+use wq_record::Record;
 
 /// The number of records in a chunk, if many new records come together.
 const USUAL: usize = 512;

@@ -1,14 +1,12 @@
 //! The names of a view's records. The rows of the next listing share them, so that a shared name need not be tested
 //! again.
 ghost use Rattle.std.specs.Prelude.{◌≡◌, IfOk, IfSome, IsTrue};
-ghost use Rattle.wq_view.specs.Name.{is_valid_name};
+ghost use Rattle.wq_record.specs.Name.{is_valid_name};
 
-use crate::file_record::Record;
-use crate::name::Name;
 use crate::records::Records;
-use crate::shared::SharedBytes;
 use std::alloc::AllocError;
 use std::cmp::Ordering;
+use wq_record::{Name, Record, SharedBytes};
 
 /// Records with rising names. The records below the last name that was asked for are passed.
 #[derive(Clone, Copy)]

@@ -16,40 +16,33 @@ mod again;
 mod below;
 mod chunk;
 mod chunks;
-mod file_record;
 mod filling;
-mod kind;
 mod known;
 mod law;
 mod limit;
 mod listing;
 mod merging;
 mod moves;
-mod name;
 mod order;
 mod pair;
 mod reader;
 mod recent;
 mod records;
-mod shared;
 mod suffix;
 mod suffixes;
 mod view;
 
 pub use again::Again;
-pub use file_record::Record;
-pub use kind::Kind;
 pub use known::Known;
 pub use law::{
     history_has_one_view, kept_positions_filter, newest_is_sorted, newest_is_split,
     positions_are_there, positions_filter,
 };
-pub use limit::{MAX_LISTING_ROWS, MAX_RECORDS, MAX_TICK};
-pub use listing::{Pass, PassFault, Seen};
-pub use name::{MAX_NAME, Name, is_valid_name};
+pub use limit::{MAX_LISTING_ROWS, MAX_RECORDS};
+pub use listing::{Pass, PassFault};
 pub use reader::Reader;
 pub use recent::Recent;
 pub use records::Records;
-pub use shared::SharedBytes;
 pub use suffixes::Suffixes;
 pub use view::{View, ViewFault};
+pub use wq_record::{Kind, MAX_NAME, MAX_TICK, Name, Record, Seen, SharedBytes, is_valid_name};

@@ -1,10 +1,5 @@
 //! The limits of a view.
 
-use wq_base::MAX_NUMBER;
-
-/// The last tick that a view may reach.
-pub const MAX_TICK: u64 = MAX_NUMBER;
-
 /// The greatest number of rows of a pass.
 pub const MAX_LISTING_ROWS: usize = 1_000_000;
 

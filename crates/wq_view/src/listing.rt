@@ -6,38 +6,15 @@ ghost use Rattle.std.specs.List.{list_all, IsDistinct};
 ghost use Rattle.wq_view.specs.Again.{seen_rows};
 ghost use Rattle.wq_view.specs.History.{History, last_stats};
 ghost use Rattle.wq_view.specs.Limit.{max_listing_rows};
-ghost use Rattle.wq_view.specs.Seen.{entry_of, is_lawful_row, is_count, is_time};
+ghost use Rattle.wq_record.specs.Seen.{entry_of, is_lawful_row, is_count};
 ghost use Rattle.wq_view.specs.View.{IsViewOf, ViewData};
-ghost use Rattle.wq_view.specs.Listing.{name_cmp, names_of, listing_of, listing_fault, is_of_whole, row_fault};
+ghost use Rattle.wq_record.specs.Name.{name_cmp};
+ghost use Rattle.wq_view.specs.Listing.{names_of, listing_of, listing_fault, is_of_whole, row_fault};
 
-use crate::kind::Kind;
 use crate::limit::MAX_LISTING_ROWS;
-use crate::name::is_valid_name;
-use crate::shared::SharedBytes;
 use std::marker::Model;
 use thiserror::Error;
-use wq_base::MAX_SIGNED;
-
-/// One row of a listing, as a walker saw it. Nothing in it is tested yet.
-#[derive(Drop)]
-pub struct Seen {
-    /// The path below the root. A pass and a view share these bytes.
-    pub name: SharedBytes,
-    pub kind: Kind,
-    /// In bytes.
-    pub size: i64,
-    /// The modification time, in milliseconds of the Unix epoch.
-    pub mtime_ms: i64,
-}
-
-impl Model for Seen {
-    ghost use Rattle.wq_view.specs.Seen.{SeenData};
-
-    ghost Value = { SeenData };
-
-    ghost view = { λ s.
-        record { name = s.name; kind = s.kind; size = s.size; mtime_ms = s.mtime_ms } };
-}
+use wq_record::{Seen, is_count, is_valid_name};
 
 /// The reason for which rows make no pass.
 #[derive(Clone, Copy, Debug, PartialEq, Eq, Drop, Error)]
@@ -69,8 +46,9 @@ pub struct Pass {
 impl Model for Pass {
     ghost use Rattle.std.specs.Prelude.{map};
     ghost use Rattle.std.specs.FinMap.{from_sorted};
-    ghost use Rattle.wq_view.specs.Seen.{entry_of};
-    ghost use Rattle.wq_view.specs.Listing.{name_cmp, PassData, pass_code, IsPass};
+    ghost use Rattle.wq_record.specs.Seen.{entry_of};
+    ghost use Rattle.wq_record.specs.Name.{name_cmp};
+    ghost use Rattle.wq_view.specs.Listing.{PassData, pass_code, IsPass};
 
     ghost Value = { PassData };
 
@@ -177,15 +155,6 @@ impl Pass {
     }
 }
 
-impl Seen {
-    /// Whether the row is without a fault of its own.
-    fn is_lawful(&self) -> bool
-        ensures { result ≡ is_lawful_row self.now }
-    {
-        is_valid_name(self.name.as_slice()) && is_count(self.size) && is_time(self.mtime_ms)
-    }
-}
-
 /// The place of the first row that has a fault of its own.
 fn first_unlawful(rows: &[Seen]) -> Option<usize>
     ensures none { IfNone result (IsTrue (list_all is_lawful_row rows.now)) }
@@ -238,18 +207,4 @@ fn names_rise(rows: &[Seen]) -> bool
     ensures { result ≡ is_sorted name_cmp (map entry_of rows.now) }
 {
     rows.is_sorted_by(|a, b| a.name.as_slice().cmp(b.name.as_slice()).is_lt())
-}
-
-/// Whether a size or a second is from 0 to 2^62.
-fn is_count(value: i64) -> bool
-    ensures { result ≡ is_count value }
-{
-    0 <= value && value <= MAX_SIGNED
-}
-
-/// Whether a time is from -2^62 to 2^62.
-fn is_time(value: i64) -> bool
-    ensures { result ≡ is_time value }
-{
-    -MAX_SIGNED <= value && value <= MAX_SIGNED
 }

@@ -8,17 +8,15 @@ ghost use Rattle.wq_view.specs.Merge.{pair_after, pairs_of, records_after, shows
 ghost use Rattle.wq_view.specs.Moves.{moves_data, no_moves, with_pair, with_pairs, with_same};
 ghost use Rattle.wq_view.specs.Pair.{has_lawful_row, pair_data};
 ghost use Rattle.wq_view.specs.Run.{is_same_run, keeps_names, rows_behind, run_after, run_pairs};
-ghost use Rattle.wq_view.specs.Seen.{is_lawful_row, is_count};
+ghost use Rattle.wq_record.specs.Seen.{is_lawful_row, is_count};
 
 use crate::chunk::{Chunk, Slot};
 use crate::chunks::Chunks;
-use crate::file_record::Record;
 use crate::filling::Filling;
-use crate::limit::MAX_TICK;
-use crate::listing::Seen;
 use crate::moves::Moves;
 use crate::pair::{Moment, Pair, Pairs};
 use std::alloc::{AllocError, Global};
+use wq_record::{MAX_TICK, Record, Seen};
 
 /// The change that a pass makes in chunks. It has the first chunks, which the pass leaves as they are, the chunks from
 /// the first changed one on, and the rows that belong to the latter or come after all records.

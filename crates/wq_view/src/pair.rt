@@ -1,15 +1,13 @@
 //! Records and rows side by side: for each name the record, the row or both, in the byte order of names. The change
 //! that a pass makes in a record is for others.
 ghost use Rattle.std.specs.Prelude.{◌≡◌, ◌≤◌, ◌∷◌, [], IfOk, IsTrue, MatchOption};
-ghost use Rattle.wq_view.specs.Seen.{is_count};
+ghost use Rattle.wq_record.specs.Seen.{is_count};
 ghost use Rattle.wq_view.specs.Merge.{has_record, is_unchanged, pair_after};
 ghost use Rattle.wq_view.specs.Pair.{has_lawful_row, pair_data, pairs_left, rows_left};
 ghost use Rattle.wq_view.specs.Run.{run_pairs, rows_behind};
 
-use crate::file_record::Record;
-use crate::limit::MAX_TICK;
-use crate::listing::Seen;
 use std::alloc::AllocError;
+use wq_record::{MAX_TICK, Record, Seen};
 
 /// When a pass was made: its tick, and its second of the Unix epoch.
 #[derive(Clone, Copy)]

@@ -2,8 +2,8 @@
 ghost use Rattle.std.specs.Prelude.{◌≡◌, ◌<◌, length, slice_get, IfSome, Some};
 
 use crate::chunks::Chunks;
-use crate::file_record::Record;
 use std::marker::Model;
+use wq_record::Record;
 
 /// A view's records. A reader keeps the chunk of its last look, and finds the records of that chunk soonest.
 #[derive(Drop)]
@@ -19,7 +19,7 @@ impl<'a> Model for Reader<'a> {
     ghost use Rattle.std.specs.Prelude.{List};
     ghost use Rattle.std.specs.Coded.{coded_list};
     ghost use Rattle.wq_view.specs.Chunk.{IsPiece};
-    ghost use Rattle.wq_view.specs.RecordData.{RecordData, record_code};
+    ghost use Rattle.wq_record.specs.RecordData.{RecordData, record_code};
 
     ghost Value = { List RecordData };
 

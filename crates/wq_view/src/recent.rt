@@ -2,10 +2,9 @@
 //! what the view has of the others. Another crate reads directories. No contract speaks of what is recent, since
 //! nothing that is proved of a glance rests on it.
 
-use crate::file_record::Record;
-use crate::name::MAX_NAME;
 use crate::view::View;
 use std::alloc::AllocError;
+use wq_record::{MAX_NAME, Record};
 
 /// The number of changes that are recent at most. The latest ones count.
 const MOST_CHANGES: usize = 1000;

@@ -4,7 +4,7 @@ ghost use Rattle.wq_view.specs.Chunk.{records_in};
 ghost use Rattle.wq_view.specs.Records.{records_left};
 
 use crate::chunk::Slot;
-use crate::file_record::Record;
+use wq_record::Record;
 
 /// Records in the byte order of their names, as an iterator.
 #[derive(Clone, Copy)]

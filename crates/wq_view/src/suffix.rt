@@ -6,10 +6,10 @@ ghost use Rattle.wq_view.specs.Limit.{max_chunk, max_records};
 ghost use Rattle.wq_view.specs.Position.{positions_from};
 ghost use Rattle.wq_view.specs.Suffix.{ArePlaces, IsNumberFor, IsNumbered, first_places, folded_suffixes, has_suffix_of, sought_places};
 
-use crate::file_record::Record;
 use crate::suffixes::Suffixes;
 use std::alloc::{AllocError, Global};
 use wq_base::Case;
+use wq_record::Record;
 
 /// The greatest number of suffixes in a chunk that have a number of their own. It is itself the number of all others.
 const OTHER: usize = 255;

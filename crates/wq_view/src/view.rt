@@ -4,20 +4,20 @@
 //! that moves the view writes that list anew.
 //! Lookups take no memory. Only a pass that moves the view, and a copy of the view, take memory.
 ghost use Rattle.std.specs.Prelude.{MatchOption, ℕ, nat_le, nat_lt, ◌==◌, ◌&&◌, ◌≡◌, ◌≢◌, ◌+◌, ◌≤◌, ◌<◌, ◌↔◌, List, [], ◌∷◌, ◌++◌, Ok, Err, Some, None, true, false, drop, length, IfOk, IfErr, IfNone, IfSome, IsTrue, slice_get};
-ghost use Rattle.wq_view.specs.RecordData.{record_named};
+ghost use Rattle.wq_record.specs.RecordData.{record_named};
 ghost use Rattle.wq_view.specs.History.{History, last_stats};
 ghost use Rattle.wq_view.specs.Below.{is_below};
 ghost use Rattle.wq_view.specs.Change.{IsChangeBy};
-ghost use Rattle.wq_view.specs.Limit.{max_records, max_tick};
+ghost use Rattle.wq_record.specs.Limit.{max_tick};
+ghost use Rattle.wq_view.specs.Limit.{max_records};
 ghost use Rattle.wq_view.specs.Order.{Known};
 ghost use Rattle.wq_view.specs.Position.{has_name, passes_at, positions_of};
 ghost use Rattle.wq_view.specs.Records.{records_left};
 ghost use Rattle.wq_view.specs.Suffix.{has_suffix_of};
 ghost use Rattle.wq_view.specs.View.{IsViewOf, NamesRise, newest_of};
 
+use crate::below::order_below;
 use crate::chunks::Chunks;
-use crate::file_record::Record;
-use crate::limit::MAX_TICK;
 use crate::listing::Pass;
 use crate::merging::{Change, chunks_after, first_change};
 use crate::order::Order;
@@ -28,6 +28,7 @@ use crate::suffixes::Suffixes;
 use std::alloc::{AllocError, Global};
 use std::marker::Model;
 use thiserror::Error;
+use wq_record::{MAX_TICK, Record};
 
 /// The reason for which a view takes in no pass, or has no copy. The fault leaves the view as it was.
 #[derive(Clone, Copy, Debug, PartialEq, Eq, Drop, Error)]
@@ -61,7 +62,7 @@ pub struct View {
 
 impl Model for View {
     ghost use Rattle.std.specs.Prelude.{◌≤◌};
-    ghost use Rattle.wq_view.specs.Limit.{max_tick};
+    ghost use Rattle.wq_record.specs.Limit.{max_tick};
     ghost use Rattle.wq_view.specs.Order.{IsOrderOf};
     ghost use Rattle.wq_view.specs.View.{ViewData, view_code, NamesRise};
 
@@ -281,10 +282,10 @@ impl View {
         }
         let start = self
             .chunks
-            .partition_point(|record| record.order_below(dir).is_lt());
+            .partition_point(|record| order_below(dir, record.name.as_bytes()).is_lt());
         let end = self
             .chunks
-            .partition_point(|record| record.order_below(dir).is_le());
+            .partition_point(|record| order_below(dir, record.name.as_bytes()).is_le());
         (start, end)
     }
 

@@ -3,8 +3,8 @@ use Rattle.std.proofs.Common.{◌≡◌, ◌⊎◌, ℕ, zero, suc, Bool, true, 
 use Rattle.std.proofs.lemmas.List.Elements.{All-append, All-cons, All-nil, All-pop, All-push}
 use Rattle.std.proofs.lemmas.List.Prefix.{front_rest}
 use Rattle.std.specs.Str.{byte}
-use Rattle.wq_view.specs.Seen.{SeenData, Stat}
-use Rattle.wq_view.specs.declared.kind.Kind.TheVariants.{Dir}
+use Rattle.wq_record.specs.Seen.{SeenData, Stat}
+use Rattle.wq_record.specs.declared.kind.Kind.TheVariants.{Dir}
 use Rattle.wq_walk.specs.declared.part.Part.{Part}
 use Rattle.wq_walk.specs.Part.{is_in}
 use Rattle.wq_walk.specs.Told.{GivesStat, Has, HasEntries}

@@ -9,7 +9,7 @@ use Rattle.std.proofs.lemmas.Bool.Decides.{Decides-eqb}
 use Rattle.std.proofs.lemmas.Slice.Eq.{strip_prefix_is}
 use Rattle.std.proofs.lemmas.Map.Lookups.{exact_bytes}
 use mathlib.Core.Bool.{true≢false}
-use Rattle.wq_view.specs.Listing.{name_cmp}
+use Rattle.wq_record.specs.Name.{name_cmp}
 use Rattle.wq_walk.specs.Part.{name_below, IsOrderBelow}
 
 -- the order of two names does not depend on a beginning that they share

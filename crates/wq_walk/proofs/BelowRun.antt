@@ -4,7 +4,7 @@ use Rattle.std.proofs.lemmas.Bool.{and_from, and_left, and_right, le-leb, le-ltb
 use Rattle.wq_view.specs.Again.{seen_rows}
 use Rattle.wq_view.specs.Below.{is_below}
 use Rattle.wq_view.specs.Position.{passes_at}
-use Rattle.wq_view.specs.RecordData.{RecordData}
+use Rattle.wq_record.specs.RecordData.{RecordData}
 use Rattle.wq_walk.specs.Glance.{rows_below}
 
 -- no records

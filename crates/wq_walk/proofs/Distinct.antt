@@ -8,7 +8,7 @@ use Rattle.std.specs.Ordering.{is_lt, ordering_reverse}
 use Rattle.std.proofs.lemmas.Slice.Eq.{bytes_eq-Decides}
 use Rattle.std.specs.Cmp.Lexicographic.{nat_list_cmp_total}
 use Rattle.std.specs.Prelude.{Option, option_to_list}
-use Rattle.wq_view.specs.Listing.{name_cmp}
+use Rattle.wq_record.specs.Name.{name_cmp}
 use Rattle.wq_walk.specs.Entries.{AreDistinct}
 use Rattle.wq_walk.specs.Names.{name_at, names_at}
 use Rattle.std.proofs.lemmas.List.{map-append}

@@ -4,7 +4,7 @@ use Rattle.std.proofs.lemmas.List.Elements.{All-append, All-cons, All-nil, All-p
 use Rattle.std.specs.Str.{byte}
 use Rattle.wq_view.specs.Again.{seen_row, seen_rows}
 use Rattle.wq_view.specs.Below.{is_below}
-use Rattle.wq_view.specs.RecordData.{RecordData}
+use Rattle.wq_record.specs.RecordData.{RecordData}
 use Rattle.wq_walk.specs.Accounts.{IsOneOf, IsRowOfPath}
 use Rattle.wq_walk.specs.Glance.{AreGlanceSteps, GlanceRowsAreKnown, IsGlanceStep, IsRowOfGlance, rows_below}
 use Rattle.wq_walk.specs.Part.{whole_part}

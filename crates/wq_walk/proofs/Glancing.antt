@@ -4,8 +4,8 @@ use Rattle.std.specs.Prelude.{nat_le, nat_lt}
 use Rattle.wq_view.specs.Again.{seen_rows}
 use Rattle.wq_view.specs.Below.{is_below}
 use Rattle.wq_view.specs.Position.{passes_at}
-use Rattle.wq_view.specs.RecordData.{RecordData}
-use Rattle.wq_view.specs.Seen.{SeenData}
+use Rattle.wq_record.specs.RecordData.{RecordData}
+use Rattle.wq_record.specs.Seen.{SeenData}
 use Rattle.wq_walk.specs.declared.part.Part.{Part}
 use Rattle.wq_walk.specs.Glance.{AreGlanceSteps, GlanceEnds, IsGlance, IsGlanceStep, IsGlancedAt, IsKnownDirectory, rows_below}
 use Rattle.wq_walk.specs.Listed.{IsPathOf}

@@ -7,7 +7,7 @@ use Rattle.std.specs.Prelude.{Option}
 use Rattle.std.specs.Ordering.{is_lt}
 use Rattle.std.specs.Cmp.Lexicographic.{nat_list_cmp_total}
 use Rattle.std.proofs.lemmas.List.Sums.{sum_by-append}
-use Rattle.wq_view.specs.Listing.{name_cmp}
+use Rattle.wq_record.specs.Name.{name_cmp}
 use Rattle.wq_walk.specs.declared.part.Part.{Part}
 use Rattle.wq_walk.specs.declared.piece.Piece.{Piece}
 use Rattle.wq_walk.specs.Part.{is_in}

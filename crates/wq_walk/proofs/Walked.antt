@@ -1,6 +1,6 @@
 -- A listing from the rows of pieces that were each walked once.
 use Rattle.std.proofs.Common.{◌≡◌, ℕ, List, Result, Ok, Err, IfOk, ap}
-use Rattle.wq_view.specs.Seen.{SeenData}
+use Rattle.wq_record.specs.Seen.{SeenData}
 use Rattle.wq_walk.specs.declared.piece.Piece.{Piece}
 use Rattle.wq_walk.specs.declared.rows.Rows.{Rows}
 use Rattle.wq_walk.specs.Listed.{AreWalks, IsListed, IsPathOf, IsRooted, IsWalked, piece_parts, walked_pieces, walked_rows}

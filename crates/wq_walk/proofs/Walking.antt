@@ -2,7 +2,7 @@
 use Rattle.std.proofs.Common.{◌≡◌, ℕ, suc, Bool, false, List, [], ◌∷◌, ◌++◌, inl, refl, ap, sym, subst, ◌∙◌, if◌then◌else◌, append-nil, Option, Some, None, MatchOption}
 use Rattle.std.proofs.lemmas.Option.{none-some}
 use Rattle.std.specs.Str.{byte}
-use Rattle.wq_view.specs.Seen.{SeenData}
+use Rattle.wq_record.specs.Seen.{SeenData}
 use Rattle.wq_walk.specs.declared.part.Part.{Part}
 use Rattle.wq_walk.specs.Told.{GivesStat, Has, HasEntries}
 use Rattle.wq_walk.specs.Walk.{AreSteps, DirectoryData, Enters, IsDone, IsLooked, IsPassedOver, IsStep, LooksAtName, WalkData, WalkEnds, after_look, fresh, name_of_path}

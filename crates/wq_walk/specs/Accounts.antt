@@ -3,8 +3,8 @@
 use Rattle.std.specs.Prelude.{◌≡◌, ◌⊎◌, ℕ, List, [], ◌∷◌, ◌++◌, Some, IsTrue, length}
 use Rattle.std.specs.List.{All}
 use Rattle.std.specs.Str.{byte}
-use Rattle.wq_view.specs.Seen.{SeenData, Stat}
-use Rattle.wq_view.specs.declared.kind.Kind.TheVariants.{Dir}
+use Rattle.wq_record.specs.Seen.{SeenData, Stat}
+use Rattle.wq_record.specs.declared.kind.Kind.TheVariants.{Dir}
 use Rattle.wq_walk.specs.declared.part.Part.{Part}
 use Rattle.wq_walk.specs.Entries.{AreEntries}
 use Rattle.wq_walk.specs.Part.{is_in}

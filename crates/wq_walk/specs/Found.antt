@@ -1,8 +1,8 @@
 -- The files of a piece that a walk found so far. No public document defines it.
 use Rattle.std.specs.Prelude.{◌≡◌, List}
 use Rattle.wq_view.specs.Again.{rows_again}
-use Rattle.wq_view.specs.RecordData.{RecordData}
-use Rattle.wq_view.specs.Seen.{SeenData}
+use Rattle.wq_record.specs.RecordData.{RecordData}
+use Rattle.wq_record.specs.Seen.{SeenData}
 use Rattle.wq_walk.specs.declared.piece.Piece.{Piece}
 use Rattle.wq_walk.specs.declared.rows.Found.{Found}
 use Rattle.wq_walk.specs.declared.rows.Found.TheVariants.{Again, Rows}

@@ -5,9 +5,9 @@ use Rattle.std.specs.Prelude.{filter, Some}
 use Rattle.std.specs.List.{All}
 use Rattle.wq_view.specs.Again.{seen_rows}
 use Rattle.wq_view.specs.Below.{is_below}
-use Rattle.wq_view.specs.RecordData.{RecordData, record_named}
-use Rattle.wq_view.specs.Seen.{SeenData}
-use Rattle.wq_view.specs.declared.kind.Kind.TheVariants.{Dir}
+use Rattle.wq_record.specs.RecordData.{RecordData, record_named}
+use Rattle.wq_record.specs.Seen.{SeenData}
+use Rattle.wq_record.specs.declared.kind.Kind.TheVariants.{Dir}
 use Rattle.wq_walk.specs.Accounts.{IsOneOf, IsRowOfPath}
 use Rattle.wq_walk.specs.Entries.{AreEntries}
 use Rattle.wq_walk.specs.Listed.{IsPathOf}

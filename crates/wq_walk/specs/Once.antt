@@ -1,6 +1,6 @@
 -- A listing has the path of each file once. No public document defines it.
 use Rattle.std.specs.Prelude.{ℕ, List, map}
-use Rattle.wq_view.specs.Seen.{SeenData}
+use Rattle.wq_record.specs.Seen.{SeenData}
 use Rattle.wq_walk.specs.declared.part.Part.{Part}
 use Rattle.wq_walk.specs.Entries.{AreDistinct}
 use Rattle.wq_walk.specs.Listed.{IsListed}

@@ -7,9 +7,9 @@ use Rattle.std.specs.Ordering.{is_lt}
 use Rattle.std.specs.Str.{byte}
 use Rattle.std.specs.declared.cmp.Ordering.{Ordering}
 use Rattle.std.specs.declared.cmp.Ordering.TheVariants.{Less, Equal, Greater}
-use Rattle.wq_view.specs.Listing.{name_cmp}
+use Rattle.wq_record.specs.Name.{name_cmp}
 use Rattle.wq_view.specs.Limit.{max_listing_rows}
-use Rattle.wq_view.specs.Seen.{SeenData, is_lawful_row}
+use Rattle.wq_record.specs.Seen.{SeenData, is_lawful_row}
 use Rattle.wq_walk.specs.declared.part.Part.{Part}
 
 -- the whole of a tree

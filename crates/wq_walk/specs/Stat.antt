@@ -3,8 +3,8 @@
 use Rattle.std.specs.Prelude.{ℕ, ℤ, pos, neg_ℤ, min, ◌==◌, ◌+ℤ◌, ◌*ℤ◌, if◌then◌else◌}
 use Rattle.std.specs.Int.{int_div_euclid, int_max, int_min}
 use Rattle.wq_base.specs.Limit.{max_number}
-use Rattle.wq_view.specs.declared.kind.Kind.{Kind}
-use Rattle.wq_view.specs.declared.kind.Kind.TheVariants.{File, Dir, Link, Unknown}
+use Rattle.wq_record.specs.declared.kind.Kind.{Kind}
+use Rattle.wq_record.specs.declared.kind.Kind.TheVariants.{File, Dir, Link, Unknown}
 
 -- the kind of a file with this type in its mode: a regular file, a directory, a link, or else
 -- unknown

@@ -5,8 +5,8 @@ use Rattle.std.specs.Prelude.{◌≡◌, ℕ, ℤ, List, MatchOption}
 use Rattle.std.specs.Fs.{file_type, metadata_len}
 use Rattle.std.specs.declared.fs.Metadata.{Metadata}
 use Rattle.wq_crawl.specs.declared.tree.TreeFault.{TreeFault}
-use Rattle.wq_view.specs.RecordData.{RecordData}
-use Rattle.wq_view.specs.Seen.{SeenData, Stat}
+use Rattle.wq_record.specs.RecordData.{RecordData}
+use Rattle.wq_record.specs.Seen.{SeenData, Stat}
 use Rattle.wq_walk.specs.Entries.{AreEntries}
 use Rattle.wq_walk.specs.Glance.{IsGlancedAt}
 use Rattle.wq_walk.specs.Listed.{IsListed, IsUnread}

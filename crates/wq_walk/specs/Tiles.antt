@@ -2,7 +2,7 @@
 -- defines it.
 use Rattle.std.specs.Prelude.{◌≡◌, List, [], take}
 use Rattle.std.specs.List.{flat_map}
-use Rattle.wq_view.specs.RecordData.{RecordData}
+use Rattle.wq_record.specs.RecordData.{RecordData}
 use Rattle.wq_view.specs.Records.{records_left}
 use Rattle.wq_walk.specs.declared.piece.CutNames.{CutNames}
 use Rattle.wq_walk.specs.declared.piece.CutNames.TheVariants.{First, Last}

@@ -4,7 +4,7 @@ use Rattle.std.specs.Prelude.{◌≡◌, ◌⊎◌, ℕ, List, [], Option, Some,
 use Rattle.std.specs.Str.{IsUtf8}
 use Rattle.wq_crawl.specs.declared.tree.TreeFault.{TreeFault}
 use Rattle.wq_crawl.specs.declared.tree.TreeFault.TheVariants.{NoHandle, Unreadable}
-use Rattle.wq_view.specs.Seen.{Stat}
+use Rattle.wq_record.specs.Seen.{Stat}
 use Rattle.wq_walk.specs.Entries.{AreEntries}
 
 -- the stats that a disk may give for the file of a path: none if it cannot look at the file

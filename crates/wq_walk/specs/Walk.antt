@@ -3,9 +3,9 @@
 use Rattle.std.specs.Prelude.{◌≡◌, ◌⊎◌, ℕ, zero, suc, Bool, true, false, IsTrue, if◌then◌else◌}
 use Rattle.std.specs.Prelude.{List, [], ◌∷◌, ◌++◌, length, drop, Some, None}
 use Rattle.std.specs.Str.{IsUtf8, byte}
-use Rattle.wq_view.specs.Name.{is_valid_name}
-use Rattle.wq_view.specs.Seen.{SeenData, Stat}
-use Rattle.wq_view.specs.declared.kind.Kind.TheVariants.{Dir}
+use Rattle.wq_record.specs.Name.{is_valid_name}
+use Rattle.wq_record.specs.Seen.{SeenData, Stat}
+use Rattle.wq_record.specs.declared.kind.Kind.TheVariants.{Dir}
 use Rattle.wq_walk.specs.declared.part.Part.{Part}
 use Rattle.wq_walk.specs.Entries.{AreEntries}
 use Rattle.wq_walk.specs.Part.{MayHaveBelow, is_in, name_below}

@@ -17,7 +17,7 @@ use wq_crawl::TreeFault;
 /// or memory ran out.
 pub trait Disk {
     ghost use Rattle.std.specs.Prelude.{ℕ, List, Option};
-    ghost use Rattle.wq_view.specs.Seen.{Stat};
+    ghost use Rattle.wq_record.specs.Seen.{Stat};
 
     // The stats that it may give for the file of a path: none if it cannot look at the file.
     ghost says: { Self → List ℕ → Option Stat → Type 0 };

@@ -4,7 +4,7 @@ ghost use Rattle.std.specs.List.{list_all};
 ghost use Rattle.wq_crawl.specs.declared.tree.TreeFault.TheVariants.{TooManyRows};
 ghost use Rattle.wq_crawl.specs.Tree.{is_of_device, rows_listed};
 ghost use Rattle.wq_view.specs.Limit.{max_listing_rows};
-ghost use Rattle.wq_view.specs.Seen.{is_lawful_row};
+ghost use Rattle.wq_record.specs.Seen.{is_lawful_row};
 ghost use Rattle.wq_walk.specs.Listed.{AreWalks, IsListed, IsRooted, IsUnread, IsWalked, piece_parts};
 ghost use Rattle.wq_walk.specs.Listed.{rows_of_pieces, walked_pieces, walked_rows};
 ghost use Rattle.wq_walk.specs.Tiles.{AreTiles};

@@ -2,7 +2,7 @@
 ghost use Rattle.std.specs.Prelude.{◌≡◌, false, ◌++◌, ◌∷◌, [], IfErr, IfNone, IfOk, IfSome, IsTrue, None};
 ghost use Rattle.wq_walk.specs.Entries.{AreDistinct, has_no_slash, is_entry};
 ghost use Rattle.wq_walk.specs.Names.{AreOfEntries, name_at, names_at};
-ghost use Rattle.wq_view.specs.Listing.{name_cmp};
+ghost use Rattle.wq_record.specs.Name.{name_cmp};
 ghost use Rattle.std.proofs.Props.{props};
 ghost use Rattle.std.specs.Ordering.{is_lt};
 ghost use Rattle.std.specs.declared.cmp.Ordering.TheVariants.{Less};

@@ -5,7 +5,7 @@ ghost use Rattle.wq_crawl.specs.declared.tree.TreeFault.TheVariants.{TooManyRows
 ghost use Rattle.wq_crawl.specs.Tree.{is_of_device};
 ghost use Rattle.wq_view.specs.Again.{seen_rows};
 ghost use Rattle.wq_view.specs.Limit.{max_listing_rows};
-ghost use Rattle.wq_view.specs.Seen.{is_lawful_row};
+ghost use Rattle.wq_record.specs.Seen.{is_lawful_row};
 ghost use Rattle.wq_walk.specs.Found.{AreRows, IsFoundOf, found_rows};
 ghost use Rattle.wq_walk.specs.Part.{IsListing, is_in, is_row_in, whole_part};
 ghost use Rattle.wq_walk.specs.Tiles.{piece_records};

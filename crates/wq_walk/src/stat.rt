@@ -2,8 +2,8 @@
 //! disk.
 ghost use Rattle.std.specs.Prelude.{◌≡◌, ◌↔◌, ℤ, IsTrue};
 ghost use Rattle.std.specs.Fs.{file_type, metadata_len};
-ghost use Rattle.wq_view.specs.Seen.{is_count, is_time};
-ghost use Rattle.wq_view.specs.declared.kind.Kind.TheVariants.{Dir};
+ghost use Rattle.wq_record.specs.Seen.{is_count, is_time};
+ghost use Rattle.wq_record.specs.declared.kind.Kind.TheVariants.{Dir};
 ghost use Rattle.wq_walk.specs.Stat.{kind_of_mode, milliseconds_of, nearest_size};
 
 use std::fs::Metadata;
@@ -30,7 +30,7 @@ pub struct Stat {
 
 impl Model for Stat {
     ghost use Rattle.std.specs.Prelude.{IsTrue};
-    ghost use Rattle.wq_view.specs.Seen.{Stat as StatData, stat_code, is_count, is_time};
+    ghost use Rattle.wq_record.specs.Seen.{Stat as StatData, stat_code, is_count, is_time};
 
     ghost Value = { StatData };
 

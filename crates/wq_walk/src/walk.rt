@@ -3,8 +3,8 @@ ghost use Rattle.std.specs.Prelude.{◌≡◌, ◌⊎◌, ◌++◌, ◌∷◌, [
 ghost use Rattle.std.specs.Prelude.{IfErr, IfOk, IsTrue, None, OnOk, Some};
 ghost use Rattle.std.specs.Str.{IsUtf8, byte};
 ghost use Rattle.wq_crawl.specs.Tree.{is_of_device};
-ghost use Rattle.wq_view.specs.Name.{is_valid_name};
-ghost use Rattle.wq_view.specs.Seen.{SeenData, is_lawful_row};
+ghost use Rattle.wq_record.specs.Name.{is_valid_name};
+ghost use Rattle.wq_record.specs.Seen.{SeenData, is_lawful_row};
 ghost use Rattle.wq_walk.specs.Directory.{data_of, entry_at, names_left, walk_of};
 ghost use Rattle.wq_walk.specs.Entries.{AreEntries};
 ghost use Rattle.wq_walk.specs.Found.{found_rows};

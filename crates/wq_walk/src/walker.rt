@@ -3,7 +3,7 @@ ghost use Rattle.std.specs.Prelude.{◌≡◌, ◌≤◌, length, IfErr, IfOk, I
 ghost use Rattle.std.specs.List.{list_all};
 ghost use Rattle.wq_crawl.specs.Tree.{IsCounted, rows_listed};
 ghost use Rattle.wq_view.specs.Limit.{max_listing_rows};
-ghost use Rattle.wq_view.specs.Seen.{is_lawful_row};
+ghost use Rattle.wq_record.specs.Seen.{is_lawful_row};
 ghost use Rattle.wq_walk.specs.Glance.{IsGlancedAt};
 ghost use Rattle.wq_walk.specs.Listed.{IsListed, IsRooted, IsUnread};
 ghost use Rattle.wq_walk.specs.System.{IsGlancedHere, IsListedHere, IsUnreadHere};

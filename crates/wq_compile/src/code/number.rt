@@ -15,8 +15,8 @@ use std::alloc::AllocError;
 use wq_base::Relation;
 use wq_clock::Bound;
 use wq_code::Op;
+use wq_record::Kind;
 use wq_term::Since;
-use wq_view::Kind;
 
 /// Puts `type`.
 pub(super) fn put_kind(draft: &mut Draft, kind: Kind) -> Result<(), AllocError>

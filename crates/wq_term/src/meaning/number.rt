@@ -4,7 +4,7 @@ ghost use Rattle.wq_term.specs.Number.{is_after, is_since};
 
 use crate::expr::Since;
 use wq_clock::Bound;
-use wq_view::Record;
+use wq_record::Record;
 
 impl Since {
     /// Whether the event that it asks for happened to the file after its point.

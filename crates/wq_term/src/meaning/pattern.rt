@@ -6,7 +6,7 @@ ghost use Rattle.wq_term.specs.Text.{scope_part};
 use crate::expr::Scope;
 use crate::meaning::text::part_of;
 use wq_glob::{Flags, Pattern};
-use wq_view::Record;
+use wq_record::Record;
 
 /// Whether the part of the file's name that the pattern is for fits it.
 pub(super) fn name_fits(pattern: &Pattern, file: &Record) -> bool

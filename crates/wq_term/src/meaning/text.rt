@@ -6,7 +6,7 @@ ghost use Rattle.wq_term.specs.Text.{has_depth, lies_below};
 
 use crate::expr::{Depth, Scope};
 use wq_base::{Case, is_suffix, rest_below, slashes};
-use wq_view::{MAX_NAME, Record};
+use wq_record::{MAX_NAME, Record};
 
 /// Whether a part of the file's name is one of the texts.
 pub(super) fn is_named(case: Case, scope: Scope, texts: &[Vec<u8>], file: &Record) -> bool

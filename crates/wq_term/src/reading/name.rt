@@ -13,7 +13,7 @@ use crate::reading::word::kind_named;
 use serde_json::Value;
 use std::alloc::Global;
 use wq_base::Case;
-use wq_view::Kind;
+use wq_record::Kind;
 
 /// `type` of one letter.
 #[tactic(auto, using(crate::proofs::Arguments::no_kind))]

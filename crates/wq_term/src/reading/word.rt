@@ -4,7 +4,7 @@ ghost use Rattle.wq_term.specs.Word.{kind_named, scope_named, relation_named, si
 
 use crate::expr::Scope;
 use wq_base::Relation;
-use wq_view::Kind;
+use wq_record::Kind;
 
 /// The fields that `since` compares.
 #[derive(Clone, Copy)]

@@ -1,7 +1,7 @@
 -- A batch with files has a list, and is polled at a newer view.
 use Rattle.std.proofs.Common.{◌≡◌, ◌≢◌, ◌++◌, ◌∷◌, List, [], length, rules, ap, sym, ◌∙◌}
 use Rattle.std.proofs.lemmas.List.{append-nil}
-use Rattle.wq_view.specs.RecordData.{RecordData}
+use Rattle.wq_record.specs.RecordData.{RecordData}
 use Rattle.wq_clock.specs.Instance.{instance_data}
 use Rattle.wq_query.specs.Following.{list_data}
 use Rattle.wq_follow.specs.Batch.{polled}

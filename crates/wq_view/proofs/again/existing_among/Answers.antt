@@ -2,9 +2,8 @@
 use Rattle.std.proofs.Common.{◌≡◌, ◌+◌, ◌++◌, ◌∷◌, [], IsTrue, drop, length, take, ap, sym, subst, ◌∙◌, arith}
 use Rattle.std.specs.List.{list_all}
 use Rattle.wq_view.specs.Again.{seen_row, seen_rows}
-use Rattle.wq_view.specs.RecordData.{RecordData}
 use Rattle.wq_view.specs.Records.{records_left}
-use Rattle.wq_view.specs.Seen.{is_lawful_row}
+use Rattle.wq_record.specs.Seen.{is_lawful_row}
 use Rattle.wq_view.proofs.KeptRuns.{counted_next, counted_same, lawful_next, lawful_same, none_dropped}
 use Rattle.wq_view.proofs.SeenAgain.{dropped_one, few_taken, gone_next, none_next, seen_next}
 use Rattle.wq_view.proofs.again.existing_among.Goals as goal

@@ -3,7 +3,7 @@ use Rattle.std.proofs.Common.{◌≡◌, IsTrue, drop, length, take}
 use Rattle.std.specs.List.{list_all}
 use Rattle.wq_view.specs.Again.{seen_rows}
 use Rattle.wq_view.specs.Records.{records_left}
-use Rattle.wq_view.specs.Seen.{is_lawful_row}
+use Rattle.wq_record.specs.Seen.{is_lawful_row}
 use Rattle.wq_view.proofs.again.existing_among.Given as goal
 
 abbrev pub invariant-loop : goal.invariant-loop

@@ -1,7 +1,7 @@
 -- A record whose file exists, one whose file does not, and none.
 use Rattle.std.proofs.Common.{◌≡◌, ◌++◌, ◌∷◌, [], true, false, ap, sym, ◌∙◌, arith}
 use Rattle.wq_view.specs.Again.{seen_row, seen_rows}
-use Rattle.wq_view.specs.RecordData.{RecordData}
+use Rattle.wq_record.specs.RecordData.{RecordData}
 use Rattle.wq_view.specs.Records.{records_left}
 use Rattle.wq_view.proofs.SeenAgain.{dropped_one, gone_next, none_next, seen_next}
 use Rattle.wq_view.proofs.again.first_existing.Goals as goal

@@ -2,7 +2,7 @@
 use Rattle.std.proofs.Common.{rules, ◌≡◌, ◌++◌, ◌∷◌, [], take, ap, sym, ◌∙◌, arith}
 use Rattle.std.proofs.lemmas.List.{append-nil}
 use Rattle.wq_view.specs.Again.{seen_row, seen_rows}
-use Rattle.wq_view.specs.RecordData.{RecordData}
+use Rattle.wq_record.specs.RecordData.{RecordData}
 use Rattle.wq_view.specs.Records.{records_left}
 use Rattle.wq_view.proofs.SeenAgain.{dropped_one, gone_next, none_next, seen_next}
 use Rattle.wq_view.proofs.again.rows_of.Goals as goal

@@ -1,7 +1,7 @@
 -- The rows before are lawful, and this one is not.
 use Rattle.std.proofs.Common.{◌≡◌, true, false, refl, ap, sym, ◌∙◌}
-use Rattle.wq_view.specs.Name.{is_valid_name}
-use Rattle.wq_view.specs.Seen.{SeenData}
+use Rattle.wq_record.specs.Name.{is_valid_name}
+use Rattle.wq_record.specs.Seen.{SeenData}
 use Rattle.wq_view.proofs.Faults.{fault_at_unlawful}
 use Rattle.wq_view.proofs.listing.first_fault.Goals as goal
 

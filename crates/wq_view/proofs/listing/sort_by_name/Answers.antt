@@ -3,7 +3,7 @@ use Rattle.std.proofs.Common.{rules, sym, inl, inr, ◌∙◌}
 use Rattle.std.proofs.lemmas.Cmp.{nat_list_cmp_total}
 use Rattle.std.proofs.lemmas.List.Sorted.{answers_always, ranks_by, IsPermutation-refl}
 use Rattle.std.specs.List.Sorted.{IsSortedBy}
-use Rattle.wq_view.specs.Seen.{SeenData}
+use Rattle.wq_record.specs.Seen.{SeenData}
 use Rattle.wq_view.proofs.Sorting.{is_below, sorted_tells}
 use Rattle.wq_view.proofs.listing.sort_by_name.Goals as goal
 

@@ -1,7 +1,7 @@
 -- The chunks that stay as they are, the others after the pass, and the new records behind them.
 use Rattle.std.proofs.Common.{◌++◌, length, ap, ◌∙◌}
 use Rattle.std.specs.List.{list_all}
-use Rattle.wq_view.specs.Seen.{is_lawful_row}
+use Rattle.wq_record.specs.Seen.{is_lawful_row}
 use Rattle.wq_view.specs.Filling.{filled}
 use Rattle.wq_view.specs.Merge.{pairs_of, records_after}
 use Rattle.wq_view.specs.Moves.{moves_data, with_pairs, with_same}

@@ -1,7 +1,7 @@
 -- One chunk more.
 use Rattle.std.proofs.Common.{ap, sym, ◌∙◌}
 use Rattle.std.specs.List.{list_all}
-use Rattle.wq_view.specs.Seen.{is_lawful_row}
+use Rattle.wq_record.specs.Seen.{is_lawful_row}
 use Rattle.wq_view.specs.Filling.{filled}
 use Rattle.wq_view.specs.Chunk.{slot_records}
 use Rattle.wq_view.specs.Moves.{moves_data}

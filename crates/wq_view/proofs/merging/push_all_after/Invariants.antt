@@ -2,7 +2,7 @@
 use Rattle.std.proofs.Common.{◌≡◌, ◌++◌, take, IsTrue}
 use Rattle.std.specs.List.{list_all}
 use Rattle.wq_view.specs.Filling.{filled}
-use Rattle.wq_view.specs.Seen.{is_lawful_row}
+use Rattle.wq_record.specs.Seen.{is_lawful_row}
 use Rattle.wq_view.specs.Run.{run_after, run_pairs, rows_behind}
 use Rattle.wq_view.specs.Chunk.{records_in}
 use Rattle.wq_view.specs.Moves.{moves_data, with_pairs}

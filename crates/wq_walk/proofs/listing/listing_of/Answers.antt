@@ -2,7 +2,7 @@
 use Rattle.std.proofs.Common.{◌≡◌, ◌≤◌, rules, IsTrue, length, subst, sym, ◌∙◌}
 use Rattle.std.specs.List.{list_all}
 use Rattle.wq_view.specs.Limit.{max_listing_rows}
-use Rattle.wq_view.specs.Seen.{is_lawful_row}
+use Rattle.wq_record.specs.Seen.{is_lawful_row}
 use Rattle.wq_walk.specs.Listed.{rows_of_pieces, walked_rows}
 use Rattle.wq_walk.proofs.Tiles.{seen_tiles}
 use Rattle.wq_walk.proofs.WalkedAgain.{found_lawful}

@@ -2,7 +2,7 @@
 use Rattle.std.proofs.Common.{◌≡◌, ◌≢◌, ◌<◌, ◌++◌, ◌∷◌, [], Ok, Err, None, Some, IfSome, option_map, inl, inr, ap, sym, subst, ◌∙◌}
 use Rattle.std.proofs.lemmas.Result.{err_from_is_err_and}
 use Rattle.wq_view.specs.History.{last_stats}
-use Rattle.wq_view.specs.Limit.{max_tick}
+use Rattle.wq_record.specs.Limit.{max_tick}
 use Rattle.wq_view.specs.View.{IsViewOf}
 use Rattle.wq_live.specs.Event.{passes_over}
 use Rattle.wq_live.proofs.Passes.{not_shown, is_there, found_view, found_known, after_pass}

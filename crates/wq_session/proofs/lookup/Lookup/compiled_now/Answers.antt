@@ -4,7 +4,7 @@ use Rattle.wq_compile.specs.Cost.{most_steps_of}
 use Rattle.wq_compile.specs.Meaning.{AnswersMeaning}
 use Rattle.wq_query.specs.Meaning.{AnswersWithin}
 use Rattle.wq_verify.specs.Budget.{budget_of}
-use Rattle.wq_view.specs.Limit.{max_name}
+use Rattle.wq_record.specs.Limit.{max_name}
 use Rattle.wq_session.proofs.lookup.Lookup.compiled_now.Goals as goal
 
 pub new-compiled-requires-clause-meaning : goal.new-compiled-requires-clause-meaning

@@ -1,7 +1,7 @@
 -- No part of a name is longer than the name, whose length the record's type keeps.
 use Rattle.std.proofs.Common.{rules, ◌≤◌, IsTrue, length, sym, subst}
-use Rattle.wq_view.specs.declared.name.TheConstants.{MAX_NAME}
-use Rattle.wq_view.specs.Name.{is_valid_name}
+use Rattle.wq_record.specs.declared.name.TheConstants.{MAX_NAME}
+use Rattle.wq_record.specs.Name.{is_valid_name}
 use Rattle.wq_term.specs.declared.expr.Scope.TheVariants.{Basename, Wholename}
 use Rattle.wq_term.proofs.Texts.{part_is_short}
 use Rattle.wq_term.proofs.meaning.text.part_of.Goals as goal

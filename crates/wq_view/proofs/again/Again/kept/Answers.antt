@@ -3,7 +3,7 @@ use Rattle.std.proofs.Common.{◌≡◌, ◌+◌, ◌-◌, ◌≤◌, ◌++◌, 
 use Rattle.std.specs.List.{list_all}
 use Rattle.wq_view.specs.Again.{AgainData, rows_again, seen_rows}
 use Rattle.wq_view.specs.Records.{records_left}
-use Rattle.wq_view.specs.Seen.{is_lawful_row}
+use Rattle.wq_record.specs.Seen.{is_lawful_row}
 use Rattle.wq_view.proofs.KeptRuns.{counted_after, kept_rows, left_after, run_within}
 use Rattle.wq_view.proofs.SeenAgain.{few_taken}
 use Rattle.wq_view.proofs.again.Again.kept.Goals as goal

@@ -2,7 +2,7 @@
 use Rattle.std.proofs.Common.{◌≡◌, ℤ, Bool, sym, ap, ◌∙◌, w64}
 use mir.Val.{to_z, of_z, SFits}
 use Rattle.std.proofs.lemmas.Int.{to_z-of_z}
-use Rattle.wq_view.specs.Seen.{is_count}
+use Rattle.wq_record.specs.Seen.{is_count}
 use Rattle.wq_view.proofs.Unmoved.{fault_of_second, no_fault_again, still_again}
 use Rattle.wq_view.proofs.listing.Pass.fault_again.Goals as goal
 

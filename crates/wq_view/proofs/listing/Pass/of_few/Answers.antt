@@ -7,8 +7,8 @@ use Rattle.std.specs.Vec.{with_items}
 use Rattle.std.proofs.lemmas.List.{with_items_is}
 use Rattle.std.proofs.lemmas.List.Sorted.{length_permutation}
 use Rattle.std.specs.declared.alloc.Global.{Global}
-use Rattle.wq_view.specs.declared.listing.Seen.{Seen}
-use Rattle.wq_view.specs.Seen.{SeenData, is_lawful_row, is_count}
+use Rattle.wq_record.specs.declared.seen.Seen.{Seen}
+use Rattle.wq_record.specs.Seen.{SeenData, is_lawful_row, is_count}
 use Rattle.wq_view.specs.declared.limit.TheConstants.{MAX_LISTING_ROWS}
 use Rattle.wq_view.proofs.Faults.{fault_when_lawful}
 use Rattle.wq_view.proofs.Listings.{sorted_listing, is_pass}

@@ -2,8 +2,9 @@
 use Rattle.std.proofs.Common.{map, sym, ap, subst, ◌∙◌}
 use Rattle.std.proofs.Math.Dec.{T}
 use Rattle.std.specs.FinMap.{entries, entries-from_sorted}
-use Rattle.wq_view.specs.Seen.{entry_of}
-use Rattle.wq_view.specs.Listing.{PassData, name_cmp}
+use Rattle.wq_record.specs.Seen.{entry_of}
+use Rattle.wq_record.specs.Name.{name_cmp}
+use Rattle.wq_view.specs.Listing.{PassData}
 use Rattle.wq_view.proofs.listing.Pass.rows.Goals as goal
 
 pub returns-clause-entries : goal.returns-clause-entries

@@ -4,7 +4,7 @@ use Rattle.std.specs.List.Sorted.{IsPartitionPoint}
 use Rattle.std.specs.Ordering.{is_lt, is_le}
 use Rattle.std.proofs.lemmas.Fn.{always_returns_same}
 use Rattle.wq_view.specs.Below.{order_below}
-use Rattle.wq_view.specs.RecordData.{RecordData}
+use Rattle.wq_record.specs.RecordData.{RecordData}
 use Rattle.wq_view.proofs.NamesBelow.{before_parts, not_behind_parts, range_rises, range_holds}
 use Rattle.wq_view.proofs.view.View.below.Goals as goal
 

@@ -4,9 +4,10 @@ use mathlib.Core.Bool.{false≢true}
 use Rattle.wq_view.specs.declared.merging.Change.{Change}
 use Rattle.std.specs.FinMap.{entries, is_sorted}
 use Rattle.std.specs.List.{list_all}
-use Rattle.wq_view.specs.Seen.{SeenData, entry_of, is_lawful_row}
-use Rattle.wq_view.specs.Listing.{PassData, name_cmp}
-use Rattle.wq_view.specs.RecordData.{RecordData}
+use Rattle.wq_record.specs.Seen.{SeenData, entry_of, is_lawful_row}
+use Rattle.wq_record.specs.Name.{name_cmp}
+use Rattle.wq_view.specs.Listing.{PassData}
+use Rattle.wq_record.specs.RecordData.{RecordData}
 use Rattle.wq_view.specs.Merge.{shows}
 use Rattle.wq_view.specs.History.{last_stats}
 use Rattle.wq_view.specs.View.{ViewData, IsViewOf}

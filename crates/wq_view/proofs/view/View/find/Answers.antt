@@ -5,9 +5,9 @@ use Rattle.std.specs.List.Sorted.{IsPartitionPoint}
 use Rattle.std.specs.Ordering.{is_lt}
 use Rattle.std.proofs.lemmas.Fn.{always_returns_same}
 use Rattle.wq_view.specs.Limit.{max_records}
-use Rattle.wq_view.specs.Listing.{name_cmp}
+use Rattle.wq_record.specs.Name.{name_cmp}
 use Rattle.wq_view.specs.Position.{has_name, passes_at}
-use Rattle.wq_view.specs.RecordData.{RecordData, record_named}
+use Rattle.wq_record.specs.RecordData.{RecordData, record_named}
 use Rattle.wq_view.proofs.Lookups.{absent_from, found_from, given_if, looked, looked_alone, names_parted}
 use Rattle.wq_view.proofs.view.View.find.Goals as goal
 

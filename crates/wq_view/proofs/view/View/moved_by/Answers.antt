@@ -4,9 +4,10 @@ use mir.Val.{SFits}
 use Rattle.std.specs.List.{All}
 use Rattle.std.proofs.lemmas.Int.{to_z-of_z}
 use Rattle.wq_view.specs.declared.merging.Change.{Change}
-use Rattle.wq_view.specs.Limit.{max_records, max_tick}
-use Rattle.wq_view.specs.Seen.{SeenData}
-use Rattle.wq_view.specs.RecordData.{RecordData}
+use Rattle.wq_record.specs.Limit.{max_tick}
+use Rattle.wq_view.specs.Limit.{max_records}
+use Rattle.wq_record.specs.Seen.{SeenData}
+use Rattle.wq_record.specs.RecordData.{RecordData}
 use Rattle.wq_view.specs.Merge.{pairs_of, records_after}
 use Rattle.wq_view.specs.Chunk.{records_in}
 use Rattle.wq_view.specs.Change.{IsChange}

@@ -1,7 +1,7 @@
 -- The positions of the order are those of the order of last change, within the records.
 use Rattle.std.proofs.Common.{◌≡◌, length, slice_get, ap, ◌∙◌, arith}
 use Rattle.std.proofs.lemmas.List.{length-map}
-use Rattle.wq_view.specs.RecordData.{RecordData}
+use Rattle.wq_record.specs.RecordData.{RecordData}
 use Rattle.wq_view.specs.Order.{ticks_of}
 use Rattle.wq_view.specs.View.{ViewData, newest_of}
 use Rattle.wq_view.proofs.LaterOrder.{order_is_newest, order_rises}

@@ -1,6 +1,6 @@
 -- the view has the directory, and it exists
 use Rattle.std.proofs.Common.{◌≡◌, rules, ap, sym, ◌∙◌}
-use Rattle.wq_view.specs.RecordData.{record_named}
+use Rattle.wq_record.specs.RecordData.{record_named}
 use Rattle.wq_walk.specs.Walk.{name_of_path}
 use Rattle.wq_walk.proofs.glance.Glance.range_kept.Goals as goal
 

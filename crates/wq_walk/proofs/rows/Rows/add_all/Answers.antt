@@ -2,7 +2,7 @@
 use Rattle.std.proofs.Common.{◌≡◌, ◌+◌, ◌≤◌, IsTrue, is_ok, length, refl, subst, arith}
 use Rattle.std.specs.List.{list_all}
 use Rattle.wq_view.specs.Limit.{max_listing_rows}
-use Rattle.wq_view.specs.Seen.{is_lawful_row}
+use Rattle.wq_record.specs.Seen.{is_lawful_row}
 use Rattle.wq_walk.specs.Found.{found_rows}
 use Rattle.wq_walk.specs.Part.{is_row_in}
 use Rattle.wq_walk.proofs.Kept.{all_in_whole, both_all, both_few}

@@ -4,7 +4,7 @@ use mir.Val.{to_z, of_z}
 use Rattle.std.specs.List.{list_all}
 use Rattle.wq_view.specs.Again.{rows_again}
 use Rattle.wq_view.specs.Limit.{max_listing_rows}
-use Rattle.wq_view.specs.Seen.{SeenData, is_lawful_row}
+use Rattle.wq_record.specs.Seen.{SeenData, is_lawful_row}
 use Rattle.wq_walk.specs.Found.{found_rows, records_of}
 use Rattle.wq_walk.specs.Part.{is_row_in}
 use Rattle.wq_walk.specs.Tiles.{piece_records}

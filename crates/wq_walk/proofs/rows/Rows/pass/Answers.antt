@@ -2,7 +2,7 @@
 use Rattle.std.proofs.Common.{◌≡◌, IsTrue, subst, sym, ◌∙◌, arith}
 use Rattle.std.specs.List.{list_all}
 use Rattle.wq_view.specs.Again.{rows_again}
-use Rattle.wq_view.specs.Seen.{is_lawful_row}
+use Rattle.wq_record.specs.Seen.{is_lawful_row}
 use Rattle.wq_walk.specs.Found.{found_rows, records_of}
 use Rattle.wq_walk.specs.Tiles.{piece_records}
 use Rattle.wq_walk.proofs.Joins.{all_of_both}

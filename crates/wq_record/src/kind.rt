@@ -1,6 +1,6 @@
 //! The kinds of files, and their letters in listings and replies.
 ghost use Rattle.std.specs.Prelude.{◌≡◌, MatchOption, ◌≢◌, ℕ};
-ghost use Rattle.wq_view.specs.Kind.{kind_with, letter_of};
+ghost use Rattle.wq_record.specs.Kind.{kind_with, letter_of};
 
 /// The kind of a file, as POSIX has it. One more kind exists on Solaris alone.
 #[derive(Clone, Copy, Debug, PartialEq, Eq)]

@@ -1,19 +1,16 @@
-//! The record that a view keeps of one file, and the changes that a pass makes in it. The list of all records is in the
-//! module of views.
+//! The record that a view keeps of one file, and the changes that a pass makes in it. `wq_view` has the list of all records.
 ghost use Rattle.std.specs.Prelude.{◌≡◌, ◌≤◌, Some, None, IfOk, IsTrue, bytes_eq};
 ghost use Rattle.wq_base.specs.Name.{basename_of, suffix_of};
-ghost use Rattle.wq_view.specs.Name.{is_valid_name};
-ghost use Rattle.wq_view.specs.Seen.{stat_of, same_stat, is_lawful_row, is_count};
-ghost use Rattle.wq_view.specs.Listing.{name_cmp};
+ghost use Rattle.wq_record.specs.Name.{is_valid_name};
+ghost use Rattle.wq_record.specs.Seen.{stat_of, same_stat, is_lawful_row, is_count};
+ghost use Rattle.wq_record.specs.Name.{name_cmp};
 ghost use Rattle.wq_base.specs.Name.{seconds_of};
-ghost use Rattle.wq_view.specs.Below.{order_below};
-ghost use Rattle.wq_view.specs.RecordData.{last_stat, blank_record, after_change, after_creation, record_after};
+ghost use Rattle.wq_record.specs.RecordData.{last_stat, blank_record, after_change, after_creation, record_after};
 
-use crate::below::order_below;
 use crate::kind::Kind;
 use crate::limit::MAX_TICK;
-use crate::listing::Seen;
 use crate::name::{Name, after_last, suffix_of};
+use crate::seen::Seen;
 use std::alloc::AllocError;
 use std::cmp::Ordering;
 use std::marker::Model;
@@ -44,13 +41,13 @@ pub struct Record {
 }
 
 impl Model for Record {
-    ghost use Rattle.wq_view.specs.RecordData.{RecordData, record_code, IsLawful};
+    ghost use Rattle.wq_record.specs.RecordData.{RecordData, record_code, IsLawful};
 
     ghost Value = { RecordData };
 
     ghost coded = { record_code };
 
-    ghost use Rattle.wq_view.specs.Record.{record_data};
+    ghost use Rattle.wq_record.specs.Record.{record_data};
 
     ghost view = { record_data };
 
@@ -81,7 +78,7 @@ impl Record {
     }
 
     /// The record of a name that no pass has seen yet.
-    pub(crate) fn blank(row: &Seen) -> Result<Record, AllocError>
+    pub fn blank(row: &Seen) -> Result<Record, AllocError>
         requires { IsTrue (is_lawful_row row.now) }
         ensures { IfOk result (λ r. r ≡ blank_record row.now.name) }
     {
@@ -99,7 +96,7 @@ impl Record {
     }
 
     /// An equal record, which shares the name.
-    pub(crate) fn copy(&self) -> Result<Record, AllocError>
+    pub fn copy(&self) -> Result<Record, AllocError>
         ensures { IfOk result (λ r. r ≡ self.now) }
     {
         Ok(Record {
@@ -116,35 +113,28 @@ impl Record {
     }
 
     /// How the record's name compares to another in byte order.
-    pub(crate) fn name_order(&self, name: &[u8]) -> Ordering
+    pub fn name_order(&self, name: &[u8]) -> Ordering
         ensures { result ≡ name_cmp self.now.name name.now }
     {
         self.name.as_bytes().cmp(name)
     }
 
-    /// How the record's name compares to the names strictly below a directory that is not empty.
-    pub(crate) fn order_below(&self, dir: &[u8]) -> Ordering
-        ensures { result ≡ order_below dir.now self.now.name }
-    {
-        order_below(dir, self.name.as_bytes())
-    }
-
     /// Whether the row has the record's name.
-    pub(crate) fn has_name_of(&self, row: &Seen) -> bool
+    pub fn has_name_of(&self, row: &Seen) -> bool
         ensures { result ≡ bytes_eq self.now.name row.now.name }
     {
         self.name.as_bytes() == row.name.as_slice()
     }
 
     /// Whether the row has the kind, size and time that were last seen of the file.
-    pub(crate) fn has_stat_of(&self, row: &Seen) -> bool
+    pub fn has_stat_of(&self, row: &Seen) -> bool
         ensures { result ≡ same_stat (last_stat self.now) (stat_of row.now) }
     {
         self.kind == row.kind && self.size == row.size && self.mtime_ms == row.mtime_ms
     }
 
     /// Changes the record by a row that a pass saw of the file.
-    pub(crate) fn observe(&mut self, row: &Seen, tick: u64, second: i64)
+    pub fn observe(&mut self, row: &Seen, tick: u64, second: i64)
         requires row { IsTrue (is_lawful_row row.now) }
         requires tick { tick ≤ MAX_TICK }
         requires second { IsTrue (is_count second) }
@@ -185,7 +175,7 @@ impl Record {
     }
 
     /// Changes the record by a pass that did not see the file.
-    pub(crate) fn observe_absence(&mut self, tick: u64, second: i64)
+    pub fn observe_absence(&mut self, tick: u64, second: i64)
         requires tick { tick ≤ MAX_TICK }
         requires second { IsTrue (is_count second) }
         ensures { self.new ≡ record_after self.old None tick second }

@@ -1,6 +1,6 @@
 -- The data of the fields of the type `Record`. No public document defines it.
-use Rattle.wq_view.specs.declared.file_record.Record.TheInside.{Inside}
-use Rattle.wq_view.specs.RecordData.{RecordData}
+use Rattle.wq_record.specs.declared.file_record.Record.TheInside.{Inside}
+use Rattle.wq_record.specs.RecordData.{RecordData}
 
 -- the record that the fields make
 abbrev pub record_data : Inside → RecordData

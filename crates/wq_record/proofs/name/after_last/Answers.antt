@@ -3,7 +3,7 @@ use Rattle.std.proofs.Common.{◌≡◌, ℕ, zero, suc, ◌+◌, ◌-◌, ◌<�
 use Rattle.std.specs.List.{after_last, list_any, suffix_len}
 use Rattle.std.proofs.lemmas.List.Sums.{suffix_len_is}
 use Rattle.memchr.specs.Find.{NoneAfter, Nowhere, Passes}
-use Rattle.wq_view.proofs.name.after_last.Goals as goal
+use Rattle.wq_record.proofs.name.after_last.Goals as goal
 
 from_not_true : (b : Bool) → (b ≡ true → ⊥) → b ≡ false
 from_not_true true isnt = absurd (isnt refl)

@@ -1,6 +1,6 @@
 use Rattle.std.proofs.Common.{sym, ◌∙◌}
-use Rattle.wq_view.proofs.AfterDot.{no_suffix, no_suffix_after, suffix_after}
-use Rattle.wq_view.proofs.name.suffix_of.Goals as goal
+use Rattle.wq_record.proofs.AfterDot.{no_suffix, no_suffix_after, suffix_after}
+use Rattle.wq_record.proofs.name.suffix_of.Goals as goal
 
 pub returns-in_default : goal.returns-in_default
 returns-in_default c = sym (no_suffix c.args.name.now c.in_default.ensures)

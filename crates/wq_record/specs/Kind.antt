@@ -1,8 +1,8 @@
 -- The letters of the kinds of files, as in Watchman's documentation of the field `type`.
 use Rattle.std.specs.Prelude.{ℕ, ◌==◌, List, [], ◌∷◌, Option, find}
 use Rattle.std.specs.Str.{byte}
-use Rattle.wq_view.specs.declared.kind.Kind.{Kind}
-use Rattle.wq_view.specs.declared.kind.Kind.TheVariants.{File, Dir, Link, Block, Char, Fifo, Socket, Door, Unknown}
+use Rattle.wq_record.specs.declared.kind.Kind.{Kind}
+use Rattle.wq_record.specs.declared.kind.Kind.TheVariants.{File, Dir, Link, Block, Char, Fifo, Socket, Door, Unknown}
 
 -- the ASCII letter of a kind
 abbrev pub letter_of : Kind → ℕ

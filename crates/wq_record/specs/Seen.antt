@@ -3,11 +3,11 @@
 use Rattle.std.specs.Prelude.{refl, ℕ, ℤ, pos, neg_ℤ, Bool, ◌&&◌, ◌==◌, int_le, List}
 use Rattle.std.specs.Coded.{Coded, code_by, coded×, coded_ℤ}
 use Rattle.std.specs.Ordering.{int_eq}
-use Rattle.wq_view.specs.contracts.kind.Kind.{the_row}
-use Rattle.wq_view.specs.declared.kind.Kind.{Kind}
+use Rattle.wq_record.specs.contracts.kind.Kind.{the_row}
+use Rattle.wq_record.specs.declared.kind.Kind.{Kind}
 use Rattle.wq_base.specs.Limit.{max_number}
-use Rattle.wq_view.specs.Kind.{letter_of}
-use Rattle.wq_view.specs.Name.{is_valid_name}
+use Rattle.wq_record.specs.Kind.{letter_of}
+use Rattle.wq_record.specs.Name.{is_valid_name}
 
 -- the stat that a pass saw of a name
 pub record Stat : Type 0 where

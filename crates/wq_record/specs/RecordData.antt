@@ -4,13 +4,13 @@
 use Rattle.std.specs.Prelude.{ℕ, ℤ, pos, ◌≤◌, Bool, false, true, IsTrue, if◌then◌else◌, List, map, Option, Some, None, refl}
 use Rattle.std.specs.Coded.{Coded, code_by, coded×, coded_ℕ, coded_ℤ, coded_bool, coded_list}
 use Rattle.std.specs.FinMap.{find}
-use Rattle.wq_view.specs.contracts.kind.Kind.{the_row}
-use Rattle.wq_view.specs.declared.kind.Kind.{Kind}
-use Rattle.wq_view.specs.declared.kind.Kind.TheVariants.{Unknown}
-use Rattle.wq_view.specs.Limit.{max_tick}
-use Rattle.wq_view.specs.Name.{is_valid_name}
-use Rattle.wq_view.specs.Seen.{Stat, is_count, is_in_range, same_stat}
-use Rattle.wq_view.specs.Listing.{name_cmp}
+use Rattle.wq_record.specs.contracts.kind.Kind.{the_row}
+use Rattle.wq_record.specs.declared.kind.Kind.{Kind}
+use Rattle.wq_record.specs.declared.kind.Kind.TheVariants.{Unknown}
+use Rattle.wq_record.specs.Limit.{max_tick}
+use Rattle.wq_record.specs.Name.{is_valid_name}
+use Rattle.wq_record.specs.Seen.{Stat, is_count, is_in_range, same_stat}
+use Rattle.wq_record.specs.Name.{name_cmp}
 
 -- the record of one file, deleted or not
 pub record RecordData : Type 0 where

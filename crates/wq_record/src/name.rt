@@ -5,7 +5,7 @@ ghost use Rattle.std.specs.List.{after_last, list_all, list_any, slice_split};
 ghost use Rattle.std.specs.Str.{is_utf8};
 ghost use Rattle.wq_base.specs.Byte.{is_slash};
 ghost use Rattle.wq_base.specs.Name.{suffix_of};
-ghost use Rattle.wq_view.specs.Name.{is_plain_part, is_valid_name};
+ghost use Rattle.wq_record.specs.Name.{is_plain_part, is_valid_name};
 
 use crate::shared::SharedBytes;
 use memchr::{memrchr, memrchr2};
@@ -23,7 +23,7 @@ pub struct Name {
 
 impl Model for Name {
     ghost use Rattle.std.specs.Prelude.{ℕ, List, IsTrue};
-    ghost use Rattle.wq_view.specs.Name.{is_valid_name};
+    ghost use Rattle.wq_record.specs.Name.{is_valid_name};
 
     ghost Value = { List ℕ };
 

@@ -1,0 +1,2 @@
+mod AfterDot
+mod Valid

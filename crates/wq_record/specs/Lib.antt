@@ -1,0 +1,6 @@
+pub mod Limit
+pub mod Kind
+pub mod Name
+pub mod Seen
+pub mod RecordData
+pub mod Record
