@@ -50,14 +50,26 @@ pub(crate) fn tried(
         ends_session refusal ≡ false → takes_memory ask ≡ true) }
 {
     match ask {
-        Ask::Watch { root } => (begin_watch(alloc, &root, at, shelf), None),
-        Ask::Unwatch { root } => (begin_unwatch(alloc, &root, at, shelf), None),
+        Ask::Watch { root } => {
+            read.let_go();
+            (begin_watch(alloc, &root, at, shelf), None)
+        }
+        Ask::Unwatch { root } => {
+            read.let_go();
+            (begin_unwatch(alloc, &root, at, shelf), None)
+        }
         Ask::OfRoot { root, what, .. } => {
             let begun = tried_of(alloc, &root, &what, at, read, shelf);
             (begun, Some(what))
         }
-        Ask::OfShelf(what) => (tried_on(alloc, what, shelf), None),
-        Ask::Alone(what) => (tried_alone(what), None),
+        Ask::OfShelf(what) => {
+            read.let_go();
+            (tried_on(alloc, what, shelf), None)
+        }
+        Ask::Alone(what) => {
+            read.let_go();
+            (tried_alone(what), None)
+        }
     }
 }
 
@@ -76,6 +88,7 @@ fn tried_of(
         (shelf_data shelf.old) result (shelf_data shelf.new) }
 {
     let Some(at) = watched(root, at, shelf) else {
+        read.let_go();
         return Err(Refusal::NotWatched);
     };
     tried_there(alloc, root, what, at, read, shelf)
@@ -98,12 +111,24 @@ fn tried_there(
 {
     match what {
         RootAsk::Query(_) => begin_query(alloc, read, at, shelf),
-        RootAsk::Clock => begin_clock(alloc, at, shelf),
+        RootAsk::Clock => {
+            read.let_go();
+            begin_clock(alloc, at, shelf)
+        }
         RootAsk::Subscribe { name, .. } => begin_subscribe(alloc, root, name, read, at, shelf),
-        RootAsk::Unsubscribe { name } => begin_unsubscribe(alloc, name, at),
+        RootAsk::Unsubscribe { name } => {
+            read.let_go();
+            begin_unsubscribe(alloc, name, at)
+        }
         RootAsk::AddTrigger(_) => begin_trigger(alloc, root, read, at, shelf),
-        RootAsk::ListTriggers => begin_list_triggers(alloc, at, shelf),
-        RootAsk::DeleteTrigger { name } => begin_delete_trigger(alloc, name, at, shelf),
+        RootAsk::ListTriggers => {
+            read.let_go();
+            begin_list_triggers(alloc, at, shelf)
+        }
+        RootAsk::DeleteTrigger { name } => {
+            read.let_go();
+            begin_delete_trigger(alloc, name, at, shelf)
+        }
     }
 }
 

@@ -51,6 +51,9 @@ impl ReadObject {
         }
     }
 
+    /// Lets the object go. What drops an object is long, so it is in one place.
+    pub(crate) fn let_go(self) {}
+
     /// The query that was read, or the reason to refuse the ask. An object is not read if no view is shown.
     pub(crate) fn query(self) -> Result<ReadQuery, Refusal>
         requires { AreRead self }

@@ -11,14 +11,13 @@ ghost use Rattle.wq_ask.specs.Program.{added_data, programs_data};
 ghost use Rattle.wq_ask.specs.declared.refusal.Refusal.TheVariants.{NoMemory, ShelfFull};
 ghost use Rattle.wq_session.specs.Program.{deleting, listing_programs, try_add};
 ghost use Rattle.wq_session.specs.Shelved.{shelf_data};
-ghost use Rattle.wq_session.specs.Work.{Begins, rest_data, says};
+ghost use Rattle.wq_session.specs.Work.{Begins};
 
 use crate::plain::Plain;
-use crate::reply::saying;
 use crate::work::Rest;
 use serde_json::{Value, json};
 use std::alloc::{AllocError, Global};
-use wq_ask::{Refusal, add_reply, delete_reply};
+use wq_ask::{Out, Refusal, add_reply, delete_reply, print};
 use wq_base::{Text, VERSION};
 use wq_follow::Trigger;
 use wq_registry::{Shelf, ShelfFault};
@@ -65,9 +64,9 @@ pub(super) fn begin_add(
         (shelf_data shelf.new) }
 {
     let name = name.as_str();
-    let rest = added(alloc, name, &program, shelf)?;
+    let out = added(alloc, name, &program, shelf)?;
     put(name, program, shelf)?;
-    Ok(rest)
+    Ok(Rest::Says(out))
 }
 
 /// The reply to a program that is put under this name.
@@ -76,12 +75,12 @@ fn added(
     name: &str,
     program: &Program,
     shelf: &Shelf<Trigger>,
-) -> Result<Rest, AllocError>
-    ensures { IfOk result (λ rest. rest_data rest ≡ says (replies (added_data name.now
-        (length program.now.code) (is_some (under name.now (shelf_data shelf.now).programs))))) }
+) -> Result<Out, AllocError>
+    ensures { IfOk result (λ out. out ≡ replies (added_data name.now
+        (length program.now.code) (is_some (under name.now (shelf_data shelf.now).programs)))) }
 {
     let replaced = shelf.get(name).is_some();
-    saying(
+    print(
         alloc,
         &add_reply(alloc, name, program.raw().code.len(), replaced)?,
     )
@@ -115,7 +114,7 @@ pub(super) fn begin_delete(
 {
     let name = name.as_str();
     let there = shelf.get(name).is_some();
-    let rest = saying(alloc, &delete_reply(alloc, name, there)?)?;
+    let out = print(alloc, &delete_reply(alloc, name, there)?)?;
     shelf.remove(name);
-    Ok(rest)
+    Ok(Rest::Says(out))
 }

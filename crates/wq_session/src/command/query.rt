@@ -45,6 +45,7 @@ pub(super) fn begin_query(
         result (shelf_data shelf.new) }
 {
     let Some(view) = at.view else {
+        read.let_go();
         return Err(Refusal::NotWatched);
     };
     let read = read.query()?;

@@ -37,9 +37,11 @@ pub(super) fn begin_subscribe(
         (shelf_data shelf.now) result (shelf_data shelf.now) }
 {
     let Some(_) = at.view else {
+        read.let_go();
         return Err(Refusal::NotWatched);
     };
     if !is_name(name) {
+        read.let_go();
         return Err(Refusal::BadName);
     }
     let read = read.query()?;

@@ -20,20 +20,21 @@ ghost use Rattle.wq_session.specs.Shelved.{shelf_data};
 ghost use Rattle.wq_session.specs.Objects.{AreObjects};
 ghost use Rattle.wq_session.specs.Trigger.{begun_trigger, has_no_trigger_place, objects_of, put_trigger};
 ghost use Rattle.wq_session.specs.Trigger.{listing_triggers, trigger_called, try_delete_trigger, try_trigger};
-ghost use Rattle.wq_session.specs.Work.{Begins, rest_data, says};
+ghost use Rattle.wq_session.specs.Work.{Begins};
 
 use crate::at::At;
 use crate::command::query::program_for;
 use crate::plain::Plain;
 use crate::read_object::ReadObject;
 use crate::read_trigger::ReadTrigger;
-use crate::reply::saying;
 use crate::shelving::{add_trigger, has_trigger, remove_trigger, run_of};
 use crate::work::Rest;
 use serde_json::Value;
 use std::alloc::{AllocError, Global};
 use std::sync::Arc;
-use wq_ask::{Refusal, RootText, is_name, trigger_deleted_reply, trigger_reply, triggers_reply};
+use wq_ask::{
+    Out, Refusal, RootText, is_name, print, trigger_deleted_reply, trigger_reply, triggers_reply,
+};
 use wq_base::Text;
 use wq_follow::{Definition, Trigger};
 use wq_registry::{Root, Shelf, ShelfFault};
@@ -54,6 +55,7 @@ pub(super) fn begin_trigger(
         (shelf_data shelf.old) result (shelf_data shelf.new) }
 {
     let Some(_) = at.view else {
+        read.let_go();
         return Err(Refusal::NotWatched);
     };
     let read = read.trigger()?;
@@ -99,20 +101,20 @@ fn add(
 {
     let name = Text::copied(alloc, definition.name())?;
     let name = name.as_str();
-    let rest = added(alloc, name, number, shelf)?;
+    let out = added(alloc, name, number, shelf)?;
     let running = run_of(shelf, number, name);
     let trigger = Trigger::new(definition, root, program, running);
     put(name, trigger, number, shelf)?;
-    Ok(rest)
+    Ok(Rest::Says(out))
 }
 
 /// The reply to a trigger of a root that is put under this name.
-fn added(alloc: Global, name: &str, number: u64, shelf: &Shelf<Trigger>) -> Result<Rest, AllocError>
-    ensures { IfOk result (λ rest. rest_data rest ≡ says (replies (trigger_reply name.now
-        (is_some (trigger_called number name.now (shelf_data shelf.now)))))) }
+fn added(alloc: Global, name: &str, number: u64, shelf: &Shelf<Trigger>) -> Result<Out, AllocError>
+    ensures { IfOk result (λ out. out ≡ replies (trigger_reply name.now
+        (is_some (trigger_called number name.now (shelf_data shelf.now))))) }
 {
     let replaced = has_trigger(shelf, number, name);
-    saying(alloc, &trigger_reply(alloc, name, replaced)?)
+    print(alloc, &trigger_reply(alloc, name, replaced)?)
 }
 
 /// Puts a trigger of a root under this name.
@@ -190,7 +192,7 @@ pub(super) fn begin_delete_trigger(
     }
     let (number, name) = (at.instance.root, name.as_str());
     let deleted = has_trigger(shelf, number, name);
-    let rest = saying(alloc, &trigger_deleted_reply(alloc, name, deleted)?)?;
+    let out = print(alloc, &trigger_deleted_reply(alloc, name, deleted)?)?;
     remove_trigger(shelf, number, name);
-    Ok(rest)
+    Ok(Rest::Says(out))
 }

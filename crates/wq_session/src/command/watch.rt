@@ -13,12 +13,11 @@ ghost use Rattle.wq_session.specs.Work.{Begins};
 
 use crate::at::{At, watched};
 use crate::plain::Plain;
-use crate::reply::saying;
 use crate::shelving::{add_root, remove_root};
 use crate::work::Rest;
 use serde_json::{Value, json};
 use std::alloc::{AllocError, Global};
-use wq_ask::{Refusal, RootText, unwatch_reply, watch_reply};
+use wq_ask::{Refusal, RootText, print, unwatch_reply, watch_reply};
 use wq_base::VERSION;
 use wq_follow::Trigger;
 use wq_registry::{Root, Shelf, ShelfFault};
@@ -67,9 +66,9 @@ pub(super) fn begin_watch(
         return Err(Refusal::NotWatched);
     };
     let root = root.as_str();
-    let rest = saying(alloc, &watch_reply(alloc, root)?)?;
+    let out = print(alloc, &watch_reply(alloc, root)?)?;
     put_root(root, at.instance.root, shelf)?;
-    Ok(rest)
+    Ok(Rest::Says(out))
 }
 
 /// Puts a root on the shelf, under this number.
@@ -112,7 +111,7 @@ pub(super) fn begin_unwatch(
     let Some(at) = watched(root, at, shelf) else {
         return Err(Refusal::NotWatched);
     };
-    let rest = saying(alloc, &unwatch_reply(alloc, root.as_str())?)?;
+    let out = print(alloc, &unwatch_reply(alloc, root.as_str())?)?;
     remove_root(shelf, at.instance.root);
-    Ok(rest)
+    Ok(Rest::Says(out))
 }
