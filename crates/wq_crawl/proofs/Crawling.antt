@@ -1,5 +1,5 @@
 -- The result for a root that was listed and then published.
-use Rattle.std.proofs.Common.{◌≡◌, ◌≤◌, ℕ, ℤ, Bool, true, false, cond, List, [], ◌∷◌, length, find, Option, Some, None, option_map, Result, Ok, Err, IfOk, IsTrue, MatchResult, inl, inr, sym, refl, ap, subst, ◌∙◌}
+use Rattle.std.proofs.Common.{◌≡◌, ◌≤◌, ℕ, ℤ, Bool, true, false, cond, List, [], ◌∷◌, length, find, Option, Some, None, option_map, Result, Ok, Err, IfOk, IsTrue, MatchResult, Vec, inl, inr, sym, refl, ap, subst, ◌∙◌}
 use mathlib.Core.Bool.{false≢true}
 use Rattle.std.specs.List.{All, AllByRecursion, list_all}
 use Rattle.std.proofs.lemmas.List.Elements.{recursion_from_All}
@@ -9,19 +9,26 @@ use Rattle.wq_live.specs.Table.{IsNoNews, IsTableOf, RootView, TableData, WantsF
 use Rattle.wq_view.specs.Again.{seen_rows}
 use Rattle.wq_view.specs.History.{History, last_stats}
 use Rattle.wq_view.specs.Limit.{max_listing_rows}
-use Rattle.wq_record.specs.Seen.{SeenData, is_lawful_row}
-use Rattle.wq_view.specs.View.{IsViewOf, ViewData}
+use Rattle.std.specs.declared.alloc.Global.{Global}
+use Rattle.wq_record.specs.RecordData.{RecordData}
+use Rattle.wq_record.specs.Seen.{SeenData, is_count, is_lawful_row}
+use Rattle.wq_view.specs.Patch.{patched}
+use Rattle.wq_view.specs.Patching.{ArePatches}
+use Rattle.wq_view.specs.declared.patch.Patch.{Patch}
+use Rattle.wq_live.specs.Patched.{MakePass, pass_by}
+use Rattle.wq_view.specs.View.{IsViewOf, NamesRise, ViewData}
 use Rattle.wq_view.specs.declared.listing.PassFault.{PassFault}
 use Rattle.wq_crawl.specs.declared.tree.Listing.{Listing}
-use Rattle.wq_crawl.specs.declared.tree.Listing.TheVariants.{Rows, Same}
+use Rattle.wq_crawl.specs.declared.tree.Listing.TheVariants.{Rows, Patches, Same}
 use Rattle.wq_crawl.specs.declared.tree.TreeFault.{TreeFault}
-use Rattle.wq_crawl.specs.Tree.{IsFew, ListedData, Lists, rows_given_again, rows_listed}
+use Rattle.wq_crawl.specs.declared.relisted.Relisted.TheVariants.{Patched}
+use Rattle.wq_crawl.specs.Tree.{IsFew, IsFit, ListedData, Lists, rows_given_again, rows_listed}
 use Rattle.wq_crawl.specs.Device.{Gave}
 use Rattle.wq_live.specs.declared.event.RootEvent.{RootEvent}
 use Rattle.wq_view.specs.Listing.{PassData, is_of_whole, listing_fault, listing_of}
 use Rattle.wq_crawl.specs.declared.fault.CrawlFault.{CrawlFault}
 use Rattle.wq_crawl.specs.declared.fault.CrawlFault.TheVariants.{NoMemory}
-use Rattle.wq_crawl.specs.Crawl.{Began, CrawledAt, CrawlerData, IsNoPassOver, IsOfRows, IsPassOver, IsStillOver, ListsAgain, Shared, no_pass}
+use Rattle.wq_crawl.specs.Crawl.{Began, CrawledAt, CrawlerData, IsNoPassOver, IsOfRows, IsPassOver, IsRelisted, IsStillOver, ListsAgain, Shared, no_pass}
 use Rattle.wq_crawl.specs.Publish.{IsNotTakenIn, Passes, with_start}
 
 -- what a search finds passes a test of all
@@ -61,11 +68,12 @@ view_at events table text number view of number_is view_is = at (root_by_text te
 pub lists_again : (number : ℕ) (text : List ℕ) (before after : CrawlerData) (view : ViewData) (result : Result Listing TreeFault)
     → IsViewOf (passes_over number before.events) view
     → IfOk result (λ listing. IsTrue (list_all is_lawful_row (rows_listed view.records listing)))
-    → IfOk result (IsFew view.records) → Lists before.listed text (rows_given_again view.records result) after.listed
+    → IfOk result (IsFew view.records) → IfOk result (IsFit view.records) → Lists before.listed text (rows_given_again view.records result) after.listed
     → MatchResult result (λ listing. ListsAgain number text before listing after) (λ fault. Lists before.listed text (Err fault) after.listed)
-lists_again number text before after view (Ok (Rows rows)) is_view lawful few lists = (lists, lawful)
-lists_again number text before after view (Ok Same) is_view lawful few lists = (view, is_view, lists, lawful, few)
-lists_again number text before after view (Err fault) is_view lawful few lists = lists
+lists_again number text before after view (Ok (Rows rows)) is_view lawful few fit lists = (lists, lawful)
+lists_again number text before after view (Ok (Patches patches)) is_view lawful few fit lists = (view, is_view, lists, record { fit = fit; lawful = lawful }, few)
+lists_again number text before after view (Ok Same) is_view lawful few fit lists = (view, is_view, lists, lawful, few)
+lists_again number text before after view (Err fault) is_view lawful few fit lists = lists
 
 -- a pass of rows that were listed
 of_rows : (before after : Option (ℕ × ListedData)) (text : List ℕ) (rows : List SeenData) (second : ℤ) → Lists before text (Ok rows) after
@@ -115,6 +123,27 @@ module _ (number : ℕ) (text : List ℕ) (before begun mid shown : CrawlerData)
       → IsNoPassOver text before (no_pass why) (record shown { clock = clock })
   still_fault why (view, is_view, lists, lawful, few) whole fault = rows_fault (seen_rows view.records) why lists lawful whole (sym (fault _ view is_view lawful few))
 
+  -- the files differ by patches from those of the view
+  pub patches_over : (patches : Vec Patch Global) → ListsAgain number text begun (Patches patches) mid
+      → ((records : List RecordData) (ps : List Patch) → NamesRise records → ArePatches records ps → IsTrue (list_all is_lawful_row (patched records ps))
+      → length (patched records ps) ≤ max_listing_rows → None ≡ listing_fault (patched records ps) second)
+      → IsTrue (is_count second) → IsRelisted number text before (Patched patches second) (record shown { clock = clock })
+  patches_over patches (view, is_view, lists, make, few) fault in_range = (
+    view,
+    subst (λ (c : CrawlerData). IsViewOf (passes_over number c.events) view) kept is_view,
+    rows_over (patched view.records patches.items) (pass_by view.records patches.items second) lists (sym (fault view.records patches.items is_view.ordered make.fit make.lawful few)) refl,
+    make,
+    in_range,
+  )
+
+  -- the same if the pass has a fault
+  pub patches_fault : (patches : Vec Patch Global) (why : PassFault) → ListsAgain number text begun (Patches patches) mid → IsTrue (is_of_whole why)
+      → ((records : List RecordData) (ps : List Patch) → NamesRise records → ArePatches records ps → IsTrue (list_all is_lawful_row (patched records ps))
+      → length (patched records ps) ≤ max_listing_rows → Some why ≡ listing_fault (patched records ps) second)
+      → IsNoPassOver text before (no_pass why) (record shown { clock = clock })
+  patches_fault patches why (view, is_view, lists, make, few) whole fault =
+      rows_fault (patched view.records patches.items) why lists make.lawful whole (sym (fault view.records patches.items is_view.ordered make.fit make.lawful few))
+
 -- what is no news is not refused for want of ticks
 no_want : (events : List RootEvent) (number : ℕ) (pass : PassData) → IsNoNews events number pass → WantsForTicks events number pass → ⊥
 no_want events number pass (inl hidden) wants = false≢true (sym hidden ∙ wants.0.0)
@@ -151,3 +180,17 @@ module _ (text : List ℕ) (before mid after : CrawlerData) (pass : PassData) wh
       (λ fault. (after.events ≡ mid.events) × (fault ≡ NoMemory)) → Began text before result after
   began (Ok told) kept over listed second (same, added) = (same, pass, still over listed second, added ∙ ap (with_start text pass) kept)
   began (Err fault) kept over listed second (is, lacking) = (is ∙ kept, inr lacking)
+
+-- a root over which a pass in patches was published
+pub patched_at : (number : ℕ) (text : List ℕ) (before mid after : CrawlerData) (result : Result (List RootEvent) CrawlFault) (patches : Vec Patch Global) (given : List Patch) (second z : ℤ)
+    → mid.events ≡ before.events → IsRelisted number text before (Patched patches second) mid → after.listed ≡ mid.listed → after.clock ≡ mid.clock
+    → given ≡ patches.items → z ≡ second
+    → ((view : ViewData) → IsViewOf (passes_over number mid.events) view → MatchResult result
+    (λ told. (told ≡ after.events) × Passes mid.events number (pass_by view.records given z) after.events)
+    (λ fault. (after.events ≡ mid.events) × IsNotTakenIn mid.events number (pass_by view.records given z) fault))
+    → CrawledAt number text before result after
+patched_at number text before mid after result patches given second z kept (view, is_view, over, make, in_range) listed clock same at published =
+    let of = subst (λ events. IsViewOf (passes_over number events) view) (sym kept) is_view in
+    let pass_is : pass_by view.records given z ≡ pass_by view.records patches.items second = ap (λ ps. pass_by view.records ps z) same ∙ ap (pass_by view.records patches.items) at in
+    crawled_at text before mid after (pass_by view.records patches.items second) number result kept over listed clock
+    (subst (λ (pass : PassData). MatchResult result (λ told. (told ≡ after.events) × Passes mid.events number pass after.events) (λ fault. (after.events ≡ mid.events) × IsNotTakenIn mid.events number pass fault)) pass_is (published view of))

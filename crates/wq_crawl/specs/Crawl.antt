@@ -9,7 +9,9 @@ use Rattle.wq_view.specs.Again.{seen_rows}
 use Rattle.wq_view.specs.Limit.{max_listing_rows}
 use Rattle.wq_view.specs.View.{IsViewOf, ViewData}
 use Rattle.wq_view.specs.Listing.{PassData, is_of_whole, listing_fault, listing_of}
-use Rattle.wq_record.specs.Seen.{SeenData, is_lawful_row}
+use Rattle.wq_view.specs.Patch.{patched}
+use Rattle.wq_live.specs.Patched.{MakePass, pass_by}
+use Rattle.wq_record.specs.Seen.{SeenData, is_count, is_lawful_row}
 use Rattle.wq_view.specs.declared.listing.PassFault.{PassFault}
 use Rattle.wq_view.specs.declared.listing.PassFault.TheVariants.{TooManyRows}
 use Rattle.wq_live.specs.Log.{events_code}
@@ -20,7 +22,7 @@ use Rattle.wq_live.specs.Table.{IsNoNews}
 use Rattle.wq_crawl.specs.Publish.{EndsRoot, IsNotTakenIn, IsPlace, Passes, with_start}
 use Rattle.wq_crawl.specs.Tree.{IsCounted, ListedData, Lists, listed_code}
 use Rattle.wq_crawl.specs.declared.tree.Listing.{Listing}
-use Rattle.wq_crawl.specs.declared.tree.Listing.TheVariants.{Rows, Same}
+use Rattle.wq_crawl.specs.declared.tree.Listing.TheVariants.{Rows, Patches, Same}
 use Rattle.wq_crawl.specs.declared.tree.TreeFault.{TreeFault}
 use Rattle.wq_crawl.specs.declared.tree.TreeFault.TheVariants.{Unreadable as UnreadableTree}
 use Rattle.wq_crawl.specs.declared.tree.TreeFault.TheVariants.{TooManyRows as TooManyTreeRows}
@@ -31,6 +33,8 @@ use Rattle.wq_crawl.specs.declared.fault.CrawlFault.{CrawlFault}
 use Rattle.wq_crawl.specs.declared.fault.CrawlFault.TheVariants.{Unreadable, TooManyFiles}
 use Rattle.wq_crawl.specs.declared.fault.CrawlFault.TheVariants.{GaveWay, NoHandle, TooManyRoots}
 use Rattle.wq_crawl.specs.declared.fault.CrawlFault.TheVariants.{NoMemory}
+use Rattle.wq_crawl.specs.declared.relisted.Relisted.{Relisted}
+use Rattle.wq_crawl.specs.declared.relisted.Relisted.TheVariants.{Still, Pass, Patched}
 use Rattle.wq_crawl.specs.declared.place.Place.{Place}
 use Rattle.wq_crawl.specs.declared.place.Place.TheVariants.{Shown, Full, Free}
 
@@ -99,11 +103,17 @@ IsNoPassOver text before fault after =
     × (listing_fault rows second ≡ Some why) × (fault ≡ no_pass why))
 
 -- a tree listed the root of this number: it gave these rows; or it found just the files that exist
--- by the view of the passes over the root, which are no more than a pass takes
+-- by the view of the passes over the root, or all but some patches. These are no more than a pass
+-- takes
 abbrev pub ListsAgain : ℕ → List ℕ → CrawlerData → Listing → CrawlerData → Type 0
 ListsAgain number text before (Rows rows) after =
     Lists before.listed text (Ok rows.items) after.listed
     × IsTrue (list_all is_lawful_row rows.items)
+ListsAgain number text before (Patches patches) after =
+    (view : ViewData) × IsViewOf (passes_over number before.events) view
+    × Lists before.listed text (Ok (patched view.records patches.items)) after.listed
+    × MakePass view.records patches.items
+    × (length (patched view.records patches.items) ≤ max_listing_rows)
 ListsAgain number text before Same after =
     (view : ViewData) × IsViewOf (passes_over number before.events) view
     × Lists before.listed text (Ok (seen_rows view.records)) after.listed
@@ -114,6 +124,16 @@ ListsAgain number text before Same after =
 abbrev pub IsStillOver : ℕ → List ℕ → CrawlerData → CrawlerData → Type 0
 IsStillOver number text before after =
     (pass : PassData) × IsPassOver text before pass after × IsNoNews before.events number pass
+
+-- a root was listed: the pass over it would add nothing; or there is this pass; or there is the one
+-- at this second which differs by these patches from the view of the passes over the root
+abbrev pub IsRelisted : ℕ → List ℕ → CrawlerData → Relisted → CrawlerData → Type 0
+IsRelisted number text before Still after = IsStillOver number text before after
+IsRelisted number text before (Pass pass) after = IsPassOver text before pass after
+IsRelisted number text before (Patched patches second) after =
+    (view : ViewData) × IsViewOf (passes_over number before.events) view
+    × IsPassOver text before (pass_by view.records patches.items second) after
+    × MakePass view.records patches.items × IsTrue (is_count second)
 
 -- a root that is shown was crawled: it was listed, a pass over it is added if that is news, and the
 -- list is returned. If the crawl is refused, nothing is added

@@ -6,12 +6,14 @@ use Rattle.std.specs.Coded.{Coded, code_by, coded×, coded_ℕ, coded_list, code
 use Rattle.std.specs.declared.alloc.Global.{Global}
 use Rattle.wq_view.specs.Again.{seen_rows}
 use Rattle.wq_view.specs.Limit.{max_listing_rows}
+use Rattle.wq_view.specs.Patch.{patched}
+use Rattle.wq_view.specs.Patching.{ArePatches}
 use Rattle.wq_record.specs.RecordData.{RecordData}
 use Rattle.wq_record.specs.Seen.{SeenData, Stat, entry_of, stat_code}
 use Rattle.wq_crawl.specs.Device.{Gave}
 use Rattle.wq_crawl.specs.contracts.tree.TreeFault.{the_row}
 use Rattle.wq_crawl.specs.declared.tree.Listing.{Listing}
-use Rattle.wq_crawl.specs.declared.tree.Listing.TheVariants.{Rows, Same}
+use Rattle.wq_crawl.specs.declared.tree.Listing.TheVariants.{Rows, Patches, Same}
 use Rattle.wq_crawl.specs.declared.tree.TreeFault.{TreeFault}
 use Rattle.wq_crawl.specs.declared.tree.TreeFault.TheVariants.{NoHandle, Unreadable}
 
@@ -64,6 +66,7 @@ rows_given (Err fault) = Err fault
 -- the rows of a listing of a root whose last view has these records
 abbrev pub rows_listed : List RecordData → Listing → List SeenData
 rows_listed records (Rows rows) = rows.items
+rows_listed records (Patches patches) = patched records patches.items
 rows_listed records Same = seen_rows records
 
 -- the rows that were given for a root whose last view has these records
@@ -72,10 +75,16 @@ abbrev pub rows_given_again : List RecordData → Result Listing TreeFault
 rows_given_again records (Ok listing) = Ok (rows_listed records listing)
 rows_given_again records (Err fault) = Err fault
 
--- a listing that is the same has no more rows than a pass takes
+-- a listing that makes no rows of all files has no more files than a pass takes
 abbrev pub IsFew : List RecordData → Listing → Type 0
 IsFew records (Rows rows) = Unit {0}
+IsFew records (Patches patches) = length (patched records patches.items) ≤ max_listing_rows
 IsFew records Same = length (seen_rows records) ≤ max_listing_rows
+
+-- the patches of a listing fit the records
+abbrev pub IsFit : List RecordData → Listing → Type 0
+IsFit records (Patches patches) = ArePatches records patches.items
+IsFit records listing = Unit {0}
 
 -- a tree lists a root, and gives these rows
 abbrev pub Lists : Option (ℕ × ListedData) → List ℕ → Result (List SeenData) TreeFault

@@ -1,24 +1,27 @@
 //! The crawler, which lists roots and publishes their passes. It has a tree, a clock and a publisher. Crawls use them
 //! one after the other.
-ghost use Rattle.std.specs.Prelude.{◌≡◌, ◌≢◌, ◌⊎◌, ◌↔◌, Err, IfErr, IfOk, IsTrue, MatchOption, MatchResult, None};
+ghost use Rattle.std.specs.Prelude.{◌≡◌, ◌≢◌, ◌⊎◌, ◌↔◌, Err, IfErr, IfOk, IsTrue, MatchResult, None};
 ghost use Rattle.std.specs.List.{list_all};
-ghost use Rattle.wq_record.specs.Seen.{is_lawful_row};
-ghost use Rattle.wq_live.specs.Event.{IsFull, number_of};
-ghost use Rattle.wq_crawl.specs.Tree.{IsCounted, IsFew, Lists, rows_given_again, rows_listed};
+ghost use Rattle.wq_record.specs.Seen.{is_count, is_lawful_row};
+ghost use Rattle.wq_view.specs.View.{IsViewOf, ViewData};
+ghost use Rattle.wq_live.specs.Event.{IsFull, number_of, passes_over};
+ghost use Rattle.wq_live.specs.Patched.{MakePass, pass_by};
+ghost use Rattle.wq_crawl.specs.Tree.{IsCounted, IsFew, IsFit, Lists, rows_given_again, rows_listed};
 ghost use Rattle.wq_crawl.specs.Crawl.{Began, Crawled, CrawledAt, IsNoPassOver, IsPassOver};
-ghost use Rattle.wq_crawl.specs.Crawl.{Glanced, IsStillOver, ListsAgain};
+ghost use Rattle.wq_crawl.specs.Crawl.{Glanced, IsRelisted, ListsAgain};
 ghost use Rattle.wq_crawl.specs.Crawl.{Shared, Unwatched, Watched};
 ghost use Rattle.wq_crawl.specs.Publish.{IsNotTakenIn, Passes, with_start};
 
 use crate::fault::{CrawlFault, no_pass, not_listed};
 use crate::place::{Place, place_for};
+use crate::relisted::Relisted;
 use crate::seconds::Seconds;
 use crate::tree::{Listing, Tree, TreeFault};
 use std::alloc::AllocError;
 use std::marker::Model;
 use std::sync::Wait;
 use wq_live::{Named, Publisher, Seat, StartFault, Told};
-use wq_view::{Pass, Recent, View, ViewFault};
+use wq_view::{Pass, Patch, Recent, View, ViewFault};
 
 /// Lists roots, and publishes their passes. Contracts see the list of events that is published, and the state that the
 /// tree and the clock show.
@@ -170,8 +173,9 @@ impl<N: Named, R: Wait + Drop, T: Tree + Drop, S: Seconds + Drop> Crawler<N, R, 
         ensures { CrawledAt number root.now self.old result self.new }
     {
         match self.list_again(number, root, recent)? {
-            Some(pass) => self.publish(number, pass),
-            None => self.told(),
+            Relisted::Still => self.told(),
+            Relisted::Pass(pass) => self.publish(number, pass),
+            Relisted::Patched(patches, second) => self.publish_patches(number, &patches, second),
         }
     }
 
@@ -197,6 +201,33 @@ impl<N: Named, R: Wait + Drop, T: Tree + Drop, S: Seconds + Drop> Crawler<N, R, 
         ensures failed { (self.new).failed ≡ (self.old).failed }
     {
         match self.publisher.publish(number, pass) {
+            Ok(told) => Ok(told),
+            Err(ViewFault::TicksSpent) => Err(CrawlFault::TicksSpent),
+            Err(ViewFault::NoMemory) => Err(CrawlFault::NoMemory),
+        }
+    }
+
+    /// Publishes a pass at this second over the root of this number, which differs by these patches from the root's view.
+    fn publish_patches(
+        &mut self,
+        number: u64,
+        patches: &[Patch],
+        second: i64,
+    ) -> Result<Told<N>, CrawlFault>
+        requires fit { (view : ViewData) × IsViewOf (passes_over number (self.old).events) view
+            × MakePass view.records patches.now }
+        requires second { IsTrue (is_count second) }
+        ensures published { (view : ViewData) → IsViewOf (passes_over number (self.old).events) view
+            → MatchResult result
+            (λ told. (told ≡ (self.new).events) × Passes (self.old).events number
+            (pass_by view.records patches.now second) (self.new).events)
+            (λ fault. ((self.new).events ≡ (self.old).events) × IsNotTakenIn (self.old).events number
+            (pass_by view.records patches.now second) fault) }
+        ensures listed { (self.new).listed ≡ (self.old).listed }
+        ensures clock { (self.new).clock ≡ (self.old).clock }
+        ensures failed { (self.new).failed ≡ (self.old).failed }
+    {
+        match self.publisher.publish_patches(number, patches, second) {
             Ok(told) => Ok(told),
             Err(ViewFault::TicksSpent) => Err(CrawlFault::TicksSpent),
             Err(ViewFault::NoMemory) => Err(CrawlFault::NoMemory),
@@ -242,18 +273,16 @@ impl<N: Named, R: Wait + Drop, T: Tree + Drop, S: Seconds + Drop> Crawler<N, R, 
         }
     }
 
-    /// The pass of the root of this number and text, as the tree shows it now. There is none if it would add nothing.
+    /// The pass of the root of this number and text, as the tree shows it now.
     fn list_again(
         &mut self,
         number: u64,
         root: &str,
         recent: Option<&Recent<'_>>,
-    ) -> Result<Option<Pass>, CrawlFault>
+    ) -> Result<Relisted, CrawlFault>
         ensures kept { (self.new).events ≡ (self.old).events }
         ensures listed { MatchResult result
-            (λ pass. MatchOption pass
-            (IsStillOver number root.now self.old self.new)
-            (λ pass. IsPassOver root.now self.old pass self.new))
+            (λ relisted. IsRelisted number root.now self.old relisted self.new)
             (λ fault. IsNoPassOver root.now self.old fault self.new) }
     {
         // As for a root that is listed for the first time.
@@ -263,15 +292,19 @@ impl<N: Named, R: Wait + Drop, T: Tree + Drop, S: Seconds + Drop> Crawler<N, R, 
             Err(fault) => return Err(not_listed(fault)),
         };
         let second = self.seconds.second();
-        let Listing::Rows(rows) = listing else {
-            return match Pass::fault_again(second) {
-                None => Ok(None),
+        match listing {
+            Listing::Rows(rows) => match Pass::of_lawful(rows, second) {
+                Ok(pass) => Ok(Relisted::Pass(pass)),
+                Err(fault) => Err(no_pass(fault)),
+            },
+            Listing::Patches(patches) => match Pass::fault_of_patches(second) {
+                None => Ok(Relisted::Patched(patches, second)),
                 Some(fault) => Err(no_pass(fault)),
-            };
-        };
-        match Pass::of_lawful(rows, second) {
-            Ok(pass) => Ok(Some(pass)),
-            Err(fault) => Err(no_pass(fault)),
+            },
+            Listing::Same => match Pass::fault_again(second) {
+                None => Ok(Relisted::Still),
+                Some(fault) => Err(no_pass(fault)),
+            },
         }
     }
 
@@ -312,6 +345,7 @@ fn listed_again<T: Tree>(
     ensures lawful { IfOk result (λ listing.
         IsTrue (list_all is_lawful_row (rows_listed last.now.records listing))) }
     ensures few { IfOk result (IsFew last.now.records) }
+    ensures fit { IfOk result (IsFit last.now.records) }
     ensures listed { Lists (T.listed tree.old) root.now
         (rows_given_again last.now.records result) (T.listed tree.new) }
 {

@@ -9,6 +9,7 @@ mod fault;
 mod lock_roots;
 mod memory_roots;
 mod place;
+mod relisted;
 mod roots;
 mod seconds;
 mod shared_crawler;

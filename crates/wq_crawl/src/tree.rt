@@ -2,11 +2,11 @@
 ghost use Rattle.std.specs.Prelude.{◌≡◌, IfErr, IfOk, IsTrue};
 ghost use Rattle.std.specs.List.{list_all};
 ghost use Rattle.wq_record.specs.Seen.{is_lawful_row};
-ghost use Rattle.wq_crawl.specs.Tree.{IsCounted, IsFew, Lists, rows_given, rows_given_again, rows_listed};
+ghost use Rattle.wq_crawl.specs.Tree.{IsCounted, IsFew, IsFit, Lists, rows_given, rows_given_again, rows_listed};
 
 use std::alloc::AllocError;
 use thiserror::Error;
-use wq_view::{Recent, Seen, View};
+use wq_view::{Patch, Recent, Seen, View};
 
 /// The reason for which a tree gives no listing.
 #[derive(Clone, Copy, Debug, PartialEq, Eq, Drop, Error)]
@@ -64,6 +64,9 @@ impl LeftOut {
 pub enum Listing {
     /// These rows.
     Rows(Vec<Seen>),
+    /// The files are those that exist by the last view, and are as its records say, except for these patches, which fit
+    /// the view. They are no more than a pass takes.
+    Patches(Vec<Patch>),
     /// The files are just those that exist by the last view, and are as its records say. They are no more than a pass
     /// takes.
     Same,
@@ -98,6 +101,7 @@ pub trait Tree {
         ensures lawful { IfOk result (λ listing.
             IsTrue (list_all is_lawful_row (rows_listed last.now.records listing))) }
         ensures few { IfOk result (IsFew last.now.records) }
+        ensures fit { IfOk result (IsFit last.now.records) }
         ensures listed { Lists (listed self.old) root.now
             (rows_given_again last.now.records result) (listed self.new) }
     {
@@ -113,6 +117,7 @@ pub trait Tree {
         ensures lawful { IfOk result (λ listing.
             IsTrue (list_all is_lawful_row (rows_listed last.now.records listing))) }
         ensures few { IfOk result (IsFew last.now.records) }
+        ensures fit { IfOk result (IsFit last.now.records) }
         ensures listed { Lists (listed self.old) root.now
             (rows_given_again last.now.records result) (listed self.new) }
     {

@@ -7,6 +7,7 @@ mod event;
 mod kept;
 mod log;
 mod named;
+mod patched_pass;
 mod publisher;
 mod publishing;
 mod refusing;

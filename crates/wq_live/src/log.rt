@@ -2,8 +2,10 @@
 //! have tokens without bytes for the part of it that they know.
 ghost use Rattle.std.specs.Prelude.{◌≡◌, ◌++◌, ◌∷◌, [], IsTrue, length, nat_lt};
 ghost use Rattle.wq_live.specs.Log.{Compared, head_of};
+ghost use Rattle.wq_live.specs.Patched.{event_by};
 
 use crate::event::RootEvent;
+use crate::patched_pass::PatchedPass;
 use logbook::{Gain, Offer, Plain, Play, Rule, Seen, Word};
 use std::marker::Model;
 
@@ -52,6 +54,15 @@ impl Plain<RootEvent, RootEvent, u64> for Add {
     ghost ask = { λ event. event };
 
     ghost state = { λ event. None };
+}
+
+impl<'a> Plain<PatchedPass<'a>, RootEvent, u64> for Add {
+    ghost use Rattle.std.specs.Prelude.{None};
+    ghost use Rattle.wq_live.specs.Patched.{event_by};
+
+    ghost ask = { λ pass. event_by pass };
+
+    ghost state = { λ pass. None };
 }
 
 /// The word that threads share: the length of the list.
@@ -121,6 +132,31 @@ impl Log {
         let mut offer: Offer<RootEvent, u64, Law, Nothing> = self
             .seen
             .plain::<Nothing, RootEvent, Add>(event);
+        let mut pen = self.seen.no_pen();
+        let count = self.count;
+        let found = head.compare_exchange::<Add, Nothing>(
+            count,
+            count + 1,
+            &mut self.seen,
+            &mut offer,
+            &mut pen,
+        );
+        self.count = if found == count { count + 1 } else { found };
+        found == count
+    }
+
+    /// Adds the event of a pass, as [`Log::add`] adds an event.
+    pub(crate) fn add_patched(&mut self, head: &Head, pass: &PatchedPass<'_>) -> bool
+        requires { head.now ≡ head_of self.old.book }
+        ensures same { self.new.book ≡ self.old.book }
+        ensures added { IsTrue result → self.new.log ≡ self.old.log ++ event_by pass.now ∷ [] }
+    {
+        if self.count == u64::MAX {
+            return false;
+        }
+        let mut offer: Offer<RootEvent, u64, Law, Nothing> = self
+            .seen
+            .plain::<Nothing, PatchedPass<'_>, Add>(pass);
         let mut pen = self.seen.no_pen();
         let count = self.count;
         let found = head.compare_exchange::<Add, Nothing>(

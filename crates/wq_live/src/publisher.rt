@@ -1,17 +1,21 @@
 //! The publisher, which alone changes the list of events. It shows the table that follows from the list.
-ghost use Rattle.std.specs.Prelude.{if◌then◌else◌, ◌+◌, ◌↔◌, None, option_map, ◌≡◌, ◌<◌, ◌⊎◌, ◌++◌, ◌∷◌, [], Err, IfErr, IfOk, MatchResult, Some, drop, false, length, nat_lt, true};
+ghost use Rattle.std.specs.Prelude.{if◌then◌else◌, ◌+◌, ◌↔◌, None, option_map, ◌≡◌, ◌<◌, ◌⊎◌, ◌++◌, ◌∷◌, [], Err, IfErr, IfOk, IsTrue, MatchResult, Some, drop, false, length, nat_lt, true};
 ghost use Rattle.left_right.specs.Sides.{view};
 ghost use Rattle.wq_live.specs.Log.{AgreeAs, BeginsLog, head_of};
 ghost use Rattle.wq_base.specs.Limit.{max_number, max_roots};
 ghost use Rattle.wq_record.specs.Limit.{max_tick};
+ghost use Rattle.wq_record.specs.Seen.{is_count};
+ghost use Rattle.wq_view.specs.View.{IsViewOf, ViewData};
 ghost use Rattle.wq_live.specs.declared.event.RootEvent.TheVariants.{Ended, Passed};
 ghost use Rattle.wq_live.specs.Event.{first_history, is_shown, passes_over, shown_root, shown, start_events, started};
+ghost use Rattle.wq_live.specs.Patched.{MakePass, event_by, pass_by};
 ghost use Rattle.wq_live.specs.Table.{IsNews, IsNoNews, IsTableOf, WantsForTicks};
 
 use crate::event::RootEvent;
 use crate::kept::Note;
 use crate::log::Head;
 use crate::named::Named;
+use crate::patched_pass::PatchedPass;
 use crate::publishing::{ShownWriter, show};
 use crate::seat::{Look, Seat, Told};
 use crate::shown::Next;
@@ -21,7 +25,7 @@ use std::alloc::{AllocError, Global};
 use std::marker::{Model, PhantomData};
 use std::sync::{Arc, Wait};
 use wq_base::Text;
-use wq_view::{Pass, View, ViewFault};
+use wq_view::{Pass, Patch, View, ViewFault, history_has_one_view};
 
 /// The publisher. Contracts see its list of events.
 pub struct Publisher<N: Named, R: Wait + Drop> {
@@ -183,6 +187,49 @@ impl<N: Named, R: Wait + Drop> Publisher<N, R> {
         Ok(self.add(next, slice::from_ref(&event))?)
     }
 
+    /// Publishes a pass at this second over the root of this number, whose rows differ by these patches from the root's
+    /// view. No rows are made of the other files. The call answers as [`Publisher::publish`] does.
+    pub fn publish_patches(
+        &mut self,
+        number: u64,
+        patches: &[Patch],
+        second: i64,
+    ) -> Result<Told<N>, ViewFault>
+        requires fit { (view : ViewData) × IsViewOf (passes_over number self.old) view
+            × MakePass view.records patches.now }
+        requires second { IsTrue (is_count second) }
+        ensures told { IfOk result (λ told. told ≡ self.new) }
+        ensures published { N.published N.book self.new }
+        // For the view of the passes over the root:
+        ensures added { (view : ViewData) → IsViewOf (passes_over number self.old) view
+            → IfOk result (λ _.
+            (IsNoNews self.old number (pass_by view.records patches.now second)
+            × (self.new ≡ self.old))
+            ⊎ (IsNews self.old number (pass_by view.records patches.now second)
+            × (length (passes_over number self.old) < max_tick)
+            × (self.new ≡ self.old
+            ++ Passed number (pass_by view.records patches.now second) ∷ []))) }
+        ensures spent { (view : ViewData) → IsViewOf (passes_over number self.old) view
+            → ((result ≡ Err ViewFault.TicksSpent)
+            ↔ WantsForTicks self.old number (pass_by view.records patches.now second)) }
+        ensures err { IfErr result (λ _. self.new ≡ self.old) }
+    {
+        history_has_one_view();
+        let Some(next) = self.table().with_patches(number, patches, second)? else {
+            return Ok(self.told()?);
+        };
+        let Some(view) = self.table().share_of(number)? else {
+            return Err(ViewFault::NoMemory);
+        };
+        let pass = PatchedPass {
+            number,
+            view: &view,
+            patches,
+            second,
+        };
+        Ok(self.add_patched(next, &pass)?)
+    }
+
     /// Publishes the end of the root of this number, and returns the list after it. The call adds nothing if the root
     /// is not shown.
     ///
@@ -230,6 +277,29 @@ impl<N: Named, R: Wait + Drop> Publisher<N, R> {
         let told = table.clone()?;
         let mut log = self.writer.published().log().again();
         if !log.add_all(&self.head, events) {
+            return Err(AllocError);
+        }
+        self.show(Next::new(table, log))?;
+        self.keeps_older = true;
+        Ok(Told::new(self.writer.published().with_table(told)))
+    }
+
+    /// Adds the event of a pass, and shows the table after it.
+    fn add_patched(
+        &mut self,
+        table: RootTable,
+        pass: &PatchedPass<'_>,
+    ) -> Result<Told<N>, AllocError>
+        requires { IsTableOf (self.old ++ event_by pass.now ∷ []) table }
+        ensures added { MatchResult result
+            (λ told. (self.new ≡ self.old ++ event_by pass.now ∷ []) × (told ≡ self.new))
+            (λ _. self.new ≡ self.old) }
+        ensures published { N.published N.book self.new }
+    {
+        let table = Arc::new(self.alloc, table)?;
+        let told = table.clone()?;
+        let mut log = self.writer.published().log().again();
+        if !log.add_patched(&self.head, pass) {
             return Err(AllocError);
         }
         self.show(Next::new(table, log))?;

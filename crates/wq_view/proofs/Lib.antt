@@ -28,3 +28,10 @@ mod PositionRuns
 mod SeenAgain
 mod Unmoved
 mod KeptRuns
+mod PatchRuns
+mod Passed
+mod Joining
+mod Apart
+mod Patches
+mod Stretches
+mod PatchedViews

@@ -1,5 +1,5 @@
 -- The byte order of names, and the lists that rise in it.
-use Rattle.std.proofs.Common.{◌≡◌, ℕ, Bool, true, false, ◌&&◌, List, [], ◌∷◌, map, bytes_eq, IsTrue, sym, refl, ap, subst, ◌∙◌}
+use Rattle.std.proofs.Common.{◌≡◌, ℕ, Bool, true, false, ◌&&◌, List, [], ◌∷◌, map, bytes_eq, sym, refl, ap, ◌∙◌}
 use mathlib.Core.Bool.{false≢true}
 use Rattle.std.specs.declared.cmp.Ordering.{Ordering}
 use Rattle.std.specs.declared.cmp.Ordering.TheVariants.{Less, Equal, Greater}
@@ -12,7 +12,6 @@ use Rattle.std.specs.List.{AllByRecursion}
 use Rattle.std.specs.List.Sorted.{IsStrictlySortedBy}
 use Rattle.std.proofs.lemmas.Slice.Eq.{bytes_eq-Decides}
 use Rattle.wq_record.specs.Name.{name_cmp}
-use Rattle.wq_record.specs.Name.{is_valid_name}
 
 -- of two names one is below the other, or they are the same
 pub names_total : IsTotalOrder name_cmp
@@ -75,11 +74,3 @@ module _ {A X : Type 0} (f : A → List ℕ × X) where
   rising_from_sorted (a ∷ xs) e =
       let parts = both_true _ _ e in
       (rising_from_below (f a).0 xs parts.0, rising_from_sorted xs parts.1)
-
--- names that are equal in the byte order have the same bytes
-pub same_bytes : (a b : List ℕ) → name_cmp a b ≡ Equal → a ≡ b
-same_bytes a b same = names_exact a b same
-
--- a name that is equal to a valid one is valid
-pub same_valid : (a b : List ℕ) → name_cmp a b ≡ Equal → IsTrue (is_valid_name a) → IsTrue (is_valid_name b)
-same_valid a b same valid = subst (λ name. IsTrue (is_valid_name name)) (names_exact a b same) valid

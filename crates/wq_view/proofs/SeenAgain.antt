@@ -1,12 +1,11 @@
 -- The rows of records that a listing finds as they are.
-use Rattle.std.proofs.Common.{◌≡◌, ◌+◌, ◌-◌, ◌≤◌, ◌<◌, ℕ, zero, suc, Bool, true, false, cond, List, [], ◌∷◌, ◌++◌, map, filter, take, drop, length, Option, Some, None, IfNone, sym, refl, ap, ◌∙◌, arith}
+use Rattle.std.proofs.Common.{◌≡◌, ◌+◌, ◌≤◌, ℕ, zero, suc, true, false, cond, List, [], ◌∷◌, ◌++◌, map, filter, take, drop, length, sym, refl, ap, ◌∙◌, arith}
 use Rattle.std.proofs.Math.Numerals.{add-one}
 use Rattle.std.proofs.Math.Seq.{take-add}
-use Rattle.std.proofs.lemmas.List.{append-nil, map-append, take-take, take_all, length-drop, length-take}
+use Rattle.std.proofs.lemmas.List.{map-append, take_all, length-drop, length-take}
 use Rattle.std.proofs.lemmas.List.Elements.{filter-append}
 use Rattle.wq_record.specs.RecordData.{RecordData}
 use Rattle.wq_view.specs.Again.{seen_row, seen_rows}
-use Rattle.wq_record.specs.Seen.{SeenData}
 
 -- the rows of two runs
 pub seen-append : (front back : List RecordData) → seen_rows (front ++ back) ≡ seen_rows front ++ seen_rows back
@@ -56,30 +55,3 @@ few_seen (r ∷ records) =
 
 pub few_taken : (records : List RecordData) (passed : ℕ) → length (seen_rows (take passed records)) ≤ passed
 few_taken records passed = omega (arith, few_seen (take passed records), length-take passed records)
-
--- the rows with the next one
-pub with_next : (records left : List RecordData) (passed count : ℕ) (row : SeenData) → left ≡ drop passed records → seen_rows (take count left) ≡ row ∷ [] → seen_rows (take (passed + count) records) ≡ seen_rows (take passed records) ++ (row ∷ [])
-with_next records left passed count row here next = seen_later records passed count ∙ ap (λ rows. seen_rows (take passed records) ++ rows) (ap (λ xs. seen_rows (take count xs)) (sym here) ∙ next)
-
--- the same in a piece of so many records
-pub with_next_of : (records left : List RecordData) (passed count all : ℕ) (row : SeenData) → passed + count ≤ all → left ≡ drop passed records → seen_rows (take count left) ≡ row ∷ [] → seen_rows (take (passed + count) (take all records)) ≡ seen_rows (take passed (take all records)) ++ (row ∷ [])
-with_next_of records left passed count all row within here next =
-    ap seen_rows (take-take (passed + count) all records within)
-    ∙ with_next records left passed count row here next
-    ∙ ap (λ xs. seen_rows xs ++ (row ∷ [])) (sym (take-take passed all records (omega (arith, within))))
-
--- no row is left in a piece
-pub whole_piece : (records left : List RecordData) (passed all : ℕ) → passed ≤ all → left ≡ drop passed records → seen_rows (take (all - passed) left) ≡ [] → seen_rows (take passed (take all records)) ≡ seen_rows (take all records)
-whole_piece records left passed all within here none =
-    let sum : passed + (all - passed) ≡ all = omega (arith, within) in
-    let rest : seen_rows (take (all - passed) (drop passed records)) ≡ [] = ap (λ xs. seen_rows (take (all - passed) xs)) (sym here) ∙ none in
-    ap seen_rows (take-take passed all records within)
-    ∙ sym (append-nil (seen_rows (take passed records)))
-    ∙ ap (λ rows. seen_rows (take passed records) ++ rows) (sym rest)
-    ∙ sym (seen_later records passed (all - passed))
-    ∙ ap (λ n. seen_rows (take n records)) sum
-
--- a fact that holds anyway holds if there is nothing
-pub if_none : {A : Type 0} (o : Option A) (P : Type 0) → P → IfNone o P
-if_none None P p = p
-if_none (Some a) P p = tt

@@ -1,5 +1,5 @@
 -- A pass that sees the files of a view just as its records say moves nothing, and has no fault of its rows.
-use Rattle.std.proofs.Common.{◌≡◌, ℕ, ℤ, ◌≤◌, Bool, true, false, cond, List, [], ◌∷◌, map, length, Option, Some, None, IsTrue, nat_lt, sym, refl, ap, subst, ◌∙◌, arith}
+use Rattle.std.proofs.Common.{◌≡◌, ℤ, ◌≤◌, true, false, cond, List, [], ◌∷◌, map, length, Some, None, nat_lt, sym, refl, ap, subst, ◌∙◌, arith}
 use Rattle.std.proofs.lemmas.Bool.Decides.{nat_tests}
 use Rattle.std.proofs.Math.Dec.{T}
 use Rattle.std.specs.FinMap.{entries, entries-from_sorted, from_sorted, from_entries, is_sorted}
@@ -21,7 +21,7 @@ use Rattle.wq_view.proofs.Sorting.{distinct_from_sorted}
 use Rattle.wq_view.proofs.ViewSteps.{shows_last}
 
 -- the stats of the files that exist are those of their rows
-existing_is : (records : List RecordData) → existing records ≡ map entry_of (seen_rows records)
+pub existing_is : (records : List RecordData) → existing records ≡ map entry_of (seen_rows records)
 existing_is [] = refl
 existing_is (r ∷ records) =
     let rest = existing_is records in

@@ -1,9 +1,9 @@
 -- The rows of a listing that says of the files just what the records of a view say. No public
 -- document defines it.
-use Rattle.std.specs.Prelude.{ℕ, List, map, filter, take, refl}
+use Rattle.std.specs.Prelude.{ℕ, List, map, filter, refl}
 use Rattle.std.specs.Coded.{Coded, code_by, coded×, coded_ℕ, coded_list}
 use Rattle.wq_record.specs.RecordData.{RecordData, record_code}
-use Rattle.wq_record.specs.Seen.{SeenData}
+use Rattle.wq_record.specs.Seen.{SeenData, Stat, entry_of, stat_code}
 
 -- the row of a file as its record says it
 abbrev pub seen_row : RecordData → SeenData
@@ -13,18 +13,29 @@ seen_row r = record { name = r.name; kind = r.kind; size = r.size; mtime_ms = r.
 abbrev pub seen_rows : List RecordData → List SeenData
 seen_rows records = map seen_row (filter (λ r. r.exists) records)
 
--- the records of a piece of a view, and how many of them, from the first on, were found as they are
+-- the records of a piece of a view; the rows of the files that a listing found there so far; and
+-- the number of records that it passed
 pub record AgainData : Type 0 where
   pub records : List RecordData
+  pub found : List SeenData
   pub passed : ℕ
 
--- such a piece as the pair of its parts
+-- a row as the pair of its name and its stat
+abbrev pub seen_code : Coded SeenData
+seen_code =
+    code_by (List ℕ × Stat) (coded× (coded_list coded_ℕ) stat_code) entry_of
+    (λ (name, stat). record {
+      name = name;
+      kind = stat.kind;
+      size = stat.size;
+      mtime_ms = stat.mtime_ms;
+    }) (λ _. refl)
+
+-- such a piece as the tuple of its parts
 abbrev pub again_code : Coded AgainData
 again_code =
-    code_by (List RecordData × ℕ) (coded× (coded_list record_code) coded_ℕ)
-    (λ again. (again.records, again.passed))
-    (λ (records, passed). record { records = records; passed = passed }) (λ _. refl)
-
--- the rows of the files that were found as they are
-abbrev pub rows_again : AgainData → List SeenData
-rows_again again = seen_rows (take again.passed again.records)
+    code_by (List RecordData × (List SeenData × ℕ))
+    (coded× (coded_list record_code) (coded× (coded_list seen_code) coded_ℕ))
+    (λ again. (again.records, (again.found, again.passed)))
+    (λ (records, (found, passed)). record { records = records; found = found; passed = passed })
+    (λ _. refl)

@@ -15,3 +15,7 @@ pub mod Below
 pub mod Moves
 pub mod Suffix
 pub mod Again
+pub mod Patch
+pub mod Patching
+pub mod Stretch
+pub mod Making

@@ -99,7 +99,7 @@ impl Filling {
     }
 
     /// Adds a copy of each record.
-    fn push_copies(&mut self, records: &[Record]) -> Result<(), AllocError>
+    pub(crate) fn push_copies(&mut self, records: &[Record]) -> Result<(), AllocError>
         ensures { OnOk result (filled self.new ≡ filled self.old ++ records.now) }
     {
         for known in records {

@@ -17,29 +17,32 @@ mod below;
 mod chunk;
 mod chunks;
 mod filling;
-mod known;
 mod law;
 mod limit;
 mod listing;
+mod making;
 mod merging;
 mod moves;
 mod order;
 mod pair;
+mod patch;
+mod patching;
 mod reader;
 mod recent;
 mod records;
+mod stretch;
 mod suffix;
 mod suffixes;
 mod view;
 
 pub use again::Again;
-pub use known::Known;
 pub use law::{
     history_has_one_view, kept_positions_filter, newest_is_sorted, newest_is_split,
     positions_are_there, positions_filter,
 };
 pub use limit::{MAX_LISTING_ROWS, MAX_RECORDS};
 pub use listing::{Pass, PassFault};
+pub use patch::Patch;
 pub use reader::Reader;
 pub use recent::Recent;
 pub use records::Records;

@@ -7,7 +7,11 @@ ghost use Rattle.wq_view.specs.Again.{seen_rows};
 ghost use Rattle.wq_view.specs.History.{History, last_stats};
 ghost use Rattle.wq_view.specs.Limit.{max_listing_rows};
 ghost use Rattle.wq_record.specs.Seen.{entry_of, is_lawful_row, is_count};
-ghost use Rattle.wq_view.specs.View.{IsViewOf, ViewData};
+ghost use Rattle.wq_record.specs.RecordData.{RecordData};
+ghost use Rattle.wq_view.specs.Patch.{patched};
+ghost use Rattle.wq_view.specs.Patching.{ArePatches};
+ghost use Rattle.wq_view.specs.View.{IsViewOf, NamesRise, ViewData};
+ghost use Rattle.wq_view.specs.declared.patch.Patch.{Patch};
 ghost use Rattle.wq_record.specs.Name.{name_cmp};
 ghost use Rattle.wq_view.specs.Listing.{names_of, listing_of, listing_fault, is_of_whole, row_fault};
 
@@ -136,6 +140,22 @@ impl Pass {
         }
     }
 
+    /// The fault of a pass at this second whose rows differ by patches that fit from the records of a view, if it has one.
+    pub fn fault_of_patches(second: i64) -> Option<PassFault>
+        ensures fault { (records : List RecordData) (patches : List Patch) → NamesRise records
+            → ArePatches records patches → IsTrue (list_all is_lawful_row (patched records patches))
+            → length (patched records patches) ≤ max_listing_rows
+            → result ≡ listing_fault (patched records patches) second }
+        ensures second { result ≡ None → IsTrue (is_count second) }
+        ensures whole { IfSome result (λ fault. IsTrue (is_of_whole fault)) }
+    {
+        if is_count(second) {
+            None
+        } else {
+            Some(PassFault::OutOfRange)
+        }
+    }
+
     /// The rows in the byte order of their names.
     pub(crate) fn rows(&self) -> &[Seen]
         ensures entries { entries self.now.stats ≡ map entry_of result.now }
@@ -203,7 +223,7 @@ fn sort_by_name(rows: &mut [Seen]) -> bool
 }
 
 /// Whether each name is below the next.
-fn names_rise(rows: &[Seen]) -> bool
+pub(crate) fn names_rise(rows: &[Seen]) -> bool
     ensures { result ≡ is_sorted name_cmp (map entry_of rows.now) }
 {
     rows.is_sorted_by(|a, b| a.name.as_slice().cmp(b.name.as_slice()).is_lt())

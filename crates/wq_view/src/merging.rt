@@ -61,18 +61,18 @@ fn change_at<'a>(slots: &'a [Slot], at: usize, rows: &'a [Seen]) -> Change<'a>
 
 /// What the rows of a run of records say of it, and the rows after them.
 #[derive(Clone, Copy)]
-struct Looked<'a> {
+pub(crate) struct Looked<'a> {
     /// Whether the pass leaves the run as it is.
-    is_same: bool,
+    pub(crate) is_same: bool,
     /// Whether the pass brings no name into the run.
     keeps_names: bool,
     /// How many records the run has after the pass.
     count: usize,
-    left: &'a [Seen],
+    pub(crate) left: &'a [Seen],
 }
 
 /// Compares a run of records with its rows. Each pair is looked at once.
-fn look<'a>(records: &'a [Record], rows: &'a [Seen]) -> Looked<'a>
+pub(crate) fn look<'a>(records: &'a [Record], rows: &'a [Seen]) -> Looked<'a>
     ensures same { result.is_same ≡ is_same_run records.now rows.now }
     ensures names { result.keeps_names ≡ keeps_names records.now rows.now }
     ensures left { result.left.now ≡ rows_behind records.now rows.now }
@@ -121,7 +121,11 @@ pub(crate) fn chunks_after(
 }
 
 /// Adds chunks as they are.
-fn share_all(filling: &mut Filling, moves: &mut Moves, slots: &[Slot]) -> Result<(), AllocError>
+pub(crate) fn share_all(
+    filling: &mut Filling,
+    moves: &mut Moves,
+    slots: &[Slot],
+) -> Result<(), AllocError>
     ensures records { OnOk result (filled filling.new
         ≡ filled filling.old ++ records_in slots.now) }
     ensures moves { OnOk result (moves_data moves.new
@@ -161,7 +165,7 @@ fn push_all_after<'a>(
 
 /// Adds a chunk as it is after a pass, and gives the rows after its own. A chunk that the pass leaves as it is, is
 /// shared.
-fn push_after<'a>(
+pub(crate) fn push_after<'a>(
     filling: &mut Filling,
     moves: &mut Moves,
     slot: &'a Slot,
@@ -222,7 +226,7 @@ fn chunk_after(
 }
 
 /// Adds the records of a run as they are after a pass.
-fn push_run_after(
+pub(crate) fn push_run_after(
     filling: &mut Filling,
     moves: &mut Moves,
     records: &[Record],
@@ -278,6 +282,24 @@ fn push_new(
         return Ok(());
     }
     filling.reopen(rows.len())?;
+    push_rows(filling, moves, rows, at)
+}
+
+/// Adds the records of these rows. Their names are new.
+pub(crate) fn push_rows(
+    filling: &mut Filling,
+    moves: &mut Moves,
+    rows: &[Seen],
+    at: &Moment,
+) -> Result<(), AllocError>
+    requires lawful { IsTrue (list_all is_lawful_row rows.now) }
+    requires tick { at.now.tick ≤ MAX_TICK }
+    requires second { IsTrue (is_count at.now.second) }
+    ensures records { OnOk result (filled filling.new
+        ≡ filled filling.old ++ records_after at.now.tick at.now.second [] rows.now) }
+    ensures moves { OnOk result (moves_data moves.new
+        ≡ with_pairs (pairs_of [] rows.now) (moves_data moves.old)) }
+{
     for row in rows {
         filling.push(note_after(moves, Pair::New(row), at)?)?;
     }

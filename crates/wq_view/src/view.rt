@@ -3,14 +3,19 @@
 //! A view also keeps the order of last change. What a later pass than the first saw change is a list in it, and a pass
 //! that moves the view writes that list anew.
 //! Lookups take no memory. Only a pass that moves the view, and a copy of the view, take memory.
-ghost use Rattle.std.specs.Prelude.{MatchOption, ℕ, nat_le, nat_lt, ◌==◌, ◌&&◌, ◌≡◌, ◌≢◌, ◌+◌, ◌≤◌, ◌<◌, ◌↔◌, List, [], ◌∷◌, ◌++◌, Ok, Err, Some, None, true, false, drop, length, IfOk, IfErr, IfNone, IfSome, IsTrue, slice_get};
+ghost use Rattle.std.specs.Prelude.{MatchBool, MatchOption, ℕ, nat_le, nat_lt, ◌==◌, ◌&&◌, ◌≡◌, ◌≢◌, ◌+◌, ◌≤◌, ◌<◌, ◌↔◌, List, [], ◌∷◌, ◌++◌, Ok, Err, Some, None, true, false, drop, length, IfOk, IfErr, IfNone, IfSome, IsTrue, slice_get};
+ghost use Rattle.std.specs.List.{list_all};
 ghost use Rattle.wq_record.specs.RecordData.{record_named};
+ghost use Rattle.wq_record.specs.Seen.{is_count, is_lawful_row};
 ghost use Rattle.wq_view.specs.History.{History, last_stats};
 ghost use Rattle.wq_view.specs.Below.{is_below};
 ghost use Rattle.wq_view.specs.Change.{IsChangeBy};
 ghost use Rattle.wq_record.specs.Limit.{max_tick};
 ghost use Rattle.wq_view.specs.Limit.{max_records};
+ghost use Rattle.wq_view.specs.Listing.{listing_of};
 ghost use Rattle.wq_view.specs.Order.{Known};
+ghost use Rattle.wq_view.specs.Patch.{patched};
+ghost use Rattle.wq_view.specs.Patching.{ArePatches, patched_stats};
 ghost use Rattle.wq_view.specs.Position.{has_name, passes_at, positions_of};
 ghost use Rattle.wq_view.specs.Records.{records_left};
 ghost use Rattle.wq_view.specs.Suffix.{has_suffix_of};
@@ -22,6 +27,8 @@ use crate::listing::Pass;
 use crate::merging::{Change, chunks_after, first_change};
 use crate::order::Order;
 use crate::pair::Moment;
+use crate::patch::Patch;
+use crate::patching::{all_shown, are_fit, chunks_patched};
 use crate::reader::Reader;
 use crate::records::Records;
 use crate::suffixes::Suffixes;
@@ -173,6 +180,81 @@ impl View {
         };
         let alloc = self.chunks.allocator();
         let (chunks, moves) = chunks_after(alloc, change, &at)?;
+        let order = self.order.after(alloc, &moves, self.tick == 0)?;
+        Ok(View {
+            tick: at.tick,
+            chunks,
+            order,
+        })
+    }
+
+    /// Whether patches fit this view: the rows of each rise in their place. Only the rows, and a record before and after
+    /// each patch, are looked at.
+    pub fn fits(&self, patches: &[Patch]) -> bool
+        ensures { IsTrue result → ArePatches self.now.records patches.now }
+    {
+        are_fit(&self.chunks, patches)
+    }
+
+    /// The view after a pass at this second whose rows differ by these patches from the view, or none if the pass saw
+    /// just the same as the pass before it.
+    ///
+    /// The call shares the chunks that no patch touches, and looks at no record of them. It runs in O(c + n + m) for c
+    /// chunks, n records in chunks that patches touch, and m rows of patches.
+    pub fn after_patches(&self, patches: &[Patch], second: i64) -> Result<Option<View>, ViewFault>
+        requires fit { ArePatches self.now.records patches.now }
+        requires second { IsTrue (is_count second) }
+        requires lawful { IsTrue (list_all is_lawful_row (patched self.now.records patches.now)) }
+        // For every history of which this is the view:
+        ensures moved { (history : History) → IsViewOf history self.now
+            → IfOk result (λ next. IfSome next (IsViewOf
+            (history ++ listing_of (patched self.now.records patches.now) second ∷ []))) }
+        ensures still { (history : History) → IsViewOf history self.now
+            → ((result ≡ Ok None) ↔ (last_stats history
+            ≡ (listing_of (patched self.now.records patches.now) second).stats)) }
+        ensures spent { (history : History) → IsViewOf history self.now
+            → ((result ≡ Err ViewFault.TicksSpent)
+            ↔ ((self.now.tick ≡ max_tick) × (last_stats history
+            ≢ (listing_of (patched self.now.records patches.now) second).stats))) }
+        // And for any view:
+        ensures room { IfOk result (λ next. IfSome next (λ _. self.now.tick < max_tick)) }
+    {
+        if self.shows_patches(patches) {
+            return Ok(None);
+        }
+        if self.tick == MAX_TICK {
+            return Err(ViewFault::TicksSpent);
+        }
+        Ok(Some(self.patched_by(patches, second)?))
+    }
+
+    /// Whether a pass whose rows differ by these patches saw just the same as the last one.
+    fn shows_patches(&self, patches: &[Patch]) -> bool
+        requires { ArePatches self.now.records patches.now }
+        ensures { (history : History) → IsViewOf history self.now → MatchBool result
+            (last_stats history ≡ patched_stats self.now.records patches.now)
+            (last_stats history ≢ patched_stats self.now.records patches.now) }
+    {
+        all_shown(self.chunks.slots(), patches)
+    }
+
+    /// The view after a pass at this second, whose rows differ by these patches, and which saw something else than the
+    /// one before it.
+    fn patched_by(&self, patches: &[Patch], second: i64) -> Result<View, AllocError>
+        requires tick { self.now.tick < max_tick }
+        requires fit { ArePatches self.now.records patches.now }
+        requires second { IsTrue (is_count second) }
+        requires lawful { IsTrue (list_all is_lawful_row (patched self.now.records patches.now)) }
+        ensures { (history : History) → IsViewOf history self.now
+            → IfOk result (IsViewOf
+            (history ++ listing_of (patched self.now.records patches.now) second ∷ [])) }
+    {
+        let at = Moment {
+            tick: self.tick + 1,
+            second,
+        };
+        let alloc = self.chunks.allocator();
+        let (chunks, moves) = chunks_patched(alloc, self.chunks.slots(), patches, &at)?;
         let order = self.order.after(alloc, &moves, self.tick == 0)?;
         Ok(View {
             tick: at.tick,

@@ -15,3 +15,5 @@ mod Kept
 mod BelowRun
 mod Glancing
 mod GlanceRows
+mod Joined
+mod GlanceSeen

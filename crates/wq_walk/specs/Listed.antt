@@ -7,6 +7,7 @@ use Rattle.std.specs.declared.alloc.Global.{Global}
 use Rattle.wq_crawl.specs.declared.tree.TreeFault.{TreeFault}
 use Rattle.wq_crawl.specs.declared.tree.TreeFault.TheVariants.{Unreadable}
 use Rattle.wq_view.specs.Again.{seen_rows}
+use Rattle.wq_record.specs.RecordData.{RecordData}
 use Rattle.wq_record.specs.Seen.{SeenData}
 use Rattle.wq_walk.specs.declared.part.Part.{Part}
 use Rattle.wq_walk.specs.declared.piece.Piece.{Piece}
@@ -33,6 +34,10 @@ walked_parts walked = piece_parts (walked_pieces walked)
 -- the rows that were found, one piece after the other
 abbrev pub walked_rows : List Rows → List SeenData
 walked_rows walked = flat_map (λ rows. found_rows rows.found) walked
+
+-- the records of all pieces, one piece after the other
+abbrev pub records_of_pieces : List Rows → List RecordData
+records_of_pieces walked = flat_map (λ rows. piece_records rows.piece) walked
 
 -- the rows that the records of all pieces say
 abbrev pub rows_of_pieces : List Rows → List SeenData

@@ -3,7 +3,7 @@
 ghost use Rattle.std.specs.Prelude.{◌≡◌, ◌-◌, ◌≤◌, ◌++◌, [], false, ℕ, drop, length, nat_le, nat_lt, take, ◌&&◌};
 ghost use Rattle.std.specs.Prelude.{IfErr, IfOk, IfSome, IsTrue, OnOk};
 ghost use Rattle.std.specs.List.{list_all};
-ghost use Rattle.wq_crawl.specs.Tree.{is_of_device, rows_listed};
+ghost use Rattle.wq_crawl.specs.Tree.{IsFit, is_of_device, rows_listed};
 ghost use Rattle.wq_view.specs.Again.{seen_rows};
 ghost use Rattle.wq_view.specs.Below.{is_below};
 ghost use Rattle.wq_view.specs.Limit.{max_listing_rows};
@@ -22,6 +22,7 @@ ghost use Rattle.wq_walk.specs.Walk.{IsDone, name_of_path};
 
 use crate::directory::{Directory, Step};
 use crate::disk::Disk;
+use crate::listing::patched_listing;
 use crate::path::with_slash;
 use crate::piece::whole_piece;
 use crate::progress::Progress;
@@ -30,7 +31,7 @@ use crate::walk::Walk;
 use std::alloc::{AllocError, Global};
 use std::str;
 use wq_crawl::{Listing, TreeFault};
-use wq_view::{Kind, Known, Recent, Record, Seen, View};
+use wq_view::{Kind, Recent, Record, Seen, View};
 
 /// A glance that has not ended yet.
 #[derive(Drop)]
@@ -59,6 +60,7 @@ pub(crate) fn glanced<D: Disk>(
         IsTrue (list_all is_lawful_row (rows_listed last.now.records listing))) }
     ensures few { IfOk result (λ listing.
         length (rows_listed last.now.records listing) ≤ max_listing_rows) }
+    ensures fit { IfOk result (IsFit last.now.records) }
     ensures glance { IfOk result (λ listing. IsGlancedAt (D.says disk.now) (D.has disk.now)
         last.now.records root.now (rows_listed last.now.records listing)) }
     ensures rooted { IfOk result (λ _. IsRooted (D.says disk.now) root.now) }
@@ -99,7 +101,11 @@ fn rows_seen<'a, D: Disk>(
     glance.run(disk, top)?;
     let Glance { walk, .. } = glance;
     match disk.stat(root)? {
-        Some(_) => Ok(walk.rows),
+        Some(_) => {
+            let mut rows = walk.rows;
+            rows.finish()?;
+            Ok(rows)
+        }
         None => Err(TreeFault::Unreadable),
     }
 }
@@ -113,13 +119,15 @@ fn listing_of(alloc: Global, last: &View, rows: Rows<'_>) -> Result<Listing, Tre
         IsTrue (list_all is_lawful_row (rows_listed last.now.records listing))) }
     ensures few { IfOk result (λ listing.
         length (rows_listed last.now.records listing) ≤ max_listing_rows) }
+    ensures fit { IfOk result (IsFit last.now.records) }
     ensures fault { IfErr result (λ fault. is_of_device fault ≡ false) }
 {
-    let _ = last;
     if rows.are_again() {
         return Ok(Listing::Same);
     }
-    Ok(Listing::Rows(rows.into_rows(alloc)?))
+    let mut patches = Vec::new(alloc);
+    rows.put(0, &mut patches)?;
+    Ok(patched_listing(alloc, last, patches)?)
 }
 
 impl<'a> Glance<'a, '_> {
@@ -206,16 +214,12 @@ impl<'a> Glance<'a, '_> {
             ++ seen_rows (take (end - start) (drop start self.old.last.now.records))) }
         ensures fault { IfErr result (λ fault. is_of_device fault ≡ false) }
     {
-        if self.walk.rows.pass(start, end) {
+        if self.walk.rows.pass(start, end)? {
             return Ok(());
         }
-        let alloc = self.walk.alloc;
         let records = self.last.records_from(start);
-        let more = records.rows(alloc, end.saturating_sub(start))?;
-        self.walk.rows.unfold(alloc)?;
-        self.walk.rows.add_all(more)?;
-        self.walk.known = Known::of(self.last.records_from(end));
-        Ok(())
+        let more = records.rows(self.walk.alloc, end.saturating_sub(start))?;
+        self.walk.rows.add_all(more)
     }
 
     /// Notes the directory that was listed last, if its row is not as its record says.
@@ -223,7 +227,7 @@ impl<'a> Glance<'a, '_> {
         ensures walk { self.new.walk ≡ self.old.walk }
         ensures last { self.new.last.now ≡ self.old.last.now }
     {
-        // As long as no rows are made, all is as the records say.
+        // Where no row is made, all is as the record says.
         let Some(row) = self.walk.rows.last() else {
             return Ok(());
         };

@@ -2,11 +2,12 @@
 ghost use Rattle.std.specs.Prelude.{◌≡◌, false, ◌+◌, ◌≤◌, ◌<◌, ◌++◌, length, take, IfErr, IfOk, IsTrue};
 ghost use Rattle.std.specs.List.{list_all};
 ghost use Rattle.wq_crawl.specs.declared.tree.TreeFault.TheVariants.{TooManyRows};
-ghost use Rattle.wq_crawl.specs.Tree.{is_of_device, rows_listed};
+ghost use Rattle.wq_crawl.specs.Tree.{IsFit, is_of_device, rows_listed};
 ghost use Rattle.wq_view.specs.Limit.{max_listing_rows};
+ghost use Rattle.wq_view.specs.Patch.{patched};
 ghost use Rattle.wq_record.specs.Seen.{is_lawful_row};
 ghost use Rattle.wq_walk.specs.Listed.{AreWalks, IsListed, IsRooted, IsUnread, IsWalked, piece_parts};
-ghost use Rattle.wq_walk.specs.Listed.{rows_of_pieces, walked_pieces, walked_rows};
+ghost use Rattle.wq_walk.specs.Listed.{records_of_pieces, rows_of_pieces, walked_pieces, walked_rows};
 ghost use Rattle.wq_walk.specs.Tiles.{AreTiles};
 ghost use Rattle.wq_walk.specs.Told.{HasStat, IsRootFault};
 
@@ -21,7 +22,7 @@ use std::alloc::{AllocError, Global};
 use std::thread::Threads;
 use wq_base::Workers;
 use wq_crawl::{Listing, TreeFault};
-use wq_view::{MAX_LISTING_ROWS, Seen, View};
+use wq_view::{MAX_LISTING_ROWS, Patch, Seen, View};
 
 /// The rows of the files below a root that was not listed before.
 pub(crate) fn first_rows<T: Threads, D: Disk + Sync>(
@@ -60,6 +61,7 @@ pub(crate) fn rows_again<T: Threads, D: Disk + Sync>(
         IsTrue (list_all is_lawful_row (rows_listed last.now.records listing))) }
     ensures few { IfOk result (λ listing.
         length (rows_listed last.now.records listing) ≤ max_listing_rows) }
+    ensures fit { IfOk result (IsFit last.now.records) }
     ensures listed { IfOk result (λ listing. IsListed (D.says disk.now) (D.has disk.now) root.now
         (rows_listed last.now.records listing)) }
     ensures rooted { IfOk result (λ _. IsRooted (D.says disk.now) root.now) }
@@ -137,24 +139,71 @@ fn listing_of(alloc: Global, last: &View, walked: Vec<Rows<'_>>) -> Result<Listi
         IsTrue (list_all is_lawful_row (rows_listed last.now.records listing))) }
     ensures few { IfOk result (λ listing.
         length (rows_listed last.now.records listing) ≤ max_listing_rows) }
+    ensures fit { IfOk result (IsFit last.now.records) }
     ensures fault { IfErr result (λ fault. is_of_device fault ≡ false) }
 {
-    let _ = last;
+    if !are_few(&walked) {
+        return Err(TreeFault::TooManyRows);
+    }
     if are_again(&walked) {
         return Ok(Listing::Same);
     }
-    Ok(Listing::Rows(joined(alloc, walked)?))
+    let patches = patches_of(alloc, walked)?;
+    Ok(patched_listing(alloc, last, patches)?)
 }
 
-/// Whether in each piece the files were found as its records say, and they are no more than a pass takes.
-fn are_again(walked: &[Rows<'_>]) -> bool
-    ensures same { IsTrue result → walked_rows walked.now ≡ rows_of_pieces walked.now }
-    ensures few { IsTrue result → length (walked_rows walked.now) ≤ max_listing_rows }
+/// The listing with these patches of a view's records. It has rows of all files if the patches do not fit the view. They
+/// may not fit if the tree changed meanwhile.
+pub(crate) fn patched_listing(
+    alloc: Global,
+    last: &View,
+    patches: Vec<Patch>,
+) -> Result<Listing, AllocError>
+    ensures all { IfOk result (λ listing. rows_listed last.now.records listing
+        ≡ patched last.now.records patches.items) }
+    ensures fit { IfOk result (IsFit last.now.records) }
+{
+    if last.fits(&patches) {
+        return Ok(Listing::Patches(patches));
+    }
+    let rows = last.records().patched(alloc, &patches)?;
+    Ok(Listing::Rows(rows))
+}
+
+/// Whether a pass takes so many files.
+fn are_few(walked: &[Rows<'_>]) -> bool
+    ensures { IsTrue result → length (walked_rows walked.now) ≤ max_listing_rows }
 {
     let mut count = 0usize;
     for rows in walked {
         count += rows.len();
-        if count > MAX_LISTING_ROWS || !rows.are_again() {
+        if count > MAX_LISTING_ROWS {
+            return false;
+        }
+    }
+    true
+}
+
+/// The patches of all pieces, one piece after the other.
+fn patches_of(alloc: Global, pieces: Vec<Rows<'_>>) -> Result<Vec<Patch>, AllocError>
+    ensures { IfOk result (λ patches.
+        patched (records_of_pieces pieces.entry.items) patches.items
+        ≡ walked_rows pieces.entry.items) }
+{
+    let mut patches = Vec::new(alloc);
+    let mut kept = 0;
+    for rows in pieces {
+        kept = rows.put(kept, &mut patches)?;
+    }
+    Ok(patches)
+}
+
+/// Whether in each piece the files were found as its records say.
+fn are_again(walked: &[Rows<'_>]) -> bool
+    ensures { IsTrue result → walked_rows walked.now ≡ rows_of_pieces walked.now }
+{
+    for rows in walked {
+        if !rows.are_again() {
             return false;
         }
     }

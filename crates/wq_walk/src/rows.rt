@@ -1,12 +1,14 @@
-//! The rows of a listing that is being made. Other modules find the files.
-ghost use Rattle.std.specs.Prelude.{◌≡◌, false, ◌+◌, ◌-◌, ◌≤◌, ◌<◌, ◌++◌, ◌∷◌, [], drop, length, take, IfErr, IfOk, OnOk, IsTrue};
+//! The files of a piece that a listing found so far. Other modules find them.
+ghost use Rattle.std.specs.Prelude.{◌≡◌, false, ◌+◌, ◌-◌, ◌≤◌, ◌<◌, ◌++◌, ◌∷◌, [], drop, length, take, IfErr, IfOk, IfSome, OnOk, IsTrue};
 ghost use Rattle.std.specs.List.{list_all};
 ghost use Rattle.wq_crawl.specs.declared.tree.TreeFault.TheVariants.{TooManyRows};
 ghost use Rattle.wq_crawl.specs.Tree.{is_of_device};
+ghost use Rattle.wq_record.specs.Name.{is_valid_name};
 ghost use Rattle.wq_view.specs.Again.{seen_rows};
 ghost use Rattle.wq_view.specs.Limit.{max_listing_rows};
+ghost use Rattle.wq_view.specs.Making.{IsJoinedTo};
 ghost use Rattle.wq_record.specs.Seen.{is_lawful_row};
-ghost use Rattle.wq_walk.specs.Found.{AreRows, IsFoundOf, found_rows};
+ghost use Rattle.wq_walk.specs.Found.{IsFoundOf, found_rows};
 ghost use Rattle.wq_walk.specs.Part.{IsListing, is_in, is_row_in, whole_part};
 ghost use Rattle.wq_walk.specs.Tiles.{piece_records};
 ghost use Rattle.wq_walk.specs.Walk.{row_with_stat};
@@ -16,22 +18,14 @@ use crate::piece::Piece;
 use crate::stat::Stat;
 use std::alloc::{AllocError, Global};
 use wq_crawl::TreeFault;
-use wq_view::{Again, Known, MAX_LISTING_ROWS, Seen};
+use wq_view::{Again, MAX_LISTING_ROWS, Patch, Seen, SharedBytes};
 
-/// The files of a piece that were found so far.
-#[derive(Drop)]
-pub(crate) enum Found<'a> {
-    /// The first files of the piece's records, as the records say. No rows are made for them.
-    Again(Again<'a>),
-    /// These rows.
-    Rows(Vec<Seen>),
-}
-
-/// At most 1,000,000 rows of a piece. A pass takes each of them.
+/// At most 1,000,000 files of a piece that were found so far. A pass takes each of them. Rows are made only for those
+/// that are not as the piece's records say.
 #[derive(Drop)]
 pub(crate) struct Rows<'a> {
     piece: Piece<'a>,
-    found: Found<'a>,
+    found: Again<'a>,
     ghost lawful: { IsTrue (list_all is_lawful_row (found_rows found)) },
     ghost few: { length (found_rows found) ≤ max_listing_rows },
     ghost within: { IsTrue (list_all (is_row_in piece.part) (found_rows found)) },
@@ -39,70 +33,61 @@ pub(crate) struct Rows<'a> {
 }
 
 impl<'a> Rows<'a> {
-    /// No row of a piece.
-    pub(crate) fn of(piece: Piece<'a>) -> Rows<'a>
+    /// No file of a piece.
+    pub(crate) fn of(alloc: Global, piece: Piece<'a>) -> Rows<'a>
         ensures piece { result.piece ≡ piece.entry }
         ensures none { found_rows result.found ≡ [] }
     {
         Rows {
             piece,
-            found: Found::Again(Again::of(piece.records, piece.count)),
+            found: Again::of(alloc, piece.records, piece.count),
         }
     }
 
-    /// The part of the rows.
+    /// The part of the files.
     pub(crate) fn part(&self) -> Part<'a>
         ensures { result ≡ self.now.piece.part }
     {
         self.piece.part
     }
 
-    /// The number of rows.
+    /// The number of files.
     pub(crate) fn len(&self) -> usize
         ensures { result ≡ length (found_rows self.now.found) }
     {
-        match &self.found {
-            Found::Again(again) => again.len(),
-            Found::Rows(rows) => rows.len(),
-        }
+        self.found.len()
     }
 
-    /// Adds a file after the others, if no rows were made so far and the piece's next record says just this of it.
-    /// Returns whether it was added.
-    pub(crate) fn keep(&mut self, name: &[u8], stat: &Stat) -> bool
+    /// Adds a file after the others, if the piece's record of its name says just this of it. Returns whether it was added.
+    pub(crate) fn keep(&mut self, name: &[u8], stat: &Stat) -> Result<bool, AllocError>
         requires { IsTrue (is_in self.old.piece.part name.now) }
         ensures piece { self.new.piece ≡ self.old.piece }
-        ensures row { IsTrue result → found_rows self.new.found
-            ≡ found_rows self.old.found ++ (row_with_stat name.now stat.now ∷ []) }
-        ensures same { result ≡ false → found_rows self.new.found ≡ found_rows self.old.found }
+        ensures row { IfOk result (λ kept. IsTrue kept → found_rows self.new.found
+            ≡ found_rows self.old.found ++ (row_with_stat name.now stat.now ∷ [])) }
+        ensures same { IfOk result (λ kept. kept ≡ false
+            → found_rows self.new.found ≡ found_rows self.old.found) }
     {
         if self.len() >= MAX_LISTING_ROWS {
-            return false;
+            return Ok(false);
         }
-        match &mut self.found {
-            Found::Again(again) => again.keep(name, stat.kind, stat.size, stat.mtime_ms),
-            Found::Rows(_) => false,
-        }
+        self.found.keep(name, stat.kind, stat.size, stat.mtime_ms)
     }
 
-    /// Makes rows of the files that were found so far, if that was not done yet. Returns the records after theirs, if
-    /// it is done now.
-    pub(crate) fn unfold(&mut self, alloc: Global) -> Result<Option<Known<'a>>, AllocError>
-        ensures piece { self.new.piece ≡ self.old.piece }
-        ensures same { found_rows self.new.found ≡ found_rows self.old.found }
-        ensures rows { OnOk result (AreRows self.new.found) }
+    /// The bytes of a name that a pass takes, shared with the piece's next record, if that has it.
+    pub(crate) fn shared(&self, name: &[u8]) -> Result<Option<SharedBytes>, AllocError>
+        ensures { IfOk result (λ shared. IfSome shared (λ bytes.
+            (bytes ≡ name.now) × IsTrue (is_valid_name name.now))) }
     {
-        let Found::Again(again) = &self.found else {
-            return Ok(None);
-        };
-        let known = again.known();
-        self.found = Found::Rows(again.rows(alloc)?);
-        Ok(Some(known))
+        self.found.shared(name)
     }
 
-    /// Adds a row after the others, which were made.
+    /// Whether the name of the piece's next record begins with these bytes.
+    pub(crate) fn begins_with(&self, bytes: &[u8]) -> bool {
+        self.found.begins_with(bytes)
+    }
+
+    /// Adds a row after the others.
     pub(crate) fn add(&mut self, row: Seen) -> Result<(), TreeFault>
-        requires made { AreRows self.old.found }
         requires lawful { IsTrue (is_lawful_row row) }
         requires within { IsTrue (is_row_in self.old.piece.part row) }
         ensures piece { self.new.piece ≡ self.old.piece }
@@ -115,38 +100,28 @@ impl<'a> Rows<'a> {
         if MAX_LISTING_ROWS <= self.len() {
             return Err(TreeFault::TooManyRows);
         }
-        match &mut self.found {
-            Found::Again(_) => unreachable!(),
-            Found::Rows(rows) => rows.push(row).map_err(AllocError::from)?,
-        }
+        self.found.add(row)?;
         Ok(())
     }
 
-    /// Keeps the files of the piece's records from one place up to another, if no rows were made so far and no file that
-    /// exists is left before them.
-    pub(crate) fn pass(&mut self, start: usize, end: usize) -> bool
+    /// Keeps the files of the piece's records from one place up to another, if no record after the first place is passed.
+    /// Returns whether it was done.
+    pub(crate) fn pass(&mut self, start: usize, end: usize) -> Result<bool, AllocError>
         requires { self.old.piece.part ≡ whole_part }
         ensures piece { self.new.piece ≡ self.old.piece }
-        ensures rows { IsTrue result → found_rows self.new.found ≡ found_rows self.old.found
-            ++ seen_rows (take (end - start) (drop start (piece_records self.old.piece))) }
-        ensures same { result ≡ false → found_rows self.new.found ≡ found_rows self.old.found }
+        ensures rows { IfOk result (λ kept. IsTrue kept → found_rows self.new.found
+            ≡ found_rows self.old.found
+            ++ seen_rows (take (end - start) (drop start (piece_records self.old.piece)))) }
+        ensures same { IfOk result (λ kept. kept ≡ false
+            → found_rows self.new.found ≡ found_rows self.old.found) }
     {
-        let Found::Again(again) = &self.found else {
-            return false;
-        };
-        match again.kept(start, end) {
-            Some(after) if after.len() <= MAX_LISTING_ROWS => {
-                self.found = Found::Again(after);
-                true
-            }
-            _ => false,
-        }
+        self.found.drop_to(start)?;
+        Ok(self.found.keep_to(start, end, MAX_LISTING_ROWS))
     }
 
-    /// Adds rows after the others, which were made.
-    pub(crate) fn add_all(&mut self, mut rest: Vec<Seen>) -> Result<(), TreeFault>
+    /// Adds rows after the others.
+    pub(crate) fn add_all(&mut self, rest: Vec<Seen>) -> Result<(), TreeFault>
         requires part { self.old.piece.part ≡ whole_part }
-        requires made { AreRows self.old.found }
         requires lawful { IsTrue (list_all is_lawful_row rest.items) }
         ensures piece { self.new.piece ≡ self.old.piece }
         ensures rows { OnOk result (found_rows self.new.found
@@ -158,41 +133,47 @@ impl<'a> Rows<'a> {
         if self.len().saturating_add(rest.len()) > MAX_LISTING_ROWS {
             return Err(TreeFault::TooManyRows);
         }
-        match &mut self.found {
-            Found::Again(_) => unreachable!(),
-            Found::Rows(rows) => rows.append(&mut rest).map_err(AllocError::from)?,
-        }
+        self.found.add_all(rest)?;
         Ok(())
     }
 
-    /// The row that was added last, if rows were made.
+    /// The row that was added last, if no record was passed after it.
     pub(crate) fn last(&self) -> Option<&Seen> {
-        match &self.found {
-            Found::Again(_) => None,
-            Found::Rows(rows) => rows.last(),
-        }
+        self.found.last_row()
     }
 
-    /// Whether no rows were made, and all files of the piece's records were found.
+    /// Ends the piece: the files of the records that are not passed were not found.
+    pub(crate) fn finish(&mut self) -> Result<(), AllocError>
+        ensures piece { self.new.piece ≡ self.old.piece }
+        ensures same { found_rows self.new.found ≡ found_rows self.old.found }
+    {
+        self.found.finish()
+    }
+
+    /// Whether all files of the piece's records were found as they say, and no others.
     pub(crate) fn are_again(&self) -> bool
         ensures { IsTrue result → found_rows self.now.found
             ≡ seen_rows (piece_records self.now.piece) }
     {
-        match &self.found {
-            Found::Again(again) => again.is_whole(),
-            Found::Rows(_) => false,
-        }
+        self.found.is_same()
     }
 
-    /// The rows, in the order in which they were added.
+    /// The rows, in the order in which the files were found.
     pub(crate) fn into_rows(self, alloc: Global) -> Result<Vec<Seen>, AllocError>
         ensures all { IfOk result (λ rows. rows.items ≡ found_rows self.entry.found) }
         ensures listing { IfOk result (λ rows. IsListing self.entry.piece.part rows.items) }
     {
         let Rows { piece: _, found } = self;
-        match found {
-            Found::Again(again) => again.rows(alloc),
-            Found::Rows(rows) => Ok(rows),
-        }
+        found.rows(alloc)
+    }
+
+    /// Puts the patches after those of the pieces before, after the last of which so many records are kept. Returns the
+    /// number of records that are kept after the last patch.
+    pub(crate) fn put(self, kept: usize, all: &mut Vec<Patch>) -> Result<usize, AllocError>
+        ensures { IfOk result (IsJoinedTo (piece_records self.entry.piece)
+            (found_rows self.entry.found) kept all.old.items all.new.items) }
+    {
+        let Rows { piece: _, found } = self;
+        found.put(kept, all)
     }
 }

@@ -24,7 +24,7 @@ use crate::stat::Stat;
 use std::alloc::{AllocError, Global};
 use std::mem;
 use wq_crawl::TreeFault;
-use wq_view::{Known, Seen, SharedBytes, is_valid_name};
+use wq_view::{Seen, SharedBytes, is_valid_name};
 
 /// A walk that has not ended yet. A glance is a walk that need not enter each directory.
 #[derive(Drop)]
@@ -35,14 +35,12 @@ pub(crate) struct Walk<'a, 'p> {
     /// The directories above the one in which the walk is, from the root down.
     pub(crate) above: Vec<Directory>,
     pub(crate) rows: Rows<'a>,
-    /// The records after those that the rows have, to share names with.
-    pub(crate) known: Known<'a>,
     pub(crate) progress: &'p Progress<'p>,
 }
 
-/// The rows of the files below a root whose names are in a piece's part. A pass takes each row. As long as the files
-/// are as the piece's records say, no rows are made. The rows that are made share the names of these records. The
-/// root's path ends in a slash.
+/// The rows of the files below a root whose names are in a piece's part. A pass takes each row. Rows are made only for
+/// the files that are not as the piece's records say, if the tree does not change meanwhile. They share the names of
+/// these records. The root's path ends in a slash.
 ///
 /// The walk reads each directory whole, and then looks at its entries. It follows no links, except one that is the
 /// root. It leaves out an entry at which it cannot look, such as one that is deleted meanwhile, and an entry whose name
@@ -68,7 +66,9 @@ pub(crate) fn rows_in<'a, D: Disk>(
 {
     let (mut walk, top) = Walk::begin(disk, alloc, root, piece, progress)?;
     walk.run(disk, top)?;
-    Ok(walk.rows)
+    let mut rows = walk.rows;
+    rows.finish()?;
+    Ok(rows)
 }
 
 /// The directory of a root, before the walk looks at any of its names.
@@ -118,8 +118,7 @@ impl<'a, 'p> Walk<'a, 'p> {
             block,
             path: TreePath::new(alloc, root.len()),
             above: Vec::new(alloc),
-            rows: Rows::of(piece),
-            known: Known::of(piece.records),
+            rows: Rows::of(alloc, piece),
             progress,
         };
         Ok((walk, top))
@@ -261,7 +260,7 @@ impl<'a, 'p> Walk<'a, 'p> {
         if !self.rows.part().has(self.path.name()) {
             return Ok(is_valid_name(self.path.name()));
         }
-        if !self.rows.keep(self.path.name(), stat) && !self.add_new(here, stat)? {
+        if !self.rows.keep(self.path.name(), stat)? && !self.add_new(here, stat)? {
             return Ok(false);
         }
         self.progress.count(&self.rows)?;
@@ -269,7 +268,7 @@ impl<'a, 'p> Walk<'a, 'p> {
     }
 
     /// Adds the row of the file at the path, which has this stat, if a pass takes its name, and returns whether one
-    /// does. From here on rows are made.
+    /// does.
     fn add_new(&mut self, here: &mut Directory, stat: &Stat) -> Result<bool, TreeFault>
         requires { IsTrue (is_in self.old.rows.piece.part
             (name_of_path self.old.path.root_len self.old.path.bytes.items)) }
@@ -288,10 +287,7 @@ impl<'a, 'p> Walk<'a, 'p> {
             × (found_rows self.new.rows.found ≡ found_rows self.old.rows.found)) }
         ensures fault { IfErr result (λ fault. is_of_device fault ≡ false) }
     {
-        if let Some(known) = self.rows.unfold(self.alloc)? {
-            self.known = known;
-        }
-        let Some(name) = shared_name(self.alloc, &mut self.known, &self.path, here)? else {
+        let Some(name) = shared_name(self.alloc, &self.rows, &self.path, here)? else {
             return Ok(false);
         };
         self.rows.add(row_with_stat(name, stat))?;
@@ -330,7 +326,7 @@ impl<'a, 'p> Walk<'a, 'p> {
 /// names of the directory that is walked.
 fn shared_name(
     alloc: Global,
-    known: &mut Known<'_>,
+    rows: &Rows<'_>,
     path: &TreePath,
     here: &mut Directory,
 ) -> Result<Option<SharedBytes>, AllocError>
@@ -342,10 +338,10 @@ fn shared_name(
         (λ bytes. (bytes ≡ name_of_path path.now.root_len path.now.bytes.items)
         × IsTrue (is_valid_name bytes))) }
 {
-    if let Some(known) = known.shared(path.name())? {
+    if let Some(known) = rows.shared(path.name())? {
         return Ok(Some(known));
     }
-    let are_later_new = !known.begins_with(here.below(path.root_len()));
+    let are_later_new = !rows.begins_with(here.below(path.root_len()));
     let bytes = here.new_name(alloc, path.root_len(), path.name(), are_later_new)?;
     // The block goes on after a name that no pass takes.
     Ok(is_valid_name(path.name()).then_some(bytes))

@@ -1,7 +1,7 @@
 //! The tree on disk, for a server that lists roots again and again. The walker keeps nothing of the listings.
 ghost use Rattle.std.specs.Prelude.{◌≡◌, ◌≤◌, length, IfErr, IfOk, IsTrue};
 ghost use Rattle.std.specs.List.{list_all};
-ghost use Rattle.wq_crawl.specs.Tree.{IsCounted, rows_listed};
+ghost use Rattle.wq_crawl.specs.Tree.{IsCounted, IsFit, rows_listed};
 ghost use Rattle.wq_view.specs.Limit.{max_listing_rows};
 ghost use Rattle.wq_record.specs.Seen.{is_lawful_row};
 ghost use Rattle.wq_walk.specs.Glance.{IsGlancedAt};
@@ -118,6 +118,7 @@ impl<T: Threads + Drop, D: Disk + Sync + Drop> Walker<T, D> {
             IsTrue (list_all is_lawful_row (rows_listed last.now.records listing))) }
         ensures few { IfOk result (λ listing.
             length (rows_listed last.now.records listing) ≤ max_listing_rows) }
+        ensures fit { IfOk result (IsFit last.now.records) }
         ensures walked { IfOk result (λ listing.
             IsListed (D.says self.old.disk) (D.has self.old.disk) root.now
             (rows_listed last.now.records listing)) }
@@ -155,6 +156,7 @@ impl<T: Threads + Drop, D: Disk + Drop> Walker<T, D> {
             IsTrue (list_all is_lawful_row (rows_listed last.now.records listing))) }
         ensures few { IfOk result (λ listing.
             length (rows_listed last.now.records listing) ≤ max_listing_rows) }
+        ensures fit { IfOk result (IsFit last.now.records) }
         ensures glance { IfOk result (λ listing.
             IsGlancedAt (D.says self.old.disk) (D.has self.old.disk) last.now.records root.now
             (rows_listed last.now.records listing)) }
@@ -196,6 +198,7 @@ impl<T: Threads + Drop> Tree for Walker<T, FileDisk> {
             IsTrue (list_all is_lawful_row (rows_listed last.now.records listing))) }
         ensures few { IfOk result (λ listing.
             length (rows_listed last.now.records listing) ≤ max_listing_rows) }
+        ensures fit { IfOk result (IsFit last.now.records) }
         ensures walked { IfOk result (λ listing.
             IsListedHere root.now (rows_listed last.now.records listing)) }
     {
@@ -213,6 +216,7 @@ impl<T: Threads + Drop> Tree for Walker<T, FileDisk> {
             IsTrue (list_all is_lawful_row (rows_listed last.now.records listing))) }
         ensures few { IfOk result (λ listing.
             length (rows_listed last.now.records listing) ≤ max_listing_rows) }
+        ensures fit { IfOk result (IsFit last.now.records) }
         ensures glance { IfOk result (λ listing. IsGlancedHere last.now.records root.now
             (rows_listed last.now.records listing)) }
     {

@@ -1,5 +1,5 @@
 -- A record whose file exists, one whose file does not, and none.
-use Rattle.std.proofs.Common.{◌≡◌, ◌+◌, ◌++◌, ◌∷◌, [], IsTrue, drop, length, take, ap, sym, subst, ◌∙◌, arith}
+use Rattle.std.proofs.Common.{◌+◌, IsTrue, drop, length, take, ap, sym, subst, ◌∙◌, arith}
 use Rattle.std.specs.List.{list_all}
 use Rattle.wq_view.specs.Again.{seen_row, seen_rows}
 use Rattle.wq_view.specs.Records.{records_left}

@@ -1,17 +1,20 @@
--- The files are those of the last view.
-use Rattle.std.proofs.Common.{IfSome, IsTrue, MatchOption, MatchResult, ap, rules, subst, sym, ◌∙◌, w64}
+-- The tree gave rows, or patches, or the files are those of the last view.
+use Rattle.std.proofs.Common.{◌≡◌, None, IfSome, IsTrue, MatchResult, ap, rules, subst, sym, ◌∙◌, w64}
 use mir.Val.{SFits}
 use Rattle.std.proofs.lemmas.Int.{to_z-of_z}
+use Rattle.wq_record.specs.Seen.{is_count}
 use Rattle.wq_view.specs.Again.{seen_rows}
-use Rattle.wq_view.specs.Listing.{is_of_whole, listing_fault}
-use Rattle.wq_crawl.specs.declared.tree.Listing.TheVariants.{Same}
-use Rattle.wq_crawl.specs.Crawl.{CrawlerData, IsNoPassOver, IsPassOver, IsStillOver, ListsAgain}
-use Rattle.wq_crawl.proofs.Crawling.{still_fault, still_over}
+use Rattle.wq_view.specs.Listing.{is_of_whole, listing_fault, listing_of}
+use Rattle.wq_view.specs.Patch.{patched}
+use Rattle.wq_crawl.specs.declared.tree.Listing.TheVariants.{Patches, Rows, Same}
+use Rattle.wq_crawl.specs.declared.relisted.Relisted.TheVariants.{Patched}
+use Rattle.wq_crawl.specs.Crawl.{CrawlerData, IsNoPassOver, IsRelisted, ListsAgain}
+use Rattle.wq_crawl.proofs.Crawling.{patches_fault, patches_over, rows_fault, rows_over, still_fault, still_over}
 use Rattle.wq_crawl.proofs.crawler.Crawler.list_again.Goals as goal
-use Rattle.wq_crawl.proofs.crawler.Crawler.list_again.Goals.{in-None, in-Some}
+use Rattle.wq_crawl.proofs.crawler.Crawler.list_again.Goals.{in-Rows+in-Ok-of_lawful, in-Rows+in-Err-of_lawful, in-Patches+in-None, in-Patches+in-Some, in-Same+in-None-fault_again, in-Same+in-Some-fault_again}
 
-pub returns-in_default-clause-listed : goal.returns-in_default-clause-listed
-returns-in_default-clause-listed g c =
+pub returns-clause-listed : goal.returns-clause-listed
+returns-clause-listed g c =
     let it = c.self.inside in
     let text = c.args.root.now in
     let begun = c.let_go.new.self in
@@ -22,16 +25,43 @@ returns-in_default-clause-listed g c =
     let back = to_z-of_z w64 second fits in
     let shown : CrawlerData = record { events = it.publisher; clock = g.S.Seconds.told it.seconds; listed = g.T.Tree.listed it.tree; failed = g.T.Tree.failed it.tree } in
     let after : CrawlerData = record shown { clock = clock } in
-    let again : ListsAgain c.args.number text begun Same mid = subst (λ l. ListsAgain c.args.number text begun l mid) c.in_default.is c.in-Ok.ensures.listed in
-    elim c.match-fault_again.branch [
-      | in-None w ↦
-          subst (λ r. MatchResult r (λ pass. MatchOption pass (IsStillOver c.args.number text c.args.self.now after) (λ pass. IsPassOver text c.args.self.now pass after)) (λ fault. IsNoPassOver text c.args.self.now fault after)) (sym w.result-is)
-          (still_over c.args.number text c.args.self.now begun mid shown clock second c.let_go.ensures c.self.view_is c.listing.ensures.clock c.second-second.ensures again
-          (λ history view is lawful few. sym w.in-None.is ∙ c.fault_again.ensures.fault history view is lawful few ∙ ap (listing_fault (seen_rows view.records)) back) c.fault_again.ensures.same)
-      | in-Some w ↦
-          subst (λ r. MatchResult r (λ pass. MatchOption pass (IsStillOver c.args.number text c.args.self.now after) (λ pass. IsPassOver text c.args.self.now pass after)) (λ fault. IsNoPassOver text c.args.self.now fault after)) (sym w.result-is)
+    elim c.match-listing-2.branch [
+      | in-Rows+in-Ok-of_lawful w ↦
+          let again : ListsAgain c.args.number text begun (Rows w.in-Rows.rows) mid = subst (λ l. ListsAgain c.args.number text begun l mid) w.in-Rows.is c.in-Ok.ensures.listed in
+          subst (λ r. MatchResult r (λ relisted. IsRelisted c.args.number text c.args.self.now relisted after) (λ fault. IsNoPassOver text c.args.self.now fault after)) (sym w.result-is)
+          (rows_over c.args.number text c.args.self.now begun mid shown clock second c.let_go.ensures c.self.view_is c.listing.ensures.clock c.second-second.ensures w.in-Rows.rows.items w.in-Ok-of_lawful.pass again.0
+          (subst (λ z. listing_fault w.in-Rows.rows.items z ≡ None) back w.in-Ok-of_lawful.ensures.fault)
+          (w.in-Ok-of_lawful.ensures.pass ∙ ap (listing_of w.in-Rows.rows.items) back))
+      | in-Rows+in-Err-of_lawful w ↦
+          let again : ListsAgain c.args.number text begun (Rows w.in-Rows.rows) mid = subst (λ l. ListsAgain c.args.number text begun l mid) w.in-Rows.is c.in-Ok.ensures.listed in
+          subst (λ r. MatchResult r (λ relisted. IsRelisted c.args.number text c.args.self.now relisted after) (λ fault. IsNoPassOver text c.args.self.now fault after)) (sym w.result-is)
           (subst (λ f. IsNoPassOver text c.args.self.now f after) (sym w.no_pass.ensures)
-          (still_fault c.args.number text c.args.self.now begun mid shown clock second c.let_go.ensures c.self.view_is c.listing.ensures.clock c.second-second.ensures w.in-Some.fault again
-          (subst (λ o. IfSome o (λ fault. IsTrue (is_of_whole fault))) w.in-Some.is c.fault_again.ensures.whole)
-          (λ history view is lawful few. sym w.in-Some.is ∙ c.fault_again.ensures.fault history view is lawful few ∙ ap (listing_fault (seen_rows view.records)) back)))
+          (rows_fault c.args.number text c.args.self.now begun mid shown clock second c.let_go.ensures c.self.view_is c.listing.ensures.clock c.second-second.ensures w.in-Rows.rows.items w.in-Err-of_lawful.fault again.0 again.1 w.in-Err-of_lawful.ensures.whole
+          (ap (listing_fault w.in-Rows.rows.items) (sym back) ∙ w.in-Err-of_lawful.ensures.fault)))
+      | in-Patches+in-None w ↦
+          let again : ListsAgain c.args.number text begun (Patches w.in-Patches.patches) mid = subst (λ l. ListsAgain c.args.number text begun l mid) w.in-Patches.is c.in-Ok.ensures.listed in
+          subst (λ r. MatchResult r (λ relisted. IsRelisted c.args.number text c.args.self.now relisted after) (λ fault. IsNoPassOver text c.args.self.now fault after)) (sym w.result-is)
+          (subst (λ z. IsRelisted c.args.number text c.args.self.now (Patched w.in-Patches.patches z) after) (sym back)
+          (patches_over c.args.number text c.args.self.now begun mid shown clock second c.let_go.ensures c.self.view_is c.listing.ensures.clock c.second-second.ensures w.in-Patches.patches again
+          (λ records ps rise fit lawful few. sym w.in-None.is ∙ w.fault_of_patches.ensures.fault records ps rise fit lawful few ∙ ap (listing_fault (patched records ps)) back)
+          (subst (λ z. IsTrue (is_count z)) back (w.fault_of_patches.ensures.second w.in-None.is))))
+      | in-Patches+in-Some w ↦
+          let again : ListsAgain c.args.number text begun (Patches w.in-Patches.patches) mid = subst (λ l. ListsAgain c.args.number text begun l mid) w.in-Patches.is c.in-Ok.ensures.listed in
+          subst (λ r. MatchResult r (λ relisted. IsRelisted c.args.number text c.args.self.now relisted after) (λ fault. IsNoPassOver text c.args.self.now fault after)) (sym w.result-is)
+          (subst (λ f. IsNoPassOver text c.args.self.now f after) (sym w.no_pass-in-Some.ensures)
+          (patches_fault c.args.number text c.args.self.now begun mid shown clock second c.let_go.ensures c.self.view_is c.listing.ensures.clock c.second-second.ensures w.in-Patches.patches w.in-Some.fault again
+          (subst (λ o. IfSome o (λ fault. IsTrue (is_of_whole fault))) w.in-Some.is w.fault_of_patches.ensures.whole)
+          (λ records ps rise fit lawful few. sym w.in-Some.is ∙ w.fault_of_patches.ensures.fault records ps rise fit lawful few ∙ ap (listing_fault (patched records ps)) back)))
+      | in-Same+in-None-fault_again w ↦
+          let again : ListsAgain c.args.number text begun Same mid = subst (λ l. ListsAgain c.args.number text begun l mid) w.in-Same.is c.in-Ok.ensures.listed in
+          subst (λ r. MatchResult r (λ relisted. IsRelisted c.args.number text c.args.self.now relisted after) (λ fault. IsNoPassOver text c.args.self.now fault after)) (sym w.result-is)
+          (still_over c.args.number text c.args.self.now begun mid shown clock second c.let_go.ensures c.self.view_is c.listing.ensures.clock c.second-second.ensures again
+          (λ history view is lawful few. sym w.in-None-fault_again.is ∙ w.fault_again.ensures.fault history view is lawful few ∙ ap (listing_fault (seen_rows view.records)) back) w.fault_again.ensures.same)
+      | in-Same+in-Some-fault_again w ↦
+          let again : ListsAgain c.args.number text begun Same mid = subst (λ l. ListsAgain c.args.number text begun l mid) w.in-Same.is c.in-Ok.ensures.listed in
+          subst (λ r. MatchResult r (λ relisted. IsRelisted c.args.number text c.args.self.now relisted after) (λ fault. IsNoPassOver text c.args.self.now fault after)) (sym w.result-is)
+          (subst (λ f. IsNoPassOver text c.args.self.now f after) (sym w.no_pass-in-Some-fault_again.ensures)
+          (still_fault c.args.number text c.args.self.now begun mid shown clock second c.let_go.ensures c.self.view_is c.listing.ensures.clock c.second-second.ensures w.in-Some-fault_again.fault again
+          (subst (λ o. IfSome o (λ fault. IsTrue (is_of_whole fault))) w.in-Some-fault_again.is w.fault_again.ensures.whole)
+          (λ history view is lawful few. sym w.in-Some-fault_again.is ∙ w.fault_again.ensures.fault history view is lawful few ∙ ap (listing_fault (seen_rows view.records)) back)))
     ]

@@ -14,4 +14,4 @@ returns-in-Some-clause-listed g c =
     let number_is : Some c.args.number ≡ number_by_text c.args.root.now c.table.result.now = subst (λ n. Some n ≡ number_by_text c.args.root.now c.table.result.now) c.if-shown-number.true c.in-Some.ensures.number in
     let is_view = view_at it.publisher c.table.result.now c.args.root.now c.args.number c.in-Some.last.now c.table.ensures.table number_is c.in-Some.ensures.view in
     subst (λ (b : CrawlerData). MatchResult c.listed_again.result (λ listing. ListsAgain c.args.number c.args.root.now b listing after) (λ fault. Lists b.listed c.args.root.now (Err fault) after.listed)) c.self.view_is
-    (lists_again c.args.number c.args.root.now before after c.in-Some.last.now c.listed_again.result is_view c.listed_again.ensures.lawful c.listed_again.ensures.few c.listed_again.ensures.listed)
+    (lists_again c.args.number c.args.root.now before after c.in-Some.last.now c.listed_again.result is_view c.listed_again.ensures.lawful c.listed_again.ensures.few c.listed_again.ensures.fit c.listed_again.ensures.listed)
