@@ -31,7 +31,9 @@ mod KeptRuns
 mod PatchRuns
 mod Passed
 mod Joining
+mod Carried
 mod Apart
 mod Patches
 mod Stretches
+mod Counted
 mod PatchedViews

@@ -12,6 +12,7 @@ ghost use Rattle.wq_view.specs.Records.{records_left};
 use crate::making::Making;
 use crate::patch::Patch;
 use crate::records::Records;
+use crate::stretch::Stretch;
 use std::alloc::{AllocError, Global};
 use std::cmp::Ordering;
 use std::marker::Model;
@@ -94,11 +95,11 @@ impl<'a> Again<'a> {
         ensures same { IfOk result (λ kept. kept ≡ false → self.new.found ≡ self.old.found) }
         ensures failed { OnErr result (self.new.found ≡ self.old.found) }
     {
-        if self.keep_next(name, kind, size, mtime_ms) {
+        if self.keep_next(name, kind, size, mtime_ms)? {
             return Ok(true);
         }
         self.go_to(name)?;
-        Ok(self.keep_next(name, kind, size, mtime_ms))
+        self.keep_next(name, kind, size, mtime_ms)
     }
 
     /// The bytes of a name, shared with the next record, if that has it.
@@ -172,26 +173,49 @@ impl<'a> Again<'a> {
         next_of(self.left, self.count - self.passed)
     }
 
-    /// Adds the file of the next record, if a file is just as it says.
-    fn keep_next(&mut self, name: &[u8], kind: Kind, size: i64, mtime_ms: i64) -> bool
+    /// Adds the file of the next record, if a file is just as it says, and returns whether it is.
+    fn keep_next(
+        &mut self,
+        name: &[u8],
+        kind: Kind,
+        size: i64,
+        mtime_ms: i64,
+    ) -> Result<bool, AllocError>
         requires { length self.old.found < max_listing_rows }
         ensures records { self.new.records ≡ self.old.records }
-        ensures kept { IsTrue result → self.new.found ≡ self.old.found
-            ++ (record { name = name.now; kind = kind; size = size; mtime_ms = mtime_ms } ∷ []) }
-        ensures lawful { IsTrue result → IsTrue (is_lawful_row
-            (record { name = name.now; kind = kind; size = size; mtime_ms = mtime_ms })) }
-        ensures same { result ≡ false → self.new.found ≡ self.old.found }
+        ensures kept { IfOk result (λ kept. IsTrue kept → self.new.found ≡ self.old.found
+            ++ (record { name = name.now; kind = kind; size = size; mtime_ms = mtime_ms } ∷ [])) }
+        ensures lawful { IfOk result (λ kept. IsTrue kept → IsTrue (is_lawful_row
+            (record { name = name.now; kind = kind; size = size; mtime_ms = mtime_ms }))) }
+        ensures same { IfOk result (λ kept. kept ≡ false → self.new.found ≡ self.old.found) }
+        ensures failed { OnErr result (self.new.found ≡ self.old.found) }
     {
         match next_of(self.left, self.count - self.passed) {
             Some((known, left)) if is_as(known, name, kind, size, mtime_ms) => {
+                if self.made.is_full() {
+                    self.keep_row(known)?;
+                    return Ok(true);
+                }
                 self.made.keep(1);
                 self.left = left;
                 self.passed += 1;
                 self.len += 1;
-                true
+                Ok(true)
             }
-            _ => false,
+            _ => Ok(false),
         }
+    }
+
+    /// Adds the row of a file that is as its record says, and passes the next record.
+    fn keep_row(&mut self, known: &Record) -> Result<(), AllocError>
+        requires { length self.old.found < max_listing_rows }
+        ensures records { self.new.records ≡ self.old.records }
+        ensures row { OnOk result (self.new.found ≡ self.old.found ++ (seen_row known.now ∷ [])) }
+        ensures failed { OnErr result (self.new.found ≡ self.old.found) }
+    {
+        let row = row_of(known)?;
+        self.cover_next()?;
+        self.push(row)
     }
 
     /// Passes the records below a name. Their files were not found.
@@ -265,16 +289,14 @@ impl<'a> Again<'a> {
         if self.passed != start || end < start || self.count < end {
             return false;
         }
-        let Some((there, left)) = run_of(self.left, end - start) else {
-            return false;
-        };
-        if self.len > most || most - self.len < there {
+        let run = run_of(self.left, end - start);
+        if run.len < end - start || self.len > most || most - self.len < run.existing {
             return false;
         }
         self.made.keep(end - start);
-        self.left = left;
+        self.left = run.left;
         self.passed = end;
-        self.len += there;
+        self.len += run.existing;
         true
     }
 
@@ -350,26 +372,40 @@ fn next_of(mut records: Records<'_>, most: usize) -> Option<(&Record, Records<'_
     Some((record, records))
 }
 
-/// The number of files that exist among the first `most` of these records, and the records after those, if there are so
-/// many.
-fn run_of(records: Records<'_>, most: usize) -> Option<(usize, Records<'_>)>
-    ensures there { IfSome result (λ _. most ≤ length (records_left records.entry)) }
-    ensures count { IfSome result (λ it.
-        it.0 ≡ length (seen_rows (take most (records_left records.entry)))) }
-    ensures left { IfSome result (λ it.
-        records_left it.1 ≡ drop most (records_left records.entry)) }
-    ensures lawful { IfSome result (λ _. IsTrue (list_all is_lawful_row
-        (seen_rows (take most (records_left records.entry))))) }
+/// Some records, and those after them.
+#[derive(Clone, Copy)]
+struct Run<'a> {
+    /// The number of records.
+    len: usize,
+    /// The number of those whose files exist.
+    existing: usize,
+    /// The records after them.
+    left: Records<'a>,
+}
+
+/// The first `most` of these records, or all if there are fewer. Nothing looks at the records of a whole chunk.
+fn run_of(records: Records<'_>, most: usize) -> Run<'_>
+    ensures len { result.len ≡ length (take most (records_left records.entry)) }
+    ensures existing { result.existing
+        ≡ length (seen_rows (take most (records_left records.entry))) }
+    ensures left { records_left result.left ≡ drop most (records_left records.entry) }
+    ensures lawful { IsTrue (list_all is_lawful_row
+        (seen_rows (take most (records_left records.entry)))) }
 {
+    let mut len = 0usize;
+    let mut existing = 0usize;
     let mut left = records;
-    let mut count = 0usize;
-    for _ in 0..most {
-        let record = left.next()?;
-        if is_there(record) {
-            count += 1;
-        }
+    let mut more = most;
+    while let Some(stretch) = Stretch::take(&mut left, more) {
+        len += stretch.len();
+        existing += stretch.existing();
+        more -= stretch.len();
     }
-    Some((count, left))
+    Run {
+        len,
+        existing,
+        left,
+    }
 }
 
 /// The rows up to the end of the last of these patches of records, and the records after it.
@@ -388,7 +424,7 @@ fn rows_with(
     for patch in patches {
         let (kept, after) = with_seen(alloc, rows, left, patch.kept)?;
         rows = joined(kept, patch.rows)?;
-        (_, left) = existing_among(after, patch.replaced);
+        left = run_of(after, patch.replaced).left;
     }
     Ok((rows, left))
 }
@@ -406,8 +442,7 @@ fn with_seen(
         records_left it.1 ≡ drop most (records_left records.entry)) }
 {
     let more = rows_of(alloc, records, most, 0)?;
-    let (_, left) = existing_among(records, most);
-    Ok((joined(rows, more)?, left))
+    Ok((joined(rows, more)?, run_of(records, most).left))
 }
 
 /// Rows, and other rows after them.
@@ -421,34 +456,6 @@ fn joined(mut first: Vec<Seen>, mut rest: Vec<Seen>) -> Result<Vec<Seen>, AllocE
     Ok(first)
 }
 
-/// The number of files that exist among the first `most` of these records, and the records after those.
-fn existing_among(records: Records<'_>, most: usize) -> (usize, Records<'_>)
-    ensures count { result.0 ≡ length (seen_rows (take most (records_left records.entry))) }
-    ensures left { records_left result.1 ≡ drop most (records_left records.entry) }
-    ensures lawful { IsTrue (list_all is_lawful_row
-        (seen_rows (take most (records_left records.entry)))) }
-{
-    let mut left = records;
-    let mut count = 0usize;
-    for _ in 0..most {
-        let Some(record) = left.next() else {
-            break;
-        };
-        if is_there(record) {
-            count += 1;
-        }
-    }
-    (count, left)
-}
-
-/// Whether a record's file exists.
-fn is_there(known: &Record) -> bool
-    ensures exists { result ≡ known.now.exists }
-    ensures lawful { IsTrue (is_lawful_row (seen_row known.now)) }
-{
-    known.exists
-}
-
 impl Records<'_> {
     /// The rows of the files that exist among the first `count` records. They share the names of the records.
     pub fn rows(self, alloc: Global, count: usize) -> Result<Vec<Seen>, AllocError>
@@ -456,7 +463,7 @@ impl Records<'_> {
             rows.items ≡ seen_rows (take count (records_left self.entry))) }
         ensures lawful { IfOk result (λ rows. IsTrue (list_all is_lawful_row rows.items)) }
     {
-        let (room, _) = existing_among(self, count);
+        let room = run_of(self, count).existing;
         rows_of(alloc, self, count, room)
     }
 }

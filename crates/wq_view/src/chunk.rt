@@ -1,9 +1,13 @@
 //! A chunk of a view's records. Views share chunks.
-ghost use Rattle.std.specs.Prelude.{◌≡◌, ◌≤◌, ◌+◌, ◌++◌, length, IfOk, OnOk};
+ghost use Rattle.std.specs.Prelude.{◌≡◌, ◌≤◌, ◌+◌, ◌++◌, length, IfOk, IsTrue, OnOk};
+ghost use Rattle.std.specs.List.{list_all};
+ghost use Rattle.wq_record.specs.Seen.{is_lawful_row};
+ghost use Rattle.wq_view.specs.Again.{seen_rows};
 ghost use Rattle.wq_view.specs.Limit.{max_chunk, max_records};
 ghost use Rattle.wq_view.specs.Position.{positions_from};
 ghost use Rattle.wq_view.specs.Suffix.{folded_suffixes, has_suffix_of};
 
+use crate::existing::existing_in;
 use crate::suffix::SuffixTable;
 use crate::suffixes::Suffixes;
 use std::alloc::{AllocError, Global};
@@ -16,13 +20,18 @@ use wq_record::Record;
 pub(crate) struct Chunk {
     records: Vec<Record>,
     suffixes: SuffixTable,
+    /// The number of records whose files exist.
+    existing: usize,
 }
 
 impl Model for Chunk {
-    ghost use Rattle.std.specs.Prelude.{◌≡◌, ◌≤◌, List, vec_len};
+    ghost use Rattle.std.specs.Prelude.{◌≡◌, ◌≤◌, IsTrue, List, length, vec_len};
     ghost use Rattle.std.specs.Coded.{coded_list};
+    ghost use Rattle.std.specs.List.{list_all};
+    ghost use Rattle.wq_view.specs.Again.{seen_rows};
     ghost use Rattle.wq_view.specs.Limit.{max_chunk};
     ghost use Rattle.wq_record.specs.RecordData.{RecordData, record_code};
+    ghost use Rattle.wq_record.specs.Seen.{is_lawful_row};
     ghost use Rattle.wq_view.specs.Suffix.{IsNumbered, folded_suffixes, first_places};
 
     ghost Value = { List RecordData };
@@ -33,7 +42,9 @@ impl Model for Chunk {
 
     ghost invariant = { λ c. (1 ≤ vec_len c.records) × (vec_len c.records ≤ max_chunk)
         × IsNumbered (folded_suffixes c.records.items) (first_places c.suffixes.firsts.items)
-        c.suffixes.numbers.items };
+        c.suffixes.numbers.items
+        × (c.existing ≡ length (seen_rows c.records.items))
+        × IsTrue (list_all is_lawful_row (seen_rows c.records.items)) };
 }
 
 impl Chunk {
@@ -44,7 +55,12 @@ impl Chunk {
         ensures { IfOk result (λ chunk. chunk ≡ records.items) }
     {
         let suffixes = SuffixTable::of(alloc, &records)?;
-        Ok(Chunk { records, suffixes })
+        let existing = existing_in(&records);
+        Ok(Chunk {
+            records,
+            suffixes,
+            existing,
+        })
     }
 
     /// The chunk of these records, which have the names of this chunk.
@@ -57,7 +73,12 @@ impl Chunk {
         ensures { IfOk result (λ chunk. chunk ≡ records.items) }
     {
         let suffixes = self.suffixes.copy(alloc)?;
-        Ok(Chunk { records, suffixes })
+        let existing = existing_in(&records);
+        Ok(Chunk {
+            records,
+            suffixes,
+            existing,
+        })
     }
 
     /// The records.
@@ -67,6 +88,14 @@ impl Chunk {
         ensures few { length self.now ≤ max_chunk }
     {
         &self.records
+    }
+
+    /// The number of records whose files exist.
+    pub(crate) fn existing(&self) -> usize
+        ensures count { result ≡ length (seen_rows self.now) }
+        ensures lawful { IsTrue (list_all is_lawful_row (seen_rows self.now)) }
+    {
+        self.existing
     }
 
     /// Adds the positions of the records whose suffix is sought. The first record has this position. The flags are for

@@ -16,6 +16,7 @@ mod again;
 mod below;
 mod chunk;
 mod chunks;
+mod existing;
 mod filling;
 mod law;
 mod limit;
@@ -42,7 +43,7 @@ pub use law::{
 };
 pub use limit::{MAX_LISTING_ROWS, MAX_RECORDS};
 pub use listing::{Pass, PassFault};
-pub use patch::Patch;
+pub use patch::{Patch, simplified};
 pub use reader::Reader;
 pub use recent::Recent;
 pub use records::Records;

@@ -9,6 +9,9 @@ use std::alloc::{AllocError, Global};
 use std::mem;
 use wq_record::{Record, Seen};
 
+/// The number of patches of a piece after which the last one goes on to the piece's end, with rows of all files.
+const MOST_PATCHES: usize = 1_024;
+
 /// The patches of the records that a listing passed.
 #[derive(Drop)]
 pub(crate) struct Making {
@@ -159,6 +162,12 @@ impl Making {
         }
         self.tail = 0;
         Ok(())
+    }
+
+    /// Whether there are so many patches that rows for files that are as their records say take less memory than more
+    /// patches would.
+    pub(crate) fn is_full(&self) -> bool {
+        self.tail == 0 && self.done.len() >= MOST_PATCHES
     }
 
     /// Whether no patch changes anything.

@@ -1,9 +1,13 @@
 //! Records that are one after the other in one chunk.
-ghost use Rattle.std.specs.Prelude.{◌≡◌, ◌≤◌, ◌++◌, [], drop, length, take, IfNone, IfSome};
+ghost use Rattle.std.specs.Prelude.{◌≡◌, ◌≤◌, ◌++◌, [], drop, length, take, IfNone, IfSome, IsTrue};
+ghost use Rattle.std.specs.List.{list_all};
+ghost use Rattle.wq_record.specs.Seen.{is_lawful_row};
+ghost use Rattle.wq_view.specs.Again.{seen_rows};
 ghost use Rattle.wq_view.specs.Records.{records_left};
 ghost use Rattle.wq_view.specs.Stretch.{stretch_records};
 
 use crate::chunk::Slot;
+use crate::existing::existing_in;
 use crate::records::Records;
 use wq_record::Record;
 
@@ -64,5 +68,17 @@ impl<'a> Stretch<'a> {
         ensures { result ≡ length (stretch_records self.entry) }
     {
         self.records().len()
+    }
+
+    /// The number of records whose files exist. Nothing looks at the records of a whole chunk.
+    pub(crate) fn existing(self) -> usize
+        ensures count { result ≡ length (seen_rows (stretch_records self.entry)) }
+        ensures lawful { IsTrue (list_all is_lawful_row (seen_rows (stretch_records self.entry))) }
+    {
+        match self {
+            Stretch::Chunk(slot) => slot.chunk.existing(),
+            Stretch::Start(_, records) => existing_in(records),
+            Stretch::Rest(records) => existing_in(records),
+        }
     }
 }

@@ -22,7 +22,7 @@ use std::alloc::{AllocError, Global};
 use std::thread::Threads;
 use wq_base::Workers;
 use wq_crawl::{Listing, TreeFault};
-use wq_view::{MAX_LISTING_ROWS, Patch, Seen, View};
+use wq_view::{MAX_LISTING_ROWS, Patch, Seen, View, simplified};
 
 /// The rows of the files below a root that was not listed before.
 pub(crate) fn first_rows<T: Threads, D: Disk + Sync>(
@@ -163,6 +163,7 @@ pub(crate) fn patched_listing(
         ≡ patched last.now.records patches.items) }
     ensures fit { IfOk result (IsFit last.now.records) }
 {
+    let patches = simplified(alloc, patches)?;
     if last.fits(&patches) {
         return Ok(Listing::Patches(patches));
     }

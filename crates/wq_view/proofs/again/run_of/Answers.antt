@@ -1,42 +1,37 @@
--- A record whose file exists, and one whose file does not.
-use Rattle.std.proofs.Common.{◌≡◌, ◌+◌, ◌∷◌, length, take, ap, sym, ◌∙◌, arith}
-use Rattle.std.proofs.lemmas.List.{length-drop}
-use Rattle.wq_view.specs.Again.{seen_row, seen_rows}
+-- One stretch more is taken.
+use Rattle.std.proofs.Common.{◌-◌, IsTrue, drop, length, subst, take, ap, sym, ◌∙◌, arith}
+use Rattle.std.specs.List.{list_all}
+use Rattle.wq_record.specs.Seen.{is_lawful_row}
+use Rattle.wq_view.specs.Again.{seen_rows}
 use Rattle.wq_view.specs.Records.{records_left}
-use Rattle.wq_view.proofs.KeptRuns.{counted_next, counted_same, lawful_next, lawful_same}
-use Rattle.wq_view.proofs.SeenAgain.{dropped_one, few_taken, gone_next, seen_next}
+use Rattle.wq_view.specs.Stretch.{stretch_records}
+use Rattle.wq_view.proofs.Counted.{more_lawful, more_records, more_rows}
+use Rattle.wq_view.proofs.SeenAgain.{few_taken}
+use Rattle.wq_view.proofs.Stretches.{left_more}
 use Rattle.wq_view.proofs.again.run_of.Goals as goal
-use Rattle.wq_view.proofs.again.run_of.Goals.{then-is_there, else-is_there}
 
-pub overflow_add-count : goal.overflow_add-count
-overflow_add-count c =
-    omega (arith, c.loop.invariant.count, few_taken (records_left c.args.records) c.loop.counter, c.loop.auto.counter-end, c.ranges.most.fits)
+pub overflow_add-existing : goal.overflow_add-existing
+overflow_add-existing c =
+    omega (
+      arith,
+      c.loop-stretch.invariant.existing,
+      c.existing-existing.ensures.count,
+      few_taken (records_left c.args.records) c.args.most,
+      c.ranges.most.fits,
+      more_rows (records_left c.loop-stretch.left) (stretch_records c.in-Some.stretch) (records_left c.take.new.records) c.loop-stretch.more c.in-Some.ensures.taken c.in-Some.ensures.few,
+    )
 
-pub loop-preserved : goal.loop-preserved
-loop-preserved c =
-    let all = records_left c.args.records in
-    let left = records_left c.loop.left in
-    let n = c.loop.counter in
-    let r = c.in_ok-record.record.now in
-    let rest = records_left c.next.new.self in
-    let front = seen_rows (take n all) in
-    let rows = seen_rows (take (n + 1) all) in
-    let is : left ≡ r ∷ rest = c.in_ok-record.ensures.steps in
+pub loop-stretch-preserved : goal.loop-stretch-preserved
+loop-stretch-preserved c =
+    let all = records_left c.loop-stretch.left in
+    let stretch = stretch_records c.in-Some.stretch in
+    let rest = records_left c.take.new.records in
+    let more = c.loop-stretch.more in
+    let is = c.in-Some.ensures.taken in
+    let few = c.in-Some.ensures.few in
     record {
-      left = dropped_one all left n r rest c.loop.invariant.left is;
-      there = omega (arith, ap length (sym c.loop.invariant.left ∙ is), length-drop n all);
-      count = elim c.if-is_there.branch [
-        | then-is_there w ↦
-            let more = seen_next all left n r rest c.loop.invariant.left is (sym c.is_there.ensures.exists ∙ w.if-is_there.true) in
-            w.count-is ∙ counted_next front rows (seen_row r) c.loop.count more c.loop.invariant.count
-        | else-is_there w ↦
-            let same = gone_next all left n r rest c.loop.invariant.left is (sym c.is_there.ensures.exists ∙ w.if-is_there.false) in
-            w.count-is ∙ counted_same front rows c.loop.count same c.loop.invariant.count
-      ];
-      lawful = elim c.if-is_there.branch [
-        | then-is_there w ↦
-            lawful_next front rows (seen_row r) (seen_next all left n r rest c.loop.invariant.left is (sym c.is_there.ensures.exists ∙ w.if-is_there.true)) c.is_there.ensures.lawful c.loop.invariant.lawful
-        | else-is_there w ↦
-            lawful_same front rows (gone_next all left n r rest c.loop.invariant.left is (sym c.is_there.ensures.exists ∙ w.if-is_there.false)) c.loop.invariant.lawful
-      ];
+      len = omega (arith, c.loop-stretch.invariant.len, c.len-len.ensures, more_records all stretch rest more is few, ap (λ n. length (take (more - n) rest)) c.len-more.ensures);
+      existing = omega (arith, c.loop-stretch.invariant.existing, c.existing-existing.ensures.count, more_rows all stretch rest more is few, ap (λ n. length (seen_rows (take (more - n) rest))) c.len-more.ensures);
+      left = ap (λ n. drop (more - n) rest) c.len-more.ensures ∙ sym (left_more all stretch rest more is few) ∙ c.loop-stretch.invariant.left;
+      lawful = λ later. c.loop-stretch.invariant.lawful (more_lawful all stretch rest more is few c.existing-existing.ensures.lawful (subst (λ n. IsTrue (list_all is_lawful_row (seen_rows (take (more - n) rest)))) c.len-more.ensures later));
     }

@@ -26,8 +26,8 @@ invariant_of-self c =
       omega (arith, ap (λ (p : Patch). p.replaced) c.keep.ensures.last, c.self.invariant.6),
     )
 
-pub returns-in-Some-clause-kept : goal.returns-in-Some-clause-kept
-returns-in-Some-clause-kept c is =
+pub returns-else-is_full-clause-kept : goal.returns-else-is_full-clause-kept
+returns-else-is_full-clause-kept c is =
     let it = c.self.inside in
     let records = take it.count (records_left it.all) in
     let next = next_left (records_left it.all) (records_left it.left) (records_left c.in-Some.left) c.in-Some.known.now it.passed it.count c.self.invariant.0 c.self.invariant.1 c.in-Some.ensures.some.0 c.in-Some.ensures.some.1 in

@@ -6,7 +6,7 @@ use Rattle.wq_view.specs.Again.{AgainData, seen_rows}
 use Rattle.wq_view.specs.Making.{records_to_come, rows_made}
 use Rattle.wq_view.specs.Records.{records_left}
 use Rattle.wq_view.specs.declared.patch.Patch.{Patch}
-use Rattle.std.proofs.lemmas.List.{drop-drop}
+use Rattle.std.proofs.lemmas.List.{drop-drop, length-take}
 use Rattle.wq_view.proofs.Passed.{run_come, run_there}
 use Rattle.wq_view.proofs.again.Again.keep_to.Goals as goal
 
@@ -19,12 +19,12 @@ invariant_of-self c =
     let sum : it.passed + n ≡ c.args.end = omega (arith, c.if-self-start.false, c.if-end-start.false) in
     let bound : it.passed + n ≤ it.count = omega (arith, sum, c.if-self-end.false) in
     let run : take n (records_to_come records it.made) ≡ take n (records_left it.left) = ap (take n) c.self.invariant.2 ∙ run_come all (records_left it.left) it.passed it.count n bound c.self.invariant.1 in
-    let there = run_there all (records_left it.left) it.passed it.count n bound c.self.invariant.1 c.in-Some.ensures.there in (
+    let there = run_there all (records_left it.left) it.passed it.count n bound c.self.invariant.1 (omega (arith, c.run_of-run.ensures.len, c.if-run-end.false, length-take n (records_left it.left))) in (
       omega (arith, c.if-self-end.false),
-      c.in-Some.ensures.left ∙ ap (drop n) c.self.invariant.1 ∙ drop-drop n it.passed all ∙ ap (λ m. drop m all) sum,
+      c.run_of-run.ensures.left ∙ ap (drop n) c.self.invariant.1 ∙ drop-drop n it.passed all ∙ ap (λ m. drop m all) sum,
       c.keep.ensures.left records ∙ ap (drop n) c.self.invariant.2 ∙ drop-drop n it.passed records ∙ ap (λ m. drop m records) sum,
       c.keep.ensures.within records c.self.invariant.3 (omega (arith, there, ap length c.self.invariant.2)),
-      omega (arith, c.self.invariant.4, c.in-Some.ensures.count, ap length (c.keep.ensures.rows records), ap (λ rs. length (seen_rows rs)) run, length-append (rows_made records it.made) (seen_rows (take n (records_to_come records it.made)))),
+      omega (arith, c.self.invariant.4, c.run_of-run.ensures.existing, ap length (c.keep.ensures.rows records), ap (λ rs. length (seen_rows rs)) run, length-append (rows_made records it.made) (seen_rows (take n (records_to_come records it.made)))),
       omega (arith, c.keep.ensures.tail, c.self.invariant.5, sum),
       omega (arith, ap (λ (p : Patch). p.replaced) c.keep.ensures.last, c.self.invariant.6, sum),
     )
@@ -38,7 +38,7 @@ returns-clause-few c is =
     let sum : it.passed + n ≡ c.args.end = omega (arith, c.if-self-start.false, c.if-end-start.false) in
     let bound : it.passed + n ≤ it.count = omega (arith, sum, c.if-self-end.false) in
     let run : take n (records_to_come records it.made) ≡ take n (records_left it.left) = ap (take n) c.self.invariant.2 ∙ run_come all (records_left it.left) it.passed it.count n bound c.self.invariant.1 in
-    omega (arith, c.self.invariant.4, c.in-Some.ensures.count, ap length (c.keep.ensures.rows records), ap (λ rs. length (seen_rows rs)) run, length-append (rows_made records it.made) (seen_rows (take n (records_to_come records it.made))), c.if-self-most.false, c.if-most-self.false)
+    omega (arith, c.self.invariant.4, c.run_of-run.ensures.existing, ap length (c.keep.ensures.rows records), ap (λ rs. length (seen_rows rs)) run, length-append (rows_made records it.made) (seen_rows (take n (records_to_come records it.made))), c.if-self-most.false, c.if-most-self.false)
 
 pub returns-clause-lawful : goal.returns-clause-lawful
 returns-clause-lawful c is =
@@ -50,4 +50,4 @@ returns-clause-lawful c is =
     let run = run_come all (records_left it.left) it.passed it.count n bound c.self.invariant.1 in
     subst (λ (a : AgainData). IsTrue (list_all is_lawful_row (seen_rows (take n (drop c.args.start a.records))))) c.self.view_is
     (subst (λ start. IsTrue (list_all is_lawful_row (seen_rows (take n (drop start (take it.count all)))))) begin
-    (subst (λ rs. IsTrue (list_all is_lawful_row (seen_rows rs))) (sym run) c.in-Some.ensures.lawful))
+    (subst (λ rs. IsTrue (list_all is_lawful_row (seen_rows rs))) (sym run) c.run_of-run.ensures.lawful))
