@@ -24,6 +24,7 @@ mod PassOrder
 mod MoveSteps
 mod SuffixNumbers
 mod AmongSuffixes
+mod AmongNames
 mod PositionRuns
 mod SeenAgain
 mod Unmoved

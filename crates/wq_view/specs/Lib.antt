@@ -19,3 +19,4 @@ pub mod Patch
 pub mod Patching
 pub mod Stretch
 pub mod Making
+pub mod Recent

@@ -45,7 +45,7 @@ pub use limit::{MAX_LISTING_ROWS, MAX_RECORDS};
 pub use listing::{Pass, PassFault};
 pub use patch::{Patch, simplified};
 pub use reader::Reader;
-pub use recent::Recent;
+pub use recent::{Reach, Recent};
 pub use records::Records;
 pub use suffixes::Suffixes;
 pub use view::{View, ViewFault};
