@@ -177,9 +177,9 @@ module _ (text : List ℕ) (before mid after : CrawlerData) (pass : PassData) wh
   pub began : (result : Result (List RootEvent) CrawlFault) → mid.events ≡ before.events → IsPassOver text before pass mid
       → after.listed ≡ mid.listed → after.clock ≡ mid.clock
       → MatchResult result (λ told. (told ≡ after.events) × (after.events ≡ with_start text pass mid.events))
-      (λ fault. (after.events ≡ mid.events) × (fault ≡ NoMemory)) → Began text before result after
-  began (Ok told) kept over listed second (same, added) = (same, pass, still over listed second, added ∙ ap (with_start text pass) kept)
-  began (Err fault) kept over listed second (is, lacking) = (is ∙ kept, inr lacking)
+      (λ fault. (after.events ≡ mid.events) × (fault ≡ NoMemory)) → IsTrue after.whole → Began text before result after
+  began (Ok told) kept over listed second (same, added) whole = (same, pass, still over listed second, added ∙ ap (with_start text pass) kept, whole)
+  began (Err fault) kept over listed second (is, lacking) whole = (is ∙ kept, inr lacking)
 
 -- a root over which a pass in patches was published
 pub patched_at : (number : ℕ) (text : List ℕ) (before mid after : CrawlerData) (result : Result (List RootEvent) CrawlFault) (patches : Vec Patch Global) (given : List Patch) (second z : ℤ)

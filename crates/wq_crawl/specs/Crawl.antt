@@ -1,10 +1,10 @@
 -- Crawling, watching and unwatching a root: the list of events after each of them, and the reasons
 -- for a refusal. No public document defines it.
 use Rattle.std.specs.Prelude.{◌≡◌, ◌≤◌, ◌⊎◌, ℕ, ℤ, length, refl, List}
-use Rattle.std.specs.Prelude.{Option, Some, None, IsSome, IsTrue, Result, Ok, Err}
+use Rattle.std.specs.Prelude.{Option, Some, None, IfOk, IsSome, IsTrue, Result, Ok, Err}
 use Rattle.std.specs.Prelude.{Bool, true, false}
 use Rattle.std.specs.List.{list_all}
-use Rattle.std.specs.Coded.{Coded, code_by, coded×, coded_ℕ, coded_ℤ, coded_option}
+use Rattle.std.specs.Coded.{Coded, code_by, coded×, coded_bool, coded_ℕ, coded_ℤ, coded_option}
 use Rattle.wq_view.specs.Again.{seen_rows}
 use Rattle.wq_view.specs.Limit.{max_listing_rows}
 use Rattle.wq_view.specs.View.{IsViewOf, ViewData}
@@ -40,26 +40,28 @@ use Rattle.wq_crawl.specs.declared.place.Place.TheVariants.{Shown, Full, Free}
 
 -- the state that a crawler shows: the list of events that is published, and how often its tree
 -- failed. If its clock shows them, also the last second of the clock and the number of its seconds.
--- If its tree shows them, the same for listings
+-- If its tree shows them, the same for listings; and whether the last listing was of a whole root
 pub record CrawlerData : Type 0 where
   pub events : List RootEvent
   pub clock : Option (ℕ × ℤ)
   pub listed : Option (ℕ × ListedData)
   pub failed : ℕ
+  pub whole : Bool
 
 -- a crawler as the tuple of its parts
 abbrev pub crawler_code : Coded CrawlerData
 crawler_code =
-    code_by (List RootEvent × (Option (ℕ × ℤ) × (Option (ℕ × ListedData) × ℕ)))
+    code_by (List RootEvent × (Option (ℕ × ℤ) × (Option (ℕ × ListedData) × (ℕ × Bool))))
     (coded× events_code
     (coded× (coded_option (coded× coded_ℕ coded_ℤ))
-    (coded× (coded_option (coded× coded_ℕ listed_code)) coded_ℕ)))
-    (λ c. (c.events, (c.clock, (c.listed, c.failed))))
-    (λ (events, (clock, (listed, failed))). record {
+    (coded× (coded_option (coded× coded_ℕ listed_code)) (coded× coded_ℕ coded_bool))))
+    (λ c. (c.events, (c.clock, (c.listed, (c.failed, c.whole)))))
+    (λ (events, (clock, (listed, (failed, whole)))). record {
       events = events;
       clock = clock;
       listed = listed;
       failed = failed;
+      whole = whole;
     }) (λ _. refl)
 
 -- the crawl fault of a root that the tree does not list
@@ -148,26 +150,32 @@ CrawledAt number text before (Err fault) after =
     ⊎ ((pass : PassData) × IsPassOver text before pass after
     × IsNotTakenIn before.events number pass fault))
 
+-- the same, by a listing of the whole root
+abbrev pub CrawledWhole : ℕ → List ℕ → CrawlerData → Result (List RootEvent) CrawlFault
+    → CrawlerData → Type 0
+CrawledWhole number text before result after =
+    CrawledAt number text before result after × IfOk result (λ _. IsTrue after.whole)
+
 -- the list that is returned, if it is not refused
 abbrev pub tells : Result (List RootEvent) CrawlFault → Result (Option (List RootEvent)) CrawlFault
 tells (Ok told) = Ok (Some told)
 tells (Err fault) = Err fault
 
--- a root was crawled; a root that is not shown has no crawl, and nothing is returned
+-- a root was crawled whole; a root that is not shown has no crawl, and nothing is returned
 abbrev pub Crawled : List ℕ → CrawlerData → Result (Option (List RootEvent)) CrawlFault
     → CrawlerData → Type 0
 Crawled text before result after =
     ((number_of text before.events ≡ None) × (result ≡ Ok None) × (after ≡ before))
     ⊎ ((number : ℕ) × (answer : Result (List RootEvent) CrawlFault)
     × (number_of text before.events ≡ Some number) × (result ≡ tells answer)
-    × CrawledAt number text before answer after)
+    × CrawledWhole number text before answer after)
 
 -- whether a glance was made that was not refused
 abbrev pub makes : Result (List RootEvent) CrawlFault → Result Bool CrawlFault
 makes (Ok told) = Ok true
 makes (Err fault) = Err fault
 
--- a glance was made at a root: it was crawled, and of that list nothing is returned. Or there was
+-- a glance was made at a root: it, or a part of it, was crawled, and of that list nothing is returned. Or there was
 -- no glance, and nothing changed
 abbrev pub Glanced : List ℕ → CrawlerData → Result Bool CrawlFault → CrawlerData → Type 0
 Glanced text before result after =
@@ -181,12 +189,12 @@ abbrev pub Shared : CrawlerData → Result (List RootEvent) CrawlFault → Crawl
 Shared before (Ok told) after = (told ≡ before.events) × (after ≡ before)
 Shared before (Err fault) after = (fault ≡ NoMemory) × (after ≡ before)
 
--- a root that is not shown was listed and started with a pass over it, and the list is returned. If
--- it is refused, nothing is added
+-- a root that is not shown was listed whole and started with a pass over it, and the list is
+-- returned. If it is refused, nothing is added
 abbrev pub Began : List ℕ → CrawlerData → Result (List RootEvent) CrawlFault → CrawlerData → Type 0
 Began text before (Ok told) after =
     (told ≡ after.events) × (pass : PassData) × IsPassOver text before pass after
-    × (after.events ≡ with_start text pass before.events)
+    × (after.events ≡ with_start text pass before.events) × IsTrue after.whole
 Began text before (Err fault) after =
     (after.events ≡ before.events) × (IsNoPassOver text before fault after ⊎ (fault ≡ NoMemory))
 

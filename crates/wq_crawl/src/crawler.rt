@@ -1,6 +1,6 @@
 //! The crawler, which lists roots and publishes their passes. It has a tree, a clock and a publisher. Crawls use them
 //! one after the other.
-ghost use Rattle.std.specs.Prelude.{◌≡◌, ◌≢◌, ◌⊎◌, ◌↔◌, Err, IfErr, IfOk, IsTrue, MatchResult, None};
+ghost use Rattle.std.specs.Prelude.{◌≡◌, ◌≢◌, ◌⊎◌, ◌↔◌, Err, IfErr, IfNone, IfOk, IsTrue, MatchResult, None, OnOk};
 ghost use Rattle.std.specs.List.{list_all};
 ghost use Rattle.wq_record.specs.Seen.{is_count, is_lawful_row};
 ghost use Rattle.wq_view.specs.View.{IsViewOf, ViewData};
@@ -21,7 +21,7 @@ use std::alloc::AllocError;
 use std::marker::Model;
 use std::sync::Wait;
 use wq_live::{Named, Publisher, Seat, StartFault, Told};
-use wq_view::{Pass, Patch, Recent, View, ViewFault};
+use wq_view::{Pass, Patch, Reach, Recent, View, ViewFault};
 
 /// Lists roots, and publishes their passes. Contracts see the list of events that is published, and the state that the
 /// tree and the clock show.
@@ -44,6 +44,7 @@ impl<N: Named, R: Wait + Drop, T: Tree + Drop, S: Seconds + Drop> Model for Craw
       clock = S.told c.seconds;
       listed = T.listed c.tree;
       failed = T.failed c.tree;
+      whole = T.whole c.tree;
     } };
 }
 
@@ -55,6 +56,7 @@ impl<N: Named, R: Wait + Drop, T: Tree + Drop, S: Seconds + Drop> Crawler<N, R, 
           clock = S.told seconds;
           listed = T.listed tree;
           failed = T.failed tree;
+          whole = T.whole tree;
         } }
     {
         Crawler {
@@ -96,12 +98,12 @@ impl<N: Named, R: Wait + Drop, T: Tree + Drop, S: Seconds + Drop> Crawler<N, R, 
         }
     }
 
-    /// Crawls the root of this text by a glance at it, publishes the pass, and returns whether it did. It does nothing if
-    /// the root is not shown, if nothing below it changed at this second of the Unix epoch or later, or if memory runs
-    /// out for finding that out.
+    /// Crawls the root of this text by a glance at it that looks so far, publishes the pass, and returns whether it did.
+    /// It does nothing if the root is not shown, if it would look into no directory, or if memory runs out for finding
+    /// the directories.
     ///
     /// A refused crawl leaves the list as it is. The call waits as [`Crawler::crawl`] does.
-    pub fn glance(&mut self, root: &str, since: i64) -> Result<bool, CrawlFault>
+    pub fn glance(&mut self, root: &str, reach: Reach) -> Result<bool, CrawlFault>
         ensures { Glanced root.now self.old result self.new }
     {
         let Some(number) = self.publisher.find(root) else {
@@ -110,7 +112,7 @@ impl<N: Named, R: Wait + Drop, T: Tree + Drop, S: Seconds + Drop> Crawler<N, R, 
         let Ok(Some(view)) = self.publisher.table().share_of(number) else {
             return Ok(false);
         };
-        let Ok(Some(recent)) = Recent::of(&view, since) else {
+        let Ok(Some(recent)) = Recent::of(&view, reach) else {
             return Ok(false);
         };
         match self.crawl_at(number, root, Some(&recent)) {
@@ -170,7 +172,8 @@ impl<N: Named, R: Wait + Drop, T: Tree + Drop, S: Seconds + Drop> Crawler<N, R, 
         root: &str,
         recent: Option<&Recent<'_>>,
     ) -> Result<Told<N>, CrawlFault>
-        ensures { CrawledAt number root.now self.old result self.new }
+        ensures crawled { CrawledAt number root.now self.old result self.new }
+        ensures whole { IfNone recent.entry (OnOk result (IsTrue (self.new).whole)) }
     {
         match self.list_again(number, root, recent)? {
             Relisted::Still => self.told(),
@@ -197,6 +200,7 @@ impl<N: Named, R: Wait + Drop, T: Tree + Drop, S: Seconds + Drop> Crawler<N, R, 
             (λ fault. ((self.new).events ≡ (self.old).events)
             × IsNotTakenIn (self.old).events number pass fault) }
         ensures listed { (self.new).listed ≡ (self.old).listed }
+        ensures whole { (self.new).whole ≡ (self.old).whole }
         ensures clock { (self.new).clock ≡ (self.old).clock }
         ensures failed { (self.new).failed ≡ (self.old).failed }
     {
@@ -224,6 +228,7 @@ impl<N: Named, R: Wait + Drop, T: Tree + Drop, S: Seconds + Drop> Crawler<N, R, 
             (λ fault. ((self.new).events ≡ (self.old).events) × IsNotTakenIn (self.old).events number
             (pass_by view.records patches.now second) fault) }
         ensures listed { (self.new).listed ≡ (self.old).listed }
+        ensures whole { (self.new).whole ≡ (self.old).whole }
         ensures clock { (self.new).clock ≡ (self.old).clock }
         ensures failed { (self.new).failed ≡ (self.old).failed }
     {
@@ -243,6 +248,7 @@ impl<N: Named, R: Wait + Drop, T: Tree + Drop, S: Seconds + Drop> Crawler<N, R, 
             × ((self.new).events ≡ with_start root.now pass (self.old).events))
             (λ fault. ((self.new).events ≡ (self.old).events) × (fault ≡ CrawlFault.NoMemory)) }
         ensures listed { (self.new).listed ≡ (self.old).listed }
+        ensures whole { (self.new).whole ≡ (self.old).whole }
         ensures clock { (self.new).clock ≡ (self.old).clock }
     {
         match self.publisher.start(root, pass) {
@@ -258,6 +264,7 @@ impl<N: Named, R: Wait + Drop, T: Tree + Drop, S: Seconds + Drop> Crawler<N, R, 
         ensures listed { MatchResult result
             (λ pass. IsPassOver root.now self.old pass self.new)
             (λ fault. IsNoPassOver root.now self.old fault self.new) }
+        ensures whole { OnOk result (IsTrue (self.new).whole) }
     {
         // Otherwise memory would hold the views before the last ones beside the rows and the views that follow from
         // them.
@@ -284,6 +291,7 @@ impl<N: Named, R: Wait + Drop, T: Tree + Drop, S: Seconds + Drop> Crawler<N, R, 
         ensures listed { MatchResult result
             (λ relisted. IsRelisted number root.now self.old relisted self.new)
             (λ fault. IsNoPassOver root.now self.old fault self.new) }
+        ensures whole { IfNone recent.entry (OnOk result (IsTrue (self.new).whole)) }
     {
         // As for a root that is listed for the first time.
         self.let_go();
@@ -321,6 +329,7 @@ impl<N: Named, R: Wait + Drop, T: Tree + Drop, S: Seconds + Drop> Crawler<N, R, 
         ensures listed { MatchResult result
             (λ listing. ListsAgain number root.now self.old listing self.new)
             (λ fault. Lists (self.old).listed root.now (Err fault) (self.new).listed) }
+        ensures whole { IfNone recent.entry (OnOk result (IsTrue (self.new).whole)) }
     {
         match self.publisher.table().root(root) {
             Some((shown, last)) if shown == number => {
@@ -348,6 +357,7 @@ fn listed_again<T: Tree>(
     ensures fit { IfOk result (IsFit last.now.records) }
     ensures listed { Lists (T.listed tree.old) root.now
         (rows_given_again last.now.records result) (T.listed tree.new) }
+    ensures whole { IfNone recent.entry (OnOk result (IsTrue (T.whole tree.new))) }
 {
     match recent {
         Some(recent) => tree.glance(root, last, recent),

@@ -4,7 +4,7 @@ ghost use Rattle.std.specs.Prelude.{◌≡◌, None, nat_eq, nat_le, false};
 ghost use Rattle.std.specs.Option.{option_map_or};
 ghost use Rattle.std.specs.Map.{lookup};
 ghost use Rattle.wq_crawl.specs.Count.{Keeps, KeepsOf, KeepsRaised};
-ghost use Rattle.wq_crawl.specs.Crawl.{CrawledAt, CrawledOnce, Glanced, Unwatched, Watched, tells};
+ghost use Rattle.wq_crawl.specs.Crawl.{CrawledOnce, CrawledWhole, Glanced, Unwatched, Watched, tells};
 ghost use Rattle.wq_crawl.specs.Roots.{RootsGive, ending, passing, showing};
 
 use crate::begun::{Begun, Counts};
@@ -18,6 +18,7 @@ use std::num::NonZeroUsize;
 use std::sync::{Mutex, Wait};
 use wq_base::MAX_ROOTS;
 use wq_live::{Named, Told};
+use wq_view::Reach;
 
 /// The moment at which somebody asked for crawls: the number of crawls that had begun then.
 #[derive(Clone, Copy, Drop)]
@@ -86,8 +87,8 @@ impl<N: Named, R: Wait + Drop, T: Tree + Drop, S: Seconds + Drop> SharedCrawler<
 
     /// Crawls the root of this text by a glance, and returns whether it did ([`Crawler::glance`]). No crawl for a client is
     /// left out for it.
-    pub fn glance(&self, rt: &R, root: &str, since: i64) -> Result<bool, CrawlFault> {
-        self.crawls.lock(rt).glance(root, since)
+    pub fn glance(&self, rt: &R, root: &str, reach: Reach) -> Result<bool, CrawlFault> {
+        self.crawls.lock(rt).glance(root, reach)
     }
 
     /// Finds the root of this text, or lists it and starts it, and returns the list of events.
@@ -137,7 +138,7 @@ impl<N: Named, R: Wait + Drop, T: Tree + Drop, S: Seconds + Drop> LastCrawls<N, 
 
     /// Crawls the root of this number and text, which is shown, and keeps the number of crawls that had begun before.
     fn crawl_at(&mut self, raised: u64, number: u64, root: &str) -> Result<Told<N>, CrawlFault>
-        ensures crawled { CrawledAt number root.now self.old.crawler result self.new.crawler }
+        ensures crawled { CrawledWhole number root.now self.old.crawler result self.new.crawler }
         ensures kept { KeepsOf self.old.last number raised result self.new.last }
     {
         let told = self.crawler.crawl_at(number, root, None)?;
@@ -146,11 +147,11 @@ impl<N: Named, R: Wait + Drop, T: Tree + Drop, S: Seconds + Drop> LastCrawls<N, 
     }
 
     /// Crawls the root of this text by a glance ([`Crawler::glance`]). The last crawls stay those that serve clients.
-    fn glance(&mut self, root: &str, since: i64) -> Result<bool, CrawlFault>
+    fn glance(&mut self, root: &str, reach: Reach) -> Result<bool, CrawlFault>
         ensures glanced { Glanced root.now self.old.crawler result self.new.crawler }
         ensures kept { self.new.last ≡ self.old.last }
     {
-        self.crawler.glance(root, since)
+        self.crawler.glance(root, reach)
     }
 
     /// Finds the root of this text, or lists it and starts it ([`Crawler::watch`]).

@@ -1,5 +1,5 @@
 //! The tree, which lists the files below a root. Another crate walks it.
-ghost use Rattle.std.specs.Prelude.{◌≡◌, IfErr, IfOk, IsTrue};
+ghost use Rattle.std.specs.Prelude.{◌≡◌, IfErr, IfOk, IsTrue, OnOk};
 ghost use Rattle.std.specs.List.{list_all};
 ghost use Rattle.wq_record.specs.Seen.{is_lawful_row};
 ghost use Rattle.wq_crawl.specs.Tree.{IsCounted, IsFew, IsFit, Lists, rows_given, rows_given_again, rows_listed};
@@ -76,7 +76,7 @@ pub enum Listing {
 ///
 /// The source may show its last listing, and the number of its listings.
 pub trait Tree {
-    ghost use Rattle.std.specs.Prelude.{ℕ, Option, None};
+    ghost use Rattle.std.specs.Prelude.{ℕ, Bool, Option, None, true};
     ghost use Rattle.wq_crawl.specs.Tree.{ListedData};
 
     // The number of failures of its device so far.
@@ -85,6 +85,9 @@ pub trait Tree {
     // The number of listings so far, and the last of them, if the source shows these.
     ghost listed: { Self → Option (ℕ × ListedData) } = { λ _. None };
 
+    // Whether the last listing was of the whole root. That of a glance may be of a part.
+    ghost whole: { Self → Bool } = { λ _. true };
+
     /// The rows of the files below a root, in any order. Each row has a valid name, and its numbers are in range.
     ///
     /// A root is unreadable, or no file handle is left, only if the count of failures rose in this call, or is at its
@@ -92,7 +95,8 @@ pub trait Tree {
     fn list(&mut self, root: &str) -> Result<Vec<Seen>, TreeFault>
         ensures counted { IfErr result (IsCounted (failed self.old) (failed self.new)) }
         ensures lawful { IfOk result (λ rows. IsTrue (list_all is_lawful_row rows.items)) }
-        ensures listed { Lists (listed self.old) root.now (rows_given result) (listed self.new) };
+        ensures listed { Lists (listed self.old) root.now (rows_given result) (listed self.new) }
+        ensures whole { OnOk result (IsTrue (whole self.new)) };
 
     /// The listing of the files below a root with this last view. Its rows are as [`Tree::list`] gives them. They may
     /// share the names of the view.
@@ -104,14 +108,15 @@ pub trait Tree {
         ensures fit { IfOk result (IsFit last.now.records) }
         ensures listed { Lists (listed self.old) root.now
             (rows_given_again last.now.records result) (listed self.new) }
+        ensures whole { OnOk result (IsTrue (whole self.new)) }
     {
         let _ = last;
         Ok(Listing::Rows(self.list(root)?))
     }
 
     /// A glance at the files below a root with this last view: a listing that may keep what the view has below
-    /// directories which are not recent. Its rows are as [`Tree::list`] gives them. A source that knows no glances lists
-    /// the whole root.
+    /// directories that it does not look into. It looks into the recent ones. Its rows are as [`Tree::list`] gives them. A
+    /// source that knows no glances lists the whole root.
     fn glance(&mut self, root: &str, last: &View, recent: &Recent<'_>) -> Result<Listing, TreeFault>
         ensures counted { IfErr result (IsCounted (failed self.old) (failed self.new)) }
         ensures lawful { IfOk result (λ listing.

@@ -23,7 +23,7 @@ returns-clause-listed g c =
     let second = c.second-second.result in
     let fits : SFits w64 second = search rules in
     let back = to_z-of_z w64 second fits in
-    let shown : CrawlerData = record { events = it.publisher; clock = g.S.Seconds.told it.seconds; listed = g.T.Tree.listed it.tree; failed = g.T.Tree.failed it.tree } in
+    let shown : CrawlerData = record { events = it.publisher; clock = g.S.Seconds.told it.seconds; listed = g.T.Tree.listed it.tree; failed = g.T.Tree.failed it.tree; whole = g.T.Tree.whole it.tree } in
     let after : CrawlerData = record shown { clock = clock } in
     elim c.match-listing-2.branch [
       | in-Rows+in-Ok-of_lawful w ↦

@@ -9,8 +9,8 @@ use Rattle.wq_crawl.proofs.crawler.Crawler.listing.Goals as goal
 pub returns-in-Some-clause-listed : goal.returns-in-Some-clause-listed
 returns-in-Some-clause-listed g c =
     let it = c.self.inside in
-    let before : CrawlerData = record { events = it.publisher; clock = g.S.Seconds.told it.seconds; listed = g.T.Tree.listed it.tree; failed = g.T.Tree.failed it.tree } in
-    let after : CrawlerData = record { events = it.publisher; clock = g.S.Seconds.told it.seconds; listed = g.T.Tree.listed c.listed_again.new.tree; failed = g.T.Tree.failed c.listed_again.new.tree } in
+    let before : CrawlerData = record { events = it.publisher; clock = g.S.Seconds.told it.seconds; listed = g.T.Tree.listed it.tree; failed = g.T.Tree.failed it.tree; whole = g.T.Tree.whole it.tree } in
+    let after : CrawlerData = record { events = it.publisher; clock = g.S.Seconds.told it.seconds; listed = g.T.Tree.listed c.listed_again.new.tree; failed = g.T.Tree.failed c.listed_again.new.tree; whole = g.T.Tree.whole c.listed_again.new.tree } in
     let number_is : Some c.args.number ≡ number_by_text c.args.root.now c.table.result.now = subst (λ n. Some n ≡ number_by_text c.args.root.now c.table.result.now) c.if-shown-number.true c.in-Some.ensures.number in
     let is_view = view_at it.publisher c.table.result.now c.args.root.now c.args.number c.in-Some.last.now c.table.ensures.table number_is c.in-Some.ensures.view in
     subst (λ (b : CrawlerData). MatchResult c.listed_again.result (λ listing. ListsAgain c.args.number c.args.root.now b listing after) (λ fault. Lists b.listed c.args.root.now (Err fault) after.listed)) c.self.view_is
