@@ -21,6 +21,7 @@ use wq_live::{Named, Seat};
 use wq_serve::{Ended, Kept, LockDesk, ReachedShelf, SeatViews, SharedShelf, serve};
 use wq_server::{Host, MAX_SESSIONS, Reader, RootNumbers, Stop, refuse, time_since};
 use wq_stream::Inbox;
+use wq_view::Reach;
 
 /// How many walks of a root a round gives up, before it waits for the crawler as a client does.
 const MOST_GIVEN_UP: usize = 4;
@@ -355,7 +356,7 @@ where
         worked.saturating_add(time_since(&self.rt, began))
     }
 
-    fn glance(&self, number: u64, since: i64) {
+    fn glance(&self, number: u64, reach: Reach) {
         // The walk for a client that waits brings all changes.
         if self.callers.is_any() {
             return;
@@ -364,7 +365,7 @@ where
         let Some(root) = self.text(number) else {
             return;
         };
-        if self.crawler.glance(&self.rt, &root, since) == Ok(true) {
+        if self.crawler.glance(&self.rt, &root, reach) == Ok(true) {
             self.rounds.fire(number, &*self.shelf);
             self.tell_of_starts();
         }

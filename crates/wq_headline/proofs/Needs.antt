@@ -202,7 +202,7 @@ module _ (one_view : HasOneView) (basis : Basis) (before after : KnownData) (wor
         looks_too (crawl root) root ready heard refl refl
         (at_once (crawl root) (Ok (looked (crawl root) world.run current.1)) (inl refl)
         (meets_look (crawl root) world.events (still_seen ((it.1).0 ∙ there ∙ ap Some same)) refl)) it
-    crawl_well (inr (number, Ok list, numbered, is, (lists, pass, over, passes))) =
+    crawl_well (inr (number, Ok list, numbered, is, ((lists, pass, over, passes), whole))) =
         let it = looked_after (Some list) is in
         looks_too (crawl root) root ready heard refl refl
         (then_met (crawl root) (Ok (looked (crawl root) world.run current.1)) (crawls_root root (Ok pass)) left.events None (inr (Ok pass, refl)) (
@@ -211,7 +211,7 @@ module _ (one_view : HasOneView) (basis : Basis) (before after : KnownData) (wor
               (inl (left.events, subst (λ e. Passes e number pass left.events) (sym listed) passes, refl)),
         )
         (meets_look (crawl root) left.events (now_seen left ((it.1).0 ∙ there)) refl)) it
-    crawl_well (inr (number, Err fault, numbered, is, (same, why))) =
+    crawl_well (inr (number, Err fault, numbered, is, ((same, why), whole))) =
         let does = crawl_refused number fault numbered why in
         refused_too (crawl root) (crawls_root root does.0) fault (inr (does.0, refl)) (refl, does.1)
         (crawl_fault root fault table_before number (table_number root (Some number) numbered)) same is
@@ -241,7 +241,7 @@ module _ (one_view : HasOneView) (basis : Basis) (before after : KnownData) (wor
     watch_well Full answer is found (full, same) =
         watch_refused TooManyRoots (Err TooManyRoots) found.0 (ap (λ (c : CrawlerData). c.events) same) (is ∙ ap tells full)
         (Full, subst (λ e. IsPlace root e Full) (sym listed) found, refl)
-    watch_well Free (Ok list) is found (lists, pass, over, starts) =
+    watch_well Free (Ok list) is found (lists, pass, over, starts, whole) =
         let it = looked_after (Some list) is in
         looks_too (watch root) root ready heard refl refl
         (then_met (watch root) (Ok (looked (watch root) world.run current.1)) (watching root (Ok pass)) (with_start root pass world.events) None (inr (Ok pass, refl))

@@ -2,7 +2,7 @@
 
 use crate::host::Host;
 use crate::server::Server;
-use crate::timing::{Took, second_before, time_since};
+use crate::timing::{Took, time_since};
 use crate::walks::{Turn, Walks};
 use std::alloc::Global;
 use std::io;
@@ -10,9 +10,6 @@ use std::sync::{Arc, Wait};
 use std::thread::Threads;
 use std::time::{Clock, CpuClock, Duration, Instant};
 use wq_launch::{MAX_RUNS, Notices, attend};
-
-/// A change of this many seconds ago is recent. Glances look at the directories in which there are such changes.
-const RECENT: u64 = 600;
 
 /// Crawls, and has commands of triggers started and attended, until the server ends. If rounds have a share, there is
 /// no round while nobody needs one.
@@ -128,30 +125,27 @@ where
         }
     }
 
-    /// Glances at the roots that are not due, so that what is edited there is listed soon.
+    /// Glances at the roots that are not due, so that changes there are listed soon.
     fn glance_between(&mut self, shown: &[u64], due: &[Turn]) {
-        // If memory runs out for the roots, or there is no clock, there are glances in the next round.
-        let Ok(numbers) = self
+        // If memory runs out for the roots, there are glances in the next round.
+        let Ok(looks) = self
             .walks
             .to_glance(&self.rt, &self.server.pace, shown, due)
         else {
             return;
         };
-        let Some(since) = second_before(&self.rt, RECENT) else {
-            return;
-        };
-        for number in numbers {
+        for look in looks {
             if self.server.stop.is_asked(&self.rt) {
                 return;
             }
             let (began, before) = (Instant::now(&self.rt), self.rt.thread_cpu_time());
-            self.server.host.glance(number, since);
+            self.server.host.glance(look.number, look.reach);
             let took = Took::new(
                 time_since(&self.rt, began),
                 before,
                 self.rt.thread_cpu_time(),
             );
-            self.walks.add_glance(&self.rt, number, took.work);
+            self.walks.add_glance(&self.rt, look, took.work);
             self.attend_all();
         }
     }

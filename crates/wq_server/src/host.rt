@@ -12,6 +12,7 @@ use std::time::Duration;
 use wq_base::Asker;
 use wq_launch::{Run, Runs};
 use wq_stream::Inbox;
+use wq_view::Reach;
 
 /// Serves clients, crawls roots and starts the commands of triggers, from many threads at once.
 pub trait Host {
@@ -45,10 +46,9 @@ pub trait Host {
     /// The crawl gives way to clients that wait for one. If the server is to end, it does no more.
     fn crawl(&self, number: u64, stop: &Stop) -> Duration;
 
-    /// Glances at the root of this number, if something below it changed at this second of the Unix epoch or later, and
-    /// then has a round of its triggers. It gives way to clients that wait for a crawl. Nobody hears of a fault, since the
+    /// Glances at the root of this number, looks so far, and then has a round of its triggers. It gives way to clients that wait for a crawl. Nobody hears of a fault, since the
     /// next crawl meets it too.
-    fn glance(&self, number: u64, since: i64);
+    fn glance(&self, number: u64, reach: Reach);
 
     /// Has the walk of a round end before its time, since the server ends.
     fn end_walk(&self);

@@ -65,8 +65,9 @@ impl Share {
         Ok(cycles)
     }
 
-    /// The pause after a glance that took so long, if there are so many roots. It is no shorter than the interval, and the
-    /// glances at all roots together take at most half of this share.
+    /// The pause between two glances of one kind at a root, if the first took so long and there are so many roots. It is
+    /// no shorter than the interval, and the glances of that kind at all roots together take at most a quarter of this
+    /// share.
     pub(crate) fn glance_pause(
         &self,
         interval: Duration,
@@ -74,11 +75,11 @@ impl Share {
         glance: Duration,
     ) -> Duration
         ensures interval { as_nanos interval ≤ as_nanos result }
-        ensures part { 1 ≤ roots → roots ≤ 5_000 → as_nanos glance * 1_000_000 < max_nanos →
-            (part : ℕ) × (part * (2 * roots) ≤ self.now.percent * 10_000)
+        ensures part { 1 ≤ roots → roots ≤ 2_500 → as_nanos glance * 1_000_000 < max_nanos →
+            (part : ℕ) × (part * (4 * roots) ≤ self.now.percent * 10_000)
             × KeepsPart part (as_nanos glance) (as_nanos result) }
     {
-        let part = even_part(self.millionths(), (roots as u64).saturating_mul(2));
+        let part = even_part(self.millionths(), (roots as u64).saturating_mul(4));
         longer(interval, rest_after(part, glance))
     }
 

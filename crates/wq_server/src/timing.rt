@@ -1,8 +1,7 @@
 //! How long something took.
 
 use std::io;
-use std::time::{Clock, Duration, Instant, SystemTime, UNIX_EPOCH};
-use wq_base::MAX_NUMBER;
+use std::time::{Clock, Duration, Instant};
 
 /// How long a walk took.
 #[derive(Clone, Copy, Drop)]
@@ -35,11 +34,4 @@ pub fn time_since<R: Clock>(rt: &R, began: io::Result<Instant>) -> Duration {
         Ok(began) => began.elapsed(rt).unwrap_or(Duration::ZERO),
         Err(_) => Duration::ZERO,
     }
-}
-
-/// The second of the Unix epoch that was so many seconds ago, if the clock can be read.
-pub(crate) fn second_before<R: Clock>(rt: &R, seconds: u64) -> Option<i64> {
-    let now = SystemTime::now(rt).ok()?;
-    let since = now.duration_since(UNIX_EPOCH).ok()?;
-    Some(since.as_secs().saturating_sub(seconds).min(MAX_NUMBER) as i64)
 }

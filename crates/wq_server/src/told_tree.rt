@@ -115,6 +115,8 @@ where
 
     ghost listed = { λ it. T.listed it.tree };
 
+    ghost whole = { λ it. T.whole it.tree };
+
     fn list(&mut self, root: &str) -> Result<Vec<Seen>, TreeFault> {
         let began = Instant::now(&self.rt);
         let listed = self.tree.list(root);

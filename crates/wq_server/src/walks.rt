@@ -5,6 +5,7 @@ use crate::pace::Pace;
 use crate::timing::Took;
 use std::alloc::{AllocError, Global};
 use std::time::{Clock, Duration, Instant};
+use wq_view::Reach;
 
 /// A walk that took this many milliseconds by the clock is long.
 const LONG: u64 = 50;
@@ -25,21 +26,77 @@ struct Walked {
 struct Glances {
     /// How much processor time they took together.
     work: Duration,
-    /// How much the last one took.
-    last: Duration,
-    /// When it ended, if there was one and the clock could be read.
+    /// The last one that looked into recent directories, of either kind.
+    recent: Glanced,
+    /// The last one that looked at the rows of all directories.
+    changed: Glanced,
+}
+
+/// The last glance of a kind.
+#[derive(Clone, Copy, Drop)]
+struct Glanced {
+    /// How much processor time it took.
+    work: Duration,
+    /// When it ended. If the clock could not be read or there was no glance, it is time for one.
     ended: Option<Instant>,
 }
 
 impl Glances {
     /// No glance.
     fn none() -> Glances {
+        let none = Glanced {
+            work: Duration::ZERO,
+            ended: None,
+        };
         Glances {
             work: Duration::ZERO,
-            last: Duration::ZERO,
-            ended: None,
+            recent: none,
+            changed: none,
         }
     }
+
+    /// No glance after a walk that ended then. These were before it. The walk looked at all directories, so glances at
+    /// their rows pause.
+    fn after_walk(self, ended: Option<Instant>) -> Glances {
+        Glances {
+            work: Duration::ZERO,
+            recent: self.recent,
+            changed: Glanced {
+                work: self.changed.work,
+                ended,
+            },
+        }
+    }
+
+    /// These, and one more that took so much processor time and ended then.
+    fn with(self, reach: Reach, work: Duration, ended: Option<Instant>) -> Glances {
+        let glanced = Glanced { work, ended };
+        let all = self.work.saturating_add(work);
+        match reach {
+            Reach::Recent => Glances {
+                work: all,
+                recent: glanced,
+                changed: self.changed,
+            },
+            // It looked into recent directories too, but a glance at these alone takes no longer than before.
+            Reach::Changed => Glances {
+                work: all,
+                recent: Glanced {
+                    work: self.recent.work,
+                    ended,
+                },
+                changed: glanced,
+            },
+        }
+    }
+}
+
+/// A glance for which it is time.
+#[derive(Clone, Copy, Drop)]
+pub(crate) struct Look {
+    /// The number of the root.
+    pub(crate) number: u64,
+    pub(crate) reach: Reach,
 }
 
 /// A root that is due.
@@ -83,51 +140,47 @@ impl Walks {
             work: took.work.max(last.work / 2),
         };
         let ended = Instant::now(rt).ok();
+        let glances = self.glances_of(number).after_walk(ended);
         self.walks.retain(|it| it.number != number);
         let _ = self.walks.push(Walked {
             number,
             took,
             ended,
-            glances: Glances::none(),
+            glances,
         });
     }
 
     /// Keeps a glance that just ended, and took so much processor time.
-    pub(crate) fn add_glance<R: Clock>(&mut self, rt: &R, number: u64, work: Duration) {
+    pub(crate) fn add_glance<R: Clock>(&mut self, rt: &R, look: Look, work: Duration) {
         let ended = Instant::now(rt).ok();
-        if let Some(walk) = self.walks.iter_mut().find(|it| it.number == number) {
-            walk.glances = Glances {
-                work: walk.glances.work.saturating_add(work),
-                last: work,
-                ended,
-            };
+        if let Some(walk) = self.walks.iter_mut().find(|it| it.number == look.number) {
+            walk.glances = walk.glances.with(look.reach, work, ended);
         }
     }
 
-    /// The roots of these at which it is time for a glance at this pace: a root that was walked and is not due, if the
-    /// pause after its last glance has passed. Without a share there are none.
+    /// The glances at these roots for which it is time at this pace. A root has none that was not walked yet, or is due.
+    /// Without a share there are none.
     pub(crate) fn to_glance<R: Clock>(
         &self,
         rt: &R,
         pace: &Pace,
         shown: &[u64],
         due: &[Turn],
-    ) -> Result<Vec<u64>, AllocError> {
-        let mut numbers = Vec::new(self.alloc);
-        let Some(share) = pace.share else {
-            return Ok(numbers);
-        };
+    ) -> Result<Vec<Look>, AllocError> {
+        let mut looks = Vec::new(self.alloc);
         for number in shown {
-            let Some(walk) = self.walk_of(*number) else {
+            if self.walk_of(*number).is_none() || due.iter().any(|turn| turn.number == *number) {
                 continue;
-            };
-            let pause = share.glance_pause(pace.interval, shown.len(), walk.glances.last);
-            let is_due = due.iter().any(|turn| turn.number == *number);
-            if !is_due && has_passed(rt, walk.glances.ended, pause) {
-                numbers.push(*number)?;
+            }
+            let glances = self.glances_of(*number);
+            if let Some(reach) = reach_now(rt, pace, shown.len(), &glances) {
+                looks.push(Look {
+                    number: *number,
+                    reach,
+                })?;
             }
         }
-        Ok(numbers)
+        Ok(looks)
     }
 
     /// Forgets the roots that are not shown any more.
@@ -208,6 +261,29 @@ impl Walks {
     /// The last walk of a root.
     fn walk_of(&self, number: u64) -> Option<&Walked> {
         self.walks.iter().find(|it| it.number == number)
+    }
+}
+
+/// How far a glance looks at a root now, if it is time for one at this pace, these were the glances before, and so many
+/// roots are shown.
+fn reach_now<R: Clock>(rt: &R, pace: &Pace, roots: usize, glances: &Glances) -> Option<Reach> {
+    if is_time(rt, pace, roots, &glances.changed) {
+        Some(Reach::Changed)
+    } else if is_time(rt, pace, roots, &glances.recent) {
+        Some(Reach::Recent)
+    } else {
+        None
+    }
+}
+
+/// Whether it is time for a glance of a kind, if this was the last one.
+fn is_time<R: Clock>(rt: &R, pace: &Pace, roots: usize, last: &Glanced) -> bool {
+    match pace.share {
+        Some(share) => {
+            let pause = share.glance_pause(pace.interval, roots, last.work);
+            has_passed(rt, last.ended, pause)
+        }
+        None => false,
     }
 }
 
