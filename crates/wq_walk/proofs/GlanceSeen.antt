@@ -8,16 +8,16 @@ use Rattle.wq_walk.specs.Told.{GivesStat, Has}
 use Rattle.wq_walk.specs.Walk.{DirectoryData, fresh}
 
 -- a glance from the root's directory, whose rows stayed the same after it ended
-pub glance_of : (says : GivesStat) (has : Has) (records : List RecordData) (root : List ℕ) (names : List (List ℕ)) (root_len : ℕ) (above : List DirectoryData) (here : DirectoryData) (before rows final : List SeenData)
+pub glance_of : (says : GivesStat) (has : Has) (records : List RecordData) (asked : List (List ℕ)) (root : List ℕ) (names : List (List ℕ)) (root_len : ℕ) (above : List DirectoryData) (here : DirectoryData) (before rows final : List SeenData)
     → has root (Some names) → AreEntries names → root_len ≡ length root → above ≡ [] → here ≡ fresh root names → before ≡ [] → final ≡ rows
-    → GlanceEnds says has records root_len (record { above = above; here = here; rows = before }) rows → IsGlance says has records root final
-glance_of says has records root names root_len above here before rows final reads entries len none at empty same ends = (
+    → GlanceEnds says has records asked root_len (record { above = above; here = here; rows = before }) rows → IsGlance says has records asked root final
+glance_of says has records asked root names root_len above here before rows final reads entries len none at empty same ends = (
   names,
   reads,
   entries,
-  subst (λ rs. GlanceEnds says has records (length root) (record { above = []; here = fresh root names; rows = [] }) rs) (sym same)
-      (subst (λ n. GlanceEnds says has records n (record { above = []; here = fresh root names; rows = [] }) rows) len
-      (subst (λ a. GlanceEnds says has records root_len (record { above = a; here = fresh root names; rows = [] }) rows) none
-      (subst (λ d. GlanceEnds says has records root_len (record { above = above; here = d; rows = [] }) rows) at
-      (subst (λ b. GlanceEnds says has records root_len (record { above = above; here = here; rows = b }) rows) empty ends)))),
+  subst (λ rs. GlanceEnds says has records asked (length root) (record { above = []; here = fresh root names; rows = [] }) rs) (sym same)
+      (subst (λ n. GlanceEnds says has records asked n (record { above = []; here = fresh root names; rows = [] }) rows) len
+      (subst (λ a. GlanceEnds says has records asked root_len (record { above = a; here = fresh root names; rows = [] }) rows) none
+      (subst (λ d. GlanceEnds says has records asked root_len (record { above = above; here = d; rows = [] }) rows) at
+      (subst (λ b. GlanceEnds says has records asked root_len (record { above = above; here = here; rows = b }) rows) empty ends)))),
 )

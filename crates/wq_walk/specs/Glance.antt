@@ -1,10 +1,11 @@
 -- A glance at a tree that has a view: a walk that need not enter each directory. It keeps what the
 -- last view has below the others. No public document defines it.
 use Rattle.std.specs.Prelude.{◌≡◌, ◌⊎◌, ℕ, zero, suc, IsTrue, List, [], ◌∷◌, ◌++◌, length}
-use Rattle.std.specs.Prelude.{filter, Some}
+use Rattle.std.specs.Prelude.{false, filter, Some}
 use Rattle.std.specs.List.{All}
 use Rattle.wq_view.specs.Again.{seen_rows}
 use Rattle.wq_view.specs.Below.{is_below}
+use Rattle.wq_view.specs.Recent.{is_one_of_names}
 use Rattle.wq_record.specs.RecordData.{RecordData, record_named}
 use Rattle.wq_record.specs.Seen.{SeenData}
 use Rattle.wq_record.specs.declared.kind.Kind.TheVariants.{Dir}
@@ -25,13 +26,14 @@ IsKnownDirectory name records =
     (known : RecordData) × (record_named name records ≡ Some known) × IsTrue known.exists
     × (known.kind ≡ Dir)
 
--- a glance did not enter the next directory that waits. The view has this directory, and the rows
--- of all files below it by the view are listed
-abbrev pub KeepsBelow : List RecordData → ℕ → WalkData → WalkData → Type 0
-KeepsBelow records root_len before after =
+-- a glance did not enter the next directory that waits. It was not asked to, the view has this
+-- directory, and the rows of all files below it by the view are listed
+abbrev pub KeepsBelow : List RecordData → List (List ℕ) → ℕ → WalkData → WalkData → Type 0
+KeepsBelow records asked root_len before after =
     (name : List ℕ) × (waiting : List (List ℕ))
     × (before.here.waiting ≡ waiting ++ (name ∷ []))
     × IsKnownDirectory (name_of_path root_len (before.here.path ++ name)) records
+    × (is_one_of_names asked (name_of_path root_len (before.here.path ++ name)) ≡ false)
     × (after ≡ record {
       above = before.above;
       here = record before.here { waiting = waiting };
@@ -39,46 +41,60 @@ KeepsBelow records root_len before after =
     })
 
 -- a step of a glance: one of a walk, or it does not enter a directory
-abbrev pub IsGlanceStep : GivesStat → Has → List RecordData → ℕ → WalkData → WalkData → Type 0
-IsGlanceStep says has records root_len before after =
-    IsStep says has root_len whole_part before after ⊎ KeepsBelow records root_len before after
+abbrev pub IsGlanceStep : GivesStat → Has → List RecordData → List (List ℕ) → ℕ → WalkData
+    → WalkData → Type 0
+IsGlanceStep says has records asked root_len before after =
+    IsStep says has root_len whole_part before after
+    ⊎ KeepsBelow records asked root_len before after
 
 -- so many steps of a glance lead from here to there
-unfoldable pub AreGlanceSteps : GivesStat → Has → List RecordData → ℕ → ℕ → WalkData → WalkData
-    → Type 0
-AreGlanceSteps says has records root_len zero before after = after ≡ before
-AreGlanceSteps says has records root_len (suc n) before after =
-    (mid : WalkData) × AreGlanceSteps says has records root_len n before mid
-    × IsGlanceStep says has records root_len mid after
+unfoldable pub AreGlanceSteps : GivesStat → Has → List RecordData → List (List ℕ) → ℕ → ℕ
+    → WalkData → WalkData → Type 0
+AreGlanceSteps says has records asked root_len zero before after = after ≡ before
+AreGlanceSteps says has records asked root_len (suc n) before after =
+    (mid : WalkData) × AreGlanceSteps says has records asked root_len n before mid
+    × IsGlanceStep says has records asked root_len mid after
 
 -- a glance ended after some steps, in a directory in which no step is left and with none above it
-abbrev pub GlanceEnds : GivesStat → Has → List RecordData → ℕ → WalkData → List SeenData → Type 0
-GlanceEnds says has records root_len before rows =
+abbrev pub GlanceEnds : GivesStat → Has → List RecordData → List (List ℕ) → ℕ → WalkData
+    → List SeenData → Type 0
+GlanceEnds says has records asked root_len before rows =
     (steps : ℕ) × (last : DirectoryData)
-    × AreGlanceSteps says has records root_len steps before
+    × AreGlanceSteps says has records asked root_len steps before
     (record { above = []; here = last; rows = rows })
     × IsDone last
 
--- a glance at the tree below a root lists these rows, beside a view with these records: it begins
--- in the root's directory, and ends when no step is left. The root's path ends in a slash
-abbrev pub IsGlance : GivesStat → Has → List RecordData → List ℕ → List SeenData → Type 0
-IsGlance says has records root rows =
+-- a glance at the tree below a root lists these rows, beside a view with these records, and is
+-- asked to enter these directories: it begins in the root's directory, and ends when no step is
+-- left. The root's path ends in a slash
+abbrev pub IsGlance : GivesStat → Has → List RecordData → List (List ℕ) → List ℕ → List SeenData
+    → Type 0
+IsGlance says has records asked root rows =
     (names : List (List ℕ)) × has root (Some names) × AreEntries names
-    × GlanceEnds says has records (length root)
+    × GlanceEnds says has records asked (length root)
     (record { above = []; here = fresh root names; rows = [] }) rows
 
 -- a glance at the tree below a root, to whose path a slash may have been added
-abbrev pub IsGlancedAt : GivesStat → Has → List RecordData → List ℕ → List SeenData → Type 0
-IsGlancedAt says has records root rows =
-    (path : List ℕ) × IsPathOf root path × IsGlance says has records path rows
+abbrev pub IsGlancedAt : GivesStat → Has → List RecordData → List (List ℕ) → List ℕ
+    → List SeenData → Type 0
+IsGlancedAt says has records asked root rows =
+    (path : List ℕ) × IsPathOf root path × IsGlance says has records asked path rows
 
--- a row of a glance: the view has it, or the disk gave its stat for the path of its name
-abbrev pub IsRowOfGlance : GivesStat → List RecordData → List ℕ → SeenData → Type 0
-IsRowOfGlance says records root row =
-    IsOneOf row (seen_rows records) ⊎ IsRowOfPath says root whole_part row
+-- the view has this row, below a directory that it has and that the glance was not asked to enter
+abbrev pub IsKeptRow : List RecordData → List (List ℕ) → SeenData → Type 0
+IsKeptRow records asked row =
+    (directory : List ℕ) × IsKnownDirectory directory records
+    × (is_one_of_names asked directory ≡ false) × IsOneOf row (rows_below directory records)
 
--- each row of a glance is one of the view, or of the path of its name
+-- a row of a glance: one that the view has below a directory that the glance did not enter, or the
+-- disk gave its stat for the path of its name
+abbrev pub IsRowOfGlance : GivesStat → List RecordData → List (List ℕ) → List ℕ → SeenData → Type 0
+IsRowOfGlance says records asked root row =
+    IsKeptRow records asked row ⊎ IsRowOfPath says root whole_part row
+
+-- each row of a glance is one of the view, or of the path of its name. Only the latter are below
+-- directories of which it was asked to enter each one from the root down
 abbrev pub GlanceRowsAreKnown : GivesStat → Has → Type 0
 GlanceRowsAreKnown says has =
-    (records : List RecordData) (root : List ℕ) (rows : List SeenData)
-    → IsGlance says has records root rows → All (IsRowOfGlance says records root) rows
+    (records : List RecordData) (asked : List (List ℕ)) (root : List ℕ) (rows : List SeenData)
+    → IsGlance says has records asked root rows → All (IsRowOfGlance says records asked root) rows

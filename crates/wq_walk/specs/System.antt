@@ -41,8 +41,8 @@ abbrev pub IsListedHere : List ℕ → List SeenData → Type 0
 IsListedHere root rows = IsListed says_here has_here root rows
 
 -- a glance at the tree below a root on this disk, beside a view with these records
-abbrev pub IsGlancedHere : List RecordData → List ℕ → List SeenData → Type 0
-IsGlancedHere records root rows = IsGlancedAt says_here has_here records root rows
+abbrev pub IsGlancedHere : List RecordData → List (List ℕ) → List ℕ → List SeenData → Type 0
+IsGlancedHere records asked root rows = IsGlancedAt says_here has_here records asked root rows
 
 -- a fault of a listing on this disk: it says that the root cannot be read, or that no file handle
 -- is left, only if a call failed so

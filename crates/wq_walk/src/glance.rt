@@ -1,5 +1,6 @@
 //! A glance at a tree that has a view: a walk that enters only some directories, and keeps what the view has below the
-//! others. Another crate finds the directories in which something changed lately.
+//! others. Another crate finds the directories in which something changed lately, and another module those whose own
+//! rows changed.
 ghost use Rattle.std.specs.Prelude.{◌≡◌, ◌-◌, ◌≤◌, ◌++◌, [], false, ℕ, drop, length, nat_le, nat_lt, take, ◌&&◌};
 ghost use Rattle.std.specs.Prelude.{IfErr, IfOk, IfSome, IsTrue, OnOk};
 ghost use Rattle.std.specs.List.{list_all};
@@ -8,6 +9,7 @@ ghost use Rattle.wq_view.specs.Again.{seen_rows};
 ghost use Rattle.wq_view.specs.Below.{is_below};
 ghost use Rattle.wq_view.specs.Limit.{max_listing_rows};
 ghost use Rattle.wq_view.specs.Position.{passes_at};
+ghost use Rattle.wq_view.specs.Recent.{is_one_of_names};
 ghost use Rattle.wq_record.specs.Seen.{is_lawful_row};
 ghost use Rattle.wq_record.specs.declared.kind.Kind.TheVariants.{Dir};
 ghost use Rattle.wq_walk.specs.Directory.{data_of, walk_of};
@@ -27,11 +29,12 @@ use crate::path::with_slash;
 use crate::piece::whole_piece;
 use crate::progress::Progress;
 use crate::rows::Rows;
+use crate::sweep::changed_directories;
 use crate::walk::Walk;
 use std::alloc::{AllocError, Global};
 use std::str;
 use wq_crawl::{Listing, TreeFault};
-use wq_view::{Kind, Recent, Record, Seen, View};
+use wq_view::{Kind, Reach, Recent, Record, Seen, View};
 
 /// A glance that has not ended yet.
 #[derive(Drop)]
@@ -39,15 +42,19 @@ struct Glance<'a, 'p> {
     walk: Walk<'a, 'p>,
     last: &'a View,
     recent: &'p Recent<'a>,
-    /// The names of the directories that are not as the last view has them. They rise if the tree does not change
-    /// meanwhile.
+    /// The names of the directories that were not as the last view has them before the glance began, and of those above
+    /// them, rising, if the glance looks so far.
+    swept: Vec<&'a [u8]>,
+    /// The names of the directories that the glance found to be not as the last view has them. They rise if the tree
+    /// does not change meanwhile.
     changed: Vec<Vec<u8>>,
     ghost part: { walk.rows.piece.part ≡ whole_part },
     ghost whole: { piece_records walk.rows.piece ≡ last.now.records },
 }
 
 /// The listing of a glance at the files below a root with this last view. It enters a directory if it is recent, if the
-/// view has no such directory that exists, or if its row is not as its record says.
+/// view has no such directory that exists, or if its row is not as its record says. It looks at the row of each
+/// directory in one that it enters, and, if it looks so far, at the rows of all directories.
 pub(crate) fn glanced<D: Disk>(
     progress: &Progress<'_>,
     disk: &D,
@@ -62,7 +69,7 @@ pub(crate) fn glanced<D: Disk>(
         length (rows_listed last.now.records listing) ≤ max_listing_rows) }
     ensures fit { IfOk result (IsFit last.now.records) }
     ensures glance { IfOk result (λ listing. IsGlancedAt (D.says disk.now) (D.has disk.now)
-        last.now.records root.now (rows_listed last.now.records listing)) }
+        last.now.records recent.now root.now (rows_listed last.now.records listing)) }
     ensures rooted { IfOk result (λ _. IsRooted (D.says disk.now) root.now) }
     ensures fault { IfErr result
         (IsUnread (D.says disk.now) (D.has disk.now) (D.fails disk.now) root.now) }
@@ -85,17 +92,22 @@ fn rows_seen<'a, D: Disk>(
 ) -> Result<Rows<'a>, TreeFault>
     ensures whole { IfOk result (λ rows. piece_records rows.piece ≡ last.now.records) }
     ensures glance { IfOk result (λ rows.
-        IsGlance (D.says disk.now) (D.has disk.now) last.now.records root.now
+        IsGlance (D.says disk.now) (D.has disk.now) last.now.records recent.now root.now
         (found_rows rows.found)) }
     ensures rooted { IfOk result (λ _. HasStat (D.says disk.now) root.now) }
     ensures fault { IfErr result
         (IsRootFault (D.says disk.now) (D.has disk.now) (D.fails disk.now) root.now) }
 {
+    let swept = match recent.reach() {
+        Reach::Recent => Vec::new(alloc),
+        Reach::Changed => changed_directories(progress, disk, alloc, root, last)?,
+    };
     let (walk, top) = Walk::begin(disk, alloc, root, whole_piece(last), progress)?;
     let mut glance = Glance {
         walk,
         last,
         recent,
+        swept,
         changed: Vec::new(alloc),
     };
     glance.run(disk, top)?;
@@ -134,8 +146,9 @@ impl<'a> Glance<'a, '_> {
     /// Continues from a directory to the end.
     fn run<D: Disk>(&mut self, disk: &D, mut here: Directory) -> Result<(), TreeFault>
         ensures last { self.new.last.now ≡ self.old.last.now }
+        ensures recent { self.new.recent.now ≡ self.old.recent.now }
         ensures ends { OnOk result (GlanceEnds (D.says disk.now) (D.has disk.now)
-            self.old.last.now.records self.old.walk.path.root_len
+            self.old.last.now.records self.old.recent.now self.old.walk.path.root_len
             (walk_of self.old.walk.above.items here self.old.walk.rows)
             (found_rows self.new.walk.rows.found)) }
         ensures fault { IfErr result (IsFailure (D.fails disk.now)) }
@@ -152,9 +165,11 @@ impl<'a> Glance<'a, '_> {
     /// Does the next step in the directory in which the glance is, and returns whether there was one.
     fn take<D: Disk>(&mut self, disk: &D, here: &mut Directory) -> Result<bool, TreeFault>
         ensures last { self.new.last.now ≡ self.old.last.now }
+        ensures recent { self.new.recent.now ≡ self.old.recent.now }
         ensures root { self.new.walk.path.root_len ≡ self.old.walk.path.root_len }
         ensures goes { IfOk result (λ goes. IsTrue goes → IsGlanceStep (D.says disk.now)
-            (D.has disk.now) self.old.last.now.records self.old.walk.path.root_len
+            (D.has disk.now) self.old.last.now.records self.old.recent.now
+            self.old.walk.path.root_len
             (walk_of self.old.walk.above.items here.old self.old.walk.rows)
             (walk_of self.new.walk.above.items here.new self.new.walk.rows)) }
         ensures ends { IfOk result (λ goes. goes ≡ false → IsDone (data_of here.new)
@@ -189,6 +204,8 @@ impl<'a> Glance<'a, '_> {
         ensures known { IfSome result (λ _. IsKnownDirectory
             (name_of_path self.now.walk.path.root_len self.now.walk.path.bytes.items)
             self.now.last.now.records) }
+        ensures unasked { IfSome result (λ _. is_one_of_names self.now.recent.now
+            (name_of_path self.now.walk.path.root_len self.now.walk.path.bytes.items) ≡ false) }
         ensures range { IfSome result (λ range. (i : ℕ) → passes_at (is_below
             (name_of_path self.now.walk.path.root_len self.now.walk.path.bytes.items))
             self.now.last.now.records i ≡ (nat_le range.0 i && nat_lt i range.1)) }
@@ -207,6 +224,7 @@ impl<'a> Glance<'a, '_> {
     /// Keeps the files of the view's records from one place up to another, so that they are listed as the view has them.
     fn keep(&mut self, start: usize, end: usize) -> Result<(), TreeFault>
         ensures last { self.new.last.now ≡ self.old.last.now }
+        ensures recent { self.new.recent.now ≡ self.old.recent.now }
         ensures root { self.new.walk.path.root_len ≡ self.old.walk.path.root_len }
         ensures above { self.new.walk.above ≡ self.old.walk.above }
         ensures rows { OnOk result (found_rows self.new.walk.rows.found
@@ -226,6 +244,7 @@ impl<'a> Glance<'a, '_> {
     fn note_changed(&mut self) -> Result<(), AllocError>
         ensures walk { self.new.walk ≡ self.old.walk }
         ensures last { self.new.last.now ≡ self.old.last.now }
+        ensures recent { self.new.recent.now ≡ self.old.recent.now }
     {
         // Where no row is made, all is as the record says.
         let Some(row) = self.walk.rows.last() else {
@@ -238,16 +257,18 @@ impl<'a> Glance<'a, '_> {
         Ok(())
     }
 
-    /// Whether a directory is not as the view has it.
+    /// Whether a directory is not as the view has it, or one is below it.
     fn has_changed(&self, name: &[u8]) -> bool {
-        self.changed
-            .binary_search_by(|it| it.as_slice().cmp(name))
-            .is_ok()
+        self.swept.binary_search(&name).is_ok()
+            || self
+                .changed
+                .binary_search_by(|it| it.as_slice().cmp(name))
+                .is_ok()
     }
 }
 
 /// Whether a record is that of a directory that exists.
-fn is_directory(known: &Record) -> bool
+pub(crate) fn is_directory(known: &Record) -> bool
     ensures exists { IsTrue result → IsTrue known.now.exists }
     ensures kind { IsTrue result → known.now.kind ≡ Dir }
 {

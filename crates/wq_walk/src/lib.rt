@@ -16,6 +16,7 @@ mod piece;
 mod progress;
 mod rows;
 mod stat;
+mod sweep;
 mod unseen;
 mod walk;
 mod walker;

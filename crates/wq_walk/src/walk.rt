@@ -348,7 +348,7 @@ fn shared_name(
 }
 
 /// The stat of the file of a path, if the disk can look at it.
-fn stat_at<D: Disk>(disk: &D, path: &TreePath) -> Result<Option<Stat>, TreeFault>
+pub(crate) fn stat_at<D: Disk>(disk: &D, path: &TreePath) -> Result<Option<Stat>, TreeFault>
     ensures told { IfOk result (λ told. MatchOption told
         ((IsUtf8 path.now.bytes.items → ⊥) ⊎ D.says disk.now path.now.bytes.items None)
         (λ stat. D.says disk.now path.now.bytes.items (Some stat))) }

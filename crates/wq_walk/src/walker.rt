@@ -1,5 +1,5 @@
 //! The tree on disk, for a server that lists roots again and again. The walker keeps nothing of the listings.
-ghost use Rattle.std.specs.Prelude.{◌≡◌, ◌≤◌, length, IfErr, IfOk, IsTrue};
+ghost use Rattle.std.specs.Prelude.{◌≡◌, true, false, ◌≤◌, length, IfErr, IfOk, IsTrue, OnOk};
 ghost use Rattle.std.specs.List.{list_all};
 ghost use Rattle.wq_crawl.specs.Tree.{IsCounted, IsFit, rows_listed};
 ghost use Rattle.wq_view.specs.Limit.{max_listing_rows};
@@ -35,6 +35,8 @@ pub struct Walker<T: Threads + Drop, D: Disk + Drop> {
     failures: u64,
     /// The number of files that the last listing left out.
     left_out: LeftOut,
+    /// Whether the last listing was of a whole root. That of a glance is not.
+    is_whole: bool,
 }
 
 impl<T: Threads + Drop, D: Disk + Drop> Walker<T, D> {
@@ -60,6 +62,7 @@ impl<T: Threads + Drop, D: Disk + Drop> Walker<T, D> {
             waiting,
             failures: 0,
             left_out: LeftOut::nothing(),
+            is_whole: true,
         }
     }
 
@@ -97,12 +100,14 @@ impl<T: Threads + Drop, D: Disk + Sync + Drop> Walker<T, D> {
         ensures walked { IfOk result (λ rows.
             IsListed (D.says self.old.disk) (D.has self.old.disk) root.now rows.items) }
         ensures rooted { IfOk result (λ _. IsRooted (D.says self.old.disk) root.now) }
+        ensures whole { self.new.is_whole ≡ true }
     {
         let (walkers, _) = self.walkers_now();
         let progress = Progress::new(Way::Keeps);
         let threads = &self.threads;
         let listed = first_rows(threads, walkers, &progress, &self.disk, self.alloc, root);
         self.left_out = progress.left_out();
+        self.is_whole = true;
         self.failures = failures_after(self.failures, &listed);
         listed
     }
@@ -123,6 +128,7 @@ impl<T: Threads + Drop, D: Disk + Sync + Drop> Walker<T, D> {
             IsListed (D.says self.old.disk) (D.has self.old.disk) root.now
             (rows_listed last.now.records listing)) }
         ensures rooted { IfOk result (λ _. IsRooted (D.says self.old.disk) root.now) }
+        ensures whole { self.new.is_whole ≡ true }
     {
         let (walkers, way) = self.walkers_now();
         let progress = Progress::new(way);
@@ -133,6 +139,7 @@ impl<T: Threads + Drop, D: Disk + Sync + Drop> Walker<T, D> {
         let left_out = progress.left_out();
         drop(progress);
         self.left_out = left_out;
+        self.is_whole = true;
         self.failures = failures_after(self.failures, &listed);
         listed
     }
@@ -140,7 +147,8 @@ impl<T: Threads + Drop, D: Disk + Sync + Drop> Walker<T, D> {
 
 impl<T: Threads + Drop, D: Disk + Drop> Walker<T, D> {
     /// The listing of a glance at the files below a root with this last view, by one thread: a walk that need not enter a
-    /// directory which the view has and which is not recent, but keeps what the view has below it. What the last listing
+    /// directory which the view has and which is not recent, but keeps what the view has below it. It may look at the rows of all
+    /// directories first, and enters those that are not as the view has them. What the last listing
     /// left out stays as it was.
     pub fn glance_at(
         &mut self,
@@ -158,14 +166,16 @@ impl<T: Threads + Drop, D: Disk + Drop> Walker<T, D> {
             length (rows_listed last.now.records listing) ≤ max_listing_rows) }
         ensures fit { IfOk result (IsFit last.now.records) }
         ensures glance { IfOk result (λ listing.
-            IsGlancedAt (D.says self.old.disk) (D.has self.old.disk) last.now.records root.now
-            (rows_listed last.now.records listing)) }
+            IsGlancedAt (D.says self.old.disk) (D.has self.old.disk) last.now.records recent.now
+            root.now (rows_listed last.now.records listing)) }
         ensures rooted { IfOk result (λ _. IsRooted (D.says self.old.disk) root.now) }
+        ensures part { self.new.is_whole ≡ false }
     {
         let listed = {
             let progress = Progress::new(Way::Gives(&self.waiting));
             glanced(&progress, &self.disk, self.alloc, root, last, recent)
         };
+        self.is_whole = false;
         self.failures = failures_after(self.failures, &listed);
         listed
     }
@@ -176,6 +186,8 @@ impl<T: Threads + Drop, D: Disk + Drop> Walker<T, D> {
 impl<T: Threads + Drop> Tree for Walker<T, FileDisk> {
     ghost failed = { λ walker. walker.failures };
 
+    ghost whole = { λ walker. walker.is_whole };
+
     /// The rows of the files below a root on this machine, as [`Walker::walk`] gives them.
     fn list(&mut self, root: &str) -> Result<Vec<Seen>, TreeFault>
         ensures counted { IfErr result (IsCounted self.old.failures self.new.failures) }
@@ -183,6 +195,7 @@ impl<T: Threads + Drop> Tree for Walker<T, FileDisk> {
         ensures lawful { IfOk result (λ rows. IsTrue (list_all is_lawful_row rows.items)) }
         ensures few { IfOk result (λ rows. length rows.items ≤ max_listing_rows) }
         ensures walked { IfOk result (λ rows. IsListedHere root.now rows.items) }
+        ensures whole { OnOk result (IsTrue self.new.is_whole) }
     {
         self.disk.enter(root);
         let listed = self.walk(root);
@@ -201,6 +214,7 @@ impl<T: Threads + Drop> Tree for Walker<T, FileDisk> {
         ensures fit { IfOk result (IsFit last.now.records) }
         ensures walked { IfOk result (λ listing.
             IsListedHere root.now (rows_listed last.now.records listing)) }
+        ensures whole { OnOk result (IsTrue self.new.is_whole) }
     {
         self.disk.enter(root);
         let listed = self.walk_again(root, last);
@@ -217,8 +231,9 @@ impl<T: Threads + Drop> Tree for Walker<T, FileDisk> {
         ensures few { IfOk result (λ listing.
             length (rows_listed last.now.records listing) ≤ max_listing_rows) }
         ensures fit { IfOk result (IsFit last.now.records) }
-        ensures glance { IfOk result (λ listing. IsGlancedHere last.now.records root.now
+        ensures glance { IfOk result (λ listing. IsGlancedHere last.now.records recent.now root.now
             (rows_listed last.now.records listing)) }
+        ensures part { self.new.is_whole ≡ false }
     {
         self.disk.enter(root);
         let listed = self.glance_at(root, last, recent);
