@@ -20,6 +20,7 @@ mod sweep;
 mod unseen;
 mod walk;
 mod walker;
+mod walkers;
 mod walks;
 
 pub use disk::{Disk, FileDisk};

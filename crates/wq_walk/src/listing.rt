@@ -17,17 +17,17 @@ use crate::path::with_slash;
 use crate::piece::{Piece, first_pieces, pieces_of};
 use crate::progress::Progress;
 use crate::rows::Rows;
+use crate::walkers::Walkers;
 use crate::walks::Walks;
 use std::alloc::{AllocError, Global};
 use std::thread::Threads;
-use wq_base::Workers;
 use wq_crawl::{Listing, TreeFault};
 use wq_view::{MAX_LISTING_ROWS, Patch, Seen, View, simplified};
 
 /// The rows of the files below a root that was not listed before.
 pub(crate) fn first_rows<T: Threads, D: Disk + Sync>(
     threads: &T,
-    walkers: Workers,
+    walkers: Walkers,
     progress: &Progress<'_>,
     disk: &D,
     alloc: Global,
@@ -50,7 +50,7 @@ pub(crate) fn first_rows<T: Threads, D: Disk + Sync>(
 /// The listing of the files below a root with this last view. Rows that are made share the names of its records.
 pub(crate) fn rows_again<T: Threads, D: Disk + Sync>(
     threads: &T,
-    walkers: Workers,
+    walkers: Walkers,
     progress: &Progress<'_>,
     disk: &D,
     alloc: Global,
@@ -77,7 +77,7 @@ pub(crate) fn rows_again<T: Threads, D: Disk + Sync>(
 /// The rows of the files below a root, from these pieces of its tree. The root's path ends in a slash.
 fn rows_of<T: Threads, D: Disk + Sync>(
     threads: &T,
-    walkers: Workers,
+    walkers: Walkers,
     progress: &Progress<'_>,
     disk: &D,
     alloc: Global,
@@ -102,7 +102,7 @@ fn rows_of<T: Threads, D: Disk + Sync>(
 /// the files that the walk has not looked at.
 fn walked<'a, T: Threads, D: Disk + Sync>(
     threads: &T,
-    walkers: Workers,
+    walkers: Walkers,
     progress: &Progress<'_>,
     disk: &D,
     alloc: Global,

@@ -8,18 +8,30 @@ ghost use Rattle.wq_walk.specs.Pieces.{IsSharedOut, IsSharedOutBelow, is_behind}
 ghost use Rattle.wq_walk.specs.Tiles.{AreTiles, cut_records, piece_records};
 
 use crate::part::Part;
+use crate::walkers::Walkers;
 use std::alloc::{AllocError, Global};
-use wq_base::Workers;
 use wq_view::{Records, View};
 
 /// The greatest number of pieces. With more pieces threads end closer together, and more directories are read twice.
-pub(crate) const MOST_PIECES: usize = 32;
+pub(crate) const MOST_PIECES: usize = 128;
 
-/// The greatest number of pieces for each thread, if there are several.
+/// The greatest number of pieces for each of a few threads, if there are several.
 const PIECES_EACH: usize = 8;
 
-/// There is a piece for so many records of the last view.
+/// The greatest number of pieces for a few threads.
+const PIECES_FOR_FEW: usize = 32;
+
+/// The greatest number of pieces for each of many threads. They wait for the disk most of their time.
+const PIECES_EACH_OF_MANY: usize = 4;
+
+/// A few threads get a piece for so many records of the last view.
 const USUAL: usize = 1000;
+
+/// Many threads get one for so many.
+const USUAL_FOR_MANY: usize = 100;
+
+/// With more threads than these they are many.
+const FEW_THREADS: usize = 8;
 
 /// A part of a tree, and the records of its last view whose names are in the part.
 #[derive(Clone, Copy)]
@@ -168,26 +180,45 @@ pub(crate) fn whole_piece(last: &View) -> Piece<'_>
 }
 
 /// The greatest number of pieces for so many threads. One thread walks a tree whole, and reads no directory twice.
-fn most_pieces(walkers: Workers) -> usize
+fn most_pieces(walkers: Walkers) -> usize
     ensures { 1 ≤ result }
 {
     if walkers.count == 1 {
         return 1;
     }
-    (walkers.count as usize * PIECES_EACH).min(MOST_PIECES)
+    let few = walkers
+        .count
+        .saturating_mul(PIECES_EACH)
+        .min(PIECES_FOR_FEW);
+    let many = walkers
+        .count
+        .saturating_mul(PIECES_EACH_OF_MANY)
+        .min(MOST_PIECES);
+    few.max(many)
+}
+
+/// For how many records of the last view there is a piece, if so many threads walk.
+fn usual(walkers: Walkers) -> usize
+    ensures { 1 ≤ result }
+{
+    if walkers.count > FEW_THREADS {
+        USUAL_FOR_MANY
+    } else {
+        USUAL
+    }
 }
 
 /// The pieces of a tree with this last view, for so many threads, in the order of names. Each name is in exactly one
 /// piece, and so is each record.
 pub(crate) fn pieces_of(
     alloc: Global,
-    walkers: Workers,
+    walkers: Walkers,
     last: &View,
 ) -> Result<Vec<Piece<'_>>, AllocError>
     ensures shared { IfOk result (λ pieces. IsSharedOut pieces.items) }
     ensures tiled { IfOk result (λ pieces. AreTiles last.now.records pieces.items) }
 {
-    let most = (last.len() / USUAL).clamp(1, most_pieces(walkers));
+    let most = (last.len() / usual(walkers)).clamp(1, most_pieces(walkers));
     pieces_cut(alloc, most, CutNames::Last(last))
 }
 
@@ -195,7 +226,7 @@ pub(crate) fn pieces_of(
 /// in exactly one piece.
 pub(crate) fn first_pieces(
     alloc: Global,
-    walkers: Workers,
+    walkers: Walkers,
     names: &[Vec<u8>],
 ) -> Result<Vec<Piece<'_>>, AllocError>
     ensures { IfOk result (λ pieces. IsSharedOut pieces.items) }

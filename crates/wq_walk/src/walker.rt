@@ -11,25 +11,32 @@ ghost use Rattle.wq_walk.specs.System.{IsGlancedHere, IsListedHere, IsUnreadHere
 use crate::disk::{Disk, FileDisk};
 use crate::glance::glanced;
 use crate::listing::{first_rows, rows_again};
+use crate::names::Block;
+use crate::path::with_slash;
 use crate::progress::{Progress, Way};
+use crate::walkers::{SlowRoots, Walkers};
 use std::alloc::Global;
+use std::io;
 use std::sync::Arc;
 use std::sync::atomic::{AtomicU64, Ordering};
 use std::thread::Threads;
+use std::time::{Clock, Instant};
 use wq_base::Workers;
 use wq_crawl::{LeftOut, Listing, Tree, TreeFault};
 use wq_view::{Recent, Seen, View};
 
 /// Walks the trees of a disk, and counts how often a root could not be read or no file handle was
-/// left. Several threads walk a large tree if somebody waits for its listing. A listing for which
-/// nobody waited gives way as soon as somebody waits.
+/// left. Several threads walk a large tree if somebody waits for its listing, and up to 32 walk one
+/// whose disk is slow. A listing for which nobody waited gives way as soon as somebody waits.
 #[derive(Drop)]
 pub struct Walker<T: Threads + Drop, D: Disk + Drop> {
     disk: D,
     threads: T,
     alloc: Global,
-    /// How many threads may walk a tree if somebody waits for its listing.
+    /// How many threads walk a tree if somebody waits for its listing, and its disk is not slow.
     walkers: Workers,
+    /// The roots whose disks are slow. More threads walk them.
+    slow: SlowRoots,
     /// How many callers wait for a listing.
     waiting: Arc<AtomicU64>,
     failures: u64,
@@ -59,6 +66,7 @@ impl<T: Threads + Drop, D: Disk + Drop> Walker<T, D> {
             threads,
             alloc,
             walkers,
+            slow: SlowRoots::new(alloc),
             waiting,
             failures: 0,
             left_out: LeftOut::nothing(),
@@ -66,12 +74,13 @@ impl<T: Threads + Drop, D: Disk + Drop> Walker<T, D> {
         }
     }
 
-    /// How many threads may walk a tree now, and whether they give way.
-    fn walkers_now(&self) -> (Workers, Way<'_>) {
+    /// How many threads walk this root now, and whether they give way.
+    fn walkers_now(&self, root: &str) -> (Walkers, Way<'_>) {
         if self.waiting.load(Ordering::SeqCst) > 0 {
-            (self.walkers, Way::Keeps)
+            let least = self.walkers.count as usize;
+            (self.slow.walkers(root, least), Way::Keeps)
         } else {
-            (Workers { count: 1 }, Way::Gives(&self.waiting))
+            (self.slow.walkers(root, 1), Way::Gives(&self.waiting))
         }
     }
 }
@@ -87,7 +96,43 @@ fn failures_after<X>(before: u64, listed: &Result<X, TreeFault>) -> u64
     }
 }
 
-impl<T: Threads + Drop, D: Disk + Sync + Drop> Walker<T, D> {
+impl<T: Threads + Clock + Drop, D: Disk + Drop> Walker<T, D> {
+    /// Learns from a walk that began then how long the disk of a root lets it wait.
+    fn learn(&mut self, root: &str, walkers: Walkers, files: usize, began: io::Result<Instant>)
+        ensures disk { self.new.disk ≡ self.old.disk }
+        ensures failures { self.new.failures ≡ self.old.failures }
+    {
+        let Ok(began) = began else {
+            return;
+        };
+        if let Ok(took) = began.elapsed(&self.threads) {
+            self.slow.learn(root, walkers, files, took);
+        }
+    }
+
+    /// Guesses before a first walk whether the disk of a root is slow, by reading the root's directory. Nothing is
+    /// learnt from a fault, which the walk meets too.
+    fn guess(&mut self, root: &str)
+        ensures disk { self.new.disk ≡ self.old.disk }
+        ensures failures { self.new.failures ≡ self.old.failures }
+    {
+        let (Ok(path), Ok(mut block)) = (with_slash(self.alloc, root), Block::new(self.alloc))
+        else {
+            return;
+        };
+        let Ok(began) = Instant::now(&self.threads) else {
+            return;
+        };
+        let Ok(Some(names)) = self.disk.names_in(&mut block, &path) else {
+            return;
+        };
+        if let Ok(took) = began.elapsed(&self.threads) {
+            self.slow.guess(root, names.len(), took);
+        }
+    }
+}
+
+impl<T: Threads + Clock + Drop, D: Disk + Sync + Drop> Walker<T, D> {
     /// The rows of the files below a root. Their names rise if the tree does not change meanwhile. A pass takes each
     /// row.
     pub fn walk(&mut self, root: &str) -> Result<Vec<Seen>, TreeFault>
@@ -102,10 +147,15 @@ impl<T: Threads + Drop, D: Disk + Sync + Drop> Walker<T, D> {
         ensures rooted { IfOk result (λ _. IsRooted (D.says self.old.disk) root.now) }
         ensures whole { self.new.is_whole ≡ true }
     {
-        let (walkers, _) = self.walkers_now();
+        self.guess(root);
+        let began = Instant::now(&self.threads);
+        let (walkers, _) = self.walkers_now(root);
         let progress = Progress::new(Way::Keeps);
         let threads = &self.threads;
         let listed = first_rows(threads, walkers, &progress, &self.disk, self.alloc, root);
+        if let Ok(rows) = &listed {
+            self.learn(root, walkers, rows.len(), began);
+        }
         self.left_out = progress.left_out();
         self.is_whole = true;
         self.failures = failures_after(self.failures, &listed);
@@ -130,7 +180,8 @@ impl<T: Threads + Drop, D: Disk + Sync + Drop> Walker<T, D> {
         ensures rooted { IfOk result (λ _. IsRooted (D.says self.old.disk) root.now) }
         ensures whole { self.new.is_whole ≡ true }
     {
-        let (walkers, way) = self.walkers_now();
+        let began = Instant::now(&self.threads);
+        let (walkers, way) = self.walkers_now(root);
         let progress = Progress::new(way);
         let threads = &self.threads;
         let listed = rows_again(
@@ -138,6 +189,9 @@ impl<T: Threads + Drop, D: Disk + Sync + Drop> Walker<T, D> {
         );
         let left_out = progress.left_out();
         drop(progress);
+        if listed.is_ok() {
+            self.learn(root, walkers, last.len(), began);
+        }
         self.left_out = left_out;
         self.is_whole = true;
         self.failures = failures_after(self.failures, &listed);
@@ -183,7 +237,7 @@ impl<T: Threads + Drop, D: Disk + Drop> Walker<T, D> {
 
 /// During a listing the root is the working directory of the process, and `/` after it. So one walker may list at a
 /// time, and nothing else may use a relative path.
-impl<T: Threads + Drop> Tree for Walker<T, FileDisk> {
+impl<T: Threads + Clock + Drop> Tree for Walker<T, FileDisk> {
     ghost failed = { λ walker. walker.failures };
 
     ghost whole = { λ walker. walker.is_whole };

@@ -10,9 +10,9 @@ use crate::piece::Piece;
 use crate::progress::Progress;
 use crate::rows::Rows;
 use crate::walk::rows_in;
+use crate::walkers::Walkers;
 use std::alloc::{AllocError, Global};
 use std::thread::{Threads, join};
-use wq_base::Workers;
 use wq_crawl::TreeFault;
 
 /// Pieces of a tree that threads walk.
@@ -41,7 +41,7 @@ impl<'a, D: Disk + Sync> Walks<'a, '_, D> {
     pub(crate) fn all<T: Threads>(
         &self,
         threads: &T,
-        walkers: Workers,
+        walkers: Walkers,
     ) -> Result<Vec<Rows<'a>>, TreeFault>
         ensures walks { IfOk result (λ walked.
             AreWalks (D.says self.now.disk.now) (D.has self.now.disk.now) self.now.root.now
@@ -50,7 +50,7 @@ impl<'a, D: Disk + Sync> Walks<'a, '_, D> {
         ensures fault { IfErr result (IsRootFault (D.says self.now.disk.now)
             (D.has self.now.disk.now) (D.fails self.now.disk.now) self.now.root.now) }
     {
-        let count = self.pieces.len().min(walkers.count as usize);
+        let count = self.pieces.len().min(walkers.count);
         let walked = self.drawn_by(threads, count)?;
         self.in_order(walked)
     }
