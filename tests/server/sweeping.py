@@ -1,0 +1,104 @@
+"""Sweeps: with a share the server asks each directory for its own row between two scans of a large root. So names that come,
+go or change anywhere are listed soon."""
+
+import os
+import re
+import time
+from collections import Counter
+from pathlib import Path
+from typing import Callable, List, Tuple
+
+import built
+from client import Client, Server, query_of_names, same
+from glancing import FEW, listed, make_recent
+from traced import STRACE, has_strace
+from yielding import fill
+
+# How long calls are counted, in seconds.
+COUNTED = 10.0
+# How many directories the large root has, of which one is recent.
+DIRECTORIES = 600
+
+
+def check_names_that_change_anywhere(tally: built.Tally, room: Path) -> None:
+    """Names change in directories in which nothing changed lately, and no scan of the whole root comes meanwhile: a file
+    that is written in place elsewhere is not listed yet."""
+    root = room / "large"
+    fill(root)
+    with Server(room, interval=50, share=FEW) as server, server.client() as client:
+        client.ask("watch", str(root))
+        (root / "directory400" / "file1").write_text("written in place")
+        for what, act, name, expected in changes(root):
+            act()
+            same(tally, what, listed(client, root, name, len(expected)), expected)
+        written = {**query_of_names(), "expression": ["allof", ["name", "file1"], ["size", "gt", 0]], "sync_timeout": 0}
+        found = client.ask("query", str(root), written)["files"]
+        same(tally, "a file that is written in place elsewhere", found, [])
+
+
+def changes(root: Path) -> List[Tuple[str, Callable[[], object], str, List[str]]]:
+    """Each of these: what it is, what does it, the last part of a name, and the files of that name afterwards."""
+    near, far, third = root / "directory11", root / "directory222", root / "directory333"
+    return [
+        ("a new file", (near / "zfirst").touch, "zfirst", ["directory11/zfirst"]),
+        ("a file that is renamed", lambda: (far / "file2").rename(far / "zsecond"), "zsecond", ["directory222/zsecond"]),
+        ("a file that is moved", lambda: (far / "zsecond").rename(third / "zthird"), "zthird", ["directory333/zthird"]),
+        ("a file that went", (third / "zthird").unlink, "zthird", []),
+        ("a new directory", lambda: deep_file(root / "directory444"), "zdeep", ["directory444/zin/zbelow/zdeep"]),
+        ("a file that an editor saves by a rename", lambda: save(root / "directory555" / "zsaved"), "zsaved",
+         ["directory555/zsaved"]),
+    ]
+
+
+def deep_file(directory: Path) -> None:
+    (directory / "zin" / "zbelow").mkdir(parents=True)
+    (directory / "zin" / "zbelow" / "zdeep").touch()
+
+
+def save(path: Path) -> None:
+    other = path.with_suffix(".tmp")
+    other.write_text("saved")
+    os.replace(other, path)
+
+
+def check_what_rounds_ask(tally: built.Tally, room: Path) -> None:
+    """Of the directories in which nothing changed lately, rounds ask for the rows alone, and read none of them."""
+    if not has_strace(tally):
+        return
+    root, said = room / "large", room / "calls"
+    fill(root)
+    through = [*STRACE, "-o", str(said), "-e", "trace=statx,newfstatat,open,openat"]
+    with Server(room, interval=100, share=FEW, through=through) as server, server.client() as client:
+        client.ask("watch", str(root))
+        make_recent(client, root / "directory7", root)
+        begin = said.stat().st_size
+        time.sleep(COUNTED)
+        with open(said, encoding="utf-8", errors="replace") as calls:
+            calls.seek(begin)
+            asked, opened, files = counted(calls.read())
+    cold = [name for name in opened if name != "directory7"]
+    tally.check("cold directories are not read", len(cold) < DIRECTORIES // 10, [f"{len(cold)} were read"])
+    tally.check("the recent directory is read again and again", opened["directory7"] >= 3, [f"{opened['directory7']} times"])
+    rows = [asked[f"directory{number}"] for number in range(DIRECTORIES)]
+    tally.check("each directory is asked for its row", min(rows) >= 1, [f"{min(rows)} to {max(rows)} times"])
+    tally.check("files in cold directories are not asked", files < DIRECTORIES, [f"{files} were asked"])
+
+
+def counted(calls: str) -> Tuple["Counter[str]", "Counter[str]", int]:
+    """How often each directory was asked for its row, and was read; and how many questions were about files in others than
+    the recent one."""
+    asked: "Counter[str]" = Counter()
+    opened: "Counter[str]" = Counter()
+    files = 0
+    for call, path in re.findall(r'\b(statx|newfstatat|openat|open)\([^"\n]*"([^"\n]+)"', calls):
+        parts = path.split("/")
+        name = next((part for part in parts if part.startswith("directory")), "")
+        if not name:
+            continue
+        if call.startswith("open"):
+            opened[name] += 1
+        elif parts[-1] == name:
+            asked[name] += 1
+        elif name != "directory7":
+            files += 1
+    return asked, opened, files
