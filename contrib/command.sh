@@ -112,9 +112,9 @@ absolute() {
     esac
 }
 
-# Whether a path names a directory of this user.
+# Whether a path names a directory of this user, to which no other user may write.
 is_own() {
-    [ -n "$1" ] && [ -d "$1" ] && [ -O "$1" ]
+    [ -n "$1" ] && [ -d "$1" ] && [ -O "$1" ] && [ -n "$(find -H "$(absolute "$1")" -prune -type d ! -perm /022)" ]
 }
 
 # Whether one of the words, after the first, says this option.
@@ -161,9 +161,9 @@ socket_fault() {
     fi
 }
 
-# Whether somebody listens on a socket, as far as python3 can tell.
+# Whether somebody listens on a socket, as far as python3 can tell. It takes no module of the current directory.
 is_listened_on() {
-    python3 -c '
+    python3 -I -S -c '
 import socket, sys
 stream = socket.socket(socket.AF_UNIX)
 stream.setblocking(False)

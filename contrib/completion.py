@@ -1,4 +1,4 @@
-#!/usr/bin/env python3
+#!/usr/bin/env -S python3 -I
 """Writes what completes the words of wq in a shell, from the words that wq has.
 
     contrib/completion.py bash|zsh|fish

@@ -115,7 +115,7 @@ def text(path: str) -> str:
 
 def archive(packages: List[str], main: str) -> bytes:
     """A tool as one file: an archive of its packages, of which Python runs this text. It is the same on every machine."""
-    written = io.BytesIO(b"#!/usr/bin/env python3\n")
+    written = io.BytesIO(b"#!/usr/bin/env -S python3 -I\n")
     written.seek(0, io.SEEK_END)
     with zipfile.ZipFile(written, "a") as found:
         for package in packages:

@@ -8,7 +8,6 @@ import select
 import signal
 import socket
 import stat
-import struct
 import sys
 import threading
 import time
@@ -24,12 +23,13 @@ from bridge.running import Running
 from bridge.session import Session
 from bridge.states import States
 from bridge.symlinks import Follower
-from wqclient.sockets import is_listened_on, opened
+from wqclient.files import opened_as_own
+from wqclient.lines import SUPERUSER, peer_of
+from wqclient.sockets import is_listened_on
 
 GRACE = 1.0
 PAUSE = 0.2
 WAITING = 128
-SUPERUSER = 0
 
 
 def main(words: List[str]) -> None:
@@ -111,7 +111,7 @@ class Serving:
                 say(f"a client waits: {error.strerror}")
                 time.sleep(PAUSE)
             return
-        if user_of(client) not in (os.getuid(), SUPERUSER):
+        if peer_of(client).user not in (os.getuid(), SUPERUSER):
             client.close()
             return
         session = Session(self, client, self.codec, answer)
@@ -122,15 +122,9 @@ class Serving:
             session.close()
 
 
-def user_of(client: socket.socket) -> int:
-    size = struct.calcsize("3i")
-    _, user, _ = struct.unpack("3i", client.getsockopt(socket.SOL_SOCKET, socket.SO_PEERCRED, size))
-    return user
-
-
 def locked(sockname: str) -> IO[str]:
     """The lock of the socket, which is held as long as the bridge runs, so that no other takes its name."""
-    file = open(f"{sockname}.lock", "w", opener=opened)
+    file = open(f"{sockname}.lock", "w", opener=opened_as_own)
     try:
         fcntl.flock(file, fcntl.LOCK_EX | fcntl.LOCK_NB)
     except BlockingIOError:

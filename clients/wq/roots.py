@@ -3,6 +3,8 @@
 import os
 from typing import List, NamedTuple, Optional, Tuple
 
+from wqclient.files import is_of_own_user
+
 from .trouble import WrongWords
 
 PROJECT_FILES = (".git", ".hg", ".watchmanconfig")
@@ -22,7 +24,7 @@ class Place(NamedTuple):
 
 def place_of(directory: str, watched: List[str]) -> Place:
     """The place of a directory that is there. The root is the nearest directory at or above it with a file of a
-    project; else the nearest one that is watched already; else itself."""
+    project, of this user or the superuser; else the nearest one that is watched already; else itself."""
     path = real_path(directory)
     above = [path]
     while above[-1] != "/":
@@ -32,7 +34,7 @@ def place_of(directory: str, watched: List[str]) -> Place:
 
 
 def is_project(path: str) -> bool:
-    return any(os.path.lexists(os.path.join(path, name)) for name in PROJECT_FILES)
+    return any(is_of_own_user(os.path.join(path, name)) for name in PROJECT_FILES)
 
 
 def real_path(directory: str) -> str:

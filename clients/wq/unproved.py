@@ -9,7 +9,8 @@ import time
 from typing import List, Set
 
 from wqclient.client import Client
-from wqclient.sockets import is_listened_on, opened
+from wqclient.files import opened_as_own
+from wqclient.sockets import is_listened_on
 from wqclient.starting import PAUSE, Unstarted, said
 
 from .terminal import say
@@ -31,7 +32,7 @@ def note_of(sockname: str) -> str:
 def is_noted(sockname: str, process: int) -> bool:
     """Whether the process that listens is one that was compiled without proof."""
     try:
-        with open(note_of(sockname), opener=opened) as note:
+        with open(note_of(sockname), opener=opened_as_own) as note:
             return note.read().strip() == str(process)
     except OSError:
         return False
@@ -60,7 +61,7 @@ def start(top: str, sockname: str, words: List[str]) -> None:
     try:
         signal.pthread_sigmask(signal.SIG_SETMASK, before)
         wait_for(server, sockname, log)
-        with Client(sockname) as client, open(note_of(sockname), "w", opener=opened) as note:
+        with Client(sockname) as client, open(note_of(sockname), "w", opener=opened_as_own) as note:
             note.truncate()
             note.write(str(client.peer().process))
     except BaseException:
@@ -73,7 +74,7 @@ def start(top: str, sockname: str, words: List[str]) -> None:
 
 def begin(command: List[str], top: str, log: str, signals: Set[signal.Signals]) -> "subprocess.Popen[bytes]":
     """Begins a server in a session of its own, so that it outlives this call. It blocks these signals alone."""
-    with open(log, "wb", opener=opened) as output:
+    with open(log, "wb", opener=opened_as_own) as output:
         output.truncate()
         return subprocess.Popen(
             command, cwd=os.path.join(top, "crates", "wqd"), start_new_session=True, stdin=subprocess.DEVNULL,

@@ -8,7 +8,8 @@ import subprocess
 import time
 from typing import IO, Callable, Dict, Iterator, List, Optional
 
-from .sockets import is_listened_on, opened
+from .files import opened_as_own
+from .sockets import is_listened_on
 
 PAUSE = 0.02
 PATIENCE = 60.0
@@ -32,7 +33,7 @@ def alone(sockname: str, tell: Callable[[], None] = lambda: None) -> Iterator[No
     """Waits until no other command starts a program for this socket. If that takes some seconds, it says so by
     `tell`."""
     try:
-        file = open(f"{sockname}.start", "w", opener=opened)
+        file = open(f"{sockname}.start", "w", opener=opened_as_own)
     except OSError as error:
         raise Unstarted(f"{sockname}.start: {error.strerror}") from None
     with file:
@@ -58,7 +59,7 @@ def is_locked(file: IO[str]) -> bool:
 def begin(command: List[str], sockname: str, log: str, environment: Optional[Dict[str, str]] = None) -> None:
     """Starts a program that outlives this one, and waits until it listens. What it writes goes to the log."""
     try:
-        with open(log, "ab", opener=opened) as output:
+        with open(log, "ab", opener=opened_as_own) as output:
             began = os.fstat(output.fileno()).st_size
             process = subprocess.Popen(
                 command, stdin=subprocess.DEVNULL, stdout=output, stderr=output, cwd="/", env=environment,
