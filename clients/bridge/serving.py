@@ -24,6 +24,7 @@ from bridge.session import Session
 from bridge.states import States
 from bridge.symlinks import Follower
 from wqclient.files import opened_as_own
+from wqclient.harmless import harmless
 from wqclient.lines import SUPERUSER, peer_of
 from wqclient.sockets import is_listened_on
 
@@ -54,7 +55,7 @@ def seconds(text: str) -> float:
 
 
 def say(text: str) -> None:
-    print(f"bridge: {text}", file=sys.stderr, flush=True)
+    print(f"bridge: {harmless(text)}", file=sys.stderr, flush=True)
 
 
 class Serving:

@@ -38,12 +38,17 @@ def main(words: List[str], directory: str) -> int:
     except KeyboardInterrupt:
         return INTERRUPTED
     except BrokenPipeError:
-        # The reader of the output has gone. Nothing is to be written at the end either.
-        os.dup2(os.open(os.devnull, os.O_WRONLY), sys.stdout.fileno())
+        write_no_more()
         return BROKEN_PIPE
     except OSError as error:
+        write_no_more()
         say(f"{error.filename or 'output'}: {error.strerror or error}", "red")
         return FAILED
+
+
+def write_no_more() -> None:
+    """The output cannot be written, as when its reader has gone. Nothing is to be written at the end either."""
+    os.dup2(os.open(os.devnull, os.O_WRONLY), sys.stdout.fileno())
 
 
 def speak_utf8() -> None:

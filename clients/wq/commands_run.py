@@ -12,6 +12,11 @@ PLACE = "{}"
 NOT_FOUND, CANNOT_START = 127, 126
 
 
+def as_argument(path: str) -> str:
+    """A path that no command takes for anything else: some take `-x` and `+x` for options, and `@x` for a file of options."""
+    return path if path.startswith(("/", "./", "../")) else f"./{path}"
+
+
 class Unrunnable(Exception):
     """The command cannot be started, for this reason."""
 
@@ -56,10 +61,8 @@ class Command:
         return f"{self.name}: {error.strerror}", CANNOT_START
 
     def path_of(self, name: str) -> str:
-        """The name as the command finds it, which runs in the current directory. A dash at its front would be an
-        option."""
-        path = name if self.directory in (".", "") else os.path.join(self.directory, name)
-        return f"./{path}" if path.startswith("-") else path
+        """The name as the command finds it, which runs in the current directory."""
+        return as_argument(os.path.join("" if self.directory == "." else self.directory, name))
 
     def input_of(self, paths: List[str]) -> "Optional[IO[bytes]]":
         """Standard input of a run, if it is not this command's own: its names, or nothing for a group of its own, which

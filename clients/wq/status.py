@@ -1,17 +1,18 @@
 """`wq status`: the server's process, its roots, triggers and programs."""
 
 import argparse
-import shlex
 import sys
 import time
 from typing import Any, Dict, Iterator, List, Optional
 
+from wqclient.harmless import harmless
 from wqclient.kept import BUDGETS, kept, run_of
 
 from .home import Home
 from .processes import Facts, facts_of
 from .server import Server, reached
 from .terminal import painted, show
+from .triggers import command_of
 from .trouble import FOUND
 from .values_shown import json_shown
 
@@ -131,11 +132,11 @@ def root_lines(root: Dict[str, Any]) -> Iterator[str]:
     yield row("", f"{files} and {directories}, tick {root['tick']}, a crawl takes {root['crawl_seconds']:.3f} s, "
                   f"last change {changed}")
     for trigger in root["triggers"]:
-        yield row("", f"trigger {trigger['name']}: {shlex.join(trigger['command'])}")
+        yield row("", f"trigger {trigger['name']}: {command_of(trigger)}")
 
 
 def row(head: str, text: str, colour: Optional[str] = None) -> str:
-    return painted(f"{head:<10}", "cyan" if head else None, sys.stdout) + painted(text, colour, sys.stdout)
+    return painted(f"{head:<10}", "cyan" if head else None, sys.stdout) + painted(harmless(text), colour, sys.stdout)
 
 
 def counted(count: int, noun: str) -> str:

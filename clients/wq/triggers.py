@@ -9,9 +9,14 @@ from .globs import expression_of
 from .home import Home
 from .roots import place_of, require_utf8, root_to_unwatch
 from .server import Server, reached
-from .terminal import say, show
+from .terminal import name_shown, say, show
 from .trouble import FOUND, NOTHING, WrongWords
 from .values_shown import json_shown
+
+# The server hands names as they are. So a command that takes names is run by a shell, which puts `./` before each name, as
+# `wq run` does. Its text has the numbers of the words alone; after this the count of the command's own words comes.
+NUMBERS = r'''BEGIN { for (i = 2; i <= all; i++) printf " \"%s${%d}\"", (i > own + 1 ? "./" : ""), i }'''
+WITH_NAMES = ["/bin/sh", "-c", f"""words=$(awk -v own="$1" -v all="$#" '{NUMBERS}') && eval "exec $words\"""", "wq"]
 
 
 def trigger(options: argparse.Namespace, home: Home) -> int:
@@ -34,6 +39,7 @@ def trigger(options: argparse.Namespace, home: Home) -> int:
             asked["expression"] = expression
         if appends:
             asked["append_files"] = True
+            asked["command"] = [*WITH_NAMES, str(len(command)), *command]
         if options.stdin:
             asked["stdin"] = "NAME_PER_LINE"
         found = server.ask("trigger", place.root, asked)
@@ -55,13 +61,19 @@ def triggers(options: argparse.Namespace, home: Home) -> int:
     if options.json:
         show([json_shown(found)])
     else:
-        show(map(row_of, found["triggers"]))
+        show(name_shown(row_of(one), None) for one in found["triggers"])
     return FOUND if found["triggers"] else NOTHING
 
 
 def row_of(found: Dict[str, Any]) -> str:
-    names = f" {PLACE}" if found.get("append_files") else ""
-    return f"{found['name']}: {shlex.join(found['command'])}{names}"
+    return f"{found['name']}: {command_of(found)}"
+
+
+def command_of(found: Dict[str, Any]) -> str:
+    """The command of a trigger, as a person wrote it."""
+    command, begin = found["command"], len(WITH_NAMES)
+    own = command[begin + 1:] if command[:begin] == WITH_NAMES else command
+    return shlex.join(own) + (f" {PLACE}" if found.get("append_files") else "")
 
 
 def untrigger(options: argparse.Namespace, home: Home) -> int:

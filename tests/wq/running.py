@@ -98,23 +98,23 @@ def check_bursts(tally: built.Tally, scene: Scene, log: Log) -> None:
 
 def check_names_of_runs(tally: built.Tally, scene: Scene, log: Log) -> None:
     with scene.begin("run", ".", "*.h", *command("{}")) as going:
-        tally.check("the names of the first run", going.waits_for(lambda _: log.names() == ["src/deep/c.h"]))
+        tally.check("the names of the first run", going.waits_for(lambda _: log.names() == ["./src/deep/c.h"]))
         scene.write("src/x y.h")
-        tally.check("the names that changed", going.waits_for(lambda _: log.names()[1:2] == ["src/x y.h"]))
+        tally.check("the names that changed", going.waits_for(lambda _: log.names()[1:2] == ["./src/x y.h"]))
         (scene.tree / "src/x y.h").unlink()
         scene.write("src/-z.h")
-        tally.check("no name that is gone", going.waits_for(lambda _: log.names()[2:3] == ["src/-z.h"]))
+        tally.check("no name that is gone", going.waits_for(lambda _: log.names()[2:3] == ["./src/-z.h"]))
     log.clear()
     with scene.begin("run", "src", "*.h", "--stdin", "--once", "--", "cat") as going:
-        same(tally, "names on standard input", (going.ends(), going.output), (0, b"src/-z.h\nsrc/deep/c.h\n"))
+        same(tally, "names on standard input", (going.ends(), going.output), (0, b"./src/-z.h\n./src/deep/c.h\n"))
     with scene.begin("run", "src", "*.h", "--stdin", "-0", "--once", "--", "cat") as going:
-        same(tally, "with bytes 0", (going.ends(), going.output), (0, b"src/-z.h\0src/deep/c.h\0"))
+        same(tally, "with bytes 0", (going.ends(), going.output), (0, b"./src/-z.h\0./src/deep/c.h\0"))
     with scene.begin("run", scene.tree / "src", "?z.h", "--once", "--", "echo", "{}") as going:
         same(tally, "a directory by its whole path", (going.ends(), going.output), (0, f"{scene.tree}/src/-z.h\n".encode()))
     with scene.begin("run", "src/deep", "--postpone", "--once", "--", "echo", "{}") as going:
         turns = iter(range(10_000))
         going.waits_for(lambda one: one.output or scene.write("src/deep/c.h", "x" * (next(turns) % 50 + 1)))
-        same(tally, "run --postpone --once", (going.ends(), going.output), (0, b"src/deep/c.h\n"))
+        same(tally, "run --postpone --once", (going.ends(), going.output), (0, b"./src/deep/c.h\n"))
     with scene.begin("run", "*.nothing", "--", "echo", "{}") as going:
         going.waits_for(lambda _: is_asked(scene))
         same(tally, "no run without a name", (going.ends(signal.SIGINT), going.output, going.errors), (130, b"", b""))

@@ -171,7 +171,7 @@ def check_triggers(tally: built.Tally, room: Path) -> None:
         script = 'pwd > ../ran; echo "$@" >> ../ran'
         call = scene.wq("trigger", "src", "t", "*.h", "--", "sh", "-c", script, "sh", "{}")
         same(tally, "trigger", call, built.Ended(b"", made, 0))
-        tally.check("its command runs", reads(room / "ran", f"{scene.tree}\nsrc/deep/c.h\n"))
+        tally.check("its command runs", reads(room / "ran", f"{scene.tree}\n./src/deep/c.h\n"))
         lines = scene.names("triggers", "src")
         same(tally, "triggers", lines, [f"t: sh -c '{script}' sh {{}}"])
         asked = json.loads(scene.wq("triggers", "--json").output)["triggers"][0]
