@@ -37,12 +37,9 @@ class Start:
     def start_server(self) -> None:
         if self.given:
             sys.exit(f"watchman: nobody listens on {self.given}, which the variable WQD_SOCK names")
-        words, share, interval = serve_words(self.server), os.environ.get("WQD_SHARE"), os.environ.get("WQD_INTERVAL")
-        if share:
-            words[words.index("--share") + 1] = share
-        if interval:
-            words += ["--interval", interval]
-        begin([self.program(), *words], self.server, self.log, self.environment())
+        values = {"--share": os.environ.get("WQD_SHARE"), "--interval": os.environ.get("WQD_INTERVAL")}
+        given = [word for option, value in values.items() if value for word in (option, value)]
+        begin([self.program(), *serve_words(self.server, given)], self.server, self.log, self.environment())
 
     def program(self) -> str:
         """The command wqd: that of the repository, which has to be built, or that which is installed beside this one."""

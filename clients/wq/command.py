@@ -9,8 +9,6 @@ from typing import Callable, Dict, List
 from .home import Home
 from .terminal import say
 from .trouble import BROKEN_PIPE, FAILED, FOUND, INTERRUPTED, Trouble, WrongWords
-from .vocabulary import meant
-from .words import FORMS, USAGE, read
 
 # The module of each command that is not named after it.
 MODULES: Dict[str, str] = {
@@ -61,21 +59,25 @@ def run(words: List[str], home: Home) -> int:
     if not words:
         raise WrongWords("there is no command; `wq --help` says which there are")
     command = words[0]
+    # What a command does not need is not read.
     if command in ("--help", "-h", "help"):
+        from .usage import USAGE
         sys.stdout.write(USAGE)
         sys.stdout.flush()
         return FOUND
     if command == "--version":
         print(home.version().replace("wqd ", "wq ", 1) or "wq", flush=True)
         return FOUND
+    from .words import FORMS, read
     if command not in FORMS:
+        from .vocabulary import meant
         hint = meant(command, FORMS).replace('"', "")
         raise WrongWords(f"there is no command {command}{hint}; `wq --help` says which there are")
     return function_of(command)(read(command, words[1:]), home)
 
 
 def function_of(command: str) -> Callable[..., int]:
-    """The function of a command. What the others need is not read."""
+    """The function of a command."""
     module = import_module(f".{MODULES.get(command, command)}", __package__)
     found: Callable[..., int] = getattr(module, command)
     return found

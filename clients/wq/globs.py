@@ -7,7 +7,6 @@ import time
 from typing import Any, List
 
 from .roots import Place
-from .term_faults import fault_in
 from .terminal import say
 from .trouble import Trouble, WrongWords
 from .values import read
@@ -152,6 +151,7 @@ def is_left_out(name: str) -> bool:
 def user_expression(text: str) -> Any:
     """The expression that the user wrote. Its first fault is an error as the server's, with the place in what was
     written."""
+    from .term_faults import fault_in  # few write one
     value = read(text, "--expression")
     fault = fault_in(value)
     if fault is not None:

@@ -2,7 +2,7 @@
 
 import os
 import time
-from typing import List, NamedTuple, Optional, Set
+from typing import Dict, List, NamedTuple, Optional, Set
 
 UNIT = "wqd.service"
 TICKS = os.sysconf("SC_CLK_TCK")
@@ -32,6 +32,25 @@ def facts_of(process: int) -> Optional[Facts]:
         )
     except (OSError, KeyError, ValueError, IndexError):
         return None
+
+
+def processor_seconds(process: int) -> float:
+    """The seconds of a processor that a process took, with all that it started."""
+    taken: Dict[int, float] = {}
+    children: Dict[int, List[int]] = {}
+    for each in [int(name) for name in os.listdir("/proc") if name.isdigit()]:
+        try:
+            fields = text_of(each, "stat").rsplit(")", 1)[1].split()
+        except (OSError, IndexError):
+            continue
+        taken[each] = sum(map(int, fields[11:15])) / TICKS
+        children.setdefault(int(fields[1]), []).append(each)
+    found, wanted = 0.0, [process]
+    while wanted:
+        each = wanted.pop()
+        found += taken.get(each, 0.0)
+        wanted += children.get(each, [])
+    return found
 
 
 def text_of(process: int, name: str) -> str:

@@ -20,7 +20,7 @@ PATIENCE = 60.0
 
 def start(options: argparse.Namespace, home: Home) -> int:
     where = sockname()
-    if not home.start(where, words_for(where, given(options))):
+    if not home.start(where, serve_words(where, given(options))):
         say(f"a server listens on {where} already")
     return FOUND
 
@@ -29,12 +29,6 @@ def given(options: argparse.Namespace) -> List[str]:
     """The words of the server that this command was given."""
     values = [(option, getattr(options, option[2:])) for option in OPTIONS]
     return [word for option, value in values if value is not None for word in (option, value)]
-
-
-def words_for(where: str, words: List[str]) -> List[str]:
-    """The words of a server, which go by its usual share if no other is said."""
-    usual = serve_words(where)
-    return (usual[:-2] if "--share" in words else usual) + words
 
 
 def stop(options: argparse.Namespace, home: Home) -> int:
@@ -68,7 +62,7 @@ def restart(options: argparse.Namespace, home: Home) -> int:
         if roots:
             say(f"{len(roots)} root{'' if len(roots) == 1 else 's'} with triggers and cursors went with it; "
                 "commands that need one watch it again", "yellow")
-    home.start(where, words_for(where, words))
+    home.start(where, serve_words(where, words))
     return FOUND
 
 

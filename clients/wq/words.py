@@ -5,41 +5,11 @@ from typing import Any, Dict, List, NamedTuple, NoReturn, Tuple
 
 from .trouble import WrongWords
 
-USAGE = """\
-usage: wq COMMAND [WORD..]
-       wq COMMAND --help
-       wq --help | --version
-
-  find [DIR] [GLOB..]               names that match, one a line
-  since NAME [DIR] [GLOB..]         what changed since it was last asked under
-                                    this name: + came, - went, ~ changed
-  follow [DIR] [GLOB..]             changes as they come, until you stop it
-  run [DIR] [GLOB..] -- COMMAND..   runs a command now and after each change
-  status                            the server, its roots, triggers, programs
-  watch [DIR..]                     watches directories
-  unwatch [DIR..]                   gives their places back
-  roots                             the directories that are watched
-  trigger DIR NAME [GLOB..] -- COMMAND..
-                                    has the server run a command on changes
-  triggers [DIR]                    the triggers of a root
-  untrigger DIR NAME                takes a trigger out
-  ask LINE..                        lines of the protocol as they are; - reads
-                                    them from standard input
-  start, stop, restart              the server; a command that needs one
-                                    starts it
-  explain EXPRESSION                what an expression means, its program and
-                                    what that costs
-
-DIR is the current directory if it is left out. The root that is watched is
-the nearest directory at or above it with .git, .hg or .watchmanconfig, else
-DIR. A GLOB without a slash is for the last part of a name, as '*.c'; one with
-a slash is for the whole name below DIR, as 'src/**/*.c'. .git, .hg,
-node_modules and target are left out unless you say --all.
-
-The status is 0, or 1 if nothing is found, 2 for wrong words, 3 for an error,
-130 if you stop it.
-"""
 NEEDS_DASHES = ("run", "trigger")
+
+
+# How many columns a page of help has.
+COLUMNS = 78
 
 
 class Parser(argparse.ArgumentParser):
@@ -74,7 +44,7 @@ NARROWING = [
 ZEROS = flag("-0", dest="print0", help="a byte 0 after each name in place of a newline")
 JSON = flag("--json", help="the reply of the server")
 NUMBERS = [
-    value("--interval", metavar="MS", help="the pause between two rounds of crawls in milliseconds"),
+    value("--interval", metavar="MS", help="the pause between two rounds in milliseconds; 100 if left out"),
     value("--share", metavar="P", help="how much of one processor rounds may take at most, in percent; 10 if left out"),
     value("--workers", metavar="N", help="how many threads a query may use"),
 ]
@@ -139,7 +109,8 @@ FORMS: Dict[str, Form] = {
 def parser_of(command: str) -> Parser:
     form = FORMS[command]
     usage = f"wq {command}{' [OPTION..]' if options_of(command) else ''} {form.usage}".rstrip()
-    parser = Parser(prog=f"wq {command}", usage=usage, description=form.about, allow_abbrev=False)
+    parser = Parser(prog=f"wq {command}", usage=usage, description=form.about, allow_abbrev=False,
+                    formatter_class=lambda prog: argparse.HelpFormatter(prog, width=COLUMNS))
     for option in form.options:
         parser.add_argument(*option.names, **option.settings)
     return parser

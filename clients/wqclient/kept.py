@@ -1,7 +1,6 @@
 """Notes of clients between two calls, since a server tells none of it: the clock of each name of `wq since`, the cost
 of the programs that were handed to a server, and the roots that are to stay."""
 
-import hashlib
 import json
 import os
 from typing import Any, Dict
@@ -17,6 +16,7 @@ def directory() -> str:
 
 
 def path_of(kind: str, *parts: str) -> str:
+    import hashlib  # most commands keep nothing
     name = hashlib.sha256("\0".join(parts).encode("utf-8", "surrogateescape")).hexdigest()
     return os.path.join(directory(), kind, name[:32])
 

@@ -6,7 +6,7 @@ import fcntl
 import os
 import subprocess
 import time
-from typing import IO, Callable, Dict, Iterator, List, Optional
+from typing import IO, Callable, Dict, Iterator, List, Optional, Sequence
 
 from .files import opened_as_own
 from .sockets import is_listened_on
@@ -14,18 +14,21 @@ from .sockets import is_listened_on
 PAUSE = 0.02
 PATIENCE = 60.0
 SOME_SECONDS = 5.0
-# Of one processor, in percent: how much the rounds of a server that was started without a word of its user may take.
-SHARE = "10"
+# How a server works that its user started without a word of that: how much of one processor its rounds may take, in
+# percent, and how soon it looks again at directories in which something changed lately, in milliseconds.
+USUAL = {"--share": "10", "--interval": "100"}
 
 
 class Unstarted(Exception):
     """The program did not start, for this reason."""
 
 
-def serve_words(sockname: str) -> List[str]:
-    """The words of a server at this socket, which name this second and this process as its run."""
+def serve_words(sockname: str, given: Sequence[str] = ()) -> List[str]:
+    """The words of a server at this socket, which name this second and this process as its run. It works as usual, but
+    for the options that are given with their values."""
     numbers = ["--start", str(int(time.time())), "--pid", str(os.getpid())]
-    return ["serve", "--sockname", sockname, *numbers, "--share", SHARE]
+    usual = [word for option, value in USUAL.items() if option not in given for word in (option, value)]
+    return ["serve", "--sockname", sockname, *numbers, *usual, *given]
 
 
 @contextlib.contextmanager

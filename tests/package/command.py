@@ -179,8 +179,11 @@ def check_unbuilt_command(tally: built.Tally, room: Path) -> None:
     refused = b"wqd: wrong command line\nwqd: check takes one file\n"
     same(tally, "wrong words", ended("check"), built.Ended(b"", refused, 2))
     unbuilt = b"wqd: not built: ./wqd --build proves and builds it (about an hour on four processors), ./wq answers now\n"
-    for words in ((), ("serve",), ("replay",), ("check", "file")):
+    for words in ((), ("serve",)):
         same(tally, f"nothing is built for {words}", ended(*words), built.Ended(b"", unbuilt, 1))
+    missing = b"wqd: nothing is built, and the Rattle kit is missing: its command rt is not on the PATH\n"
+    for words in (("replay",), ("check", "file")):
+        same(tally, f"nothing is built, and no kit is there, for {words}", ended(*words), built.Ended(b"", missing, 1))
     missing = b"wqd: the Rattle kit is missing: its command rt is not on the PATH\n"
     same(tally, "no kit", ended("--build"), built.Ended(b"", missing, 1))
     prefix = room / "prefix"

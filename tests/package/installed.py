@@ -5,6 +5,7 @@ import os
 import shlex
 import shutil
 import subprocess
+import sys
 import tarfile
 import time
 from io import BytesIO
@@ -50,6 +51,8 @@ def check_install(tally: built.Tally, room: Path) -> None:
     before = listing(prefix)
     for turn in ("", ", over an earlier one"):
         ended = call(room, "install", str(prefix))
+        named = f"The variable WQD names the program {built.program_path()}: nobody checks whether it is proved.\n"
+        same(tally, f"what ./install says of it{turn}", ended.errors.decode(), named)
         printed = ended.output.decode().split("\n\n")[0].splitlines()
         same(tally, f"the files that ./install tells of{turn}", sorted(printed), [str(prefix / path) for path in FILES])
         same(tally, f"the files of ./install{turn}", modes(prefix, FILES), FILES)
@@ -57,6 +60,7 @@ def check_install(tally: built.Tally, room: Path) -> None:
     check_server(tally, "installed", room, (prefix / UNIT).read_text())
     check_tool(tally, prefix)
     check_wq(tally, prefix, room)
+    check_compiled(tally, prefix)
     removed = call(room, "install", "--remove", str(prefix))
     same(tally, "how ./install --remove ends", (removed.status, removed.errors), (0, b""))
     same(tally, "what ./install --remove leaves", listing(prefix), before)
@@ -102,6 +106,23 @@ def check_wq(tally: built.Tally, prefix: Path, room: Path) -> None:
     same(tally, "its end", wq("stop"), built.Ended(b"", ended, 0))
     nobody = f"wq: no server listens on {runtime}/wqd.sock; `wq start` starts one\n".encode()
     same(tally, "another end", wq("stop"), built.Ended(b"", nobody, 1))
+
+
+# What Python reads for `wq find`, from an archive: modules that are not compiled, and those that it does not need.
+READ = """import sys
+sys.path.insert(0, sys.argv[1])
+from wq.command import function_of
+function_of("find")
+files = [module.__file__ for name, module in sorted(sys.modules.items()) if name.startswith("wq")]
+print([file for file in files if not file.endswith(".pyc")])
+print(sorted({"subprocess", "hashlib", "difflib", "tempfile", "wqprogram.terms", "wq.errors", "wq.run"} & set(sys.modules)))
+"""
+
+
+def check_compiled(tally: built.Tally, prefix: Path) -> None:
+    """The installed wq starts quickly: its modules are compiled, and each is read only if it is needed."""
+    read = subprocess.run([sys.executable, "-I", "-S", "-c", READ, str(prefix / "bin" / "wq")], stdout=subprocess.PIPE)
+    same(tally, "modules that the installed wq reads", read.stdout, b"[]\n[]\n")
 
 
 def check_default_prefix(tally: built.Tally, room: Path) -> None:

@@ -25,7 +25,8 @@ def check_server(tally: built.Tally, room: Path) -> None:
         again = said(f"a server listens on {scene.sockname} already")
         same(tally, "start again", scene.wq("start"), built.Ended(b"", again, 0))
         process = facts(scene)["process"]
-        same(tally, "the words of the server", words_of(process)[-6:], ["--share", "10", "--interval", "50", "--workers", "2"])
+        words = ["--share", "10", "--interval", "50", "--workers", "2"]
+        same(tally, "the words of the server", words_of(process)[-6:], words)
         ended = said(f"the server at {scene.sockname} has ended")
         same(tally, "restart", scene.wq("restart"), built.Ended(b"", ended + started, 0))
         same(tally, "restart keeps the words", words_of(facts(scene)["process"])[-4:], ["--interval", "50", "--workers", "2"])
@@ -33,9 +34,11 @@ def check_server(tally: built.Tally, room: Path) -> None:
         scene.wq("watch")
         gone = said("1 root with triggers and cursors went with it; commands that need one watch it again")
         same(tally, "restart with words", scene.wq("restart", "--share", "50"), built.Ended(b"", ended + gone + started, 0))
-        same(tally, "those words", words_of(facts(scene)["process"])[-2:], ["--share", "50"])
+        same(tally, "those words", words_of(facts(scene)["process"])[-4:], ["--interval", "100", "--share", "50"])
         same(tally, "stop", scene.wq("stop"), built.Ended(b"", ended, 0))
         same(tally, "restart of none", scene.wq("restart"), built.Ended(b"", started, 0))
+        usual = ["--share", "10", "--interval", "100"]
+        same(tally, "the usual words", words_of(facts(scene)["process"])[-4:], usual)
         scene.wq("stop")
         failed = scene.wq("start", "--interval", "1")
         same(tally, "start with a wrong word", (failed.status, b"--interval takes a number from 10" in failed.errors), (3, True))

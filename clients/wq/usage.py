@@ -1,0 +1,36 @@
+"""The page of `wq --help`."""
+
+USAGE = """\
+usage: wq COMMAND [WORD..]
+       wq COMMAND --help
+       wq --help | --version
+
+  find [DIR] [GLOB..]               names that match, one a line
+  since NAME [DIR] [GLOB..]         what changed since it was last asked under
+                                    this name: + came, - went, ~ changed
+  follow [DIR] [GLOB..]             changes as they come, until you stop it
+  run [DIR] [GLOB..] -- COMMAND..   runs a command now and after each change
+  status                            the server, its roots, triggers, programs
+  watch [DIR..]                     watches directories
+  unwatch [DIR..]                   gives their places back
+  roots                             the directories that are watched
+  trigger DIR NAME [GLOB..] -- COMMAND..
+                                    has the server run a command on changes
+  triggers [DIR]                    the triggers of a root
+  untrigger DIR NAME                takes a trigger out
+  ask LINE..                        lines of the protocol as they are; - reads
+                                    them from standard input
+  start, stop, restart              the server; a command that needs one
+                                    starts it
+  explain EXPRESSION                what an expression means, its program and
+                                    what that costs
+
+DIR is the current directory if it is left out. The root that is watched is
+the nearest directory at or above it with .git, .hg or .watchmanconfig, else
+DIR. A GLOB without a slash is for the last part of a name, as '*.c'; one with
+a slash is for the whole name below DIR, as 'src/**/*.c'. .git, .hg,
+node_modules and target are left out unless you say --all.
+
+The status is 0, or 1 if nothing is found, 2 for wrong words, 3 for an error,
+130 if you stop it.
+"""
