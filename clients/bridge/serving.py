@@ -16,6 +16,7 @@ from typing import IO, List, Optional
 from bridge.commands import answer
 from bridge.configuration import Configurations
 from bridge.encodings import MISSING, find_codec
+from bridge.held import MOST_CLIENTS, Held
 from bridge.keeper import Keeper
 from bridge.notices import Mailboxes
 from bridge.recrawls import Recrawls
@@ -68,6 +69,8 @@ class Serving:
         self.recrawls = Recrawls(self.configurations)
         self.states = States()
         self.mailboxes = Mailboxes()
+        self.messages = Held()
+        self.places = threading.Semaphore(MOST_CLIENTS)
         self.keeper = Keeper(server, grace, say, self.forget)
         self.follower = Follower(server, self.configurations, self.keeper, say)
         # A byte in this pipe ends the bridge.
@@ -104,7 +107,7 @@ class Serving:
         self.states.forget(root)
 
     def begin(self, listener: socket.socket) -> None:
-        """Begins the session of the client that waits, if it is one of the same user."""
+        """Begins the session of the client that waits, if it is one of the same user and there is a place."""
         try:
             client, _ = listener.accept()
         except OSError as error:
@@ -112,15 +115,22 @@ class Serving:
                 say(f"a client waits: {error.strerror}")
                 time.sleep(PAUSE)
             return
-        if peer_of(client).user not in (os.getuid(), SUPERUSER):
+        if peer_of(client).user not in (os.getuid(), SUPERUSER) or not self.places.acquire(blocking=False):
             client.close()
             return
         session = Session(self, client, self.codec, answer)
         try:
-            threading.Thread(target=session.run, daemon=True).start()
+            threading.Thread(target=self.serve, args=(session,), daemon=True).start()
         except RuntimeError as error:
             say(f"a client is not served: {error}")
             session.close()
+            self.places.release()
+
+    def serve(self, session: Session) -> None:
+        try:
+            session.run()
+        finally:
+            self.places.release()
 
 
 def locked(sockname: str) -> IO[str]:
