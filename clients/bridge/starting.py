@@ -14,14 +14,13 @@ BRIDGE = os.path.dirname(os.path.realpath(__file__))
 
 
 class Start:
-    """The processes that are started for the socket of a bridge. The log is beside it."""
+    """The processes that are started for the socket of a bridge."""
 
     def __init__(self, sockname: str, home: str) -> None:
         self.sockname = sockname
         self.home = home
         self.given = os.environ.get("WQD_SOCK")
         self.server = server_of(sockname)
-        self.log = f"{sockname}.log"
 
     def start(self) -> None:
         try:
@@ -30,7 +29,7 @@ class Start:
                     self.start_server()
                 if not is_listened_on(self.sockname):
                     words = [sys.executable, "-I", BRIDGE, "--server", self.server, "--sockname", self.sockname]
-                    begin(words, self.sockname, self.log, self.environment())
+                    begin(words, self.sockname, self.environment())
         except Unstarted as reason:
             sys.exit(f"watchman: {reason}")
 
@@ -39,7 +38,7 @@ class Start:
             sys.exit(f"watchman: nobody listens on {self.given}, which the variable WQD_SOCK names")
         values = {"--share": os.environ.get("WQD_SHARE"), "--interval": os.environ.get("WQD_INTERVAL")}
         given = [word for option, value in values.items() if value for word in (option, value)]
-        begin([self.program(), *serve_words(self.server, given)], self.server, self.log, self.environment())
+        begin([self.program(), *serve_words(self.server, given)], self.server, self.environment())
 
     def program(self) -> str:
         """The command wqd: that of the repository, which has to be built, or that which is installed beside this one."""

@@ -136,7 +136,7 @@ def wait_for(compiler: "subprocess.Popen[bytes]", sockname: str, log: str, tell:
     began = told = time.monotonic()
     while not is_listened_on(sockname):
         if compiler.poll() is not None:
-            raise Unstarted(f"the program could not be compiled: {said(log, 0)} (all of it is in {log})")
+            raise Unstarted(f"the program could not be compiled: {said(log)} (all of it is in {log})")
         if time.monotonic() - told >= TELL:
             told = time.monotonic()
             tell(how_far(told - began, processor_seconds(compiler.pid), needs))

@@ -29,12 +29,11 @@ def start(home: "Home", sockname: str, words: Optional[List[str]]) -> bool:
 
 
 def begin_there(home: "Home", sockname: str, words: List[str]) -> None:
-    log = f"{sockname}.log"
     if home.is_built():
-        begin([home.wqd(), *words], sockname, log, environment(os.environ.get("WQD")))
+        begin([home.wqd(), *words], sockname, environment(os.environ.get("WQD")))
         unproved.forget(sockname)
     else:
-        begin([home.wqd(), *words], sockname, log, environment(str(program(home.directory, say))))
+        begin([home.wqd(), *words], sockname, environment(str(program(home.directory, say))))
         unproved.note(sockname)
 
 

@@ -16,7 +16,8 @@ def run(
     room: Path, *words: str, sockname: str = "sock", output: int = subprocess.PIPE, given: bytes = b"",
 ) -> subprocess.CompletedProcess:
     """Runs the command in a directory, with names that are relative to it, and with bytes on its standard input."""
-    environment = {**os.environ, "WATCHMAN_SOCK": sockname, "WQD": os.path.relpath(str(built.program_path()), str(room))}
+    environment = {**os.environ, "WATCHMAN_SOCK": sockname, "WQD": os.path.relpath(str(built.program_path()), str(room)),
+                   "XDG_STATE_HOME": str(room.resolve() / "state")}
     environment.pop("WQD_SOCK", None)
     return subprocess.run([str(COMMAND), *words], env=environment, cwd=str(room), input=given,
                           stdout=output, stderr=subprocess.PIPE, timeout=PATIENCE)
@@ -131,16 +132,24 @@ def check_files_of_others(tally: built.Tally, room: Path) -> None:
     """A lock or a log that is a link or no file is refused, and that to which it leads stays as it is."""
     precious = room / "precious"
     precious.write_text("words")
-    for ending in ("lock", "start", "log"):
+
+    def log_of(name: str) -> Path:
+        return logs / (str(room.resolve() / f"{name}.wqd.log").strip("/").replace("/", "%"))
+
+    logs = room.resolve() / "state" / "wq" / "logs"
+    logs.mkdir(parents=True)
+    for ending in ("lock", "start"):
         (room / f"link.{ending}").symlink_to(precious)
         os.mkfifo(str(room / f"pipe.{ending}"))
+    log_of("link").symlink_to(precious)
+    os.mkfifo(str(log_of("pipe")))
     for name in ("link", "pipe"):
         bridge = subprocess.run([sys.executable, str(PROGRAM), "--server", str(room / "none"), "--sockname", str(room / name)],
                                 stderr=subprocess.PIPE, timeout=PATIENCE)
         same(tally, f"a {name} as the lock", (bridge.returncode, b"cannot listen" in bridge.stderr), (1, True))
-        for ending in ("start", "log"):
+        for path in (room.resolve() / f"{name}.start", log_of(name)):
             ended = run(room, "version", sockname=name)
-            said = f"watchman: {room.resolve() / name}.{ending}: "
-            same(tally, f"a {name} as the {ending}", (ended.returncode, ended.stderr.decode().startswith(said)), (1, True))
-            (room / f"{name}.{ending}").unlink()
+            is_said = ended.stderr.decode().startswith(f"watchman: {path}: ")
+            same(tally, f"a {name} as {path.name}", (ended.returncode, is_said), (1, True))
+            path.unlink()
     same(tally, "the file of the links", precious.read_text(), "words")
