@@ -10,7 +10,8 @@ from pathlib import Path
 import built
 from client import same
 from scene import Scene, at_terminal, called_at_terminal, said, wrong
-from wq.words import FORMS, USAGE, options_of
+from wq.usage import USAGE
+from wq.words import FORMS, options_of
 
 SLOW = 2.3
 
