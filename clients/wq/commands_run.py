@@ -28,9 +28,8 @@ class Unrunnable(Exception):
 class Command:
     """The words of a command. The names take the place of the word `{}`, or come on standard input."""
 
-    def __init__(self, words: List[str], directory: str, on_input: bool, with_zeros: bool, is_alone: bool) -> None:
+    def __init__(self, words: List[str], on_input: bool, with_zeros: bool, is_alone: bool) -> None:
         self.words = words
-        self.directory = directory
         self.on_input = on_input
         self.ending = "\0" if with_zeros else "\n"
         # Whether each run has a process group of its own, which a signal ends as a whole.
@@ -40,7 +39,7 @@ class Command:
 
     def start(self, names: List[str], signals: Set[signal.Signals]) -> "Run":
         """Starts a run, which blocks these signals alone."""
-        paths = [self.path_of(name) for name in names]
+        paths = [as_argument(name) for name in names]
         words = [word for given in self.words for word in (paths if given == PLACE else [given])]
         stream = self.input_of(paths)
         try:
@@ -59,10 +58,6 @@ class Command:
             reason = f"the names of {count:,} files are too long for a command; take them on standard input, by --stdin"
             return reason, CANNOT_START
         return f"{self.name}: {error.strerror}", CANNOT_START
-
-    def path_of(self, name: str) -> str:
-        """The name as the command finds it, which runs in the current directory."""
-        return as_argument(os.path.join("" if self.directory == "." else self.directory, name))
 
     def input_of(self, paths: List[str]) -> "Optional[IO[bytes]]":
         """Standard input of a run, if it is not this command's own: its names, or nothing for a group of its own, which

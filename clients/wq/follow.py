@@ -12,58 +12,46 @@ from wqclient.client import Client
 from wqclient.lines import Ended
 
 from .changes import FIELDS, File, counted, print_changes
-from .globs import expression_of
 from .home import Home
-from .roots import Place, directory_and_globs, place_of
+from .places import Places
 from .server import WENT, Server, Value, reached
-from .terminal import show
 from .trouble import Trouble
-from .values_shown import json_line
 
 SUBSCRIPTION = "wq"
 
 
 def follow(options: argparse.Namespace, home: Home) -> int:
-    directory, globs = directory_and_globs(options.words)
     with reached(home) as server, waking() as woken:
-        feed = Feed(server, directory, globs, options)
-        feed.begin("false")
+        feed = Feed(server, options.words, options)
+        feed.begin(False)
         while True:
             for found in feed.lists(woken):
-                tell(found, feed.place, options)
-
-
-def tell(found: Value, place: Place, options: argparse.Namespace) -> None:
-    found["files"] = counted(found["files"], options)
-    if not found["files"]:
-        return
-    if options.json:
-        show([json_line(found)])
-    else:
-        print_changes(found["files"], place, "\0" if options.print0 else "\n")
+                found["files"] = counted(found["files"], options)
+                if found["files"]:
+                    print_changes([found], options)
 
 
 class Feed:
-    """A subscription to what matches below a directory, whose root is watched for it and stays so."""
+    """Subscriptions to what matches below directories, whose roots are watched for it and stay so."""
 
-    def __init__(self, server: Server, directory: str, globs: List[str], options: argparse.Namespace) -> None:
+    def __init__(self, server: Server, words: List[str], options: argparse.Namespace) -> None:
         self.server = server
-        watched = server.roots()
-        self.place = place_of(directory, watched)
-        self.expression = expression_of(self.place, globs, options)
-        self.now = server.watch(self.place.root, watched)
+        self.places = Places(server, words, options)
 
-    def begin(self, expression: Any) -> List[File]:
-        """Begins with what is there now, and gives the files of it that an expression matches. The first list may have
-        changes already."""
-        query = {"expression": expression, "fields": FIELDS, **self.now}
-        found = self.server.ask("query", self.place.root, query)
-        query = {"expression": self.expression, "fields": FIELDS, "since": found["clock"]}
-        self.server.ask("subscribe", self.place.root, SUBSCRIPTION, query)
-        return found["files"]
+    def begin(self, lists_all: bool) -> List[File]:
+        """Begins with what is there now, and gives the files of it that match, if they are asked for. The first lists
+        may have changes already."""
+        files: List[File] = []
+        for number, (place, expression) in enumerate(zip(self.places.places, self.places.expressions)):
+            query = {"expression": expression if lists_all else "false", "fields": FIELDS}
+            found = self.places.told(place, self.places.ask(place, query))
+            query = {"expression": expression, "fields": FIELDS, "since": found["clock"]}
+            self.server.ask("subscribe", place.root, name_of(number), query)
+            files += found["files"]
+        return files
 
     def lists(self, woken: Optional[int] = None) -> List[Value]:
-        """The next lists, of which one is waited for, with the file that wakes, if one is given. The line that ends the
+        """The next lists, of which one is waited for, with the file that wakes, if one is given. The line that ends a
         subscription is met after those before it."""
         client = self.server.client
         if not client.lists:
@@ -71,11 +59,15 @@ class Feed:
                 wait(client, woken)
             self.take()
         if client.lists and client.lists[0].get("canceled"):
-            raise Trouble(f"{self.place.root} is no longer watched, so nothing more is told of it")
+            raise Trouble(f"{client.lists[0]['root']} is no longer watched, so nothing more is told of it")
         found: List[Value] = []
         while client.lists and not client.lists[0].get("canceled"):
-            found.append(client.lists.popleft())
+            found.append(self.told(client.lists.popleft()))
         return found
+
+    def told(self, found: Any) -> Value:
+        names = [name_of(number) for number in range(len(self.places.places))]
+        return self.places.told(self.places.places[names.index(found["subscription"])], found)
 
     def take(self) -> None:
         """Takes what the server sent, a whole line or a part of one."""
@@ -85,6 +77,11 @@ class Feed:
         except Ended:
             raise Trouble(WENT) from None
         client.take_lists()
+
+
+def name_of(number: int) -> str:
+    """The name of the subscription to a directory."""
+    return f"{SUBSCRIPTION}{number + 1}" if number else SUBSCRIPTION
 
 
 @contextlib.contextmanager

@@ -2,6 +2,7 @@
 out."""
 
 import argparse
+import functools
 import re
 import time
 from typing import Any, List
@@ -26,10 +27,9 @@ SECONDS = {"s": 1, "m": 60, "min": 60, "h": 3_600, "d": 86_400, "w": 604_800}
 
 def expression_of(place: Place, globs: List[str], options: argparse.Namespace) -> Any:
     """The expression; `true` if all files are asked for. The one that the user wrote comes last."""
-    front = f"{escaped(place.below)}/" if place.below else ""
     parts: List[Any] = [["dirname", place.below]] if place.below else []
     if globs:
-        parts.append(any_of([glob_term(glob, front, place) for glob in globs]))
+        parts.append(any_of([glob_term(glob, place) for glob in globs]))
     if options.type:
         parts.append(any_of([["type", letter] for letter in kinds_of(options.type)]))
     if options.ext:
@@ -38,7 +38,7 @@ def expression_of(place: Place, globs: List[str], options: argparse.Namespace) -
         parts.append(size_term(options.size))
     if getattr(options, "newer", None):
         parts.append(["since", int(time.time()) - age_of(options.newer), "mtime"])
-    left_out = left_out_terms(front, place, options)
+    left_out = left_out_terms(place, options)
     if left_out:
         parts.append(["not", any_of(left_out)])
     if getattr(options, "expression", None) is not None:
@@ -46,6 +46,13 @@ def expression_of(place: Place, globs: List[str], options: argparse.Namespace) -
     if not parts:
         return "true"
     return parts[0] if len(parts) == 1 else ["allof", *parts]
+
+
+def restrictions(globs: List[str], options: argparse.Namespace) -> List[Any]:
+    """What restricts a list, in the same form however it was written."""
+    kinds = sorted(set(kinds_of(options.type))) if options.type else []
+    lists = [sorted(set(found or [])) for found in (globs, kinds, options.ext, options.exclude)]
+    return [*lists, options.all]
 
 
 def any_of(terms: List[Any]) -> Any:
@@ -57,27 +64,36 @@ def escaped(text: str) -> str:
     return "".join(f"\\{letter}" if letter in SPECIAL else letter for letter in text)
 
 
-def glob_term(glob: str, front: str, place: Place) -> Any:
+def front_of(place: Place) -> str:
+    """The front of a pattern for whole names below a directory."""
+    return f"{escaped(place.below)}/" if place.below else ""
+
+
+def glob_term(glob: str, place: Place) -> Any:
     """A glob without a slash is for the last part of a name, however deep. One with a slash is for the name below the
-    directory; a slash at its front says no more than that."""
+    directory; a slash or `./` at its front says no more than that."""
+    directory = f"{place.path().rstrip('/')}/"
     if glob.startswith("./"):
-        anchored = f"{quoted(glob)} is taken as {quoted(glob[1:])}, directly in the directory"
-        say(f"no name begins with \"./\", so {anchored}", "yellow")
         glob = glob[1:]
-    directory = f"{place.root.rstrip('/')}/{place.below}".rstrip("/") + "/"
-    if glob.startswith(directory) and len(glob) > len(directory):
+    elif glob.startswith(directory) and len(glob) > len(directory):
         glob = "/" + glob[len(directory):]
     if "/" not in glob:
         warn(of_glob(glob, "the glob", False, False))
         return ["match", glob, "basename", WITH_DOTS]
     glob = glob[1:] if glob.startswith("/") else glob
     warn(of_glob(glob, "the glob", True, False))
-    return ["match", front + glob, "wholename", WITH_DOTS]
+    return ["match", front_of(place) + glob, "wholename", WITH_DOTS]
 
 
 def warn(sentences: Any) -> None:
     for sentence in sentences:
-        say(sentence.replace("at the glob: ", "the glob ", 1), "yellow")
+        note(sentence.replace("at the glob: ", "the glob ", 1))
+
+
+@functools.lru_cache(maxsize=None)
+def note(text: str) -> None:
+    """A warning. It comes once, however many directories there are."""
+    say(text, "yellow")
 
 
 def kinds_of(word: str) -> List[str]:
@@ -93,11 +109,11 @@ def kinds_of(word: str) -> List[str]:
 
 def suffix_of(word: str) -> str:
     if word.startswith("."):
-        say(f"a suffix has no dot at its front: {quoted(word)} is taken as {quoted(word[1:])}", "yellow")
+        note(f"a suffix has no dot at its front: {quoted(word)} is taken as {quoted(word[1:])}")
         word = word[1:]
     if "." in word or "/" in word:
-        say(f"the suffix {quoted(word)} can match nothing: it is what follows the last dot; "
-            f"the glob {quoted('*.' + word)} finds such names", "yellow")
+        note(f"the suffix {quoted(word)} can match nothing: it is what follows the last dot; "
+             f"the glob {quoted('*.' + word)} finds such names")
     return word
 
 
@@ -125,8 +141,9 @@ def age_of(word: str) -> int:
     return seconds
 
 
-def left_out_terms(front: str, place: Place, options: argparse.Namespace) -> List[Any]:
+def left_out_terms(place: Place, options: argparse.Namespace) -> List[Any]:
     """Terms of files to leave out: directories that people seldom mean, globs of --exclude, and all below them."""
+    front = front_of(place)
     terms: List[Any] = []
     if not options.all:
         terms.append(["name", list(LEFT_OUT)])
@@ -157,5 +174,5 @@ def user_expression(text: str) -> Any:
     if fault is not None:
         raise Trouble(fault.error, fault.sentence)
     for sentence in of_term(value, "expression"):
-        say(sentence, "yellow")
+        note(sentence)
     return value

@@ -12,10 +12,9 @@ from .changes import File, counted
 from .commands_run import Command, Run, Unrunnable, status_words
 from .follow import Feed
 from .home import Home
-from .roots import directory_and_globs
 from .server import reached
 from .terminal import is_terminal, say, write
-from .trouble import Trouble, WrongWords
+from .trouble import NOTHING, Trouble, WrongWords
 
 # A run that is to end gets SIGTERM, and SIGKILL after so many seconds.
 GRACE = 5.0
@@ -30,11 +29,10 @@ def run(options: argparse.Namespace, home: Home) -> int:
         raise WrongWords("run takes `--` and a command after it, such as: wq run '*.c' -- make")
     if options.quiet < 0:
         raise WrongWords("--quiet takes a number of milliseconds from 0 on")
-    directory, globs = directory_and_globs(options.words)
-    command = Command(options.command, directory, options.stdin, options.print0, options.restart)
+    command = Command(options.command, options.stdin, options.print0, options.restart)
     with reached(home) as server:
-        feed = Feed(server, directory, globs, options)
-        files = feed.begin(feed.expression if command.takes_names else "false")
+        feed = Feed(server, options.words, options)
+        files = feed.begin(command.takes_names)
         return Runner(feed, command, options, files).loop()
 
 
@@ -128,10 +126,9 @@ class Runner:
         if not files:
             return
         for file in files:
-            name = self.feed.place.shown(file["name"])
-            self.names.pop(name, None)
+            self.names.pop(file["name"], None)
             if file["exists"]:
-                self.names[name] = None
+                self.names[file["name"]] = None
         self.quiet_since = time.monotonic()
         if not self.is_due:
             self.is_due, self.due_since = True, self.quiet_since
@@ -141,6 +138,8 @@ class Runner:
         self.is_due = False
         names, self.names = list(self.names), {}
         if self.command.takes_names and not names:
+            if self.options.once and not self.options.postpone:
+                raise Trouble("no file matches", status=NOTHING)
             return
         if self.options.clear and is_terminal(sys.stdout):
             write(CLEAR)

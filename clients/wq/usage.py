@@ -5,11 +5,11 @@ usage: wq COMMAND [WORD..]
        wq COMMAND --help
        wq --help | --version
 
-  find [DIR] [GLOB..]               names that match, one a line
-  since NAME [DIR] [GLOB..]         what changed since it was last asked under
-                                    this name: + came, - went, ~ changed
-  follow [DIR] [GLOB..]             changes as they come, until you stop it
-  run [DIR] [GLOB..] -- COMMAND..   runs a command now and after each change
+  find [DIR|GLOB..]                 names that match, one a line
+  since [NAME] [DIR|GLOB..]         what changed since this was last asked:
+                                    + came, - went, ~ changed
+  follow [DIR|GLOB..]               changes as they come, until you stop it
+  run [DIR|GLOB..] -- COMMAND..     runs a command now and after each change
   status                            the server, its roots, triggers, programs
   watch [DIR..]                     watches directories
   unwatch [DIR..]                   gives their places back
@@ -25,11 +25,12 @@ usage: wq COMMAND [WORD..]
   explain EXPRESSION                what an expression means, its program and
                                     what that costs
 
-DIR is the current directory if it is left out. The root that is watched is
-the nearest directory at or above it with .git, .hg or .watchmanconfig, else
-DIR. A GLOB without a slash is for the last part of a name, as '*.c'; one with
-a slash is for the whole name below DIR, as 'src/**/*.c'. .git, .hg,
-node_modules and target are left out unless you say --all.
+Each word that is a directory is a DIR, in any place; without one it is the
+current directory. The root that is watched is the nearest directory at or
+above it with .git, .hg or .watchmanconfig, else DIR. A GLOB without a slash
+is for the last part of a name, as '*.c'; one with a slash is for the whole
+name below DIR, as 'src/**/*.c'. .git, .hg, node_modules and target are left
+out unless you say --all.
 
 The status is 0, or 1 if nothing is found, 2 for wrong words, 3 for an error,
 130 if you stop it.

@@ -1,12 +1,13 @@
 """Values as they are printed: one line in a pipe, laid out at a terminal."""
 
+import argparse
 import json
 import sys
-from typing import Any
+from typing import Any, Dict, List
 
 from wqclient.harmless import harmless_json
 
-from .terminal import is_terminal
+from .terminal import is_terminal, show
 
 
 def json_line(value: Any) -> str:
@@ -19,3 +20,14 @@ def json_shown(value: Any) -> str:
     if not is_terminal(sys.stdout):
         return json_line(value)
     return harmless_json(json.dumps(value, ensure_ascii=False, indent=2))
+
+
+def print_lists_as_json(lists: List[Dict[str, Any]], options: argparse.Namespace) -> None:
+    """Each list as an object on a line; with --count its number of files in place of them, with --lines each file."""
+    if getattr(options, "count", False):
+        counted = ({**found, "count": len(found["files"])} for found in lists)
+        show(json_line({key: found[key] for key in sorted(found) if key != "files"}) for found in counted)
+    elif options.lines:
+        show(json_line(file) for found in lists for file in found["files"])
+    else:
+        show(json_line({key: found[key] for key in sorted(found)}) for found in lists)

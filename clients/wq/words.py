@@ -43,6 +43,7 @@ NARROWING = [
 ]
 ZEROS = flag("-0", dest="print0", help="a byte 0 after each name in place of a newline")
 JSON = flag("--json", help="the reply of the server")
+LINES = flag("--lines", help="with --json, an object for each file, each on a line of its own")
 NUMBERS = [
     value("--interval", metavar="MS", help="the pause between two rounds in milliseconds; 100 if left out"),
     value("--share", metavar="P", help="how much of one processor rounds may take at most, in percent; 10 if left out"),
@@ -62,21 +63,21 @@ class Form(NamedTuple):
 
 
 FORMS: Dict[str, Form] = {
-    "find": Form("[DIR] [GLOB..]", "prints the names that match, one a line", [
+    "find": Form("[DIR|GLOB..]", "prints the names that match, one a line", [
         *NARROWING, value("--size", metavar="SIZE", help="+1M at least, -10k at most, 0 exactly"),
         value("--newer", metavar="AGE", help="modified within this time, as 30s, 10m, 2h, 3d, 1w"),
         value("--expression", metavar="JSON", help="an expression of the protocol, beside the other words"),
         value("--program", metavar="NAME", help="a stored program, in place of the other words"),
-        flag("-l", dest="long", help="the kind, size, time and name of each"), ZEROS, JSON,
+        flag("-l", dest="long", help="the kind, size, time and name of each"), ZEROS, JSON, LINES,
         flag("--count", help="how many there are"),
         Option(("--no-sync",), {"dest": "sync", "action": "store_false", "help": "as the last crawl saw it"}),
         flag("--keep", help="goes on to watch a root that was not watched before"), WORDS]),
-    "since": Form("NAME [DIR] [GLOB..]", "prints what changed since it was last asked under this name", [
-        *NARROWING, ZEROS, JSON, flag("--peek", help="by the clock that the last call wrote; the name does not move"),
-        NAME, WORDS]),
-    "follow": Form("[DIR] [GLOB..]", "prints changes as they come, until you stop it", [
-        *NARROWING, ZEROS, JSON, WORDS]),
-    "run": Form("[DIR] [GLOB..] -- COMMAND..", "runs a command now and after each change; {} is for the names", [
+    "since": Form("[NAME] [DIR|GLOB..]", "prints what changed since this was last asked, under a name or without", [
+        *NARROWING, ZEROS, JSON, LINES,
+        flag("--peek", help="by the clock that the last call wrote; the name does not move"), WORDS]),
+    "follow": Form("[DIR|GLOB..]", "prints changes as they come, until you stop it", [
+        *NARROWING, ZEROS, JSON, LINES, WORDS]),
+    "run": Form("[DIR|GLOB..] -- COMMAND..", "runs a command now and after each change; {} is for the names", [
         *NARROWING,
         value("--quiet", metavar="MS", type=int, default=100, help="a burst ends when it is so long quiet; 100"),
         flag("--restart", help="a change ends the running one by SIGTERM, and after 5 seconds by SIGKILL"),

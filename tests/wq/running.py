@@ -111,6 +111,9 @@ def check_names_of_runs(tally: built.Tally, scene: Scene, log: Log) -> None:
         same(tally, "with bytes 0", (going.ends(), going.output), (0, b"./src/-z.h\0./src/deep/c.h\0"))
     with scene.begin("run", scene.tree / "src", "?z.h", "--once", "--", "echo", "{}") as going:
         same(tally, "a directory by its whole path", (going.ends(), going.output), (0, f"{scene.tree}/src/-z.h\n".encode()))
+    with scene.begin("run", "?z.h", "src/deep", "src", "--once", "--", "echo", "{}") as going:
+        same(tally, "two directories", (going.ends(), going.output), (0, b"./src/-z.h\n"))
+    wrong(tally, scene, ["run", "*.nothing", "--once", "--", "echo", "{}"], "no file matches", status=1)
     with scene.begin("run", "src/deep", "--postpone", "--once", "--", "echo", "{}") as going:
         turns = iter(range(10_000))
         going.waits_for(lambda one: one.output or scene.write("src/deep/c.h", "x" * (next(turns) % 50 + 1)))

@@ -20,8 +20,7 @@ def check_terminal(tally: built.Tally, room: Path) -> None:
     """Colours, layout and escapes are for terminals, and NO_COLOR takes the colours away."""
     with Scene(room) as scene:
         (scene.tree / "link").symlink_to("Makefile")
-        found = at_terminal(scene, "find", "src", "link", "-t", "d,l")
-        same(tally, "no link below a directory", found, "\x1b[34mdeep\x1b[0m\n"[:0])
+        same(tally, "no link below a directory", at_terminal(scene, "find", "src", "./link", "-t", "d,l"), "")
         same(tally, "a directory in its colour", at_terminal(scene, "find", "-t", "d", "deep"), "\x1b[34msrc/deep\x1b[0m\n")
         same(tally, "a link in its colour", at_terminal(scene, "find", "link"), "\x1b[36mlink\x1b[0m\n")
         same(tally, "a file has none", at_terminal(scene, "find", "Makefile"), "Makefile\n")
