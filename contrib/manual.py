@@ -24,6 +24,8 @@ PAGES = {
 }
 # Lines are not stretched, and words are not cut: most are code.
 LAYOUT = [".ad l", ".nh"]
+# Code of so many letters may be too long for a line.
+LONG = 40
 ESCAPES = {"\\": "\\e", "-": "\\-", "'": "\\(aq", "`": "\\(ga", "^": "\\(ha", "~": "\\(ti"}
 
 
@@ -129,13 +131,19 @@ def prose(text: str) -> str:
 def marked(found: "re.Match[str]") -> str:
     code, bold, slanted, words, target = found.groups()
     if code is not None:
-        return f"\\fB{plain(code)}\\fR"
+        written = plain(code)
+        return f"\\fB{written if len(code) < LONG else breaking(written)}\\fR"
     if bold is not None:
         return f"\\fB{escaped(bold.replace('`', ''))}\\fR"
     if slanted is not None:
         return f"\\fI{escaped(slanted)}\\fR"
     other = target.rpartition("/")[2].partition("#")[0]
     return prose(PAGES.get(other, words) if words == other else words)
+
+
+def breaking(written: str) -> str:
+    """Code that may go on in another line after each comma."""
+    return written.replace(",", ",\\:")
 
 
 def plain(text: str) -> str:

@@ -28,7 +28,7 @@ class Start:
                 if not is_listened_on(self.server):
                     self.start_server()
                 if not is_listened_on(self.sockname):
-                    words = [sys.executable, "-I", BRIDGE, "--server", self.server, "--sockname", self.sockname]
+                    words = [sys.executable, "-I", "-B", BRIDGE, "--server", self.server, "--sockname", self.sockname]
                     begin(words, self.sockname, self.environment())
         except Unstarted as reason:
             sys.exit(f"watchman: {reason}")

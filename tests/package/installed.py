@@ -1,5 +1,7 @@
 """What ./install and ./package put below a prefix: the files, a server that the unit starts, and nothing after removal."""
 
+import gzip
+import hashlib
 import json
 import os
 import shlex
@@ -40,6 +42,8 @@ FILES = {
 }
 LIST = "lib/wqd/files"
 UNIT = "share/systemd/user/wqd.service"
+# What a package has beside that.
+OF_DEBIAN = ("share/doc/wqd/changelog.gz", "share/lintian/overrides/wqd")
 ADMIN = ("info", "updates", "triggers")
 
 
@@ -173,11 +177,13 @@ def check_package(tally: built.Tally, room: Path) -> None:
     call(room, "install", str(room / "prefix"))
     (room / "prefix" / LIST).unlink()
     check_members(tally, path, room / "prefix")
+    check_by_lintian(tally, room)
     directory = room / "directory"
     remove = install_package(path, directory)
     expected = {in_debian(path): mode for path, mode in FILES.items() if path != LIST}
+    expected.update({path: 0o644 for path in OF_DEBIAN})
     same(tally, "the files of the package", modes(directory / "usr", expected), expected)
-    unit = (directory / "usr" / UNIT).read_text()
+    unit = (directory / "usr" / in_debian(UNIT)).read_text()
     same(tally, "the unit of the package", 'ExecStart="/usr/bin/wqd" serve' in unit, True)
     check_server(tally, "of the package", room, unit.replace("/usr/bin/wqd", f"{directory}/usr/bin/wqd"))
     remove()
@@ -186,7 +192,29 @@ def check_package(tally: built.Tally, room: Path) -> None:
 
 def in_debian(path: str) -> str:
     """Where a package has a file that ./install puts here."""
-    return path.replace("share/zsh/site-functions/", "share/zsh/vendor-completions/")
+    for here, there in (("share/zsh/site-functions/", "share/zsh/vendor-completions/"), ("share/systemd/", "lib/systemd/")):
+        path = path.replace(here, there)
+    return f"{path}.gz" if path.startswith("share/man/") else path
+
+
+def text_in_debian(path: str, data: bytes) -> bytes:
+    """What a package has in a file: scripts name Debian's Python, and Debian has the text of the Apache License."""
+    if path.endswith("/copyright"):
+        data = data[:data.index(b"\n" + b" " * 33 + b"Apache License")]
+        return data + b"The Apache License, Version 2.0, is in /usr/share/common-licenses/Apache-2.0.\n"
+    data = data.replace(b"#!/usr/bin/env -S python3 -I -S\n", b"#!/usr/bin/python3 -IS\n", 1)
+    return data.replace(b"#!/usr/bin/env -S python3 -I\n", b"#!/usr/bin/python3 -I\n", 1)
+
+
+def check_by_lintian(tally: built.Tally, room: Path) -> None:
+    """Debian's own check of packages finds no error, and nothing to warn of."""
+    if shutil.which("lintian") is None:
+        print("left out: what lintian says of the package, since it is not installed")
+        return
+    ended = call(room, "package", str(room / "named"), DEBFULLNAME="Somebody", DEBEMAIL="somebody@example.com")
+    command = ["lintian", "--allow-root", ended.output.decode().strip()]
+    found = subprocess.run(command, stdout=subprocess.PIPE, stderr=subprocess.STDOUT)
+    same(tally, "what lintian says", (found.returncode, found.stdout.decode()), (0, ""))
 
 
 def check_members(tally: built.Tally, package: Path, prefix: Path) -> None:
@@ -196,11 +224,24 @@ def check_members(tally: built.Tally, package: Path, prefix: Path) -> None:
     with tarfile.open(fileobj=BytesIO(members["data.tar.gz"])) as archive:
         entries = archive.getmembers()
         found = {entry.name: archive.extractfile(entry).read() for entry in entries if entry.isfile()}
-    installed = {f"./usr/{in_debian(path)}": (prefix / path).read_bytes() for path in FILES if path not in (LIST, UNIT)}
-    found.pop(f"./usr/{UNIT}")
+    installed = {
+        f"./usr/{in_debian(path)}": text_in_debian(path, (prefix / path).read_bytes()) for path in FILES if path not in (LIST, UNIT)
+    }
+    check_sums(tally, members, found)
+    for name in (in_debian(UNIT), *OF_DEBIAN):
+        found.pop(f"./usr/{name}")
+    found = {name: gzip.decompress(data) if name.endswith(".gz") else data for name, data in found.items()}
     tally.check("a package has what ./install writes", found == installed, [f"{sorted(found)}", f"{sorted(installed)}"])
     owners = {(entry.uid, entry.gid, entry.uname, entry.gname, entry.mtime) for entry in entries}
     same(tally, "the owner and the second", owners, {(0, 0, "root", "root", 1_000_000_000)})
+
+
+def check_sums(tally: built.Tally, members: Dict[str, bytes], found: Dict[str, bytes]) -> None:
+    """The checksums of the package are those of its files."""
+    with tarfile.open(fileobj=BytesIO(members["control.tar.gz"])) as archive:
+        lines = archive.extractfile("./md5sums").read().decode().splitlines()
+    sums = {f"./{name}": checksum for checksum, _, name in (line.partition("  ") for line in lines)}
+    same(tally, "checksums", sums, {name: hashlib.md5(data).hexdigest() for name, data in found.items()})
 
 
 def members_of(package: Path) -> Dict[str, bytes]:

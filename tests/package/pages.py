@@ -41,7 +41,9 @@ def blocks(page: str, language: str) -> List[str]:
 
 def check_quotes(tally: built.Tally, room: Path) -> None:
     page = files.text("docs/SERVER.md")
-    same(tally, "the unit on the page", blocks(page, "ini"), [files.text("contrib/wqd.service")])
+    unit, strict = blocks(page, "ini")
+    same(tally, "the unit on the page", unit, files.text("contrib/wqd.service"))
+    same(tally, "the unit without triggers", strict.startswith("[Service]\n"), True)
 
 
 def check_table_of_files(tally: built.Tally, room: Path) -> None:
