@@ -13,6 +13,7 @@ from typing import List, NamedTuple
 import completion
 import manual
 
+from wq import examples
 from wq.usage import USAGE as WQ_USAGE
 
 TOP = Path(__file__).resolve().parent.parent
@@ -162,7 +163,7 @@ def without(page: str, heading: str) -> str:
 
 def wq_manual() -> str:
     summary = "asks wqd which files match and which changed, and runs commands on changes"
-    return manual.page(text("docs/WQ.md"), "wq", 1, summary, version(), WQ_USAGE)
+    return manual.page(text("docs/WQ.md"), "wq", 1, summary, version(), WQ_USAGE, examples.markdown())
 
 
 def wqasm_manual() -> str:

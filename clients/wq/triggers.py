@@ -1,13 +1,14 @@
 """`wq trigger`, `wq triggers` and `wq untrigger`: commands that the server starts after changes."""
 
 import argparse
+import os
 import shlex
-from typing import Any, Dict, List
+from typing import Any, Dict, List, Tuple
 
 from .commands_run import PLACE
 from .globs import expression_of
 from .home import Home
-from .roots import place_of, require_utf8, root_to_unwatch
+from .roots import is_directory, is_pattern, place_of, require_utf8, root_to_unwatch
 from .server import Server, reached
 from .terminal import name_shown, say, show
 from .trouble import FOUND, NOTHING, WrongWords
@@ -21,20 +22,22 @@ WITH_NAMES = ["/bin/sh", "-c", f"""words=$(awk -v own="$1" -v all="$#" '{NUMBERS
 
 def trigger(options: argparse.Namespace, home: Home) -> int:
     """Registers a trigger. The names of the files take the place of `{}`, the last word of its command."""
-    for word in [options.directory, options.name, *options.globs, *options.command]:
+    for word in [*options.words, *options.command]:
         require_utf8(word, "a word of the command line")
     if not options.command:
-        raise WrongWords("trigger takes `--` and a command after it, such as: wq trigger . build '*.c' -- make")
+        raise WrongWords("trigger takes `--` and a command after it, such as: wq trigger build '*.c' -- make")
+    directory, name, globs = named(options.words, "trigger build '*.c' -- make")
+    require_files(globs, directory)
     appends = options.command[-1] == PLACE
     command: List[str] = options.command[:-1] if appends else options.command
     if PLACE in command or not command:
         raise WrongWords("the names of files come last in the command of a trigger, so {} may be its last word alone")
     with reached(home) as server:
         watched = server.roots()
-        place = place_of(options.directory, watched)
+        place = place_of(directory, watched)
         server.watch(place.root, watched)
-        asked: Dict[str, Any] = {"name": options.name, "command": command}
-        expression = expression_of(place, options.globs, options)
+        asked: Dict[str, Any] = {"name": name, "command": command}
+        expression = expression_of(place, globs, options)
         if expression != "true":
             asked["expression"] = expression
         if appends:
@@ -43,8 +46,28 @@ def trigger(options: argparse.Namespace, home: Home) -> int:
         if options.stdin:
             asked["stdin"] = "NAME_PER_LINE"
         found = server.ask("trigger", place.root, asked)
-    say(f"trigger {options.name} of {place.root} is {found['disposition']}; its command runs there")
+    say(f"trigger {name} of {place.root} is {found['disposition']}; its command runs there")
     return FOUND
+
+
+def named(words: List[str], example: str) -> Tuple[str, str, List[str]]:
+    """The directory, which is the current one if none comes before the name; the name; and the other words."""
+    if len(words) > 1 and is_directory(words[0]):
+        if is_pattern(words[1]):
+            raise WrongWords(f"{words[0]} is a directory, and the name of the trigger comes after it")
+        return words[0], words[1], words[2:]
+    if not words:
+        raise WrongWords(f"the name of the trigger is missing, such as in: wq {example}")
+    return ".", words[0], words[1:]
+
+
+def require_files(globs: List[str], directory: str) -> None:
+    """A word that is neither a directory nor a pattern is a file that is there. Else it is a mistake."""
+    for word in globs:
+        if is_directory(os.path.join(directory, word)):
+            raise WrongWords(f"{word} is a directory; a trigger has one, which comes before its name")
+        if not is_pattern(word) and not word.startswith("./") and not os.path.lexists(os.path.join(directory, word)):
+            raise WrongWords(f"{word} is no file here; write './{word}' for one that may come")
 
 
 def root_of(server: Server, word: str) -> str:
@@ -77,11 +100,14 @@ def command_of(found: Dict[str, Any]) -> str:
 
 
 def untrigger(options: argparse.Namespace, home: Home) -> int:
-    require_utf8(options.name, "the name")
+    directory, name, others = named(options.words, "untrigger build")
+    if others:
+        raise WrongWords(f"untrigger takes one name: {' '.join(others)}")
+    require_utf8(name, "the name")
     with reached(home, starts=False) as server:
-        root = root_of(server, options.directory)
-        found = server.ask("trigger-del", root, options.name)
+        root = root_of(server, directory)
+        found = server.ask("trigger-del", root, name)
         if not found["deleted"]:
             names = [one["name"] for one in server.look("trigger-list", root).get("triggers", [])]
-            say(f"{root} has no trigger {options.name}{'; there are ' + ', '.join(names) if names else ''}")
+            say(f"{root} has no trigger {name}{'; there are ' + ', '.join(names) if names else ''}")
     return FOUND if found["deleted"] else NOTHING

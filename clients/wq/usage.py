@@ -1,7 +1,7 @@
 """The page of `wq --help`."""
 
 USAGE = """\
-usage: wq COMMAND [WORD..]
+usage: wq COMMAND [OPTION..] [WORD..]
        wq COMMAND --help
        wq --help | --version
 
@@ -14,10 +14,10 @@ usage: wq COMMAND [WORD..]
   watch [DIR..]                     watches directories
   unwatch [DIR..]                   gives their places back
   roots                             the directories that are watched
-  trigger DIR NAME [GLOB..] -- COMMAND..
+  trigger [DIR] NAME [GLOB..] -- COMMAND..
                                     has the server run a command on changes
   triggers [DIR]                    the triggers of a root
-  untrigger DIR NAME                takes a trigger out
+  untrigger [DIR] NAME              takes a trigger out
   ask LINE..                        lines of the protocol as they are; - reads
                                     them from standard input
   start, stop, restart              the server; a command that needs one
@@ -32,6 +32,10 @@ is for the last part of a name, as '*.c'; one with a slash is for the whole
 name below DIR, as 'src/**/*.c'. .git, .hg, node_modules and target are left
 out unless you say --all.
 
-The status is 0, or 1 if nothing is found, 2 for wrong words, 3 for an error,
-130 if you stop it.
+The status is 0, or 1 if nothing is found, 2 for wrong options or words, 3 for
+an error, 130 if you stop it. `wq COMMAND --help` has examples:
+
+  wq find '*.c' '*.h'               the sources below here
+  wq since                          what changed here since the last call
+  wq run '*.c' -- make              builds now and after each change
 """

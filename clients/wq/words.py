@@ -1,4 +1,4 @@
-"""The words of each command, which argparse reads, and the pages of help."""
+"""The options and other words of each command, which argparse reads, and the pages of help."""
 
 import argparse
 from typing import Any, Dict, List, NamedTuple, NoReturn, Tuple
@@ -13,10 +13,15 @@ COLUMNS = 78
 
 
 class Parser(argparse.ArgumentParser):
-    """Refuses wrong words in one line."""
+    """Refuses wrong words in one line. Its page of help ends with examples."""
 
     def error(self, message: str) -> NoReturn:
-        raise WrongWords(f"{message}; `{self.prog} --help` says which words there are")
+        raise WrongWords(f"{message}; see `{self.prog} --help`")
+
+    def format_help(self) -> str:
+        from .examples import lines_of
+        self.epilog = lines_of(self.prog.split()[1])
+        return super().format_help()
 
 
 class Option(NamedTuple):
@@ -50,7 +55,6 @@ NUMBERS = [
     value("--workers", metavar="N", help="how many threads a query may use"),
 ]
 WORDS = value("words", metavar="WORD", nargs="*", default=[], help=argparse.SUPPRESS)
-NAME = value("name", metavar="NAME", help=argparse.SUPPRESS)
 DIRECTORY = value("directory", metavar="DIR", nargs="?", default=".", help="a directory of the root")
 
 
@@ -90,13 +94,10 @@ FORMS: Dict[str, Form] = {
     "watch": Form("[DIR..]", "watches the projects of directories, and prints their roots", [WORDS]),
     "unwatch": Form("[DIR..]", "gives places of roots back, also of directories that are gone", [WORDS]),
     "roots": Form("", "prints the roots that are watched", [ZEROS, JSON]),
-    "trigger": Form("DIR NAME [GLOB..] -- COMMAND..", "has the server run a command in the root after changes", [
-        *NARROWING, flag("--stdin", help="the names are lines on its input; {} as its last word is for the names"),
-        value("directory", metavar="DIR", help=argparse.SUPPRESS), NAME,
-        value("globs", metavar="GLOB", nargs="*", default=[], help=argparse.SUPPRESS)]),
+    "trigger": Form("[DIR] NAME [GLOB..] -- COMMAND..", "has the server run a command in the root after changes", [
+        *NARROWING, flag("--stdin", help="the names are lines on its input; {} as its last word is for the names"), WORDS]),
     "triggers": Form("[DIR]", "prints the triggers of a root", [JSON, DIRECTORY]),
-    "untrigger": Form("DIR NAME", "takes a trigger out", [
-        value("directory", metavar="DIR", help=argparse.SUPPRESS), NAME]),
+    "untrigger": Form("[DIR] NAME", "takes a trigger out", [WORDS]),
     "ask": Form("LINE..", "sends lines of the protocol, and prints the replies", [WORDS]),
     "start": Form("", "starts a server, unless one listens", NUMBERS),
     "stop": Form("", "ends the server", []),
@@ -111,7 +112,7 @@ def parser_of(command: str) -> Parser:
     form = FORMS[command]
     usage = f"wq {command}{' [OPTION..]' if options_of(command) else ''} {form.usage}".rstrip()
     parser = Parser(prog=f"wq {command}", usage=usage, description=form.about, allow_abbrev=False,
-                    formatter_class=lambda prog: argparse.HelpFormatter(prog, width=COLUMNS))
+                    formatter_class=lambda prog: argparse.RawDescriptionHelpFormatter(prog, width=COLUMNS))
     for option in form.options:
         parser.add_argument(*option.names, **option.settings)
     return parser
@@ -152,6 +153,7 @@ def read_any_order(parser: Parser, command: str, words: List[str], rest: Any = (
     """Options may be before, between and after the other words."""
     found, left = parser.parse_known_intermixed_args([*words, *(["--", *rest] if rest else [])])
     if left:
-        parser.error(f"there is no word {left[0]}")
+        is_option = left[0].startswith("-") and len(left[0]) > 1
+        parser.error(f"there is no option {left[0]}" if is_option else f"{command} takes no further words: {left[0]}")
     return found
 

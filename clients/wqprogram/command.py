@@ -33,7 +33,8 @@ USAGE = """\
 usage: wqasm assemble TEXT [-o FILE] [--version N]
        wqasm disassemble FILE
        wqasm explain FILE
-       wqasm run FILE --record 'f 12 1000 src/a.c' [--deleted] [--cclock N] [--csec N] [--oclock N] [--osec N]
+       wqasm run FILE --record 'f 12 1000 src/a.c' [--deleted] [--cclock N]
+                 [--csec N] [--oclock N] [--osec N]
        wqasm compile EXPRESSION [-o FILE] [--clock ID]
        wqasm add [SOCKET] NAME FILE
        wqasm --help

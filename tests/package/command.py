@@ -19,11 +19,11 @@ WRONG: List[Tuple[List[str], str]] = [
     (["--help", "me"], "there is no command --help; wqd --help says which there are"),
     (["help"], "there is no command help; wqd --help says which there are"),
     ([""], "there is no command; wqd --help says which there are"),
-    (["replay", "now"], "replay takes no further words, and its script on standard input"),
+    (["replay", "now"], "replay takes no further words, and reads its script from standard input"),
     (["check"], "check takes one file"),
     (["check", "a", "b"], "check takes one file"),
-    (["serve", "fr\\nob"], "serve takes no word fr\\nob"),
-    (["serve", "--frob", "1"], "serve takes no word --frob"),
+    (["serve", "fr\\nob"], "serve takes no further words: fr\\nob"),
+    (["serve", "--frob", "1"], "serve has no option --frob"),
     (["serve", "--sockname"], "--sockname needs a value"),
 ]
 NUMBERS = {"start": "0 to 2^62", "pid": "0 to 2^62", "interval": "10 to 3600000", "share": "1 to 100", "workers": "1 to 16"}

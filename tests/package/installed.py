@@ -100,7 +100,7 @@ def check_wq(tally: built.Tally, prefix: Path, room: Path) -> None:
         return built.Ended(ended.stdout, ended.stderr, ended.returncode)
 
     started = f"wq: started a server at {runtime}/wqd.sock\n".encode()
-    same(tally, "the installed wq", wq("find", str(room / "root")), built.Ended(b"a.c\n", started, 0))
+    same(tally, "the installed wq", wq("find", str(room / "root")), built.Ended(f"{room}/root/a.c\n".encode(), started, 0))
     facts = json.loads(wq("status", "--json").output)
     program = str((prefix / "lib" / "wqd" / "wqd").resolve())
     found = (facts["program"], facts["version"], facts["roots"])
@@ -308,7 +308,7 @@ def check_server(tally: built.Tally, name: str, room: Path, unit: str) -> None:
 
 def words_of(unit: str, home: Path, runtime: Path) -> List[str]:
     """The words of ExecStart as systemd reads them: specifiers, dollars, quotations."""
-    line = next(line for line in unit.splitlines() if line.startswith("ExecStart="))
+    line = next(line for line in unit.replace("\\\n", "").splitlines() if line.startswith("ExecStart="))
     for short, long in (("%h", str(home)), ("%t", str(runtime)), ("%%", "%"), ("$$", "$")):
         line = line.replace(short, long)
     return shlex.split(line[len("ExecStart="):])

@@ -44,6 +44,7 @@ class Asking:
         self.root = room / "root"
         self.root.mkdir()
         (self.root / "a.c").touch()
+        self.files = f"{self.root}/a.c\n".encode()
         kit = room / "kit"
         kit.mkdir()
         (kit / "rt").write_text(KIT)
@@ -96,7 +97,7 @@ def check_unproved(tally: built.Tally, room: Path) -> None:
     """The first call compiles, and says so before it answers; the next one finds the server, and says that it is not
     proved. A call after the end of that server starts the program that was kept."""
     with Asking(room) as asking:
-        reply = NOT_PROVED + b"a.c\n"
+        reply = NOT_PROVED + asking.files
         first = built.Ended(FIRST + asking.started() + reply, b"", 0)
         same(tally, "a first call", asking.find(), first)
         words = asking.calls.read_text().split()
@@ -130,7 +131,7 @@ def check_kept(tally: built.Tally, room: Path) -> None:
         missing = replayed(b"", "check", str(room / "missing"))
         same(tally, "check", (missing.status, missing.errors.startswith(unproved)), (1, True))
         same(tally, "one compilation", asking.compilations(), 1)
-        same(tally, "./wq after that", asking.find(), built.Ended(asking.started() + NOT_PROVED + b"a.c\n", b"", 0))
+        same(tally, "./wq after that", asking.find(), built.Ended(asking.started() + NOT_PROVED + asking.files, b"", 0))
         source = asking.top / "crates" / "wqd" / "src" / "main.rt"
         source.write_text("fn main() { }\n")
         same(tally, "other sources", replayed(script, "replay"), built.Ended(reply, compiles + unproved, 0))
@@ -138,7 +139,7 @@ def check_kept(tally: built.Tally, room: Path) -> None:
             same(tally, f"kit {kit}", replayed(script, "replay", KIT=kit), built.Ended(reply, compiles + unproved, 0))
         same(tally, "what is kept", len(list((room / "cache" / "wqd" / "programs").glob("*/wqd"))), 3)
         same(tally, "kept still", replayed(script, "replay", KIT="2"), built.Ended(reply, unproved, 0))
-        same(tally, "the server goes on", asking.find(), built.Ended(NOT_PROVED + b"a.c\n", b"", 0))
+        same(tally, "the server goes on", asking.find(), built.Ended(NOT_PROVED + asking.files, b"", 0))
 
 
 def check_how_far(tally: built.Tally, room: Path) -> None:
@@ -155,7 +156,7 @@ def check_turns(tally: built.Tally, room: Path) -> None:
     with Asking(room) as asking:
         calls = [asking.start("find", str(asking.root), "--keep", COMPILES="1") for _ in range(3)]
         done: List[bytes] = sorted((ended(call).output for call in calls), key=len)
-        reply = NOT_PROVED + b"a.c\n"
+        reply = NOT_PROVED + asking.files
         expected = [reply] * 2 + [FIRST + asking.started() + reply]
         same(tally, "calls at once", (done, asking.compilations()), (expected, 1))
 
@@ -206,7 +207,7 @@ def check_built_meanwhile(tally: built.Tally, room: Path) -> None:
         program.parent.mkdir()
         program.write_text(f'#!/bin/sh\nexec "{built.program_path()}" "$@"\n')
         program.chmod(0o755)
-        same(tally, "the server of before", asking.find(), built.Ended(NOT_PROVED + b"a.c\n", b"", 0))
+        same(tally, "the server of before", asking.find(), built.Ended(NOT_PROVED + asking.files, b"", 0))
         ended(asking.start("stop"))
-        same(tally, "a built program", asking.find(), built.Ended(asking.started() + b"a.c\n", b"", 0))
+        same(tally, "a built program", asking.find(), built.Ended(asking.started() + asking.files, b"", 0))
         same(tally, "how it is started", asking.compilations(), 1)

@@ -186,7 +186,7 @@ def check_ends_of_run(tally: built.Tally, room: Path) -> None:
         for words in (["run"], ["run", "*.c"], ["run", "*.c", "--"]):
             wrong(tally, scene, words, reason)
         wrong(tally, scene, ["run", "--quiet", "x", "--", "true"],
-              "argument --quiet: invalid int value: 'x'; `wq run --help` says which words there are")
+              "argument --quiet: invalid int value: 'x'; see `wq run --help`")
         wrong(tally, scene, ["run", "--quiet=-1", "--", "true"], "--quiet takes a number of milliseconds from 0 on")
         with scene.begin("run", "--", "sh", "-c", "echo begun; exec sleep 1000") as going:
             tally.check("run begins its command", going.prints("begun"))

@@ -183,11 +183,12 @@ def check_triggers(tally: built.Tally, room: Path) -> None:
         call = scene.wq("trigger", ".", "t", "Makefile", "--stdin", "--", "sh", "-c", "cat > ../names")
         same(tally, "a second one", call, built.Ended(b"", again, 0))
         tally.check("names on its input", reads(room / "names", "Makefile\n"))
+        check_names_of_triggers(tally, scene)
         same(tally, "untrigger", scene.wq("untrigger", ".", "t"), built.Ended(b"", b"", 0))
         wrong(tally, scene, ["untrigger", ".", "t"], f"{scene.tree} has no trigger t", status=1)
         same(tally, "no triggers", scene.wq("triggers"), built.Ended(b"", b"", 1))
         wrong(tally, scene, ["trigger", ".", "t"],
-              "trigger takes `--` and a command after it, such as: wq trigger . build '*.c' -- make")
+              "trigger takes `--` and a command after it, such as: wq trigger build '*.c' -- make")
         for command in (["echo", "{}", "x"], ["{}"]):
             wrong(tally, scene, ["trigger", ".", "t", "--", *command],
                   "the names of files come last in the command of a trigger, so {} may be its last word alone")
@@ -195,6 +196,22 @@ def check_triggers(tally: built.Tally, room: Path) -> None:
               f'the name has 256 bytes, and at most 255 may be: "{"n" * 59}..', status=3)
         wrong(tally, scene, ["triggers", room], "E14: root is not watched",
               f'"{room}" is not watched; did you mean "{scene.tree}"?. ["watch","{room}"] watches it', status=3)
+
+
+def check_names_of_triggers(tally: built.Tally, scene: Scene) -> None:
+    """The directory may come before the name, and is the current one without. What is neither is refused."""
+    made = said(f"trigger u of {scene.tree} is created; its command runs there")
+    same(tally, "a trigger here", scene.wq("trigger", "u", "*.none", "--", "true"), built.Ended(b"", made, 0))
+    same(tally, "untrigger here", scene.wq("untrigger", "u"), built.Ended(b"", b"", 0))
+    for words, sentence in (
+        (["trigger", "srk", "build", "--", "true"], "build is no file here; write './build' for one that may come"),
+        (["trigger", "build", "src", "--", "true"], "src is a directory; a trigger has one, which comes before its name"),
+        (["trigger", "src", "*.c", "--", "true"], "src is a directory, and the name of the trigger comes after it"),
+        (["trigger", "--", "true"], "the name of the trigger is missing, such as in: wq trigger build '*.c' -- make"),
+        (["untrigger"], "the name of the trigger is missing, such as in: wq untrigger build"),
+        (["untrigger", ".", "t", "u"], "untrigger takes one name: u"),
+    ):
+        wrong(tally, scene, words, sentence)
 
 
 def reads(path: Path, text: str) -> bool:

@@ -68,7 +68,7 @@ def check_words(tally: built.Tally, room: Path) -> None:
         wrong(tally, scene, [], "there is no command; `wq --help` says which there are")
         wrong(tally, scene, ["frobnicate"], "there is no command frobnicate; `wq --help` says which there are")
         wrong(tally, scene, ["finde"], "there is no command finde; did you mean find?; `wq --help` says which there are")
-        wrong(tally, scene, ["stop", "now"], "there is no word now; `wq stop --help` says which words there are")
+        wrong(tally, scene, ["stop", "now"], "stop takes no further words: now; see `wq stop --help`")
         for command in FORMS:
             text = scene.wq(command, "--help")
             missing = [option for option in options_of(command) if option not in text.output.decode()]
