@@ -68,6 +68,9 @@ def run(words: List[str], home: Home) -> int:
     if command == "--version":
         print(home.version().replace("wqd ", "wq ", 1) or "wq", flush=True)
         return FOUND
+    if command == "--names":
+        from .completing import print_names
+        return print_names(words[1:], home)
     from .words import FORMS, read
     if command not in FORMS:
         from .vocabulary import meant
